@@ -1,0 +1,81 @@
+#!/usr/bin/env python3
+"""Refuses each allocation of a run in turn, and checks that the output is whole or that want of memory is told.
+
+usage: bench/refused-allocations.py PROGRAM WORLD..
+
+PROGRAM is run on each WORLD, once without a refusal and then with the first allocation refused, with the second, and
+so on until a run meets no refusal. A run with a refusal has to give the unbroken run's output and status, or nothing
+on standard output, `NAME: no memory` on standard error and status 1.
+"""
+import os
+import subprocess
+import sys
+import tempfile
+
+SHIM = r"""
+#include <stddef.h>
+#include <stdlib.h>
+#include <unistd.h>
+void *__libc_malloc(size_t);
+void *__libc_realloc(void *, size_t);
+static long calls, refused;
+__attribute__((constructor)) static void begin(void) {
+    const char *text = getenv("REFUSED_ALLOCATION");
+    refused = text ? atol(text) : 0;
+}
+static int is_refused(void) {
+    if (refused <= 0 || ++calls != refused) return 0;
+    (void)!write(198, "x", 1);
+    return 1;
+}
+void *malloc(size_t n) { return is_refused() ? NULL : __libc_malloc(n); }
+void *realloc(void *p, size_t n) { return is_refused() ? NULL : __libc_realloc(p, n); }
+"""
+
+
+def run(program, text, shim, number):
+    """Status, output, told faults, and whether an allocation was refused."""
+    reader, writer = os.pipe()
+    os.dup2(writer, 198, inheritable=True)
+    os.close(writer)
+    env = {"LD_PRELOAD": shim, "REFUSED_ALLOCATION": str(number)}
+    done = subprocess.run([program], input=text, capture_output=True, env=env, pass_fds=[198], timeout=120)
+    os.close(198)
+    met = os.read(reader, 1)
+    os.close(reader)
+    return done.returncode, done.stdout, done.stderr, bool(met)
+
+
+def check(program, world, shim):
+    with open(world, "rb") as file:
+        text = file.read()
+    whole = run(program, text, shim, 0)
+    wanting = (1, b"", os.path.basename(program).encode() + b": no memory\n", True)
+    number = 0
+    told = 0
+    while True:
+        number += 1
+        found = run(program, text, shim, number)
+        if not found[3]:
+            break
+        if found == wanting:
+            told += 1
+        elif found[:3] != whole[:3]:
+            sys.exit(f"{world}: allocation {number} refused: status {found[0]}, {found[1]!r}, {found[2]!r}")
+    print(f"{world}: {number - 1} allocations, of which {told} when refused end the run")
+
+
+def main():
+    if len(sys.argv) < 3:
+        sys.exit(__doc__.strip())
+    program = os.path.abspath(sys.argv[1])
+    with tempfile.TemporaryDirectory() as folder:
+        source, shim = os.path.join(folder, "shim.c"), os.path.join(folder, "shim.so")
+        with open(source, "w", encoding="ascii") as file:
+            file.write(SHIM)
+        subprocess.run(["cc", "-shared", "-fPIC", "-O1", "-o", shim, source], check=True)
+        for world in sys.argv[2:]:
+            check(program, world, shim)
+
+
+main()

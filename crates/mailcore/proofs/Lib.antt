@@ -1,0 +1,9 @@
+pub mod ContentLemmas
+pub mod CopyLemmas
+pub mod DrawLemmas
+pub mod FlagLetters
+pub mod FlagRules
+pub mod LineLemmas
+pub mod MarkText
+pub mod PairLemmas
+pub mod Rising

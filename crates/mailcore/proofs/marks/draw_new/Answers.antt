@@ -1,0 +1,14 @@
+use Rattle.std.proofs.Common.{arith}
+use Rattle.mailcore.proofs.DrawLemmas.{GivesListed-none, GivesListed-more, GivesNew-after}
+use Rattle.mailcore.proofs.marks.draw_new.Goals as goal
+
+pub draws-init : goal.draws-init
+draws-init g c = GivesListed-none _ _
+
+pub draws-preserved : goal.draws-preserved
+draws-preserved g c =
+    GivesListed-more _ _ _ _ _ _ c.draws.invariant c.draw-mark.ensures.mark (cc) c.draw-mark.ensures.moved
+
+pub returns-then-not-contains-clause-new : goal.returns-then-not-contains-clause-new
+returns-then-not-contains-clause-new g c =
+    GivesNew-after _ _ _ _ _ _ c.draws.invariant (omega arith) c.draw-mark.ensures.mark (cc) c.draw-mark.ensures.moved

@@ -1,0 +1,10 @@
+pub mod FlagSet
+pub mod FlagNames
+pub mod Sides
+pub mod Mark
+pub mod Draws
+pub mod Content
+pub mod ContentExamples
+pub mod ContentLines
+pub mod Laws
+pub mod Listed

@@ -1,0 +1,17 @@
+//! What a mail message is to a synchroniser: its UID, flags, content and mark, and how mailboxes list their messages.
+#![tactic(auto)]
+
+pub mod content;
+pub mod content_lines;
+pub mod fault;
+pub mod flag_laws;
+pub mod flags;
+pub mod laws;
+pub mod listing;
+pub mod mailbox;
+pub mod mailbox_name;
+pub mod marks;
+pub mod octets;
+pub mod side;
+pub mod tuid;
+pub mod uid;

@@ -1,0 +1,16 @@
+//! Reads a world from standard input and prints its plan.
+#![tactic(auto)]
+
+use std::env::{Env, FillError};
+use std::process::ExitCode;
+use worlds::run_plan::{Arguments, run_plan};
+
+fn main(rt: HostRuntime) -> ExitCode {
+    // Argument 0 is the program's name.
+    let arguments = match rt.arg(1, &mut []) {
+        Err(FillError::NotPresent) => Arguments::Absent,
+        _ => Arguments::Given,
+    };
+    let (mut input, mut out, mut err) = (rt.stdin(), rt.stdout(), rt.stderr());
+    ExitCode::from(run_plan(rt.alloc(), arguments, &mut input, &mut out, &mut err))
+}

@@ -1,0 +1,27 @@
+//! Tests of the program `mbplan`, whole: what it prints for a world, and which texts it refuses.
+#![tactic(auto)]
+
+#[cfg(test)]
+mod bad_lines;
+#[cfg(test)]
+mod big_messages;
+#[cfg(test)]
+mod deletions;
+#[cfg(test)]
+mod devices;
+#[cfg(test)]
+mod early_ends;
+#[cfg(test)]
+mod flag_changes;
+#[cfg(test)]
+mod good_lines;
+#[cfg(test)]
+mod harness;
+#[cfg(test)]
+mod limits;
+#[cfg(test)]
+mod new_messages;
+#[cfg(test)]
+mod refusals;
+#[cfg(test)]
+mod sync_words;

@@ -1,0 +1,10 @@
+use Rattle.std.proofs.Common.{◌≡◌, ◌++◌, drop}
+use Rattle.std.specs.List.{filter_map}
+use Rattle.planner.specs.Seen.{seen}
+use Rattle.planner.specs.Written.{gone_step, gone_steps}
+use Rattle.planner.proofs.lists.Lists.push_gones.Given as goal
+
+abbrev pub invariant-loop-item : goal.invariant-loop-item
+invariant-loop-item l =
+    l.steps.items ++ filter_map (gone_step (seen l.self) l.direction) (drop l.item-index l.item-items)
+    ≡ l.fn.steps.items ++ gone_steps (seen l.self) l.direction

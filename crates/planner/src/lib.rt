@@ -1,0 +1,16 @@
+//! What a run is to do, by the listings of both mailboxes, the state of the last run and the options.
+#![tactic(auto)]
+
+mod expunges;
+pub mod fault;
+mod flag_changes;
+mod gones;
+mod lists;
+pub mod news;
+mod notes;
+pub mod order;
+pub mod plan;
+pub mod state;
+#[cfg(test)]
+mod tests;
+pub mod unfit;

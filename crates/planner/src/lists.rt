@@ -1,0 +1,145 @@
+//! The lists that a plan is made on, and what is looked up in them.
+
+ghost use Rattle.std.specs.Prelude.{◌≡◌, ◌==◌, ◌&&◌, find};
+ghost use Rattle.mailcore.specs.Listed.{IsRising};
+ghost use Rattle.rules.specs.Entries.{ArePairs, is_full, uid_of};
+
+use mailcore::flags::Flags;
+use mailcore::listing::{Item, Listing};
+use mailcore::side::{Direction, Side};
+use rules::entry::{Entry, ListedPair};
+use rules::options::Options;
+use rules::state::SyncState;
+
+/// The lists that a plan is made on, lent, with what they keep.
+#[derive(Clone, Copy)]
+pub struct Lists<'a> {
+    far: &'a [Item],
+    near: &'a [Item],
+    entries: &'a [Entry],
+    max_pulled: u32,
+    max_pushed: u32,
+    options: Options,
+    ghost far_rising: { IsRising far.now },
+    ghost near_rising: { IsRising near.now },
+    ghost pairs: { ArePairs entries.now },
+}
+
+impl<'a> Lists<'a> {
+    ghost use Rattle.std.specs.Prelude.{◌≡◌, ◌==◌};
+    ghost use Rattle.rules.specs.Scene.{scene, items, highest, flags_at, is_listed, is_paired, full_entry};
+    ghost use Rattle.rules.specs.Called.{pair_of};
+    ghost use Rattle.planner.specs.Seen.{seen};
+
+    /// The lists of these listings and this state.
+    pub fn new(far: &'a Listing, near: &'a Listing, state: &'a SyncState, options: &Options) -> Self
+        ensures { seen result ≡ scene far.now near.now state.now options.now }
+    {
+        Lists {
+            far: far.items.as_slice(),
+            near: near.items.as_slice(),
+            entries: state.entries.as_slice(),
+            max_pulled: state.max_pulled,
+            max_pushed: state.max_pushed,
+            options: *options,
+        }
+    }
+
+    /// The messages of a side, in the order of their UIDs.
+    pub fn items(&self, side: Side) -> &'a [Item]
+        ensures { result.now ≡ items (seen self.now) side }
+    {
+        match side {
+            Side::Far => self.far,
+            Side::Near => self.near,
+        }
+    }
+
+    /// The entries, in order.
+    pub fn entries(&self) -> &'a [Entry]
+        ensures { result.now ≡ (seen self.now).entries }
+    {
+        self.entries
+    }
+
+    /// What the run may do.
+    pub fn options(&self) -> Options
+        ensures { result ≡ (seen self.now).options }
+    {
+        self.options
+    }
+
+    /// The highest UID that earlier runs have taken over in a direction.
+    pub fn highest(&self, direction: Direction) -> u32
+        ensures { result ≡ highest direction (seen self.now) }
+    {
+        match direction {
+            Direction::Pull => self.max_pulled,
+            Direction::Push => self.max_pushed,
+        }
+    }
+
+    /// The flags of the message with this UID, if it is listed.
+    pub fn flags_at(&self, side: Side, uid: u32) -> Option<Flags>
+        ensures { result ≡ flags_at (items (seen self.now) side) uid }
+    {
+        self.items(side)
+            .iter()
+            .find(|item| item.uid.get() == uid)
+            .map(|item| item.flags)
+    }
+
+    /// Whether the message with this UID is listed.
+    pub fn is_listed(&self, side: Side, uid: u32) -> bool
+        ensures { result ≡ is_listed (seen self.now) side uid }
+    {
+        self.flags_at(side, uid).is_some()
+    }
+
+    /// Whether an entry names this UID, be it full or not.
+    pub fn is_paired(&self, side: Side, uid: u32) -> bool
+        ensures { result ≡ is_paired (seen self.now) side uid }
+    {
+        self.entries.iter().any(|entry| entry.number(side) == uid)
+    }
+
+    /// The full entry with this UID, if there is one.
+    pub fn full_entry(&self, side: Side, uid: u32) -> Option<Entry>
+        ensures { result ≡ full_entry (seen self.now) side uid }
+    {
+        find_full(self.entries, side, uid)
+    }
+
+    /// The pair of a full entry whose messages are both listed.
+    pub fn pair_of(&self, entry: &Entry) -> Option<ListedPair>
+        ensures { result ≡ pair_of (seen self.now) entry.now }
+    {
+        let (far, near) = entry.uids()?;
+        let far_flags = self.flags_at(Side::Far, far.get())?;
+        let near_flags = self.flags_at(Side::Near, near.get())?;
+        Some(ListedPair {
+            far,
+            near,
+            far_flags,
+            near_flags,
+            recorded: entry.flags,
+        })
+    }
+}
+
+fn find_full(entries: &[Entry], side: Side, uid: u32) -> Option<Entry>
+    ensures { result ≡ find (λ e. is_full e && uid_of side e == uid) entries.now }
+{
+    for entry in entries {
+        if is_full_with(entry, side, uid) {
+            return Some(*entry);
+        }
+    }
+    None
+}
+
+fn is_full_with(entry: &Entry, side: Side, uid: u32) -> bool
+    ensures { result ≡ (is_full entry.now && uid_of side entry.now == uid) }
+{
+    entry.is_full() && entry.number(side) == uid
+}

@@ -1,0 +1,92 @@
+//! New messages: those that a run copies to the other side.
+
+ghost use Rattle.std.specs.Prelude.{◌≡◌, ◌<◌, ◌≤◌, ◌^◌, ◌++◌, length, count_by, OnOk, IfOk};
+ghost use Rattle.mailcore.specs.Sides.{source};
+ghost use Rattle.rules.specs.Scene.{scene, items};
+ghost use Rattle.rules.specs.Called.{would_be_new, is_new};
+ghost use Rattle.rules.specs.Outcome.{count_new, news};
+ghost use Rattle.planner.specs.Seen.{seen};
+ghost use Rattle.planner.specs.Written.{new_steps};
+
+use crate::lists::Lists;
+use mailcore::flags::Flag;
+use mailcore::listing::{Item, Listing};
+use mailcore::side::Direction;
+use mailcore::tuid::Tuid;
+use rules::options::Options;
+use rules::plan::Step;
+use rules::state::SyncState;
+use std::alloc::{AllocError, Global};
+
+/// How many messages a run copies, in both directions together: so many marks its plan wants. Takes no memory.
+pub fn news(far: &Listing, near: &Listing, state: &SyncState, options: &Options) -> usize
+    ensures { result ≡ count_new (scene far.now near.now state.now options.now) }
+{
+    let lists = Lists::new(far, near, state, options);
+    lists.count_new(Direction::Pull) + lists.count_new(Direction::Push)
+}
+
+impl Lists<'_> {
+    /// Whether a message would be new if it were fit.
+    pub fn would_be_new(&self, direction: Direction, item: &Item) -> bool
+        ensures { result ≡ would_be_new (seen self.now) direction item.now }
+    {
+        let side = direction.source();
+        let uid = item.uid.get();
+        self.options().cells.new.goes(direction)
+            && self.highest(direction) < uid
+            && !self.is_paired(side, uid)
+            && !(item.flags.has(Flag::Deleted) && self.options().expunge.covers(side))
+    }
+
+    fn is_new(&self, direction: Direction, item: &Item) -> bool
+        ensures { result ≡ is_new (seen self.now) direction item.now }
+    {
+        self.would_be_new(direction, item) && item.fit
+    }
+
+    fn count_new(&self, direction: Direction) -> usize
+        ensures counted { result
+            ≡ count_by (is_new (seen self.now) direction) (items (seen self.now) (source direction)) }
+        ensures few { result < 2 ^ 62 }
+    {
+        self.items(direction.source())
+            .iter()
+            .filter(|item| self.is_new(direction, item))
+            .count()
+    }
+
+    /// The messages that are copied in a direction, in order.
+    pub fn new_items(&self, alloc: Global, direction: Direction) -> Result<Vec<Item>, AllocError>
+        ensures { IfOk result (λ v. v.items ≡ news (seen self.now) direction) }
+    {
+        let mut found = Vec::new(alloc);
+        for item in self.items(direction.source()) {
+            if self.is_new(direction, item) {
+                found.push(*item)?;
+            }
+        }
+        Ok(found)
+    }
+}
+
+/// Adds a step for each new message, with the next mark.
+pub fn push_new(
+    direction: Direction,
+    items: &[Item],
+    marks: &[Tuid],
+    steps: &mut Vec<Step>,
+) -> Result<(), AllocError>
+    requires { length items.now ≤ length marks.now }
+    ensures { OnOk result (steps.new.items ≡ steps.old.items ++ new_steps direction items.now marks.now) }
+{
+    for (i, item) in items.iter().enumerate() {
+        steps.push(Step::New {
+            direction,
+            uid: item.uid,
+            flags: item.flags,
+            mark: marks[i],
+        })?;
+    }
+    Ok(())
+}

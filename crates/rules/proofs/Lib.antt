@@ -1,0 +1,4 @@
+pub mod FlagLemmas
+pub mod EntryLemmas
+pub mod Walks
+pub mod LookUps

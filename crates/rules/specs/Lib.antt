@@ -1,0 +1,12 @@
+pub use Rattle.mailcore.specs.Sides
+pub use Rattle.mailcore.specs.FlagSet
+pub mod Entries
+pub mod Options
+pub mod FlagRule
+pub mod Propagation
+pub mod Scene
+pub mod Called
+pub mod Order
+pub mod Outcome
+pub mod SyncWords
+pub mod World

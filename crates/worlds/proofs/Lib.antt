@@ -1,0 +1,5 @@
+pub mod EscapeLemmas
+pub mod LineLemmas
+pub mod NumberLemmas
+pub mod ListedLemmas
+pub mod WordLemmas

@@ -1,0 +1,10 @@
+use Rattle.std.proofs.Common.{◌≡◌, ◌++◌, ◌<◌, length}
+use Rattle.std.specs.List.{All}
+use Rattle.worlds.specs.Escape.{escaped}
+use Rattle.worlds.proofs.escape.unescape.Given as goal
+
+abbrev pub invariant-loop-rest : goal.invariant-loop-rest
+invariant-loop-rest l = escaped l.bytes.items ++ l.rest ≡ l.fn.text
+
+abbrev pub decreases-loop-rest : goal.decreases-loop-rest
+decreases-loop-rest l = length l.rest

@@ -1,0 +1,7 @@
+-- What std reads as a number, and this crate does not.
+use Rattle.std.specs.Prelude.{ℕ, Bool, ◌&&◌, ◌||◌, ◌==◌, nat_lt, List, length, slice_index}
+
+-- a plus stands first, or a zero before something else
+abbrev pub has_sign_or_leading_zero : List ℕ → Bool
+has_sign_or_leading_zero bytes =
+    slice_index bytes 0 == 43 || slice_index bytes 0 == 48 && nat_lt 1 (length bytes)

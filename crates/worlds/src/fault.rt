@@ -1,0 +1,60 @@
+//! The faults of a world's text.
+
+use std::alloc::{AllocError, AllocFailed};
+use thiserror::Error;
+
+/// Why a text was not read as a world.
+#[derive(Clone, Copy, Debug, PartialEq, Eq, Error)]
+pub enum WorldFault {
+    /// With this line, counted from 1, the text stops beginning a world; or it begins one and ends too early, and
+    /// this is the line after its last whole one.
+    #[error("line {0}")]
+    Line(usize),
+    /// Memory ran out.
+    #[error("no memory")]
+    NoMemory,
+}
+
+impl From<AllocError> for WorldFault {
+    ghost use Rattle.std.specs.Prelude.{◌≡◌};
+    ghost use Rattle.worlds.specs.declared.fault.WorldFault.TheVariants.{NoMemory};
+
+    ghost from_gives = { λ _ e. e ≡ NoMemory };
+
+    fn from(_fault: AllocError) -> WorldFault {
+        WorldFault::NoMemory
+    }
+}
+
+impl<T: Drop> From<AllocFailed<T>> for WorldFault {
+    ghost use Rattle.std.specs.Prelude.{◌≡◌};
+    ghost use Rattle.worlds.specs.declared.fault.WorldFault.TheVariants.{NoMemory};
+
+    ghost from_gives = { λ _ e. e ≡ NoMemory };
+
+    fn from(_fault: AllocFailed<T>) -> WorldFault {
+        WorldFault::NoMemory
+    }
+}
+
+/// Why bytes were not read from their escaped text.
+#[derive(Clone, Copy, Debug, PartialEq, Eq, Error)]
+pub enum EscapeFault {
+    /// The text is the spelling of no bytes.
+    #[error("not escaped")]
+    NotEscaped,
+    /// Memory ran out.
+    #[error("no memory")]
+    NoMemory,
+}
+
+impl<T: Drop> From<AllocFailed<T>> for EscapeFault {
+    ghost use Rattle.std.specs.Prelude.{◌≡◌};
+    ghost use Rattle.worlds.specs.declared.fault.EscapeFault.TheVariants.{NoMemory};
+
+    ghost from_gives = { λ _ e. e ≡ NoMemory };
+
+    fn from(_fault: AllocFailed<T>) -> EscapeFault {
+        EscapeFault::NoMemory
+    }
+}

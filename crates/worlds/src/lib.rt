@@ -1,0 +1,18 @@
+//! Worlds, the texts that hold two mailboxes and a state: how they are read and written, and the plan of one.
+#![tactic(auto)]
+
+pub mod escape;
+pub mod fault;
+pub mod line;
+mod listed;
+pub mod number;
+pub mod plan_lines;
+pub mod read;
+mod read_mailbox;
+mod read_options;
+mod read_state;
+pub mod run_plan;
+pub mod trial_generator;
+pub mod words;
+pub mod world;
+pub mod write;

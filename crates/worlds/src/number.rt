@@ -1,0 +1,41 @@
+//! Numbers in texts: decimal, without sign or leading zero.
+
+ghost use Rattle.std.specs.Prelude.{◌≡◌, ◌≤◌, ℕ, Some, IfSome, decimal};
+ghost use Rattle.worlds.specs.Number.{has_sign_or_leading_zero};
+
+/// The number that `bytes` spell, or none if they spell no number up to `limit`.
+pub fn read_number(bytes: &[u8], limit: u64) -> Option<u64>
+    ensures spelled { IfSome result (λ n. (decimal n ≡ bytes.now) × (n ≤ limit)) }
+    ensures each { (n : ℕ) → n ≤ limit → decimal n ≡ bytes.now → result ≡ Some n }
+{
+    if has_sign_or_leading_zero(bytes) {
+        return None;
+    }
+    let Ok(text) = str::from_utf8(bytes) else {
+        return None;
+    };
+    let Ok(number) = text.parse::<u64>() else {
+        return None;
+    };
+    if number <= limit { Some(number) } else { None }
+}
+
+/// The same of a number of 32 bits.
+pub fn read_u32(bytes: &[u8], limit: u32) -> Option<u32>
+    ensures spelled { IfSome result (λ n. (decimal n ≡ bytes.now) × (n ≤ limit)) }
+    ensures each { (n : ℕ) → n ≤ limit → decimal n ≡ bytes.now → result ≡ Some n }
+{
+    let number = read_number(bytes, u64::from(limit))?;
+    u32::try_from(number).ok()
+}
+
+/// Whether std reads more here than a number: a plus, or zeros before a digit.
+fn has_sign_or_leading_zero(bytes: &[u8]) -> bool
+    ensures { result ≡ has_sign_or_leading_zero bytes.now }
+{
+    match bytes {
+        [b'+', ..] => true,
+        [b'0', rest @ ..] => !rest.is_empty(),
+        _ => false,
+    }
+}

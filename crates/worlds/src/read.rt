@@ -1,0 +1,53 @@
+//! How a world is read from its text (docs/FORMATS.md, "World").
+
+ghost use Rattle.std.specs.Prelude.{◌≡◌, ◌+◌, ◌≤◌, IfErr};
+ghost use Rattle.worlds.specs.Lines.{IsOf, IsUpTo, line_count, line_ends};
+
+use crate::fault::WorldFault;
+use crate::line::Lines;
+use crate::read_mailbox::{read_mailbox, read_waiting};
+use crate::read_options::read_options;
+use crate::read_state::read_state;
+use crate::world::{Waiting, World};
+use mailcore::side::Side;
+use std::alloc::Global;
+
+/// The world that a text gives. Behind its line `end` nothing may stand.
+pub fn read_world(alloc: Global, text: &[u8], waiting: Waiting) -> Result<World, WorldFault>
+    ensures { IfErr result (IsUpTo (line_ends text.now + 1)) }
+{
+    let mut lines = Lines::new(text);
+    let world = take_world(alloc, waiting, &mut lines)?;
+    if lines.rest.is_empty() {
+        Ok(world)
+    } else {
+        Err(lines.fault())
+    }
+}
+
+/// The world that the next lines give, with its line `end`, behind which other lines may stand.
+pub fn take_world(
+    alloc: Global,
+    waiting: Waiting,
+    lines: &mut Lines<'_>,
+) -> Result<World, WorldFault>
+    ensures count { line_count lines.new ≤ line_count lines.old }
+    ensures fault { IfErr result (IsUpTo (line_count lines.old + 1)) }
+{
+    let options = read_options(alloc, lines)?;
+    let far = read_mailbox(alloc, Side::Far, lines)?;
+    let mut near = read_mailbox(alloc, Side::Near, lines)?;
+    let waiting = read_waiting(alloc, waiting, &mut near, lines)?;
+    let state = read_state(alloc, lines)?;
+    let line = lines.take(b"end")?;
+    if !line.text.is_empty() {
+        return Err(line.fault());
+    }
+    Ok(World {
+        options,
+        far,
+        near,
+        waiting,
+        state,
+    })
+}

@@ -1,0 +1,135 @@
+//! The lines of the mailboxes of a world: `far` and `near`, `f`, `n` and `w`.
+
+ghost use Rattle.std.specs.Prelude.{◌≡◌, ◌+◌, ◌≤◌, IfErr};
+ghost use Rattle.worlds.specs.Lines.{IsOf, IsUpTo, line_count, line_ends};
+
+use crate::escape::unescape;
+use crate::fault::{EscapeFault, WorldFault};
+use crate::line::{Line, Lines};
+use crate::words::{read_flags, read_positive, read_uid, split_word};
+use crate::world::{Waiting, WaitingFile};
+use mailcore::fault::PushFault;
+use mailcore::flags::Flags;
+use mailcore::mailbox::{Mailbox, Message};
+use mailcore::mailbox_name::MailboxName;
+use mailcore::octets::Octets;
+use mailcore::side::Side;
+use mailcore::uid::Uid;
+use memchr::memchr;
+use std::alloc::Global;
+
+/// The greatest number of bytes of a far message: 16777216 and a mark line of 22.
+pub const FAR_BYTES_MAX: usize = 16_777_238;
+
+/// The mailbox of a side with its messages, from the next lines. Its name is INBOX.
+pub fn read_mailbox(alloc: Global, side: Side, lines: &mut Lines<'_>) -> Result<Mailbox, WorldFault>
+    ensures count { line_count lines.new ≤ line_count lines.old }
+    ensures fault { IfErr result (IsUpTo (line_count lines.old + 1)) }
+{
+    let (mailbox_start, message_start): (&[u8], &[u8]) = match side {
+        Side::Far => (b"far ", b"f "),
+        Side::Near => (b"near ", b"n "),
+    };
+    let line = lines.take(mailbox_start)?;
+    let (validity, next) = read_numbers(line.text).ok_or(line.fault())?;
+    let name = MailboxName::inbox(alloc)?;
+    let mut mailbox = Mailbox::new(alloc, name, validity, next);
+    while let Some(line) = lines.take_if(message_start) {
+        let message = read_message(alloc, side, line)?;
+        line.pushed(mailbox.push(message))?;
+    }
+    Ok(mailbox)
+}
+
+/// The UIDVALIDITY and the UIDNEXT of a mailbox.
+fn read_numbers(text: &[u8]) -> Option<(u32, u32)> {
+    let (validity, next) = split_word(text)?;
+    Some((read_positive(validity)?, read_positive(next)?))
+}
+
+fn read_message(alloc: Global, side: Side, line: Line<'_>) -> Result<Message, WorldFault>
+    ensures { IfErr result (IsOf line.entry.number) }
+{
+    let Some((uid, flags, text)) = split_message(line.text) else {
+        return Err(line.fault());
+    };
+    let bytes = read_bytes(alloc, text, line)?;
+    if side == Side::Far && !is_far(&bytes) {
+        return Err(line.fault());
+    }
+    Ok(Message {
+        uid,
+        flags,
+        bytes: Octets::from_vec(bytes),
+    })
+}
+
+/// The UID and the flags of a message, and the quoted text of its bytes.
+fn split_message(text: &[u8]) -> Option<(Uid, Flags, &[u8])> {
+    let (uid, text) = split_word(text)?;
+    let (flags, text) = split_word(text)?;
+    Some((read_uid(uid)?, read_flags(flags)?, text))
+}
+
+/// Whether a far mailbox may store these bytes: not too many, and no NUL (RFC 9051, section 9, `CHAR8`).
+fn is_far(bytes: &[u8]) -> bool {
+    bytes.len() <= FAR_BYTES_MAX && memchr(0, bytes).is_none()
+}
+
+/// The bytes whose escaped text stands between quotes.
+fn read_bytes(alloc: Global, text: &[u8], line: Line<'_>) -> Result<Vec<u8>, WorldFault>
+    ensures { IfErr result (IsOf line.entry.number) }
+{
+    let [b'"', escaped @ .., b'"'] = text else {
+        return Err(line.fault());
+    };
+    match unescape(alloc, escaped) {
+        Ok(bytes) => Ok(bytes),
+        Err(EscapeFault::NotEscaped) => Err(line.fault()),
+        Err(EscapeFault::NoMemory) => Err(WorldFault::NoMemory),
+    }
+}
+
+/// The near files that wait for a UID, from the next lines: all that stay waiting.
+pub fn read_waiting(
+    alloc: Global,
+    waiting: Waiting,
+    near: &mut Mailbox,
+    lines: &mut Lines<'_>,
+) -> Result<Vec<WaitingFile>, WorldFault>
+    ensures count { line_count lines.new ≤ line_count lines.old }
+    ensures fault { IfErr result (IsUpTo (line_count lines.old + 1)) }
+{
+    let mut kept = Vec::new(alloc);
+    while let Some(line) = lines.take_if(b"w ") {
+        let file = read_waiting_file(alloc, line)?;
+        match waiting {
+            Waiting::Kept => kept.push(file)?,
+            Waiting::Admitted => line.pushed(admit(near, file))?,
+        }
+    }
+    Ok(kept)
+}
+
+fn read_waiting_file(alloc: Global, line: Line<'_>) -> Result<WaitingFile, WorldFault>
+    ensures { IfErr result (IsOf line.entry.number) }
+{
+    let (flags, text) = split_word(line.text).ok_or(line.fault())?;
+    let flags = read_flags(flags).ok_or(line.fault())?;
+    let bytes = read_bytes(alloc, text, line)?;
+    Ok(WaitingFile {
+        flags,
+        bytes: Octets::from_vec(bytes),
+    })
+}
+
+/// Makes a waiting file the message with the next UID. `OutOfOrder`: no UID is left.
+fn admit(near: &mut Mailbox, file: WaitingFile) -> Result<(), PushFault> {
+    let uid = Uid::new(near.next).ok_or(PushFault::OutOfOrder)?;
+    near.next = uid.get() + 1;
+    near.push(Message {
+        uid,
+        flags: file.flags,
+        bytes: file.bytes,
+    })
+}

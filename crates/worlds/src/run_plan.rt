@@ -1,0 +1,170 @@
+//! The program `mbplan`, over readers and writers.
+
+ghost use Rattle.std.specs.Prelude.{◌≡◌, ◌≤◌, ◌<◌, ◌⊎◌, IsErr};
+ghost use Rattle.std.specs.Io.KnownBytes.{Keeps};
+
+use crate::fault::WorldFault;
+use crate::listed::list_mailbox;
+use crate::plan_lines::{NoteLine, StepLine, UnfitLine, side_word};
+use crate::read::read_world;
+use crate::trial_generator::TrialGenerator;
+use crate::world::{Waiting, World};
+use mailcore::fault::CoreFault;
+use mailcore::marks::draw_marks;
+use mailcore::side::Side;
+use planner::fault::PlanFault;
+use planner::news::news;
+use planner::plan::plan;
+use planner::unfit::unfit;
+use std::alloc::{AllocError, Global};
+use std::io;
+use std::io::{ErrorKind, Read, Write};
+use thiserror::Error;
+
+/// Whether a program is given arguments.
+#[derive(Clone, Copy, Debug, PartialEq, Eq)]
+pub enum Arguments {
+    /// None.
+    Absent,
+    /// One or more.
+    Given,
+}
+
+/// Why there is no plan, as the program tells it.
+#[derive(Clone, Copy, Debug, PartialEq, Eq, Error)]
+enum Failure {
+    #[error("usage")]
+    Usage,
+    #[error("cannot read")]
+    Input,
+    #[error("world line {0}")]
+    World(usize),
+    #[error("validity changed {}", side_word(*.0))]
+    ValidityChanged(Side),
+    #[error("marks repeat")]
+    MarksRepeat,
+    #[error("no memory")]
+    NoMemory,
+}
+
+impl Failure {
+    /// The program's exit status.
+    fn status(self) -> u8
+        ensures { (result ≡ 1) ⊎ (result ≡ 2) }
+    {
+        match self {
+            Failure::Usage | Failure::World(_) => 2,
+            _ => 1,
+        }
+    }
+}
+
+impl From<AllocError> for Failure {
+    fn from(_fault: AllocError) -> Failure {
+        Failure::NoMemory
+    }
+}
+
+impl From<WorldFault> for Failure {
+    fn from(fault: WorldFault) -> Failure {
+        match fault {
+            WorldFault::Line(line) => Failure::World(line),
+            WorldFault::NoMemory => Failure::NoMemory,
+        }
+    }
+}
+
+impl From<PlanFault> for Failure {
+    fn from(fault: PlanFault) -> Failure {
+        match fault {
+            PlanFault::ValidityChanged(side) => Failure::ValidityChanged(side),
+            PlanFault::NoMemory => Failure::NoMemory,
+        }
+    }
+}
+
+impl From<CoreFault> for Failure {
+    fn from(fault: CoreFault) -> Failure {
+        match fault {
+            CoreFault::MarksRepeat => Failure::MarksRepeat,
+            CoreFault::NoMemory => Failure::NoMemory,
+        }
+    }
+}
+
+impl From<io::Error> for Failure {
+    fn from(fault: io::Error) -> Failure {
+        match fault.kind() {
+            ErrorKind::OutOfMemory => Failure::NoMemory,
+            _ => Failure::Input,
+        }
+    }
+}
+
+/// Reads a world from `input` and writes its plan to `out`: a line for each step and note, and for each message that
+/// is not fit to be copied. It gives the program's exit status.
+///
+/// With status 0 the whole plan is written. Else `err` is told why there is none, and nothing of a plan is written
+/// unless `out` failed: status 2 for arguments, which are not taken, and for a bad text; status 1 for a UIDVALIDITY
+/// that has changed, for want of memory, and where reading or writing failed.
+pub fn run_plan<I: Read, O: Write, E: Write>(
+    alloc: Global,
+    arguments: Arguments,
+    input: &mut I,
+    out: &mut O,
+    err: &mut E,
+) -> u8
+    ensures status { result ≤ 2 }
+    ensures none_taken { arguments ≡ Arguments.Given → 0 < result }
+    ensures nothing_told { result ≡ 0 → Keeps (E.contents err.old) (E.contents err.new) }
+    ensures nothing_printed { result ≡ 2 → Keeps (O.contents out.old) (O.contents out.new) }
+{
+    match plan_text(alloc, arguments, input) {
+        Ok(text) => match print(out, text.as_bytes()) {
+            Ok(()) => 0,
+            Err(_) => 1,
+        },
+        Err(failure) => match writeln!(err, "mbplan: {failure}") {
+            Ok(()) => failure.status(),
+            Err(_) => 1,
+        },
+    }
+}
+
+fn print<O: Write>(out: &mut O, text: &[u8]) -> io::Result<()> {
+    out.write_all(text)?;
+    out.flush()
+}
+
+/// The lines of the plan of the world that is read.
+fn plan_text<I: Read>(alloc: Global, arguments: Arguments, input: &mut I) -> Result<String, Failure>
+    ensures { arguments ≡ Arguments.Given → IsErr result }
+{
+    if arguments == Arguments::Given {
+        return Err(Failure::Usage);
+    }
+    let mut text = Vec::new(alloc);
+    input.read_to_end(&mut text)?;
+    let world = read_world(alloc, &text, Waiting::Admitted)?;
+    plan_lines(alloc, &world)
+}
+
+/// The lines of the plan of a world whose near files are all admitted.
+fn plan_lines(alloc: Global, world: &World) -> Result<String, Failure> {
+    let far = list_mailbox(alloc, Side::Far, &world.far)?;
+    let near = list_mailbox(alloc, Side::Near, &world.near)?;
+    let count = news(&far, &near, &world.state, &world.options);
+    let marks = draw_marks(alloc, &mut TrialGenerator::new(), count)?;
+    let plan = plan(alloc, &far, &near, &world.state, &world.options, &marks)?;
+    let mut text = String::new(alloc);
+    for step in plan.steps.as_slice() {
+        writeln!(text, "{}", StepLine(step))?;
+    }
+    for note in plan.notes.as_slice() {
+        writeln!(text, "{}", NoteLine(note))?;
+    }
+    for (side, uid) in unfit(alloc, &far, &near, &world.state, &world.options)? {
+        writeln!(text, "{}", UnfitLine(side, uid))?;
+    }
+    Ok(text)
+}

@@ -1,0 +1,59 @@
+//! The generator of trials, whose words are known before they are drawn.
+
+ghost use Rattle.std.specs.Prelude.{◌≡◌};
+ghost use Rattle.worlds.specs.Trial.{trial_step};
+
+use rand_core::utils::NextWord;
+use rand_core::{Rng, utils};
+use std::marker::Model;
+
+/// A generator whose k-th word of 64 bits, k from 1, is k modulo 2^64. Clauses see it as the last word that it gave.
+#[derive(Debug, Drop)]
+pub struct TrialGenerator {
+    last: u64,
+}
+
+impl Model for TrialGenerator {
+    ghost use Rattle.std.specs.Prelude.{ℕ};
+
+    ghost Value = { ℕ };
+
+    ghost view = { λ generator. generator.last };
+}
+
+impl TrialGenerator {
+    /// The generator before its first word.
+    pub fn new() -> Self
+        ensures { result ≡ 0 }
+    {
+        TrialGenerator { last: 0 }
+    }
+}
+
+impl NextWord<u64> for TrialGenerator {
+    ghost step = { trial_step };
+
+    fn next_word(&mut self) -> u64 {
+        self.last = self.last.wrapping_add(1);
+        self.last
+    }
+}
+
+impl Rng for TrialGenerator {
+    ghost use Rattle.rand_core.specs.Steps.{stream_of, steps_u64_low};
+    ghost use Rattle.worlds.specs.Trial.{trial_step};
+
+    ghost stream = { stream_of (steps_u64_low trial_step) };
+
+    fn next_u32(&mut self) -> u32 {
+        (self.next_word() & 0xffff_ffff) as u32
+    }
+
+    fn next_u64(&mut self) -> u64 {
+        self.next_word()
+    }
+
+    fn fill_bytes(&mut self, dst: &mut [u8]) {
+        utils::fill_bytes_via_u64(self, dst)
+    }
+}

@@ -1,0 +1,101 @@
+//! How the text of a world is written (docs/FORMATS.md, "World").
+
+use crate::escape::push_escaped;
+use crate::plan_lines::{FlagsWord, side_word};
+use crate::world::{WaitingFile, World};
+use mailcore::flags::Flags;
+use mailcore::mailbox::{Mailbox, Message};
+use mailcore::octets::Octets;
+use mailcore::side::Side;
+use rules::options::{Cells, Options, Sides};
+use rules::state::SyncState;
+use std::alloc::AllocError;
+
+/// Adds the text of a world.
+pub fn write_world(text: &mut String, world: &World) -> Result<(), AllocError> {
+    write_options(text, &world.options)?;
+    write_from_far(text, world)
+}
+
+/// Adds the text of a world from its line `far` on.
+pub fn write_from_far(text: &mut String, world: &World) -> Result<(), AllocError> {
+    write_mailbox(text, Side::Far, &world.far)?;
+    write_mailbox(text, Side::Near, &world.near)?;
+    for file in &world.waiting {
+        write!(text, "w {} ", FlagsWord(file.flags))?;
+        write_bytes(text, &file.bytes)?;
+    }
+    write_state(text, &world.state)?;
+    text.push_str("end\n")
+}
+
+fn write_options(text: &mut String, options: &Options) -> Result<(), AllocError> {
+    text.push_str("sync")?;
+    write_cells(text, &options.cells)?;
+    let expunge = match (options.expunge.far, options.expunge.near) {
+        (false, false) => "None",
+        (true, false) => "Far",
+        (false, true) => "Near",
+        (true, true) => "Both",
+    };
+    writeln!(text, "\nexpunge {expunge}")
+}
+
+/// Adds a compound word for each cell that is on, or `None`.
+fn write_cells(text: &mut String, cells: &Cells) -> Result<(), AllocError> {
+    let words = [
+        (cells.new.pull, " PullNew"),
+        (cells.gone.pull, " PullGone"),
+        (cells.flags.pull, " PullFlags"),
+        (cells.new.push, " PushNew"),
+        (cells.gone.push, " PushGone"),
+        (cells.flags.push, " PushFlags"),
+    ];
+    if words.iter().all(|(on, _)| !on) {
+        return text.push_str(" None");
+    }
+    for (on, word) in words {
+        if on {
+            text.push_str(word)?;
+        }
+    }
+    Ok(())
+}
+
+fn write_mailbox(text: &mut String, side: Side, mailbox: &Mailbox) -> Result<(), AllocError> {
+    let letter = match side {
+        Side::Far => 'f',
+        Side::Near => 'n',
+    };
+    writeln!(
+        text,
+        "{} {} {}",
+        side_word(side),
+        mailbox.validity,
+        mailbox.next
+    )?;
+    for message in mailbox.messages.as_slice() {
+        let uid = message.uid.get();
+        write!(text, "{letter} {uid} {} ", FlagsWord(message.flags))?;
+        write_bytes(text, &message.bytes)?;
+    }
+    Ok(())
+}
+
+/// Adds the quoted text of bytes and ends the line.
+fn write_bytes(text: &mut String, bytes: &Octets) -> Result<(), AllocError> {
+    text.push('"')?;
+    push_escaped(text, bytes.as_slice())?;
+    text.push_str("\"\n")
+}
+
+fn write_state(text: &mut String, state: &SyncState) -> Result<(), AllocError> {
+    let (run, far, near) = (state.run, state.far_validity, state.near_validity);
+    let (pulled, pushed) = (state.max_pulled, state.max_pushed);
+    writeln!(text, "state {run} {far} {near} {pulled} {pushed}")?;
+    for entry in state.entries.as_slice() {
+        let (far, near) = (entry.number(Side::Far), entry.number(Side::Near));
+        writeln!(text, "e {far} {near} {}", FlagsWord(entry.flags))?;
+    }
+    Ok(())
+}
