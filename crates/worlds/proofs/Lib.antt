@@ -1,5 +1,5 @@
+pub mod AdmissionLemmas
 pub mod EscapeLemmas
 pub mod LineLemmas
 pub mod NumberLemmas
-pub mod ListedLemmas
 pub mod WordLemmas

@@ -1,5 +1,5 @@
 -- Which words are flags.
-use Rattle.std.proofs.Common.{◌≡◌, ◌≢◌, ℕ, ◌<◌, Bool, true, false, cond, List, Option, None, Some, sym, rules}
+use Rattle.std.proofs.Common.{◌≢◌, ℕ, ◌<◌, Bool, true, false, cond, List, Option, None, Some, sym}
 use Rattle.std.specs.Prelude.{IfNone, codes, ◌==◌}
 use Rattle.mailcore.specs.FlagNames.{letters_of}
 use Rattle.worlds.specs.Words.{flags_word}

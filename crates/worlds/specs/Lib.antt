@@ -1,6 +1,7 @@
+pub mod Admission
 pub mod Escape
+pub mod Failures
 pub mod Lines
-pub mod Listed
 pub mod Number
 pub mod Trial
 pub mod Words

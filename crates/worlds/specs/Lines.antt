@@ -1,5 +1,5 @@
 -- The lines of a text by their numbers, and the faults that name them.
-use Rattle.std.specs.Prelude.{ℕ, ◌+◌, ◌≡◌, ◌<◌, ◌≤◌, ◌==◌, List, count_by}
+use Rattle.std.specs.Prelude.{ℕ, ◌+◌, ◌≡◌, ◌<◌, ◌≤◌, ◌==◌, ◌≢◌, ◌++◌, ◌∷◌, List, All, count_by}
 use Rattle.worlds.specs.declared.line.Lines.{Lines}
 use Rattle.worlds.specs.declared.fault.WorldFault.{WorldFault}
 use Rattle.worlds.specs.declared.fault.WorldFault.TheVariants.{Line, NoMemory}
@@ -7,6 +7,11 @@ use Rattle.worlds.specs.declared.fault.WorldFault.TheVariants.{Line, NoMemory}
 -- how many line ends a text has
 abbrev pub line_ends : List ℕ → ℕ
 line_ends text = count_by (λ b. b == 10) text
+
+-- a text begins with a line, which begins with `start` and goes on with `line`; `behind` is what stands behind its LF
+pub record IsLine (start line behind text : List ℕ) : Type 0 where
+  pub parts : text ≡ start ++ (line ++ 10 ∷ behind)
+  pub one_line : All (λ b. b ≢ 10) line
 
 -- how many whole lines there are, those that are taken and those that are not
 abbrev pub line_count : Lines → ℕ

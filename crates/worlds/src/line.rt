@@ -1,10 +1,10 @@
 //! The lines of a text, one after another.
 
-ghost use Rattle.std.specs.Prelude.{◌≡◌, ◌↔◌, ◌+◌, ◌<◌, ◌≤◌, ◌^◌, length, IfSome, IfNone, OnSome, IsOk, IfOk, IfErr};
+ghost use Rattle.std.specs.Prelude.{◌≡◌, ◌↔◌, ℕ, List, ◌+◌, ◌<◌, ◌≤◌, ◌^◌, length, IfSome, IfNone, OnSome, OnErr, IsOk, IfOk, IfErr};
 
+use crate::cut::cut;
 use crate::fault::WorldFault;
 use mailcore::fault::PushFault;
-use memchr::memchr;
 
 /// What is left to read of a whole line.
 #[derive(Clone, Copy, Debug)]
@@ -49,7 +49,7 @@ pub struct Lines<'a> {
 }
 
 impl<'a> Lines<'a> {
-    ghost use Rattle.worlds.specs.Lines.{line_count};
+    ghost use Rattle.worlds.specs.Lines.{IsLine, line_count};
 
     /// All lines of this text.
     pub fn new(text: &'a [u8]) -> Self
@@ -64,23 +64,27 @@ impl<'a> Lines<'a> {
     /// Takes the next line if it is whole and begins with `start`, and gives what stands behind that. Else takes
     /// nothing.
     pub fn take_if(&mut self, start: &[u8]) -> Option<Line<'a>>
+        ensures line { IfSome result (λ line. IsLine start.now line.text.now self.new.rest.now self.old.rest.now) }
+        ensures missing { IfNone result ((text behind : List ℕ) → ¬ IsLine start.now text behind self.old.rest.now) }
         ensures taken { IfSome result (λ line. (line.number ≡ self.old.taken + 1) × (self.new.taken ≡ self.old.taken + 1)) }
         ensures shorter { OnSome result (length self.new.rest.now < length self.old.rest.now) }
         ensures count { line_count self.new ≤ line_count self.old }
         ensures none { IfNone result (self.new ≡ self.old) }
     {
-        let text = self.rest.strip_prefix(start)?;
-        let end = memchr(b'\n', text)?;
-        self.rest = &text[end + 1..];
+        let behind = self.rest.strip_prefix(start)?;
+        let (text, rest) = cut(behind, b'\n')?;
+        self.rest = rest;
         self.taken += 1;
         Some(Line {
             number: self.taken,
-            text: &text[..end],
+            text,
         })
     }
 
     /// Takes the next line, and gives what stands behind `start`. `Line`: it does not begin so, or is missing.
     pub fn take(&mut self, start: &[u8]) -> Result<Line<'a>, WorldFault>
+        ensures line { IfOk result (λ line. IsLine start.now line.text.now self.new.rest.now self.old.rest.now) }
+        ensures missing { OnErr result ((text behind : List ℕ) → ¬ IsLine start.now text behind self.old.rest.now) }
         ensures taken { IfOk result (λ line. (line.number ≡ self.old.taken + 1) × (self.new.taken ≡ self.old.taken + 1)) }
         ensures count { line_count self.new ≤ line_count self.old }
         ensures err { IfErr result (λ fault. fault ≡ WorldFault.Line (self.old.taken + 1)) }

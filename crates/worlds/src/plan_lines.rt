@@ -1,5 +1,8 @@
 //! The lines of a plan: steps, notes and unfit messages as they are printed (docs/FORMATS.md, "Plan lines").
 
+ghost use Rattle.std.specs.Prelude.{◌≡◌};
+ghost use Rattle.worlds.specs.Words.{direction_word, side_word};
+
 use mailcore::flags::Flags;
 use mailcore::side::{Direction, Side};
 use mailcore::uid::Uid;
@@ -7,7 +10,9 @@ use rules::plan::{Note, Step};
 use std::fmt;
 
 /// How a direction is written.
-pub fn direction_word(direction: Direction) -> &'static str {
+pub fn direction_word(direction: Direction) -> &'static str
+    ensures { result.now ≡ direction_word direction }
+{
     match direction {
         Direction::Pull => "pull",
         Direction::Push => "push",
@@ -15,7 +20,9 @@ pub fn direction_word(direction: Direction) -> &'static str {
 }
 
 /// How a side is written.
-pub fn side_word(side: Side) -> &'static str {
+pub fn side_word(side: Side) -> &'static str
+    ensures { result.now ≡ side_word side }
+{
     match side {
         Side::Far => "far",
         Side::Near => "near",

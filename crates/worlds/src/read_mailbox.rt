@@ -1,7 +1,8 @@
 //! The lines of the mailboxes of a world: `far` and `near`, `f`, `n` and `w`.
 
-ghost use Rattle.std.specs.Prelude.{◌≡◌, ◌+◌, ◌≤◌, IfErr};
+ghost use Rattle.std.specs.Prelude.{◌≡◌, ◌+◌, ◌<◌, ◌≤◌, ◌^◌, ◌++◌, [], ◌∷◌, IfErr, IsErrOf, OnOk};
 ghost use Rattle.worlds.specs.Lines.{IsOf, IsUpTo, line_count, line_ends};
+ghost use Rattle.worlds.specs.Admission.{message_of};
 
 use crate::escape::unescape;
 use crate::fault::{EscapeFault, WorldFault};
@@ -124,7 +125,11 @@ fn read_waiting_file(alloc: Global, line: Line<'_>) -> Result<WaitingFile, World
 }
 
 /// Makes a waiting file the message with the next UID. `OutOfOrder`: no UID is left.
-fn admit(near: &mut Mailbox, file: WaitingFile) -> Result<(), PushFault> {
+fn admit(near: &mut Mailbox, file: WaitingFile) -> Result<(), PushFault>
+    ensures last { OnOk result (near.new.messages ≡ near.old.messages ++ message_of near.old.next file ∷ []) }
+    ensures next { OnOk result (near.new.next ≡ near.old.next + 1) }
+    ensures full { IsErrOf result PushFault.OutOfOrder → 0 < near.old.next → near.old.next + 1 ≡ 2 ^ 32 }
+{
     let uid = Uid::new(near.next).ok_or(PushFault::OutOfOrder)?;
     near.next = uid.get() + 1;
     near.push(Message {

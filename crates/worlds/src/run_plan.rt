@@ -4,7 +4,6 @@ ghost use Rattle.std.specs.Prelude.{◌≡◌, ◌≤◌, ◌<◌, ◌⊎◌, Is
 ghost use Rattle.std.specs.Io.KnownBytes.{Keeps};
 
 use crate::fault::WorldFault;
-use crate::listed::list_mailbox;
 use crate::plan_lines::{NoteLine, StepLine, UnfitLine, side_word};
 use crate::read::read_world;
 use crate::trial_generator::TrialGenerator;
@@ -48,9 +47,11 @@ enum Failure {
 }
 
 impl Failure {
+    ghost use Rattle.worlds.specs.Failures.{status_of};
+
     /// The program's exit status.
     fn status(self) -> u8
-        ensures { (result ≡ 1) ⊎ (result ≡ 2) }
+        ensures { result ≡ status_of self }
     {
         match self {
             Failure::Usage | Failure::World(_) => 2,
@@ -60,12 +61,20 @@ impl Failure {
 }
 
 impl From<AllocError> for Failure {
+    ghost use Rattle.worlds.specs.declared.run_plan.Failure.TheVariants.{NoMemory};
+
+    ghost from_gives = { λ _ e. e ≡ NoMemory };
+
     fn from(_fault: AllocError) -> Failure {
         Failure::NoMemory
     }
 }
 
 impl From<WorldFault> for Failure {
+    ghost use Rattle.worlds.specs.Failures.{of_world};
+
+    ghost from_gives = { λ fault e. e ≡ of_world fault };
+
     fn from(fault: WorldFault) -> Failure {
         match fault {
             WorldFault::Line(line) => Failure::World(line),
@@ -75,6 +84,10 @@ impl From<WorldFault> for Failure {
 }
 
 impl From<PlanFault> for Failure {
+    ghost use Rattle.worlds.specs.Failures.{of_plan};
+
+    ghost from_gives = { λ fault e. e ≡ of_plan fault };
+
     fn from(fault: PlanFault) -> Failure {
         match fault {
             PlanFault::ValidityChanged(side) => Failure::ValidityChanged(side),
@@ -84,6 +97,10 @@ impl From<PlanFault> for Failure {
 }
 
 impl From<CoreFault> for Failure {
+    ghost use Rattle.worlds.specs.Failures.{of_marks};
+
+    ghost from_gives = { λ fault e. e ≡ of_marks fault };
+
     fn from(fault: CoreFault) -> Failure {
         match fault {
             CoreFault::MarksRepeat => Failure::MarksRepeat,
@@ -151,8 +168,8 @@ fn plan_text<I: Read>(alloc: Global, arguments: Arguments, input: &mut I) -> Res
 
 /// The lines of the plan of a world whose near files are all admitted.
 fn plan_lines(alloc: Global, world: &World) -> Result<String, Failure> {
-    let far = list_mailbox(alloc, Side::Far, &world.far)?;
-    let near = list_mailbox(alloc, Side::Near, &world.near)?;
+    let far = world.far.listing(alloc, Side::Far)?;
+    let near = world.near.listing(alloc, Side::Near)?;
     let count = news(&far, &near, &world.state, &world.options);
     let marks = draw_marks(alloc, &mut TrialGenerator::new(), count)?;
     let plan = plan(alloc, &far, &near, &world.state, &world.options, &marks)?;

@@ -4,10 +4,10 @@ ghost use Rattle.std.specs.Prelude.{◌≡◌, ◌≢◌, ◌+◌, ◌<◌, ◌^
 ghost use Rattle.mailcore.specs.FlagSet.{FLAGS};
 ghost use Rattle.worlds.specs.Words.{flags_word};
 
+use crate::cut::cut;
 use crate::number::read_u32;
 use mailcore::flags::Flags;
 use mailcore::uid::Uid;
-use memchr::memchr;
 
 /// The greatest UID.
 pub const LAST_UID: u32 = u32::MAX - 1;
@@ -16,8 +16,7 @@ pub const LAST_UID: u32 = u32::MAX - 1;
 pub fn split_word(text: &[u8]) -> Option<(&[u8], &[u8])>
     ensures { MatchOption result (All (λ b. b ≢ 32) text.now) (λ parts. (text.now ≡ parts.0.now ++ 32 ∷ parts.1.now) × All (λ b. b ≢ 32) parts.0.now) }
 {
-    let space = memchr(b' ', text)?;
-    Some((&text[..space], &text[space + 1..]))
+    cut(text, b' ')
 }
 
 /// A UIDVALIDITY or UIDNEXT, 1 to 4294967295 (RFC 9051, section 9, `nz-number`).

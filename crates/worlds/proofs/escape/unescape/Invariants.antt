@@ -1,5 +1,4 @@
-use Rattle.std.proofs.Common.{◌≡◌, ◌++◌, ◌<◌, length}
-use Rattle.std.specs.List.{All}
+use Rattle.std.proofs.Common.{◌≡◌, ◌++◌, length}
 use Rattle.worlds.specs.Escape.{escaped}
 use Rattle.worlds.proofs.escape.unescape.Given as goal
 

@@ -1,5 +1,5 @@
-use Rattle.std.proofs.Common.{◌≡◌, ◌<◌, ◌^◌, ap, sym, ◌∙◌, arith, decimal, Some, ℕ, rules}
-use Rattle.std.proofs.lemmas.Fmt.{decimal_injective, parse-decimal}
+use Rattle.std.proofs.Common.{◌≡◌, sym, ◌∙◌, arith, rules}
+use Rattle.std.proofs.lemmas.Fmt.{parse-decimal}
 use Rattle.worlds.proofs.NumberLemmas.{not_decimal, decimal_is_text, parsed_is_decimal}
 use Rattle.worlds.proofs.number.read_number.Goals as goal
 

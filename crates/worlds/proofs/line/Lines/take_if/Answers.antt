@@ -1,12 +1,21 @@
-use Rattle.std.proofs.Common.{◌≡◌, ◌+◌, ◌≤◌, ℕ, List, length, drop, ap, arith}
-use Rattle.worlds.specs.Lines.{line_count, line_ends}
-use Rattle.worlds.proofs.LineLemmas.{fewer_dropped, one_taken}
+use Rattle.std.proofs.Common.{arith}
+use Rattle.worlds.proofs.LineLemmas.{line_is, line_taken, no_line_end, other_start}
 use Rattle.worlds.proofs.line.Lines.take_if.Goals as goal
+
+pub returns-in_err-behind-clause-missing : goal.returns-in_err-behind-clause-missing
+returns-in_err-behind-clause-missing c =
+    other_start _ c.args.start.now c.args.self.now.rest.now c.in_err-behind.ensures.cases
+
+pub returns-in_err-text-clause-missing : goal.returns-in_err-text-clause-missing
+returns-in_err-text-clause-missing c =
+    no_line_end _ c.args.start.now c.args.self.now.rest.now c.in_ok-behind.behind.now c.in_ok-behind.ensures.cases.1 c.in_err-text.ensures
+
+pub returns-clause-line : goal.returns-clause-line
+returns-clause-line c =
+    line_is _ _ _ _ _ c.in_ok-behind.ensures.cases.0 c.in_ok-behind.ensures.cases.1 c.in_ok-text.ensures.0 c.in_ok-text.ensures.1
 
 pub returns-clause-count : goal.returns-clause-count
 returns-clause-count c =
-    let text = c.in_ok-text.text.now in
-    let here = one_taken c.in_ok-end.end text c.in_ok-end.ensures.0.high c.in_ok-end.ensures.1 in
-    let same : line_ends text ≡ line_ends (drop (length c.args.start.now) c.args.self.now.rest.now) = ap (λ (t : List ℕ). line_ends t) c.in_ok-text.ensures.cases.1 in
-    let before = fewer_dropped (length c.args.start.now) c.args.self.now.rest.now in
+    let is = line_is c.args.start.now c.args.self.now.rest.now c.in_ok-behind.behind.now c.in_ok-text.text.now c.in_ok-text.rest.now c.in_ok-behind.ensures.cases.0 c.in_ok-behind.ensures.cases.1 c.in_ok-text.ensures.0 c.in_ok-text.ensures.1 in
+    let h = line_taken _ _ _ _ is in
     omega arith
