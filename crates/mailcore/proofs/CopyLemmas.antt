@@ -114,7 +114,7 @@ mark_of-line mark more end is =
     let cut = cut_behind 12 mark (line_end_bytes end ++ more) (eqb-true _ _ (and_parts _ _ is).0) in
     rw (cut.0, cut.1, is, begins_with_line_end-bytes end more)
 
-copy_text-bytes : (mark bs : List ℕ) (end : LineEnd) → is_mark mark ≡ true → copy_text mark bs end ≡ flat_map (line_bytes end) (marked mark ∷ content_lines bs)
+pub copy_text-bytes : (mark bs : List ℕ) (end : LineEnd) → is_mark mark ≡ true → copy_text mark bs end ≡ flat_map (line_bytes end) (marked mark ∷ content_lines bs)
 copy_text-bytes mark bs Lf is = copy_text-lines mark bs Lf
 copy_text-bytes mark bs CrLf is = copy_text-lines mark bs CrLf ∙ crlf-lines (marked mark ∷ content_lines bs) (AreLines-copy mark bs is)
 

@@ -10,7 +10,7 @@ use std::alloc::{AllocError, Global};
 /// The most bytes that a message may have in a far store.
 pub const MESSAGE_MAX: usize = 16_777_216;
 
-fn line_end_bytes(end: LineEnd) -> &'static [u8]
+pub(crate) fn line_end_bytes(end: LineEnd) -> &'static [u8]
     ensures { result.now ≡ spec.line_end_bytes end }
 {
     match end {
@@ -21,7 +21,11 @@ fn line_end_bytes(end: LineEnd) -> &'static [u8]
 
 // Puts the content of `message`, with these line ends, behind what `out` holds. After an error a
 // part of it may stand there.
-fn append_content(out: &mut Vec<u8>, message: &[u8], end: LineEnd) -> Result<(), AllocError>
+pub(crate) fn append_content(
+    out: &mut Vec<u8>,
+    message: &[u8],
+    end: LineEnd,
+) -> Result<(), AllocError>
     ensures { OnOk result (out.new.items ≡ out.old.items ++ spec.with_line_ends end (spec.content message.now)) }
 {
     for line in ContentLines::new(message) {

@@ -3,6 +3,7 @@
 
 pub mod content;
 pub mod content_lines;
+pub mod copies;
 pub mod fault;
 pub mod flag_laws;
 pub mod flags;

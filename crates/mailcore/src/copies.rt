@@ -1,0 +1,83 @@
+//! Copies of messages, and the marks by which they are found again.
+
+ghost use Rattle.std.specs.Prelude.{◌≡◌, IfOk};
+ghost use Rattle.mailcore.specs.Content as spec;
+
+use crate::content::{append_content, line_end_bytes};
+use crate::side::LineEnd;
+use crate::tuid::{TUID_LENGTH, Tuid};
+use std::alloc::{AllocError, Global};
+
+/// What the first line of a copy begins with, before its mark.
+const MARK_FIELD: &[u8; 8] = b"X-TUID: ";
+
+/// What a store with these line ends keeps as the copy of `message` under `mark`: the line of the mark, and then the
+/// content of the message.
+///
+/// `AllocError`: memory ran out.
+pub fn copy_text(
+    alloc: Global,
+    mark: Tuid,
+    message: &[u8],
+    end: LineEnd,
+) -> Result<Vec<u8>, AllocError>
+    ensures { IfOk result (λ v. v.items ≡ spec.copy_text mark message.now end) }
+{
+    let mut copy = Vec::with_capacity(alloc, message.len())?;
+    copy.extend_from_slice(MARK_FIELD)?;
+    copy.extend_from_slice(&mark.text())?;
+    copy.extend_from_slice(line_end_bytes(end))?;
+    append_content(&mut copy, message, end)?;
+    Ok(copy)
+}
+
+/// The mark that a message bears, or none: its first line is `X-TUID: ` and a mark, ended by LF or CR LF. It takes no
+/// memory.
+pub fn mark_of(message: &[u8]) -> Option<Tuid>
+    ensures { result ≡ spec.mark_of message.now }
+{
+    let behind = message.strip_prefix(MARK_FIELD)?;
+    let (text, rest) = behind.split_at_checked(TUID_LENGTH)?;
+    if ends_line(rest) {
+        Tuid::read(text)
+    } else {
+        None
+    }
+}
+
+/// Whether a line end comes next.
+fn ends_line(rest: &[u8]) -> bool
+    ensures { result ≡ spec.begins_with_line_end rest.now }
+{
+    rest.starts_with(b"\n") || rest.starts_with(b"\r\n")
+}
+
+#[cfg(test)]
+mod tests {
+    use super::*;
+    use std::test::Fail;
+
+    #[test]
+    fn copies_are_found_by_their_marks(rt: HostRuntime) -> Result<(), Fail> {
+        let mark = Tuid::read(b"AQAAAAAAAAAC").ok_or("not a mark")?;
+        let far = copy_text(rt.alloc(), mark, b"\r\nbody", LineEnd::CrLf)?;
+        assert_eq!(rt;
+            far.as_slice(),
+            b"X-TUID: AQAAAAAAAAAC\r\n\r\nbody".as_slice()
+        );
+        assert_eq!(rt; mark_of(&far), Some(mark));
+        let near = copy_text(rt.alloc(), mark, b"", LineEnd::Lf)?;
+        assert_eq!(rt; near.as_slice(), b"X-TUID: AQAAAAAAAAAC\n".as_slice());
+        assert_eq!(rt; mark_of(&near), Some(mark));
+        Ok(())
+    }
+
+    #[test]
+    fn other_first_lines_bear_no_mark(rt: HostRuntime) {
+        assert_eq!(rt; mark_of(b""), None);
+        assert_eq!(rt; mark_of(b"X-TUID: AQAAAAAAAAAC"), None, "no line end");
+        assert_eq!(rt; mark_of(b"x-tuid: AQAAAAAAAAAC\n"), None, "lower case");
+        assert_eq!(rt; mark_of(b"X-TUID: AQAAAAAAAAAC\r\r\n"), None, "two CRs");
+        assert_eq!(rt; mark_of(b"\nX-TUID: AQAAAAAAAAAC\n"), None, "a later line");
+    }
+}
