@@ -1,0 +1,9 @@
+pub mod Spelling
+pub mod Reading
+pub mod Words
+pub mod Machine
+pub mod Listing
+pub mod Lexical
+pub mod Literal
+pub mod Given
+pub mod Answers

@@ -1,0 +1,96 @@
+//! The answer of a reader of whole lines.
+
+ghost use Rattle.std.specs.Prelude.{◌≡◌};
+ghost use Rattle.wire_reader.specs.Answers.{stopped, answered, fault_within, within};
+
+use crate::stop::{Kind, ReadError, Stop};
+use thiserror::Error;
+
+/// What the bytes so far are.
+#[derive(Debug, Drop)]
+pub enum Read<T> {
+    /// The first so many bytes are a spelling of the value.
+    Whole(T, usize),
+    /// They begin a command and end just behind a literal's `{n}` and line end: its sender waits.
+    WantsLiteral(u32),
+    /// They begin a spelling otherwise.
+    Partial,
+}
+
+/// Why the bytes are no spelling and begin none, or no answer can be given.
+#[derive(Clone, Copy, Debug, PartialEq, Eq, Error)]
+pub enum WireFault {
+    /// So many bytes begin a spelling, and with the next one none begins.
+    #[error("no spelling from byte {0} on")]
+    Syntax(usize),
+    /// More than 65536 bytes stand outside literals.
+    #[error("the line is too long")]
+    LineTooLong,
+    /// The byte there puts a literal's length over its limit.
+    #[error("the literal at byte {0} is too long")]
+    LiteralTooLong(usize),
+    /// A growth was refused.
+    #[error("no memory")]
+    NoMemory,
+}
+
+/// The answer on `len` bytes at which a reader stopped.
+fn stopped<T>(stop: Stop, len: usize) -> Result<Read<T>, WireFault>
+    ensures { result ≡ stopped len stop }
+{
+    match stop {
+        Stop::Ends(Some(n)) => Ok(Read::WantsLiteral(n)),
+        Stop::Ends(None) => Ok(Read::Partial),
+        Stop::Fails(Kind::Syntax, left) => Err(WireFault::Syntax(len.saturating_sub(left))),
+        Stop::Fails(Kind::TooLong, left) => Err(WireFault::LiteralTooLong(len.saturating_sub(
+            left,
+        ))),
+    }
+}
+
+/// The answer on `len` bytes of which a reader gave this.
+pub fn answered<T>(read: Result<(T, &[u8]), ReadError>, len: usize) -> Result<Read<T>, WireFault>
+    ensures { result ≡ answered len read.entry }
+{
+    match read {
+        Ok((value, rest)) => Ok(Read::Whole(value, len.saturating_sub(rest.len()))),
+        Err(ReadError::Memory) => Err(WireFault::NoMemory),
+        Err(ReadError::At(stop)) => stopped(stop, len),
+    }
+}
+
+/// What the answer on the bytes up to the first that is too many, which end there, is for all of them.
+pub fn within<T: Drop>(answer: Result<Read<T>, WireFault>, end: usize) -> Result<Read<T>, WireFault>
+    ensures { result ≡ within end answer }
+{
+    match answer {
+        Ok(Read::Whole(value, used)) => {
+            if used < end {
+                Ok(Read::Whole(value, used))
+            } else {
+                Err(WireFault::LineTooLong)
+            }
+        }
+        Ok(Read::WantsLiteral(_)) => Err(WireFault::LineTooLong),
+        Ok(Read::Partial) => Err(WireFault::LineTooLong),
+        Err(fault) => Err(fault_within(fault, end)),
+    }
+}
+
+/// The fault in the bytes up to the first that is too many, as a fault of all of them.
+fn fault_within(fault: WireFault, end: usize) -> WireFault
+    ensures { result ≡ fault_within end fault }
+{
+    match fault {
+        WireFault::Syntax(at) => {
+            if at < end.saturating_sub(1) {
+                WireFault::Syntax(at)
+            } else {
+                WireFault::LineTooLong
+            }
+        }
+        WireFault::LineTooLong => WireFault::LineTooLong,
+        WireFault::LiteralTooLong(at) => WireFault::LiteralTooLong(at),
+        WireFault::NoMemory => WireFault::NoMemory,
+    }
+}

@@ -1,0 +1,82 @@
+//! The limit on bytes outside literals, counted apart from the grammar.
+
+ghost use Rattle.std.specs.Prelude.{◌≡◌, ◌<◌, ◌≤◌};
+ghost use Rattle.wire_reader.specs.Lexical.{next, is_in, limit_from};
+ghost use Rattle.wire_reader.specs.declared.lexical.Phase.TheVariants.{Plain};
+
+/// Where a byte stands in a line, as far as literals go.
+#[derive(Clone, Copy, Debug, PartialEq, Eq)]
+pub enum Phase {
+    /// In no literal and no length of one.
+    Plain,
+    /// Behind `{`.
+    Brace,
+    /// Behind `{` and this number.
+    Digits(u32),
+    /// Behind `{`, this number and `+`.
+    Plus(u32),
+    /// Behind the `}` of this length; whether `+` stands before it.
+    Close(u32, bool),
+    /// Behind that and CR.
+    Return(u32, bool),
+    /// So many octets of a literal are still to come.
+    In(u32),
+}
+
+/// Where the next byte stands.
+fn next(phase: Phase, b: u8) -> Phase
+    ensures { result ≡ next phase b }
+{
+    match phase {
+        Phase::In(n) => {
+            if n <= 1 {
+                Phase::Plain
+            } else {
+                Phase::In(n - 1)
+            }
+        }
+        Phase::Return(n, _) if b == b'\n' && n != 0 => Phase::In(n),
+        Phase::Close(n, plus) if b == b'\r' => Phase::Return(n, plus),
+        Phase::Plus(n) if b == b'}' => Phase::Close(n, true),
+        Phase::Digits(n) if b == b'}' => Phase::Close(n, false),
+        Phase::Digits(n) if b == b'+' => Phase::Plus(n),
+        Phase::Digits(n) if b'0' <= b && b <= b'9' && n <= 16777238 => {
+            Phase::Digits(10 * n + u32::from(b - 48))
+        }
+        Phase::Brace if b'0' <= b && b <= b'9' => Phase::Digits(u32::from(b - 48)),
+        _ => {
+            if b == b'{' {
+                Phase::Brace
+            } else {
+                Phase::Plain
+            }
+        }
+    }
+}
+
+fn is_in(phase: Phase) -> bool
+    ensures { result ≡ is_in phase }
+{
+    match phase {
+        Phase::In(_) => true,
+        _ => false,
+    }
+}
+
+/// The end of the bytes up to and with the first one outside literals that is too many: 65536 may stand there.
+pub fn limit_end(bytes: &[u8]) -> Option<usize>
+    ensures { result ≡ limit_from Plain 65536 0 bytes.now }
+{
+    let mut phase = Phase::Plain;
+    let mut room = 65536u32;
+    for (i, b) in bytes.iter().enumerate() {
+        if !is_in(phase) {
+            if room == 0 {
+                return Some(i + 1);
+            }
+            room -= 1;
+        }
+        phase = next(phase, *b);
+    }
+    None
+}

@@ -1,0 +1,10 @@
+//! The two directions of a connection.
+
+/// Whose lines are read.
+#[derive(Clone, Copy, Debug, PartialEq, Eq)]
+pub enum Side {
+    /// A client's commands: a literal may be `{n+}`, and behind `{n}` the client waits.
+    Commands,
+    /// A server's replies: a literal is `{n}`, and nobody waits.
+    Replies,
+}
