@@ -1,4 +1,4 @@
-//! Tests of the program `mbplan`, whole: what it prints for a world, and which texts it refuses.
+//! Tests of the program `mbplan`, whole: what it prints for a world, which texts it refuses, and how a world is written.
 #![tactic(auto)]
 
 #[cfg(test)]
@@ -25,3 +25,5 @@ mod new_messages;
 mod refusals;
 #[cfg(test)]
 mod sync_words;
+#[cfg(test)]
+mod world_texts;
