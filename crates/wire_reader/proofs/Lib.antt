@@ -28,3 +28,4 @@ pub mod Top
 pub mod Exactly
 pub mod Answering
 pub mod Lines
+pub mod PartFilled

@@ -100,7 +100,7 @@ module _ (side : Side) where
     | Refuses l o g ↦ ap (λ (x : Phase). kind_of side x b) i.0 ∙ o ∙ odd_is l k (sym g ∙ h)
   ]
 
-  abbrev closed : ℕ × Bool → Phase
+  abbrev pub closed : ℕ × Bool → Phase
   closed p = Close p.0 p.1
 
   length_takes : (s : Option (ℕ × Bool)) (p : Phase) (b : ℕ) (a : ℕ × Bool) → Stands s p → length_step side s b ≡ Take a → (next p b ≡ closed a) × (asked side p b ≡ None)
@@ -125,10 +125,10 @@ module _ (side : Side) where
     | Refuses k o g ↦ absurd (odd_not_take side k a (sym g ∙ h))
   ]
 
-  length_lexed : Lexed side Brace (length_at side)
+  pub length_lexed : Lexed side Brace (length_at side)
   length_lexed = scan_lexed side (length_step side) Stands length_keeps length_odd None Brace refl
 
-  length_leads : Leads side Closed Brace (LengthText side) closed
+  pub length_leads : Leads side Closed Brace (LengthText side) closed
   length_leads =
       let l = scan_leads side (length_step side) Stands length_keeps length_odd closed length_takes None Brace refl in
       record { after = λ a t h. l.after a t (length_scanned side a t h); quiet = λ a t h s. l.quiet a t (length_scanned side a t h) s }
@@ -274,10 +274,10 @@ module _ (side : Side) (n : ℕ) (plus : Bool) where
   cr_leads : Leads {A = Unit {0}} side Closed (Close n plus) (λ _ t. Is (13 ∷ []) t) (λ _. Return n plus)
   cr_leads = record { after = λ _ t h. ap (phase (Close n plus)) h; quiet = λ _ t h s. ap (asks_from side (Close n plus)) h }
 
-  of_lexed : Lexed side (Close n plus) (octets_of side (n, plus))
+  pub of_lexed : Lexed side (Close n plus) (octets_of side (n, plus))
   of_lexed = seq_lexed {M = λ _ o. Is (10 ∷ []) ⨾ Octets n o} (byte_reader 13) (byte_lexed side (Close n plus) 13 (λ _. refl)) cr_leads (λ _. feed_reader) (λ _. feed_lexed)
 
-  of_reader : Reader waits (λ o. Is (13 ∷ []) ⨾ Is (10 ∷ []) ⨾ Octets n o) (octets_of side (n, plus))
+  pub of_reader : Reader waits (λ o. Is (13 ∷ []) ⨾ Is (10 ∷ []) ⨾ Octets n o) (octets_of side (n, plus))
   of_reader = skip_reader (byte_reader 13) feed_reader (after_closed behind_cr)
 
 -- ---- the literal
@@ -288,7 +288,7 @@ octets-after zero plus (b ∷ t) h = absurd (omega (arith, h))
 octets-after (suc n) plus t h = ap (λ (p : Phase). phase p t) (feeds n plus) ∙ in-phase n t h
 
 module _ (side : Side) where
-  abbrev Behind : ℕ × Bool → List ℕ → List ℕ → Type 0
+  abbrev pub Behind : ℕ × Bool → List ℕ → List ℕ → Type 0
   Behind p o = Is (13 ∷ []) ⨾ Is (10 ∷ []) ⨾ Octets p.0 o
 
   measured_reader : Reader waits (ThenBy (LengthText side) Behind) (seq (length_at side) (octets_of side))
@@ -297,7 +297,7 @@ module _ (side : Side) where
   measured_lexed : Lexed side Brace (seq (length_at side) (octets_of side))
   measured_lexed = seq_lexed {M = Behind} (length_reader side) (length_lexed side) (length_leads side) (λ p. of_reader side p.0 p.1) (λ p. of_lexed side p.0 p.1)
 
-  brace_leads : Leads {A = Unit {0}} side Closed Plain (λ _ t. Is (123 ∷ []) t) (λ _. Brace)
+  pub brace_leads : Leads {A = Unit {0}} side Closed Plain (λ _ t. Is (123 ∷ []) t) (λ _. Brace)
   brace_leads = record { after = λ _ t h. ap (phase Plain) h; quiet = λ _ t h s. ap (asks_from side Plain) h }
 
   literal_after : (o t : List ℕ) → Literal side o t → phase Plain t ≡ Plain

@@ -7,3 +7,4 @@ pub mod Lexical
 pub mod Literal
 pub mod Given
 pub mod Answers
+pub mod Filled

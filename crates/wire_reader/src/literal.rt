@@ -2,6 +2,7 @@
 
 ghost use Rattle.std.specs.Prelude.{◌≡◌, ◌≤◌, false, Some};
 ghost use Rattle.std.specs.Option.{ForSome};
+ghost use Rattle.wire_reader.specs.Filled.{filled_literal_at};
 ghost use Rattle.wire_reader.specs.Given.{Gives};
 ghost use Rattle.wire_reader.specs.Literal.{Fits, step_of, length_step, plus_step, length_at, waits_for, octets_at, octets_of, literal_at};
 
@@ -27,6 +28,19 @@ pub fn literal(side: Side, bytes: &[u8]) -> Result<(&[u8], &[u8]), Stop>
     ensures { Gives (λ r. (r.0.now, r.1.now)) result (literal_at side bytes.now) }
 {
     let rest = byte(b'{', bytes)?;
+    let ((n, plus), rest) = length(side, rest)?;
+    octets_of(side, n, plus, rest)
+}
+
+/// Reads a literal of at least one octet; gives its octets and the bytes behind them, of which at least one has to be
+/// there. Its limits are those of `literal`.
+pub fn filled_literal(side: Side, bytes: &[u8]) -> Result<(&[u8], &[u8]), Stop>
+    ensures { Gives (λ r. (r.0.now, r.1.now)) result (filled_literal_at side bytes.now) }
+{
+    let rest = byte(b'{', bytes)?;
+    if let [b'0', ..] = rest {
+        return Err(Stop::Fails(Kind::Syntax, rest.len()));
+    }
     let ((n, plus), rest) = length(side, rest)?;
     octets_of(side, n, plus, rest)
 }
