@@ -21,6 +21,12 @@ abbrev pub of_marks : CoreFault → Failure
 of_marks repeats = MarksRepeat
 of_marks no_room = NoMemory
 
+-- what is told where reading failed
+abbrev pub OfInput : Failure → Type 0
+OfInput Input = Unit {0}
+OfInput NoMemory = Unit {0}
+OfInput _ = ⊥
+
 -- the exit status
 abbrev pub status_of : Failure → ℕ
 status_of Usage = 2

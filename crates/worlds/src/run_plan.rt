@@ -110,6 +110,10 @@ impl From<CoreFault> for Failure {
 }
 
 impl From<io::Error> for Failure {
+    ghost use Rattle.worlds.specs.Failures.{OfInput};
+
+    ghost from_gives = { λ _ e. OfInput e };
+
     fn from(fault: io::Error) -> Failure {
         match fault.kind() {
             ErrorKind::OutOfMemory => Failure::NoMemory,
