@@ -1,5 +1,4 @@
 pub mod AdmissionLemmas
 pub mod EscapeLemmas
 pub mod LineLemmas
-pub mod NumberLemmas
 pub mod WordLemmas

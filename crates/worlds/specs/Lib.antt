@@ -2,6 +2,5 @@ pub mod Admission
 pub mod Escape
 pub mod Failures
 pub mod Lines
-pub mod Number
 pub mod Trial
 pub mod Words

@@ -1,11 +1,9 @@
 //! Worlds, the texts that hold two mailboxes and a state: how they are read and written, and the plan of one.
 #![tactic(auto)]
 
-mod cut;
 pub mod escape;
 pub mod fault;
 pub mod line;
-pub mod number;
 pub mod plan_lines;
 pub mod read;
 mod read_mailbox;

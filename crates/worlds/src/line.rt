@@ -2,9 +2,9 @@
 
 ghost use Rattle.std.specs.Prelude.{◌≡◌, ◌↔◌, ℕ, List, ◌+◌, ◌<◌, ◌≤◌, ◌^◌, length, IfSome, IfNone, OnSome, OnErr, IsOk, IfOk, IfErr};
 
-use crate::cut::cut;
 use crate::fault::WorldFault;
 use mailcore::fault::PushFault;
+use texts::cut::cut;
 
 /// What is left to read of a whole line.
 #[derive(Clone, Copy, Debug)]

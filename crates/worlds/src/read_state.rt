@@ -5,11 +5,11 @@ ghost use Rattle.worlds.specs.Lines.{IsOf, IsUpTo, line_count, line_ends};
 
 use crate::fault::WorldFault;
 use crate::line::{Line, Lines};
-use crate::number::{read_number, read_u32};
 use crate::words::{LAST_UID, read_flags, read_side, split_word};
 use rules::entry::{Entries, Entry};
 use rules::state::SyncState;
 use std::alloc::Global;
+use texts::number::{read_number, read_u32};
 
 /// What the last run recorded, from the next lines.
 pub fn read_state(alloc: Global, lines: &mut Lines<'_>) -> Result<SyncState, WorldFault>

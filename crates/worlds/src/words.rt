@@ -4,10 +4,10 @@ ghost use Rattle.std.specs.Prelude.{◌≡◌, ◌≢◌, ◌+◌, ◌<◌, ◌^
 ghost use Rattle.mailcore.specs.FlagSet.{FLAGS};
 ghost use Rattle.worlds.specs.Words.{flags_word};
 
-use crate::cut::cut;
-use crate::number::read_u32;
 use mailcore::flags::Flags;
 use mailcore::uid::Uid;
+use texts::cut::cut;
+use texts::number::read_u32;
 
 /// The greatest UID.
 pub const LAST_UID: u32 = u32::MAX - 1;

@@ -1,7 +1,7 @@
 use Rattle.std.proofs.Common.{◌≡◌, sym, ◌∙◌, arith, rules}
 use Rattle.std.proofs.lemmas.Fmt.{parse-decimal}
-use Rattle.worlds.proofs.NumberLemmas.{not_decimal, decimal_is_text, parsed_is_decimal}
-use Rattle.worlds.proofs.number.read_number.Goals as goal
+use Rattle.texts.proofs.NumberLemmas.{not_decimal, decimal_is_text, parsed_is_decimal}
+use Rattle.texts.proofs.number.read_number.Goals as goal
 
 pub returns-then-has_sign_or_leading_zero-clause-each : goal.returns-then-has_sign_or_leading_zero-clause-each
 returns-then-has_sign_or_leading_zero-clause-each c = λ n within e. absurd (not_decimal n c.args.bytes.now (omega arith) (search rules) e)

@@ -1,7 +1,10 @@
 //! Numbers in texts: decimal, without sign or leading zero.
 
-ghost use Rattle.std.specs.Prelude.{◌≡◌, ◌≤◌, ℕ, Some, IfSome, decimal};
-ghost use Rattle.worlds.specs.Number.{has_sign_or_leading_zero};
+ghost use Rattle.std.specs.Prelude.{◌≡◌, ◌≤◌, ◌++◌, ℕ, Some, IfSome, OnOk, OnErr, decimal};
+ghost use Rattle.texts.specs.Number.{has_sign_or_leading_zero};
+
+use itoa::Buffer;
+use std::alloc::AllocError;
 
 /// The number that `bytes` spell, or none if they spell no number up to `limit`.
 pub fn read_number(bytes: &[u8], limit: u64) -> Option<u64>
@@ -38,4 +41,13 @@ fn has_sign_or_leading_zero(bytes: &[u8]) -> bool
         [b'0', rest @ ..] => !rest.is_empty(),
         _ => false,
     }
+}
+
+/// Adds the text of a number. `AllocError`: memory ran out, and nothing was added.
+pub fn push_number(text: &mut Vec<u8>, number: u64) -> Result<(), AllocError>
+    ensures ok { OnOk result (text.new.items ≡ text.old.items ++ decimal number) }
+    ensures err { OnErr result (text.new.items ≡ text.old.items) }
+{
+    let mut digits = Buffer::new();
+    text.extend_from_slice(digits.format(number).as_bytes())
 }
