@@ -145,6 +145,14 @@ impl Flags {
         self.bits == 0
     }
 
+    /// Its flags as the bits of a number, which is below 64.
+    pub fn bits(self) -> u32
+        ensures bits { result ≡ self }
+        ensures set { result < 2 ^ FLAGS }
+    {
+        self.bits
+    }
+
     /// The set with these letters, or none unless they are letters of flags and strictly rise in ASCII.
     pub fn from_letters(letters: &[u8]) -> Option<Flags>
         ensures some { IfSome result (λ f. letters.now ≡ letters_of f) }

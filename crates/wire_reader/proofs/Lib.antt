@@ -29,3 +29,5 @@ pub mod Exactly
 pub mod Answering
 pub mod Lines
 pub mod PartFilled
+pub mod Folds
+pub mod TextSpans

@@ -8,3 +8,5 @@ pub mod Literal
 pub mod Given
 pub mod Answers
 pub mod Filled
+pub mod Folding
+pub mod Spans

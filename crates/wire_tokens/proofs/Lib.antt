@@ -1,0 +1,17 @@
+pub mod WritingLemmas
+pub mod NumberLemmas
+pub mod NumberParts
+pub mod SetParts
+pub mod SetWriting
+pub mod AtomParts
+pub mod FlagParts
+pub mod NameParts
+pub mod SpacedNames
+pub mod WrittenFlags
+pub mod QuoteSteps
+pub mod QuoteParts
+pub mod PartUnless
+pub mod TextParts
+pub mod DelimiterParts
+pub mod StringParts
+pub mod StringWriting

@@ -1,0 +1,12 @@
+pub mod Writing
+pub mod Numbers
+pub mod Sets
+pub mod Atoms
+pub mod FlagLists
+pub mod FlagWriting
+pub mod Names
+pub mod Texts
+pub mod Quotes
+pub mod Delimiters
+pub mod Literals
+pub mod Strings

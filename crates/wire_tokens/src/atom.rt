@@ -1,0 +1,131 @@
+//! Atoms (RFC 9051, section 9: atom).
+
+ghost use Rattle.std.specs.Prelude.{◌≡◌, ◌≤◌, length, OnOk, OnErr};
+ghost use Rattle.std.specs.List.{list_all};
+ghost use Rattle.std.specs.Option.{SomeIff};
+ghost use Rattle.wire_reader.specs.Given.{Gives};
+ghost use Rattle.wire_tokens.specs.Atoms.{is_atom_byte, IsAtom, AtomText, atom_at};
+ghost use Rattle.wire_tokens.specs.Writing.{Appended};
+
+use std::alloc::AllocError;
+use std::marker::Model;
+use wire_reader::stop::{Kind, Stop};
+
+/// The greatest number of bytes of an atom.
+pub const ATOM_MAX: usize = 255;
+
+/// An atom: 1 to 255 bytes of 33 to 126 except `( ) { % * " \ ]`, lent.
+#[derive(Debug, Drop)]
+pub struct Atom<'a> {
+    text: &'a [u8],
+}
+
+impl<'a> Model for Atom<'a> {
+    ghost use Rattle.std.specs.Prelude.{ℕ, List};
+    ghost use Rattle.wire_tokens.specs.Atoms.{IsAtom};
+
+    ghost Value = { List ℕ };
+
+    ghost view = { λ a. a.text.now };
+
+    ghost invariant = { λ a. IsAtom a.text.now };
+}
+
+impl<'a> Atom<'a> {
+    /// The atom that these bytes are, or none if they are none.
+    pub fn read(bytes: &'a [u8]) -> Option<Atom<'a>>
+        ensures { SomeIff result (IsAtom bytes.now) bytes.now }
+    {
+        if !bytes.is_empty() && bytes.len() <= ATOM_MAX && all_atom_bytes(bytes) {
+            Some(Atom { text: bytes })
+        } else {
+            None
+        }
+    }
+
+    /// Its bytes.
+    pub fn text(&self) -> &'a [u8]
+        ensures same { result.now ≡ self.now }
+        ensures atom { IsAtom result.now }
+    {
+        self.text
+    }
+
+    /// Writes it at the end.
+    ///
+    /// `AllocError`: memory ran out, and nothing is written.
+    pub fn write(&self, out: &mut Vec<u8>) -> Result<(), AllocError>
+        ensures ok { OnOk result (Appended (AtomText self.now) out.old.items out.new.items) }
+        ensures err { OnErr result (out.new.items ≡ out.old.items) }
+    {
+        out.extend_from_slice(self.text())
+    }
+}
+
+/// Reads an atom; gives it and the bytes behind it, of which at least one has to be there.
+pub fn read_atom(bytes: &[u8]) -> Result<(Atom<'_>, &[u8]), Stop>
+    ensures { Gives (λ r. (r.0, r.1.now)) result (atom_at bytes.now) }
+{
+    for (i, b) in bytes.iter().enumerate() {
+        if is_atom_byte(*b) {
+            if i >= ATOM_MAX {
+                return Err(Stop::Fails(Kind::Syntax, bytes.len() - i));
+            }
+        } else if i == 0 {
+            return Err(Stop::Fails(Kind::Syntax, bytes.len()));
+        } else {
+            let (text, rest) = bytes.split_at(i);
+            return Ok((Atom { text }, rest));
+        }
+    }
+    Err(Stop::Ends(None))
+}
+
+fn all_atom_bytes(bytes: &[u8]) -> bool
+    ensures { result ≡ list_all is_atom_byte bytes.now }
+{
+    bytes.iter().all(|&b| is_atom_byte(b))
+}
+
+/// Whether the byte may stand in an atom.
+pub fn is_atom_byte(b: u8) -> bool
+    ensures { result ≡ is_atom_byte b }
+{
+    33 <= b && b <= 126 && !matches!(b, b'"' | b'%' | b'(' | b')' | b'*' | b'\\' | b']' | b'{')
+}
+
+#[cfg(test)]
+mod tests {
+    use super::*;
+    use std::test::Fail;
+
+    #[test]
+    fn an_atom_ends_before_a_special(rt: HostRuntime) -> Result<(), Fail> {
+        for (bytes, text) in [
+            (b"INBOX\r\n".as_slice(), b"INBOX".as_slice()),
+            (b"a(b", b"a"),
+            (b"x-1.{3}", b"x-1."),
+        ] {
+            let (atom, rest) = read_atom(bytes)?;
+            assert_eq!(rt; atom.text(), text);
+            assert_eq!(rt; rest.len(), bytes.len() - text.len());
+        }
+        Ok(())
+    }
+
+    #[test]
+    fn an_atom_has_1_to_255_bytes(rt: HostRuntime) -> Result<(), Fail> {
+        let long = [b'a'; 256];
+        assert_eq!(rt; read_atom(b"(").err(), Some(Stop::Fails(Kind::Syntax, 1)));
+        assert_eq!(rt; read_atom(&long).err(), Some(Stop::Fails(Kind::Syntax, 1)));
+        assert_eq!(rt; read_atom(b"INBOX").err(), Some(Stop::Ends(None)));
+        assert!(rt; Atom::read(&long[1..]).is_some());
+        assert!(rt; Atom::read(&long).is_none());
+        assert!(rt; Atom::read(b"").is_none());
+        assert!(rt; Atom::read(b"a b").is_none());
+        let mut out = Vec::new(rt.alloc());
+        Atom::read(b"INBOX").ok_or("not an atom")?.write(&mut out)?;
+        assert_eq!(rt; out.as_slice(), b"INBOX".as_slice());
+        Ok(())
+    }
+}

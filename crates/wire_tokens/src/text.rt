@@ -1,0 +1,136 @@
+//! The bytes for which atoms and strings stand (RFC 9051, section 9: astring).
+
+ghost use Rattle.std.specs.Prelude.{◌≡◌, IfOk, OnOk, OnErr};
+ghost use Rattle.std.specs.Option.{SomeIff};
+ghost use Rattle.wire_reader.specs.Given.{GivesOr};
+ghost use Rattle.wire_tokens.specs.Literals.{IsValue};
+ghost use Rattle.wire_tokens.specs.Strings.{OnEitherSide, ValueText, value_of, value_at};
+ghost use Rattle.wire_tokens.specs.Writing.{Appended};
+
+use crate::astring::{AString, read_astring};
+use crate::line_text::all_text;
+use crate::octets::Octets;
+use crate::string_writing::{write_literal, write_quoted};
+use std::alloc::{AllocError, Global};
+use std::marker::Model;
+use wire_reader::side::Side;
+use wire_reader::stop::ReadError;
+
+/// Bytes for which a quoted string or a literal stands: all of them are 32 to 255 except 127, or they are at most
+/// 16777238 and none is 0.
+#[derive(Debug, Drop)]
+pub struct Text {
+    bytes: Vec<u8>,
+}
+
+impl Model for Text {
+    ghost use Rattle.std.specs.Prelude.{ℕ, List};
+    ghost use Rattle.wire_tokens.specs.Literals.{IsValue};
+
+    ghost Value = { List ℕ };
+
+    ghost view = { λ t. t.bytes.items };
+
+    ghost invariant = { λ t. IsValue t.bytes.items };
+}
+
+impl Text {
+    /// These bytes, without taking memory, or none if no string stands for them.
+    pub fn from_vec(bytes: Vec<u8>) -> Option<Text>
+        ensures { SomeIff result (IsValue bytes.items) bytes.items }
+    {
+        if all_text(&bytes) || Octets::read(&bytes).is_some() {
+            Some(Text { bytes })
+        } else {
+            None
+        }
+    }
+
+    /// The bytes for which an atom or a string stands.
+    ///
+    /// `AllocError`: memory ran out.
+    pub fn of(alloc: Global, string: &AString<'_>) -> Result<Text, AllocError>
+        ensures { IfOk result (λ text. text ≡ value_of string.now) }
+    {
+        let bytes = match string {
+            AString::Atom(atom) => Vec::from_slice(alloc, atom.text())?,
+            AString::Quoted(quoted) => quoted.value(alloc)?,
+            AString::Literal(octets) => Vec::from_slice(alloc, octets.bytes())?,
+        };
+        Ok(Text { bytes })
+    }
+
+    /// The bytes.
+    pub fn as_slice(&self) -> &[u8]
+        ensures same { result.now ≡ self.now }
+        ensures value { IsValue result.now }
+    {
+        &self.bytes
+    }
+
+    /// Writes a string that stands for the bytes: quoted where it can be, else a literal.
+    ///
+    /// `AllocError`: memory ran out, and nothing is written.
+    pub fn write(&self, out: &mut Vec<u8>) -> Result<(), AllocError>
+        ensures ok { OnOk result (Appended (OnEitherSide (λ side. ValueText side self.now)) out.old.items out.new.items) }
+        ensures err { OnErr result (out.new.items ≡ out.old.items) }
+    {
+        match Octets::read(&self.bytes) {
+            Some(octets) if !all_text(&self.bytes) => write_literal(&octets, out),
+            _ => write_quoted(&self.bytes, out),
+        }
+    }
+}
+
+/// Reads an atom or a string, behind which a byte has to stand that is no byte of an atom; gives the bytes for which it
+/// stands.
+pub fn read_text(alloc: Global, side: Side, bytes: &[u8]) -> Result<(Text, &[u8]), ReadError>
+    ensures { GivesOr (λ r. (r.0, r.1.now)) result (value_at side bytes.now) }
+{
+    let (string, rest) = read_astring(side, bytes)?;
+    let text = Text::of(alloc, &string)?;
+    Ok((text, rest))
+}
+
+#[cfg(test)]
+mod tests {
+    use super::*;
+    use std::test::Fail;
+    use wire_reader::stop::Stop;
+
+    #[test]
+    fn atoms_quoted_strings_and_literals_stand_for_bytes(rt: HostRuntime) -> Result<(), Fail> {
+        for bytes in [
+            b"inbox ".as_slice(),
+            b"\"inbox\" ".as_slice(),
+            b"{5+}\r\ninbox ".as_slice(),
+        ] {
+            let (text, rest) = read_text(rt.alloc(), Side::Commands, bytes).map_err(|_| "refused")?;
+            assert_eq!(rt; text.as_slice(), b"inbox".as_slice());
+            assert_eq!(rt; rest, b" ".as_slice());
+        }
+        Ok(())
+    }
+
+    #[test]
+    fn a_client_waits_behind_a_length(rt: HostRuntime) {
+        match read_text(rt.alloc(), Side::Commands, b"{5}\r\n") {
+            Err(ReadError::At(Stop::Ends(asked))) => assert_eq!(rt; asked, Some(5)),
+            _ => assert!(rt; false, "waits"),
+        }
+    }
+
+    #[test]
+    fn texts_are_written_quoted_or_as_literals(rt: HostRuntime) -> Result<(), Fail> {
+        let mut out = Vec::new(rt.alloc());
+        let quoted = Text::from_vec(Vec::from_slice(rt.alloc(), b"a\"b")?).ok_or("no text")?;
+        quoted.write(&mut out)?;
+        assert_eq!(rt; out.as_slice(), b"\"a\\\"b\"".as_slice());
+        let literal = Text::from_vec(Vec::from_slice(rt.alloc(), b"a\r\n")?).ok_or("no text")?;
+        literal.write(&mut out)?;
+        assert_eq!(rt; out.as_slice(), b"\"a\\\"b\"{3}\r\na\r\n".as_slice());
+        let nul = Vec::from_slice(rt.alloc(), b"a\0")?;
+        assert!(rt; Text::from_vec(nul).is_none());
+        Ok(())
+    }
+}

@@ -1,0 +1,318 @@
+//! Sets of UIDs (RFC 9051, section 9: sequence-set).
+
+ghost use Rattle.std.specs.Prelude.{◌≡◌, ◌<◌, ◌∷◌, [], length, IsTrue, ◌↔◌, None, Some, OnOk, OnErr, IfOk, SomeIff};
+ghost use Rattle.wire_reader.specs.Given.{Gives, GivesOr};
+ghost use Rattle.wire_reader.specs.Listing.{ended_by};
+ghost use Rattle.wire_reader.specs.Spelling.{is_digit};
+ghost use Rattle.wire_tokens.specs.Writing.{Appended, Extended};
+ghost use Rattle.wire_tokens.specs.Sets.{EndText, ItemText, SetText, end_of, Between, ItemNames, Names, end_at, second_at, item_at, set_at};
+
+use crate::number::{NonZero, nz};
+use mailcore::uid::Uid;
+use std::alloc::{AllocError, Global};
+use std::marker::Model;
+use wire_reader::punctuation::{byte, separator};
+use wire_reader::stop::{Kind, ReadError, Stop};
+
+/// One end of a range, or a UID alone.
+#[derive(Debug, Drop, PartialEq, Eq)]
+pub enum SetEnd {
+    /// This number.
+    Number(NonZero),
+    /// `*`: the greatest UID of the mailbox.
+    Greatest,
+}
+
+/// A part of a set.
+#[derive(Debug, Drop, PartialEq, Eq)]
+pub enum SetItem {
+    /// One UID.
+    One(SetEnd),
+    /// The UIDs from one end to the other, of which either may be the lower.
+    Range(SetEnd, SetEnd),
+}
+
+/// A set of UIDs: one or more items.
+#[derive(Debug, Drop)]
+pub struct UidSet {
+    items: Vec<SetItem>,
+}
+
+impl Model for UidSet {
+    ghost use Rattle.std.specs.Prelude.{List, ◌<◌, length};
+    ghost use Rattle.wire_tokens.specs.declared.uid_set.SetItem.{SetItem};
+
+    ghost Value = { List SetItem };
+
+    ghost view = { λ set. set.items.items };
+
+    ghost invariant = { λ set. 0 < length set.items.items };
+}
+
+impl UidSet {
+    /// The set of these items, or none where there is none.
+    pub fn new(items: Vec<SetItem>) -> Option<UidSet>
+        ensures { SomeIff result (0 < length items.items) items.items }
+    {
+        if items.is_empty() {
+            None
+        } else {
+            Some(UidSet { items })
+        }
+    }
+
+    /// The set of this UID alone. `AllocError`: memory ran out.
+    pub fn one(alloc: Global, uid: Uid) -> Result<UidSet, AllocError>
+        ensures { IfOk result (λ set. set ≡ SetItem.One (SetEnd.Number uid) ∷ []) }
+    {
+        let mut items = Vec::new(alloc);
+        items.push(SetItem::One(SetEnd::Number(NonZero::from(uid))))?;
+        Ok(UidSet { items })
+    }
+
+    /// The items of the set, of which there is at least one.
+    pub fn items(&self) -> &[SetItem]
+        ensures items { result.now ≡ self.now }
+        ensures some { 0 < length result.now }
+    {
+        self.items.as_slice()
+    }
+
+    /// Whether the set names this UID, where `greatest` is the greatest UID of the mailbox. In an empty mailbox, where
+    /// there is none, it names nothing.
+    pub fn names(&self, uid: Uid, greatest: Option<Uid>) -> bool
+        ensures { IsTrue result ↔ Names greatest self.now uid }
+    {
+        match greatest {
+            None => false,
+            Some(greatest) => self
+                .items
+                .iter()
+                .any(|item| item.names(uid.get(), greatest.get())),
+        }
+    }
+
+    /// Appends the set. `AllocError`: memory ran out, and nothing was appended.
+    pub fn write(&self, out: &mut Vec<u8>) -> Result<(), AllocError>
+        ensures ok { OnOk result (Appended (SetText self.now) out.old.items out.new.items) }
+        ensures err { OnErr result (out.new.items ≡ out.old.items) }
+    {
+        let start = out.len();
+        let written = write_items(&self.items, out);
+        if written.is_err() {
+            out.truncate(start);
+        }
+        written
+    }
+}
+
+impl SetItem {
+    fn names(&self, uid: u32, greatest: u32) -> bool
+        ensures { IsTrue result ↔ ItemNames greatest uid self.now }
+    {
+        match self {
+            SetItem::One(end) => uid == end.number(greatest),
+            SetItem::Range(first, second) => {
+                let (first, second) = (first.number(greatest), second.number(greatest));
+                (first <= uid && uid <= second) || (second <= uid && uid <= first)
+            }
+        }
+    }
+
+    fn write(&self, out: &mut Vec<u8>) -> Result<(), AllocError>
+        ensures ok { OnOk result (Appended (ItemText self.now) out.old.items out.new.items) }
+        ensures err { OnErr result (Extended out.old.items out.new.items) }
+    {
+        match self {
+            SetItem::One(end) => end.write(out),
+            SetItem::Range(first, second) => {
+                first.write(out)?;
+                out.extend_from_slice(b":")?;
+                second.write(out)
+            }
+        }
+    }
+}
+
+impl SetEnd {
+    fn number(&self, greatest: u32) -> u32
+        ensures { result ≡ end_of greatest self.now }
+    {
+        match self {
+            SetEnd::Number(number) => number.get(),
+            SetEnd::Greatest => greatest,
+        }
+    }
+
+    fn write(&self, out: &mut Vec<u8>) -> Result<(), AllocError>
+        ensures ok { OnOk result (Appended (EndText self.now) out.old.items out.new.items) }
+        ensures err { OnErr result (out.new.items ≡ out.old.items) }
+    {
+        match self {
+            SetEnd::Number(number) => number.write(out),
+            SetEnd::Greatest => out.extend_from_slice(b"*"),
+        }
+    }
+}
+
+/// Appends items with `,` between. Where memory runs out, a part of them may have been appended.
+fn write_items(items: &[SetItem], out: &mut Vec<u8>) -> Result<(), AllocError>
+    requires { 0 < length items.now }
+    ensures ok { OnOk result (Appended (SetText items.now) out.old.items out.new.items) }
+    ensures err { OnErr result (Extended out.old.items out.new.items) }
+{
+    for (i, item) in items.iter().enumerate() {
+        if i > 0 {
+            out.extend_from_slice(b",")?;
+        }
+        item.write(out)?;
+    }
+    Ok(())
+}
+
+/// Reads a set of UIDs; gives it and the bytes behind it, of which the first is no digit, `:` or `,`.
+pub fn uid_set(alloc: Global, bytes: &[u8]) -> Result<(UidSet, &[u8]), ReadError>
+    ensures { GivesOr (λ r. (r.0, r.1.now)) result (set_at bytes.now) }
+{
+    let mut items = Vec::new(alloc);
+    let mut rest = bytes;
+    for _ in 0..=bytes.len() {
+        let (item, after) = item(rest)?;
+        items.push(item)?;
+        match separator(b',', after)? {
+            Some(next) => rest = next,
+            None => return Ok((UidSet { items }, after)),
+        }
+    }
+    Err(ReadError::At(Stop::Ends(None)))
+}
+
+/// An item of a set.
+#[tactic(auto, unfolding(crate::specs::Sets::item_at))]
+fn item(bytes: &[u8]) -> Result<(SetItem, &[u8]), Stop>
+    ensures { Gives (λ r. (r.0, r.1.now)) result (item_at bytes.now) }
+{
+    let (first, rest) = end(bytes)?;
+    match separator(b':', rest)? {
+        Some(rest) => {
+            let (second, rest) = second_end(rest)?;
+            Ok((SetItem::Range(first, second), rest))
+        }
+        None => Ok((SetItem::One(first), rest)),
+    }
+}
+
+/// The second end of a range, behind which no `:` stands.
+#[tactic(auto, unfolding(crate::specs::Sets::second_at))]
+fn second_end(bytes: &[u8]) -> Result<(SetEnd, &[u8]), Stop>
+    ensures { Gives (λ r. (r.0, r.1.now)) result (second_at bytes.now) }
+{
+    let (end, rest) = end(bytes)?;
+    match rest {
+        [] => Err(Stop::Ends(None)),
+        [b':', ..] => Err(Stop::Fails(Kind::Syntax, rest.len())),
+        _ => Ok((end, rest)),
+    }
+}
+
+/// A number or `*`, behind which no digit stands.
+#[tactic(auto, unfolding(crate::specs::Sets::end_at))]
+fn end(bytes: &[u8]) -> Result<(SetEnd, &[u8]), Stop>
+    ensures { Gives (λ r. (r.0, r.1.now)) result (end_at bytes.now) }
+{
+    match bytes {
+        [] => Err(Stop::Ends(None)),
+        [b'*', rest @ ..] => behind_star(rest),
+        _ => {
+            let (number, rest) = nz(bytes)?;
+            Ok((SetEnd::Number(number), rest))
+        }
+    }
+}
+
+/// The end `*`, where these bytes stand behind it.
+fn behind_star(bytes: &[u8]) -> Result<(SetEnd, &[u8]), Stop>
+    ensures { Gives (λ r. (r.0, r.1.now)) result (ended_by is_digit SetEnd.Greatest bytes.now) }
+{
+    match bytes {
+        [] => Err(Stop::Ends(None)),
+        [b, ..] => {
+            if b.is_ascii_digit() {
+                Err(Stop::Fails(Kind::Syntax, bytes.len()))
+            } else {
+                Ok((SetEnd::Greatest, bytes))
+            }
+        }
+    }
+}
+
+#[cfg(test)]
+mod tests {
+    use super::*;
+    use std::test::Fail;
+
+    const SETS: [&[u8]; 4] = [b"1", b"*", b"559:*", b"1,4294967295:3,*:*"];
+
+    #[test]
+    fn sets_are_read_and_written(rt: HostRuntime) -> Result<(), Fail> {
+        for text in SETS {
+            let mut line = Vec::from_slice(rt.alloc(), text)?;
+            line.push(b' ')?;
+            let (set, rest) = uid_set(rt.alloc(), &line)?;
+            assert_eq!(rt; rest, b" ".as_slice());
+            let mut out = Vec::new(rt.alloc());
+            set.write(&mut out)?;
+            assert_eq!(rt; out.as_slice(), text);
+        }
+        Ok(())
+    }
+
+    #[test]
+    fn other_texts_are_no_sets(rt: HostRuntime) {
+        let refused: [(&[u8], usize); 6] = [
+            (b"0 ", 2),
+            (b"1, ", 1),
+            (b"1:2:3 ", 3),
+            (b"*1 ", 2),
+            (b"1:: ", 2),
+            (b", ", 2),
+        ];
+        for (text, left) in refused {
+            match uid_set(rt.alloc(), text) {
+                Err(ReadError::At(stop)) => {
+                    assert_eq!(rt; stop, Stop::Fails(Kind::Syntax, left))
+                }
+                _ => assert!(rt; false, "it is read"),
+            }
+        }
+    }
+
+    /// Whether the set with this text names the UID.
+    fn names(rt: &HostRuntime, text: &[u8], uid: u32, greatest: Option<u32>) -> Result<bool, Fail> {
+        let (set, _) = uid_set(rt.alloc(), text)?;
+        let uid = Uid::new(uid).ok_or("no UID")?;
+        Ok(set.names(uid, greatest.and_then(Uid::new)))
+    }
+
+    #[test]
+    fn sets_name_uids(rt: HostRuntime) -> Result<(), Fail> {
+        assert!(rt; names(&rt, b"559:* ", 300, Some(300))?, "the greatest");
+        assert!(rt; !names(&rt, b"559:* ", 299, Some(300))?);
+        assert!(rt; !names(&rt, b"559:* ", 560, Some(300))?);
+        assert!(rt; names(&rt, b"9:7 ", 8, Some(300))?, "backward");
+        assert!(rt; names(&rt, b"1,* ", 300, Some(300))?);
+        assert!(rt; !names(&rt, b"1,3 ", 2, Some(300))?);
+        assert!(rt; !names(&rt, b"1:* ", 1, None)?, "an empty mailbox");
+        Ok(())
+    }
+
+    #[test]
+    fn a_set_is_made(rt: HostRuntime) -> Result<(), Fail> {
+        let uid = Uid::new(7).ok_or("no UID")?;
+        let set = UidSet::one(rt.alloc(), uid)?;
+        assert_eq!(rt; set.items().len(), 1);
+        assert!(rt; set.names(uid, Some(uid)));
+        assert!(rt; UidSet::new(Vec::new(rt.alloc())).is_none());
+        Ok(())
+    }
+}
