@@ -53,7 +53,7 @@ module _ {T A : Type 0} {L : A → List ℕ → Type 0} {r : List ℕ → Result
   stopped_says (Fails kinds.Syntax n) h = (fault_is p xs kinds.Syntax n h, over-false _ (kind_is kinds.Syntax n h))
   stopped_says (Fails kinds.TooLong n) h = (fault_is p xs kinds.TooLong n h, over-true _ (kind_is kinds.TooLong n h))
 
-  answered_says : (o : Result (T × Bor (List ℕ)) ReadError) → GivesOr (λ x. (view x.0, x.1.now)) o (r xs) → Unlimited side view L xs (answered (length xs) o)
+  pub answered_says : (o : Result (T × Bor (List ℕ)) ReadError) → GivesOr (λ x. (view x.0, x.1.now)) o (r xs) → Unlimited side view L xs (answered (length xs) o)
   answered_says (Ok x) h = whole_is p xs (view x.0) x.1.now h
   answered_says (Err (At s)) h = stopped_says s h
   answered_says (Err Memory) h = tt

@@ -31,3 +31,4 @@ pub mod Lines
 pub mod PartFilled
 pub mod Folds
 pub mod TextSpans
+pub mod Decisive

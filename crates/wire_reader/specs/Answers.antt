@@ -101,6 +101,16 @@ answered len (Ok x) = Ok (Whole x.0 (len - length (x.1.now)))
 answered len (Err (At stop)) = stopped len stop
 answered len (Err Memory) = Err NoMemory
 
+-- the bytes that decide an answer: those of the whole, those up to and with the one that is refused, or all
+abbrev pub decisive : {T : Type 0} → Result (Read T) WireFault → List ℕ → List ℕ
+decisive (Ok (Whole value used)) xs = take used xs
+decisive (Ok (WantsLiteral n)) xs = xs
+decisive (Ok Partial) xs = xs
+decisive (Err (Syntax at)) xs = take (suc at) xs
+decisive (Err LineTooLong) xs = xs
+decisive (Err (LiteralTooLong at)) xs = take (suc at) xs
+decisive (Err NoMemory) xs = xs
+
 -- the fault in the bytes up to the first that is too many, as one of all of them
 abbrev pub fault_within : ℕ → WireFault → WireFault
 fault_within end (Syntax at) = if nat_lt at (end - 1) then Syntax at else LineTooLong

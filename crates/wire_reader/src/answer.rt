@@ -1,7 +1,7 @@
 //! The answer of a reader of whole lines.
 
-ghost use Rattle.std.specs.Prelude.{◌≡◌};
-ghost use Rattle.wire_reader.specs.Answers.{stopped, answered, fault_within, within};
+ghost use Rattle.std.specs.Prelude.{◌≡◌, suc, take};
+ghost use Rattle.wire_reader.specs.Answers.{stopped, answered, decisive, fault_within, within};
 
 use crate::stop::{Kind, ReadError, Stop};
 use thiserror::Error;
@@ -56,6 +56,41 @@ pub fn answered<T>(read: Result<(T, &[u8]), ReadError>, len: usize) -> Result<Re
         Ok((value, rest)) => Ok(Read::Whole(value, len.saturating_sub(rest.len()))),
         Err(ReadError::Memory) => Err(WireFault::NoMemory),
         Err(ReadError::At(stop)) => stopped(stop, len),
+    }
+}
+
+/// The bytes that decide the answer on these: those of the whole, those up to and with the one that is refused, or all.
+/// So the limit of a line is looked for in that line alone.
+pub fn decisive<'a, T>(answer: &Result<Read<T>, WireFault>, bytes: &'a [u8]) -> &'a [u8]
+    ensures { result.now ≡ decisive answer.now bytes.now }
+{
+    match answer {
+        Ok(Read::Whole(_, used)) => front(*used, bytes),
+        Err(WireFault::Syntax(at)) => front_with(*at, bytes),
+        Err(WireFault::LiteralTooLong(at)) => front_with(*at, bytes),
+        _ => bytes,
+    }
+}
+
+/// The first so many of the bytes, or all.
+fn front(count: usize, bytes: &[u8]) -> &[u8]
+    ensures { result.now ≡ take count bytes.now }
+{
+    if count < bytes.len() {
+        &bytes[..count]
+    } else {
+        bytes
+    }
+}
+
+/// The bytes up to and with the one at this place, or all.
+fn front_with(at: usize, bytes: &[u8]) -> &[u8]
+    ensures { result.now ≡ take (suc at) bytes.now }
+{
+    if at < bytes.len() {
+        &bytes[..=at]
+    } else {
+        bytes
     }
 }
 
