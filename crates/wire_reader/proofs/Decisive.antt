@@ -17,7 +17,7 @@ use Rattle.wire_reader.specs.Answers.{Answers, answered, decisive, within}
 use Rattle.wire_reader.proofs.Limits as limits
 use Rattle.wire_reader.proofs.Reader.{Closed}
 use Rattle.wire_reader.proofs.Part.{Part}
-use Rattle.wire_reader.proofs.Answering.{Unlimited, answered_says}
+use Rattle.wire_reader.proofs.Answering.{Unlimited, answered_says, end_le}
 use Rattle.wire_reader.proofs.Lines.{line_within}
 
 -- ---- a limit that is passed in a front of the bytes is passed there in all of them
@@ -43,10 +43,7 @@ limit_in_front (b ∷ bs) (suc n) p room at end h =
           ]
     ]
 
-abbrev passed_at : List ℕ → ℕ → Type 0
-passed_at xs end = limit_from Plain 65536 0 xs ≡ Some end
-
-pub limit_passed : {T : Type 0} (answer : Result (Read T) WireFault) (xs : List ℕ) (end : ℕ) → passed_at (decisive answer xs) end → passed_at xs end
+pub limit_passed : {T : Type 0} (answer : Result (Read T) WireFault) (xs : List ℕ) (end : ℕ) → limit_from Plain 65536 0 (decisive answer xs) ≡ Some end → limit_from Plain 65536 0 xs ≡ Some end
 limit_passed (Ok (Whole value used)) xs end h = limit_in_front xs used Plain 65536 0 end h
 limit_passed (Ok (WantsLiteral n)) xs end h = h
 limit_passed (Ok Partial) xs end h = h
@@ -70,11 +67,21 @@ module _ {T A : Type 0} (side : Side) (view : T → A) (L : A → List ℕ → T
       (a.0, omega (arith, w, m), a.1)
   decided (Err NoMemory) a h = tt
 
-module _ {A : Type 0} {side : Side} {k : Bool} {L : A → List ℕ → Type 0} {r : List ℕ → Result (A × List ℕ) Stop} (p : Part side k Closed L r) {T : Type 0} (view : T → A) (xs : List ℕ) where
-  -- the limit is kept
-  pub line_kept : (o : Result (T × Bor (List ℕ)) ReadError) (answer : Result (Read T) WireFault) → GivesOr (λ x. (view x.0, x.1.now)) o (r xs) → answer ≡ answered (length xs) o → limit_from Plain 65536 0 (decisive answer xs) ≡ None → Answers side view L xs answer
-  line_kept o answer g e h = decided side view L xs answer (subst (Unlimited side view L xs) (sym e) (answered_says side view p.reader p.lexed xs o g)) h
+-- the bytes that decide are passed as a list of their own, as a function of the program has them
+module _ {T : Type 0} (answer : Result (Read T) WireFault) (xs deciding : List ℕ) (these : deciding ≡ decisive answer xs) where
+  passed_in_all : (end : ℕ) → limit_from Plain 65536 0 deciding ≡ Some end → limit_from Plain 65536 0 xs ≡ Some end
+  passed_in_all end h = limit_passed answer xs end (subst (λ (d : List ℕ). limit_from Plain 65536 0 d ≡ Some end) these h)
 
-  -- the limit is passed, and the bytes up to `end` were read again
-  pub line_passed : (first : Result (Read T) WireFault) (o : Result (T × Bor (List ℕ)) ReadError) (end : ℕ) (front answer : Result (Read T) WireFault) → limit_from Plain 65536 0 (decisive first xs) ≡ Some end → GivesOr (λ x. (view x.0, x.1.now)) o (r (take end xs)) → front ≡ answered end o → answer ≡ within end front → Answers side view L xs answer
-  line_passed first o end front answer h g e f = line_within p view xs o end front answer (limit_passed first xs end h) g e f
+  pub end_within : (end : ℕ) → limit_from Plain 65536 0 deciding ≡ Some end → end ≤ length xs
+  end_within end h = end_le xs end (passed_in_all end h)
+
+  module _ {A : Type 0} {side : Side} {k : Bool} {L : A → List ℕ → Type 0} {r : List ℕ → Result (A × List ℕ) Stop} (p : Part side k Closed L r) (view : T → A) where
+    -- the limit is kept
+    pub line_kept : (o : Result (T × Bor (List ℕ)) ReadError) → GivesOr (λ x. (view x.0, x.1.now)) o (r xs) → answer ≡ answered (length xs) o → limit_from Plain 65536 0 deciding ≡ None → Answers side view L xs answer
+    line_kept o g e h =
+        decided side view L xs answer (subst (Unlimited side view L xs) (sym e) (answered_says side view p.reader p.lexed xs o g))
+        (subst (λ (d : List ℕ). limit_from Plain 65536 0 d ≡ None) these h)
+
+    -- the limit is passed, and the bytes up to `end` are read again
+    pub line_passed : (o : Result (T × Bor (List ℕ)) ReadError) (end : ℕ) (front last : Result (Read T) WireFault) → limit_from Plain 65536 0 deciding ≡ Some end → GivesOr (λ x. (view x.0, x.1.now)) o (r (take end xs)) → front ≡ answered end o → last ≡ within end front → Answers side view L xs last
+    line_passed o end front last h g e f = line_within p view xs o end front last (passed_in_all end h) g e f
