@@ -1,1 +1,2 @@
+pub mod EscapeLemmas
 pub mod NumberLemmas

@@ -1,1 +1,2 @@
+pub mod Escape
 pub mod Number

@@ -1,4 +1,3 @@
 pub mod AdmissionLemmas
-pub mod EscapeLemmas
 pub mod LineLemmas
 pub mod WordLemmas

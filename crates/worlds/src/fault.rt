@@ -36,25 +36,3 @@ impl<T: Drop> From<AllocFailed<T>> for WorldFault {
         WorldFault::NoMemory
     }
 }
-
-/// Why bytes were not read from their escaped text.
-#[derive(Clone, Copy, Debug, PartialEq, Eq, Error)]
-pub enum EscapeFault {
-    /// The text is the spelling of no bytes.
-    #[error("not escaped")]
-    NotEscaped,
-    /// Memory ran out.
-    #[error("no memory")]
-    NoMemory,
-}
-
-impl<T: Drop> From<AllocFailed<T>> for EscapeFault {
-    ghost use Rattle.std.specs.Prelude.{◌≡◌};
-    ghost use Rattle.worlds.specs.declared.fault.EscapeFault.TheVariants.{NoMemory};
-
-    ghost from_gives = { λ _ e. e ≡ NoMemory };
-
-    fn from(_fault: AllocFailed<T>) -> EscapeFault {
-        EscapeFault::NoMemory
-    }
-}

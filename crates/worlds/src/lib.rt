@@ -1,7 +1,6 @@
 //! Worlds, the texts that hold two mailboxes and a state: how they are read and written, and the plan of one.
 #![tactic(auto)]
 
-pub mod escape;
 pub mod fault;
 pub mod line;
 pub mod plan_lines;

@@ -4,8 +4,7 @@ ghost use Rattle.std.specs.Prelude.{◌≡◌, ◌+◌, ◌<◌, ◌≤◌, ◌^
 ghost use Rattle.worlds.specs.Lines.{IsOf, IsUpTo, line_count, line_ends};
 ghost use Rattle.worlds.specs.Admission.{message_of};
 
-use crate::escape::unescape;
-use crate::fault::{EscapeFault, WorldFault};
+use crate::fault::WorldFault;
 use crate::line::{Line, Lines};
 use crate::words::{read_flags, read_positive, read_uid, split_word};
 use crate::world::{Waiting, WaitingFile};
@@ -18,6 +17,8 @@ use mailcore::side::Side;
 use mailcore::uid::Uid;
 use memchr::memchr;
 use std::alloc::Global;
+use texts::escape::unescape;
+use texts::fault::EscapeFault;
 
 /// The greatest number of bytes of a far message: 16777216 and a mark line of 22.
 pub const FAR_BYTES_MAX: usize = 16_777_238;

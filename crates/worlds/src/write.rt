@@ -1,6 +1,5 @@
 //! How the text of a world is written (docs/FORMATS.md, "World").
 
-use crate::escape::push_escaped;
 use crate::plan_lines::{FlagsWord, side_word};
 use crate::world::{WaitingFile, World};
 use mailcore::flags::Flags;
@@ -10,6 +9,7 @@ use mailcore::side::Side;
 use rules::options::{Cells, Options, Sides};
 use rules::state::SyncState;
 use std::alloc::AllocError;
+use texts::escape::push_escaped;
 
 /// Adds the text of a world.
 pub fn write_world(text: &mut String, world: &World) -> Result<(), AllocError> {

@@ -1,6 +1,6 @@
 use Rattle.std.proofs.Common.{rules, sym, ◌∙◌}
-use Rattle.worlds.proofs.EscapeLemmas.{none_spelled}
-use Rattle.worlds.proofs.escape.unescape.Goals as goal
+use Rattle.texts.proofs.EscapeLemmas.{none_spelled}
+use Rattle.texts.proofs.escape.unescape.Goals as goal
 
 pub returns-in_default-clause-not_escaped : goal.returns-in_default-clause-not_escaped
 returns-in_default-clause-not_escaped c = λ _ bytes are e.

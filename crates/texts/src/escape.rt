@@ -2,7 +2,7 @@
 //! two lower case hexadecimal digits.
 
 ghost use Rattle.std.specs.Prelude.{◌≡◌, ◌≢◌, ◌<◌, ◌++◌, ℕ, List, ◌∷◌, All, IfOk, OnOk, IsErrOf, MatchOption, string_bytes};
-ghost use Rattle.worlds.specs.Escape.{escape_of, escaped, hex_digit, is_plain};
+ghost use Rattle.texts.specs.Escape.{escape_of, escaped, hex_digit, is_plain};
 
 use crate::fault::EscapeFault;
 use std::alloc::{AllocError, Global};

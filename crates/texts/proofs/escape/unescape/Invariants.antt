@@ -1,6 +1,6 @@
 use Rattle.std.proofs.Common.{◌≡◌, ◌++◌, length}
-use Rattle.worlds.specs.Escape.{escaped}
-use Rattle.worlds.proofs.escape.unescape.Given as goal
+use Rattle.texts.specs.Escape.{escaped}
+use Rattle.texts.proofs.escape.unescape.Given as goal
 
 abbrev pub invariant-loop-rest : goal.invariant-loop-rest
 invariant-loop-rest l = escaped l.bytes.items ++ l.rest ≡ l.fn.text
