@@ -1,0 +1,74 @@
+-- What is written is a spelling.
+use Rattle.std.proofs.Common.{◌≡◌, ℕ, List, map, refl, ap, ◌∙◌}
+use Rattle.wire_reader.specs.declared.side.Side.TheVariants.{Commands}
+use Rattle.wire_reader.specs.Spelling.{◌⨾◌, Is, Word, upper}
+use Rattle.imap_commands.specs.declared.verb.Verb.{Verb}
+use Rattle.imap_commands.specs.declared.verb.Verb.TheVariants as verbs
+use Rattle.imap_commands.specs.declared.command.FetchItems.{FetchItems}
+use Rattle.imap_commands.specs.declared.command.FetchItems.TheVariants as items
+use Rattle.imap_commands.specs.declared.command.StoreMode.{StoreMode}
+use Rattle.imap_commands.specs.declared.command.StoreMode.TheVariants as modes
+use Rattle.imap_commands.specs.declared.command.Request.{Request}
+use Rattle.imap_commands.specs.declared.command.Request.TheVariants as requests
+use Rattle.imap_commands.specs.declared.command.Command.{Command}
+use Rattle.imap_commands.specs.Verbs.{word_of}
+use Rattle.imap_commands.specs.Requests.{verb_of, items_word, mode_word, AString, RequestText}
+use Rattle.imap_commands.specs.Commands.{Spelled}
+use Rattle.imap_commands.specs.Writing.{WrittenText, WrittenRequest, Written}
+
+-- the parts, each as one of another language
+on_both : {P Q R S : List ℕ → Type 0} → ((t : List ℕ) → P t → R t) → ((t : List ℕ) → Q t → S t) → (t : List ℕ) → (P ⨾ Q) t → (R ⨾ S) t
+on_both f g t h = record { front = h.front; back = h.back; parts = h.parts; first = f h.front h.first; second = g h.back h.second }
+
+on_first : {P Q R : List ℕ → Type 0} → ((t : List ℕ) → P t → R t) → (t : List ℕ) → (P ⨾ Q) t → (R ⨾ Q) t
+on_first f t h = record { front = h.front; back = h.back; parts = h.parts; first = f h.front h.first; second = h.second }
+
+on_second : {P Q S : List ℕ → Type 0} → ((t : List ℕ) → Q t → S t) → (t : List ℕ) → (P ⨾ Q) t → (P ⨾ S) t
+on_second g t h = record { front = h.front; back = h.back; parts = h.parts; first = h.first; second = g h.back h.second }
+
+-- a word in upper case is one in any case
+in_any_case : (w : List ℕ) → map upper w ≡ w → (t : List ℕ) → Is w t → Word w t
+in_any_case w up t e = ap (map upper) e ∙ up
+
+upper_verb : (k : Verb) → map upper (word_of k) ≡ word_of k
+upper_verb verbs.Capability = refl
+upper_verb verbs.Noop = refl
+upper_verb verbs.Logout = refl
+upper_verb verbs.Login = refl
+upper_verb verbs.Enable = refl
+upper_verb verbs.List = refl
+upper_verb verbs.Create = refl
+upper_verb verbs.Select = refl
+upper_verb verbs.Append = refl
+upper_verb verbs.Fetch = refl
+upper_verb verbs.Store = refl
+upper_verb verbs.Expunge = refl
+
+upper_items : (k : FetchItems) → map upper (items_word k) ≡ items_word k
+upper_items items.Listing = refl
+upper_items items.Body = refl
+upper_items items.Head = refl
+
+upper_mode : (k : StoreMode) → map upper (mode_word k) ≡ mode_word k
+upper_mode modes.Add = refl
+upper_mode modes.Remove = refl
+
+text_spelled : (bytes t : List ℕ) → WrittenText bytes t → AString bytes t
+text_spelled bytes t h = h Commands
+
+request_spelled : (r : Request) (t : List ℕ) → WrittenRequest r t → RequestText r t
+request_spelled requests.Capability t h = h
+request_spelled requests.Noop t h = h
+request_spelled requests.Logout t h = h
+request_spelled (requests.Login user password) t h = on_both (text_spelled user) (on_second (on_first (text_spelled password))) t h
+request_spelled (requests.Enable names) t h = h
+request_spelled (requests.List pattern) t h = h
+request_spelled (requests.Create mailbox) t h = on_first (text_spelled mailbox) t h
+request_spelled (requests.Select mailbox) t h = on_first (text_spelled mailbox) t h
+request_spelled (requests.Append mailbox flags message) t h = on_both (text_spelled mailbox) (on_second (on_second (on_second (on_first (λ _ m. m Commands))))) t h
+request_spelled (requests.Fetch set what) t h = on_second (on_second (on_first (in_any_case (items_word what) (upper_items what)))) t h
+request_spelled (requests.Store set mode flags) t h = on_second (on_second (on_first (in_any_case (mode_word mode) (upper_mode mode)))) t h
+request_spelled (requests.Expunge set) t h = h
+
+pub written_spelled : (c : Command) (t : List ℕ) → Written c t → Spelled c t
+written_spelled c t h = on_second (on_second (on_both (in_any_case (word_of (verb_of c.request)) (upper_verb (verb_of c.request))) (request_spelled c.request))) t h

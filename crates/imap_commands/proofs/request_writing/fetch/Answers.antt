@@ -1,0 +1,6 @@
+use Rattle.imap_commands.proofs.Appending.{then_written}
+use Rattle.imap_commands.proofs.request_writing.fetch.Goals as goal
+
+pub returns-clause-ok : goal.returns-clause-ok
+returns-clause-ok c =
+    then_written c.in_ok-write.ensures.ok (then_written c.in_ok-append.ensures.ok (then_written c.in_ok-append_items.ensures.ok c.in_ok-append-2.ensures.ok))

@@ -1,0 +1,71 @@
+//! The patterns of LIST commands (RFC 9051, section 6.3.9.1; in the profile a pattern is a quoted string).
+
+ghost use Rattle.std.specs.Prelude.{◌≡◌, SomeIff, OnOk, OnErr};
+ghost use Rattle.wire_reader.specs.Given.{GivesOr};
+ghost use Rattle.wire_tokens.specs.Quotes.{QuotedText, quoted_at};
+ghost use Rattle.wire_tokens.specs.Writing.{Appended};
+ghost use Rattle.imap_commands.specs.Patterns.{IsPattern};
+
+use std::alloc::{AllocError, Global};
+use std::marker::Model;
+use wire_reader::stop::ReadError;
+use wire_tokens::line_text::all_text;
+use wire_tokens::quoted::read_quoted;
+use wire_tokens::string_writing::write_quoted;
+
+/// A pattern for names of mailboxes: bytes from 32 to 255 except 127.
+#[derive(Debug, Drop)]
+pub struct Pattern {
+    bytes: Vec<u8>,
+}
+
+impl Model for Pattern {
+    ghost use Rattle.std.specs.Prelude.{ℕ, List};
+    ghost use Rattle.imap_commands.specs.Patterns.{IsPattern};
+
+    ghost Value = { List ℕ };
+
+    ghost view = { λ p. p.bytes.items };
+
+    ghost invariant = { λ p. IsPattern p.bytes.items };
+}
+
+impl Pattern {
+    /// The pattern of these bytes, or none where one of them cannot stand in it.
+    pub fn new(bytes: Vec<u8>) -> Option<Pattern>
+        ensures { SomeIff result (IsPattern bytes.items) bytes.items }
+    {
+        if all_text(&bytes) {
+            Some(Pattern { bytes })
+        } else {
+            None
+        }
+    }
+
+    /// Its bytes.
+    pub fn bytes(&self) -> &[u8]
+        ensures same { result.now ≡ self.now }
+        ensures pattern { IsPattern result.now }
+    {
+        &self.bytes
+    }
+
+    /// Writes it at the end, quoted.
+    ///
+    /// `AllocError`: memory ran out, and nothing is written.
+    pub fn write(&self, out: &mut Vec<u8>) -> Result<(), AllocError>
+        ensures ok { OnOk result (Appended (QuotedText self.now) out.old.items out.new.items) }
+        ensures err { OnErr result (out.new.items ≡ out.old.items) }
+    {
+        write_quoted(self.bytes(), out)
+    }
+}
+
+/// Reads a pattern, a quoted string; gives it and the bytes behind it.
+pub(crate) fn read_pattern(alloc: Global, bytes: &[u8]) -> Result<(Pattern, &[u8]), ReadError>
+    ensures { GivesOr (λ r. (r.0, r.1.now)) result (quoted_at bytes.now) }
+{
+    let (quoted, rest) = read_quoted(bytes)?;
+    let bytes = quoted.value(alloc)?;
+    Ok((Pattern { bytes }, rest))
+}
