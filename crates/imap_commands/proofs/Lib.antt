@@ -2,6 +2,5 @@ pub mod VerbParts
 pub mod RequestParts
 pub mod CommandParts
 pub mod MessageParts
-pub mod Appending
 pub mod WrittenCommands
 pub mod MessageWaits

@@ -8,14 +8,7 @@ ghost use Rattle.imap_commands.specs.Verbs.{word_of};
 
 use crate::command::{FetchItems, Request, StoreMode};
 use std::alloc::AllocError;
-
-/// Writes these bytes.
-pub(crate) fn append(bytes: &[u8], out: &mut Vec<u8>) -> Result<(), AllocError>
-    ensures ok { OnOk result (Appended (Is bytes.now) out.old.items out.new.items) }
-    ensures err { OnErr result (out.new.items ≡ out.old.items) }
-{
-    out.extend_from_slice(bytes)
-}
+use wire_tokens::appending::append;
 
 /// Writes the word that the request begins with.
 pub(crate) fn append_word(request: &Request, out: &mut Vec<u8>) -> Result<(), AllocError>

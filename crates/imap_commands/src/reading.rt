@@ -10,8 +10,7 @@ use crate::command::Command;
 use crate::requests::read_request;
 use crate::verb::read_verb;
 use std::alloc::Global;
-use wire_reader::answer::{Read, WireFault, answered, decisive, within};
-use wire_reader::lexical::limit_end;
+use wire_reader::answer::{Read, WireFault, answered, kept, within};
 use wire_reader::punctuation::byte;
 use wire_reader::stop::ReadError;
 use wire_tokens::tag::read_tag;
@@ -28,10 +27,9 @@ pub fn read_command(alloc: Global, bytes: &[u8]) -> Result<Read<Command>, WireFa
     // Bytes that begin a longer spelling, with room for them, ask for more.
     ensures waits { WaitsForMore Spelled bytes.now result }
 {
-    let answer = answered(command(alloc, bytes), bytes.len());
-    match limit_end(decisive(&answer, bytes)) {
-        None => answer,
-        Some(end) => within(answered(command(alloc, &bytes[..end]), end), end),
+    match kept(answered(command(alloc, bytes), bytes.len()), bytes) {
+        Ok(answer) => answer,
+        Err(end) => within(answered(command(alloc, &bytes[..end]), end), end),
     }
 }
 

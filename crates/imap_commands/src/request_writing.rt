@@ -6,12 +6,13 @@ ghost use Rattle.wire_tokens.specs.Writing.{Appended};
 ghost use Rattle.imap_commands.specs.declared.command.Request.TheVariants as requests;
 ghost use Rattle.imap_commands.specs.Writing.{WrittenText, WrittenRequest};
 
-use crate::append::{append, append_items, append_mode};
+use crate::append::{append_items, append_mode};
 use crate::command::{FetchItems, Request, StoreMode};
 use crate::message::Message;
 use crate::pattern::Pattern;
 use mailcore::flags::Flags;
 use std::alloc::AllocError;
+use wire_tokens::appending::append;
 use wire_tokens::flag_writing::write_flags;
 use wire_tokens::names::NameList;
 use wire_tokens::text::Text;

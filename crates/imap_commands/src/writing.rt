@@ -6,10 +6,11 @@ ghost use Rattle.imap_commands.specs.Commands.{Spelled};
 ghost use Rattle.imap_commands.specs.Waiting.{AppendsWait};
 ghost use Rattle.imap_commands.specs.Writing.{Written};
 
-use crate::append::{append, append_word};
+use crate::append::append_word;
 use crate::command::Command;
 use crate::request_writing::append_request;
 use std::alloc::AllocError;
+use wire_tokens::appending::append;
 
 /// Writes the command at the end, with its words in upper case. Mailboxes, users and passwords are quoted, or literals
 /// where a byte of them cannot be quoted.

@@ -2,7 +2,7 @@
 use Rattle.std.proofs.Common.{◌≡◌, ℕ, zero, suc, ◌+◌, ◌-◌, ◌<◌, ◌≤◌, Bool, true, false, cond, ltb, List, [], ◌∷◌, ◌++◌, length, take, get_or, Some, None, Result, Ok, Err, refl, sym, ap, subst, ◌∙◌, append_assoc, arith}
 use Rattle.std.specs.Borrow.{Bor}
 use Rattle.std.proofs.lemmas.Bool.{ltb-true, ltb-false}
-use Rattle.std.proofs.lemmas.List.{append-nil, take-take, take_all, take_more, length-take, length-take-le}
+use Rattle.std.proofs.lemmas.List.{append-nil, take-take, take_more, length-take, length-take-le}
 use Rattle.wire_reader.specs.declared.side.Side.{Side}
 use Rattle.wire_reader.specs.declared.stop.Kind.{Kind}
 use Rattle.wire_reader.specs.declared.stop.Kind.TheVariants as kinds
@@ -20,7 +20,6 @@ use Rattle.wire_reader.specs.declared.answer.WireFault.TheVariants.{Syntax, Line
 use Rattle.wire_reader.specs.Given.{GivesOr}
 use Rattle.wire_reader.specs.Answers.{Begins, NoneBegins, FaultAt, WholeAt, PassesLimit, Answers, answered, stopped, within}
 use Rattle.wire_reader.proofs.Limits.{Passed, passed, outside_le}
-use Rattle.wire_reader.proofs.Limits as limits
 use Rattle.wire_reader.proofs.Reader.{Closed, Reader}
 use Rattle.wire_reader.proofs.Lexed.{Lexed, kind-over}
 use Rattle.wire_reader.proofs.Top.{whole_is, begins_is, fault_is, left_le}
@@ -157,32 +156,9 @@ module _ (xs : List ℕ) (end : ℕ) (h : limit_from Plain 65536 0 xs ≡ Some e
       within_says (Err (LiteralTooLong at)) a = let w = long_within at a.0 in (w.0, w.1, over_moved at true a.0 a.1)
       within_says (Err NoMemory) a = tt
 
--- where no byte is too many
-module _ (xs : List ℕ) (h : limit_from Plain 65536 0 xs ≡ None) where
-  all_fit : (k : ℕ) → outside (take k xs) ≤ 65536
-  all_fit k =
-      let w = limits.within xs Plain 65536 0 h in
-      let m = outside_le xs Plain k (k + length xs) (omega arith) in
-      let e : take (k + length xs) xs ≡ xs = take_all (k + length xs) xs (omega arith) in
-      let f : outside (take (k + length xs) xs) ≡ outside xs = ap outside e in
-      omega (arith, m, f, w)
-
-  module _ {T A : Type 0} (L : A → List ℕ → Type 0) (side : Side) (view : T → A) where
-    pub all_says : (o : Result (Read T) WireFault) → Unlimited side view L xs o → Answers side view L xs o
-    all_says (Ok (Whole value used)) a = (a, all_fit used)
-    all_says (Ok (WantsLiteral n)) a = (a.0, limits.within xs Plain 65536 0 h, a.1)
-    all_says (Ok Partial) a = (a.0, limits.within xs Plain 65536 0 h, a.1)
-    all_says (Err (Syntax at)) a = (a.0, all_fit (suc at), a.1)
-    all_says (Err LineTooLong) a = absurd a
-    all_says (Err (LiteralTooLong at)) a = (a.0, all_fit at, a.1)
-    all_says (Err NoMemory) a = tt
-
--- ---- the two ways to an answer, as a function of the program goes
+-- ---- the answer on the bytes up to the first that is too many, as a function of the program goes
 
 module _ {T A : Type 0} {L : A → List ℕ → Type 0} {r : List ℕ → Result (A × List ℕ) Stop} (side : Side) (view : T → A) (p : Reader Closed L r) (lex : Lexed side Plain r) (xs : List ℕ) where
-  pub answers_all : (o : Result (T × Bor (List ℕ)) ReadError) → limit_from Plain 65536 0 xs ≡ None → GivesOr (λ x. (view x.0, x.1.now)) o (r xs) → Answers side view L xs (answered (length xs) o)
-  answers_all o h g = all_says xs h L side view (answered (length xs) o) (answered_says side view p lex xs o g)
-
   pub answers_within : (o : Result (T × Bor (List ℕ)) ReadError) (end : ℕ) → limit_from Plain 65536 0 xs ≡ Some end → GivesOr (λ x. (view x.0, x.1.now)) o (r (take end xs)) → Answers side view L xs (within end (answered end o))
   answers_within o end h g =
       let long : length (take end xs) ≡ end = length-take-le end xs (end_le xs end h) in

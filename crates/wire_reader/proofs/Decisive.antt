@@ -1,5 +1,5 @@
 -- The limit of a line, looked for in the bytes that decide an answer alone.
-use Rattle.std.proofs.Common.{◌≡◌, ℕ, zero, suc, ◌+◌, ◌-◌, ◌≤◌, Bool, true, false, cond, eqb, List, [], ◌∷◌, length, take, Option, Some, None, Result, Ok, Err, refl, sym, ap, subst, ◌∙◌, inl, inr, arith}
+use Rattle.std.proofs.Common.{◌≡◌, ℕ, zero, suc, ◌+◌, ◌-◌, ◌≤◌, Bool, cond, eqb, List, [], ◌∷◌, length, take, Option, Some, None, Result, Ok, Err, sym, ap, subst, ◌∙◌, inl, inr, arith}
 use Rattle.std.specs.Borrow.{Bor}
 use Rattle.std.proofs.lemmas.Bool.{cases_Bool}
 use Rattle.wire_reader.specs.declared.side.Side.{Side}
@@ -11,9 +11,9 @@ use Rattle.wire_reader.specs.declared.answer.Read.{Read}
 use Rattle.wire_reader.specs.declared.answer.Read.TheVariants.{Whole, WantsLiteral, Partial}
 use Rattle.wire_reader.specs.declared.answer.WireFault.{WireFault}
 use Rattle.wire_reader.specs.declared.answer.WireFault.TheVariants.{Syntax, LineTooLong, LiteralTooLong, NoMemory}
-use Rattle.wire_reader.specs.Lexical.{next, is_in, limit_from, outside}
+use Rattle.wire_reader.specs.Lexical.{next, is_in, limit_from}
 use Rattle.wire_reader.specs.Given.{GivesOr}
-use Rattle.wire_reader.specs.Answers.{Answers, answered, decisive, within}
+use Rattle.wire_reader.specs.Answers.{Answers, KeptOr, answered, decisive, within}
 use Rattle.wire_reader.proofs.Limits as limits
 use Rattle.wire_reader.proofs.Reader.{Closed}
 use Rattle.wire_reader.proofs.Part.{Part}
@@ -67,21 +67,17 @@ module _ {T A : Type 0} (side : Side) (view : T → A) (L : A → List ℕ → T
       (a.0, omega (arith, w, m), a.1)
   decided (Err NoMemory) a h = tt
 
--- the bytes that decide are passed as a list of their own, as a function of the program has them
-module _ {T : Type 0} (answer : Result (Read T) WireFault) (xs deciding : List ℕ) (these : deciding ≡ decisive answer xs) where
-  passed_in_all : (end : ℕ) → limit_from Plain 65536 0 deciding ≡ Some end → limit_from Plain 65536 0 xs ≡ Some end
-  passed_in_all end h = limit_passed answer xs end (subst (λ (d : List ℕ). limit_from Plain 65536 0 d ≡ Some end) these h)
-
-  pub end_within : (end : ℕ) → limit_from Plain 65536 0 deciding ≡ Some end → end ≤ length xs
-  end_within end h = end_le xs end (passed_in_all end h)
+module _ {T : Type 0} (answer : Result (Read T) WireFault) (xs : List ℕ) where
+  pub end_within : (end : ℕ) → KeptOr answer xs (Err end) → end ≤ length xs
+  end_within end h = end_le xs end (limit_passed answer xs end h)
 
   module _ {A : Type 0} {side : Side} {k : Bool} {L : A → List ℕ → Type 0} {r : List ℕ → Result (A × List ℕ) Stop} (p : Part side k Closed L r) (view : T → A) where
     -- the limit is kept
-    pub line_kept : (o : Result (T × Bor (List ℕ)) ReadError) → GivesOr (λ x. (view x.0, x.1.now)) o (r xs) → answer ≡ answered (length xs) o → limit_from Plain 65536 0 deciding ≡ None → Answers side view L xs answer
-    line_kept o g e h =
-        decided side view L xs answer (subst (Unlimited side view L xs) (sym e) (answered_says side view p.reader p.lexed xs o g))
-        (subst (λ (d : List ℕ). limit_from Plain 65536 0 d ≡ None) these h)
+    pub line_kept : (o : Result (T × Bor (List ℕ)) ReadError) (same : Result (Read T) WireFault) → GivesOr (λ x. (view x.0, x.1.now)) o (r xs) → answer ≡ answered (length xs) o → KeptOr answer xs (Ok same) → Answers side view L xs same
+    line_kept o same g e h =
+        subst (Answers side view L xs) (sym h.0)
+        (decided side view L xs answer (subst (Unlimited side view L xs) (sym e) (answered_says side view p.reader p.lexed xs o g)) h.1)
 
     -- the limit is passed, and the bytes up to `end` are read again
-    pub line_passed : (o : Result (T × Bor (List ℕ)) ReadError) (end : ℕ) (front last : Result (Read T) WireFault) → limit_from Plain 65536 0 deciding ≡ Some end → GivesOr (λ x. (view x.0, x.1.now)) o (r (take end xs)) → front ≡ answered end o → last ≡ within end front → Answers side view L xs last
-    line_passed o end front last h g e f = line_within p view xs o end front last (passed_in_all end h) g e f
+    pub line_passed : (o : Result (T × Bor (List ℕ)) ReadError) (end : ℕ) (front last : Result (Read T) WireFault) → KeptOr answer xs (Err end) → GivesOr (λ x. (view x.0, x.1.now)) o (r (take end xs)) → front ≡ answered end o → last ≡ within end front → Answers side view L xs last
+    line_passed o end front last h g e f = line_within p view xs o end front last (limit_passed answer xs end h) g e f

@@ -1,5 +1,5 @@
 -- For a reader of whole lines that is a part of a grammar: its answer, within the limit, says what it has to say.
-use Rattle.std.proofs.Common.{◌≡◌, ℕ, Bool, List, length, take, Some, None, Result, sym, subst, ◌∙◌, ap}
+use Rattle.std.proofs.Common.{◌≡◌, ℕ, Bool, List, take, Some, Result, sym, subst, ◌∙◌, ap}
 use Rattle.std.specs.Borrow.{Bor}
 use Rattle.wire_reader.specs.declared.side.Side.{Side}
 use Rattle.wire_reader.specs.declared.stop.Stop.{Stop}
@@ -13,7 +13,7 @@ use Rattle.wire_reader.specs.Answers.{Answers, TakesEach, WaitsForMore, NoneBegi
 use Rattle.wire_reader.proofs.Reader.{Closed}
 use Rattle.wire_reader.proofs.Part.{Part}
 use Rattle.wire_reader.proofs.Top.{none_begins}
-use Rattle.wire_reader.proofs.Answering.{answers_all, answers_within}
+use Rattle.wire_reader.proofs.Answering.{answers_within}
 use Rattle.wire_reader.proofs.Exactly.{takes, waits_for_more}
 
 module _ {A : Type 0} {side : Side} {k : Bool} {L : A → List ℕ → Type 0} {r : List ℕ → Result (A × List ℕ) Stop} (p : Part side k Closed L r) where
@@ -22,10 +22,6 @@ module _ {A : Type 0} {side : Side} {k : Bool} {L : A → List ℕ → Type 0} {
   line_law = none_begins p.reader
 
   module _ {T : Type 0} (view : T → A) (xs : List ℕ) where
-    -- no byte is too many
-    pub line_all : (o : Result (T × Bor (List ℕ)) ReadError) (answer : Result (Read T) WireFault) → limit_from Plain 65536 0 xs ≡ None → GivesOr (λ x. (view x.0, x.1.now)) o (r xs) → answer ≡ answered (length xs) o → Answers side view L xs answer
-    line_all o answer h g e = subst (Answers side view L xs) (sym e) (answers_all side view p.reader p.lexed xs o h g)
-
     -- the bytes up to `end` were read
     pub line_within : (o : Result (T × Bor (List ℕ)) ReadError) (end : ℕ) (front answer : Result (Read T) WireFault) → limit_from Plain 65536 0 xs ≡ Some end → GivesOr (λ x. (view x.0, x.1.now)) o (r (take end xs)) → front ≡ answered end o → answer ≡ within end front → Answers side view L xs answer
     line_within o end front answer h g e f = subst (Answers side view L xs) (sym (f ∙ ap (within end) e)) (answers_within side view p.reader p.lexed xs o end h g)

@@ -1,5 +1,5 @@
 -- A literal of at least one octet, as a part of a grammar.
-use Rattle.std.proofs.Common.{◌≡◌, ℕ, ◌+◌, ◌*◌, ◌-◌, ◌<◌, ◌≤◌, Bool, true, false, cond, eqb, List, [], ◌∷◌, ◌++◌, length, Option, None, Result, Ok, Err, refl, sym, ap, subst, ◌∙◌, inl, inr, arith}
+use Rattle.std.proofs.Common.{◌≡◌, ℕ, ◌+◌, ◌*◌, ◌-◌, ◌<◌, ◌≤◌, Bool, true, false, cond, eqb, List, [], ◌∷◌, ◌++◌, length, Option, Result, Ok, Err, refl, sym, ap, subst, ◌∙◌, inl, inr, arith}
 use Rattle.std.proofs.lemmas.Bool.{cases_Bool, cases_lt, true≢false, eqb-false, ne_eqb, and_parts}
 use Rattle.wire_reader.specs.declared.side.Side.{Side}
 use Rattle.wire_reader.specs.declared.side.Side.TheVariants.{Commands, Replies}
@@ -11,7 +11,7 @@ use Rattle.wire_reader.specs.declared.stop.Stop.{Stop}
 use Rattle.wire_reader.specs.declared.stop.Stop.TheVariants.{Ends, Fails}
 use Rattle.wire_reader.specs.Spelling.{◌⨾◌, ThenBy, Is}
 use Rattle.wire_reader.specs.Lexical.{asks_from, kind_of}
-use Rattle.wire_reader.specs.Reading.{stuck, seq, skip, byte_at}
+use Rattle.wire_reader.specs.Reading.{stuck, seq}
 use Rattle.wire_reader.specs.Literal.{value, Number, MayPlus, LengthText, close_text, Literal, length_at, literal_at, octets_of}
 use Rattle.wire_reader.specs.Filled.{FilledLiteral, barred, filled_literal_at}
 use Rattle.wire_reader.proofs.Reader.{Closed, Taken, Refused, Reader, seq_reader}

@@ -12,7 +12,8 @@ use Rattle.wire_reader.specs.declared.answer.Read.{Read}
 use Rattle.wire_reader.specs.declared.answer.Read.TheVariants.{Whole, WantsLiteral, Partial}
 use Rattle.wire_reader.specs.declared.answer.WireFault.{WireFault}
 use Rattle.wire_reader.specs.declared.answer.WireFault.TheVariants.{Syntax, LineTooLong, LiteralTooLong, NoMemory}
-use Rattle.wire_reader.specs.Lexical.{outside, asks, passes_limit}
+use Rattle.wire_reader.specs.declared.lexical.Phase.TheVariants.{Plain}
+use Rattle.wire_reader.specs.Lexical.{outside, asks, passes_limit, limit_from}
 
 -- the bytes and at least one more begin a spelling
 pub record Begins {A : Type 0} (L : A → List ℕ → Type 0) (xs : List ℕ) : Type 0 where
@@ -110,6 +111,11 @@ decisive (Err (Syntax at)) xs = take (suc at) xs
 decisive (Err LineTooLong) xs = xs
 decisive (Err (LiteralTooLong at)) xs = take (suc at) xs
 decisive (Err NoMemory) xs = xs
+
+-- the answer, where no byte that decides it is too many; else the end of the bytes up to and with the first that is
+abbrev pub KeptOr : {T : Type 0} → Result (Read T) WireFault → List ℕ → Result (Result (Read T) WireFault) ℕ → Type 0
+KeptOr answer xs (Ok same) = (same ≡ answer) × (limit_from Plain 65536 0 (decisive answer xs) ≡ None)
+KeptOr answer xs (Err end) = limit_from Plain 65536 0 (decisive answer xs) ≡ Some end
 
 -- the fault in the bytes up to the first that is too many, as one of all of them
 abbrev pub fault_within : ℕ → WireFault → WireFault

@@ -1,8 +1,9 @@
 //! The answer of a reader of whole lines.
 
 ghost use Rattle.std.specs.Prelude.{◌≡◌, suc, take};
-ghost use Rattle.wire_reader.specs.Answers.{stopped, answered, decisive, fault_within, within};
+ghost use Rattle.wire_reader.specs.Answers.{stopped, answered, decisive, KeptOr, fault_within, within};
 
+use crate::lexical::limit_end;
 use crate::stop::{Kind, ReadError, Stop};
 use thiserror::Error;
 
@@ -59,9 +60,22 @@ pub fn answered<T>(read: Result<(T, &[u8]), ReadError>, len: usize) -> Result<Re
     }
 }
 
+/// The answer on these bytes, where none of those that decide it is too many for a line; else the end of the bytes up to
+/// and with the first one that is. So the limit is looked for in the line alone, and not in what stands behind it.
+pub fn kept<T: Drop>(
+    answer: Result<Read<T>, WireFault>,
+    bytes: &[u8],
+) -> Result<Result<Read<T>, WireFault>, usize>
+    ensures { KeptOr answer bytes.now result }
+{
+    match limit_end(decisive(&answer, bytes)) {
+        None => Ok(answer),
+        Some(end) => Err(end),
+    }
+}
+
 /// The bytes that decide the answer on these: those of the whole, those up to and with the one that is refused, or all.
-/// So the limit of a line is looked for in that line alone.
-pub fn decisive<'a, T>(answer: &Result<Read<T>, WireFault>, bytes: &'a [u8]) -> &'a [u8]
+fn decisive<'a, T>(answer: &Result<Read<T>, WireFault>, bytes: &'a [u8]) -> &'a [u8]
     ensures { result.now ≡ decisive answer.now bytes.now }
 {
     match answer {

@@ -2,6 +2,7 @@
 //! docs/FORMATS.md), read and written.
 #![tactic(auto)]
 
+pub mod appending;
 pub mod astring;
 pub mod atom;
 pub mod code_text;

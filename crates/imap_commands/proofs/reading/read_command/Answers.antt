@@ -6,22 +6,22 @@ use Rattle.imap_commands.proofs.CommandParts.{command_part}
 use Rattle.imap_commands.proofs.reading.read_command.Goals as goal
 
 pub slice_bounds-command-end : goal.slice_bounds-command-end
-slice_bounds-command-end c = sym (length-take-le c.in-Some.end c.args.bytes.now (end_within c.answered-answer.result c.args.bytes.now _ c.decisive.ensures c.in-Some.end (sym c.in-Some.ensures)))
+slice_bounds-command-end c = sym (length-take-le c.in-Err.end c.args.bytes.now (end_within c.answered.result c.args.bytes.now c.in-Err.end c.in-Err.ensures))
 
-pub returns-in-None-clause-answers : goal.returns-in-None-clause-answers
-returns-in-None-clause-answers c = line_kept _ c.args.bytes.now _ c.decisive.ensures command_part (λ x. x) c.command.result c.command.ensures c.answered-answer.ensures (sym c.in-None.ensures)
+pub returns-in-Ok-clause-answers : goal.returns-in-Ok-clause-answers
+returns-in-Ok-clause-answers c = line_kept c.answered.result c.args.bytes.now command_part (λ x. x) c.command.result _ c.command.ensures c.answered.ensures c.in-Ok.ensures
 
-pub returns-in-None-clause-takes : goal.returns-in-None-clause-takes
-returns-in-None-clause-takes c = line_takes command_part (λ x. x) c.args.bytes.now _ (returns-in-None-clause-answers c)
+pub returns-in-Ok-clause-takes : goal.returns-in-Ok-clause-takes
+returns-in-Ok-clause-takes c = line_takes command_part (λ x. x) c.args.bytes.now _ (returns-in-Ok-clause-answers c)
 
-pub returns-in-None-clause-waits : goal.returns-in-None-clause-waits
-returns-in-None-clause-waits c = line_waits command_part (λ x. x) c.args.bytes.now _ (returns-in-None-clause-answers c)
+pub returns-in-Ok-clause-waits : goal.returns-in-Ok-clause-waits
+returns-in-Ok-clause-waits c = line_waits command_part (λ x. x) c.args.bytes.now _ (returns-in-Ok-clause-answers c)
 
-pub returns-in-Some-clause-answers : goal.returns-in-Some-clause-answers
-returns-in-Some-clause-answers c = line_passed c.answered-answer.result c.args.bytes.now _ c.decisive.ensures command_part (λ x. x) c.command-in-Some.result c.in-Some.end _ _ (sym c.in-Some.ensures) c.command-in-Some.ensures c.answered.ensures c.within.ensures
+pub returns-in-Err-clause-answers : goal.returns-in-Err-clause-answers
+returns-in-Err-clause-answers c = line_passed c.answered.result c.args.bytes.now command_part (λ x. x) c.command-in-Err.result c.in-Err.end _ _ c.in-Err.ensures c.command-in-Err.ensures c.answered-in-Err.ensures c.within.ensures
 
-pub returns-in-Some-clause-takes : goal.returns-in-Some-clause-takes
-returns-in-Some-clause-takes c = line_takes command_part (λ x. x) c.args.bytes.now _ (returns-in-Some-clause-answers c)
+pub returns-in-Err-clause-takes : goal.returns-in-Err-clause-takes
+returns-in-Err-clause-takes c = line_takes command_part (λ x. x) c.args.bytes.now _ (returns-in-Err-clause-answers c)
 
-pub returns-in-Some-clause-waits : goal.returns-in-Some-clause-waits
-returns-in-Some-clause-waits c = line_waits command_part (λ x. x) c.args.bytes.now _ (returns-in-Some-clause-answers c)
+pub returns-in-Err-clause-waits : goal.returns-in-Err-clause-waits
+returns-in-Err-clause-waits c = line_waits command_part (λ x. x) c.args.bytes.now _ (returns-in-Err-clause-answers c)

@@ -1,4 +1,4 @@
-use Rattle.imap_commands.proofs.Appending.{then_written}
+use Rattle.wire_tokens.proofs.AppendLemmas.{then_written}
 use Rattle.imap_commands.proofs.request_writing.store.Goals as goal
 
 pub returns-clause-ok : goal.returns-clause-ok

@@ -1,5 +1,5 @@
 use Rattle.std.proofs.lemmas.Result.{err_from_is_err_and}
-use Rattle.imap_commands.proofs.Appending.{then_written, still_kept}
+use Rattle.wire_tokens.proofs.AppendLemmas.{then_written, still_kept}
 use Rattle.imap_commands.proofs.writing.append_command.Goals as goal
 
 pub returns-in_err-append_request-clause-kept : goal.returns-in_err-append_request-clause-kept

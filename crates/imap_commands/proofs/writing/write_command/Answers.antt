@@ -1,4 +1,4 @@
-use Rattle.imap_commands.proofs.Appending.{written_as}
+use Rattle.wire_tokens.proofs.AppendLemmas.{written_as}
 use Rattle.imap_commands.proofs.WrittenCommands.{written_spelled}
 use Rattle.imap_commands.proofs.writing.write_command.Goals as goal
 

@@ -4,7 +4,10 @@ use Rattle.std.proofs.lemmas.List.{take_at, take-append-drop}
 use Rattle.std.specs.Prelude.{OnOk}
 use Rattle.std.specs.declared.alloc.AllocError.{AllocError}
 use Rattle.wire_reader.specs.Spelling.{◌⨾◌}
-use Rattle.wire_tokens.specs.Writing.{Appended}
+use Rattle.wire_reader.specs.declared.side.Side.{Side}
+use Rattle.wire_reader.specs.declared.side.Side.TheVariants.{Replies}
+use Rattle.wire_tokens.specs.Strings.{OnEitherSide}
+use Rattle.wire_tokens.specs.Writing.{Appended, Extended}
 
 -- a text behind a text
 pub then_written : {P Q : List ℕ → Type 0} {old mid new : List ℕ} → Appended P old mid → Appended Q mid new → Appended (P ⨾ Q) old new
@@ -25,3 +28,15 @@ still_kept old mid new a kept =
     let rest = drop (length mid) new in
     let whole : new ≡ old ++ (a.text ++ rest) = sym (take-append-drop (length mid) new) ∙ ap (λ (x : List ℕ). x ++ rest) (kept ∙ a.parts) ∙ append_assoc old a.text rest in
     ap (take (length old)) whole ∙ take_at old (a.text ++ rest) (length old) refl
+
+-- ---- what stood there still stands
+
+pub extended_kept : (old new : List ℕ) → Extended old new → take (length old) new ≡ old
+extended_kept old new e = ap (take (length old)) e.parts ∙ take_at old e.text (length old) refl
+
+pub kept_extends : (old new : List ℕ) → take (length old) new ≡ old → Extended old new
+kept_extends old new h = record { text = drop (length old) new; parts = sym (take-append-drop (length old) new) ∙ ap (λ (x : List ℕ). x ++ drop (length old) new) h; spelled = tt }
+
+-- a spelling for both sides is one in replies
+pub in_replies : {L : Side → List ℕ → Type 0} {old new : List ℕ} → Appended (OnEitherSide L) old new → Appended (L Replies) old new
+in_replies a = record { text = a.text; parts = a.parts; spelled = a.spelled Replies }

@@ -1,0 +1,14 @@
+pub mod WordLemmas
+pub mod Decided
+pub mod AtomDecided
+pub mod EventParts
+pub mod HeadParts
+pub mod HeadSteps
+pub mod CodeHeadParts
+pub mod ReplyParts
+pub mod Made
+pub mod ResponseParts
+pub mod FetchParts
+pub mod ListParts
+pub mod UntaggedParts
+pub mod WrittenReplies

@@ -1,0 +1,9 @@
+use Rattle.std.proofs.lemmas.Result.{err_from_is_err_and}
+use Rattle.wire_tokens.proofs.AppendLemmas.{then_written, still_kept}
+use Rattle.imap_replies.proofs.writing.append_event.Goals as goal
+
+pub returns-in_err-append_rest-clause-kept : goal.returns-in_err-append_rest-clause-kept
+returns-in_err-append_rest-clause-kept c =
+    let failed = err_from_is_err_and c.from_residual-in_err-append_rest.result c.from_residual-in_err-append_rest.ensures.1 in
+    let before = then_written c.in_ok-append.ensures.ok (then_written c.in_ok-write_number.ensures.ok (then_written c.in_ok-append-2.ensures.ok c.in_ok-append-3.ensures.ok)) in
+    rw failed.1 (still_kept _ _ _ before c.in_err-append_rest.ensures.kept)

@@ -1,0 +1,73 @@
+-- What a message has (RFC 9051, section 9: msg-att, msg-att-dynamic, msg-att-static).
+use Rattle.std.specs.Prelude.{ℕ, List, codes, Option, Result}
+use Rattle.wire_reader.specs.declared.side.Side.TheVariants.{Replies}
+use Rattle.wire_reader.specs.declared.stop.Stop.{Stop}
+use Rattle.wire_reader.specs.Spelling.{◌⨾◌, Is, Word, crlf, ItemsText}
+use Rattle.wire_reader.specs.Reading.{seq, mapped, skip, keep, byte_at, crlf_at}
+use Rattle.wire_reader.specs.Listing.{items_at, ended}
+use Rattle.wire_reader.specs.Words.{keys_at}
+use Rattle.wire_tokens.specs.declared.string.WireString.{WireString}
+use Rattle.wire_tokens.specs.Atoms.{is_atom_byte}
+use Rattle.wire_tokens.specs.Numbers.{NumberText, NzText, number_at, nz_at}
+use Rattle.wire_tokens.specs.Strings.{NStringText, nstring_at}
+use Rattle.wire_tokens.specs.FlagLists.{FlagsText, flags_at}
+use Rattle.imap_replies.specs.declared.word.ItemWord.{ItemWord}
+use Rattle.imap_replies.specs.declared.word.ItemWord.TheVariants as words
+use Rattle.imap_replies.specs.declared.fetch.FetchItem.{FetchItem}
+use Rattle.imap_replies.specs.declared.fetch.FetchItem.TheVariants as items
+use Rattle.imap_replies.specs.Words.{item_word, later_item_words}
+
+-- `W` says how words stand there
+abbrev pub ItemIn : (List ℕ → List ℕ → Type 0) → FetchItem → List ℕ → Type 0
+ItemIn W (items.Uid n) = W (item_word words.Uid) ⨾ NzText n
+ItemIn W (items.Flags flags) = W (item_word words.Flags) ⨾ FlagsText flags
+ItemIn W (items.Size n) = W (item_word words.Size) ⨾ NumberText n
+ItemIn W (items.Body string) = W (item_word words.Body) ⨾ NStringText Replies string
+ItemIn W (items.Head string) = W (item_word words.Head) ⨾ NStringText Replies string
+
+-- behind FETCH: the items in brackets, and the line end
+abbrev pub FetchIn : (List ℕ → List ℕ → Type 0) → List FetchItem → List ℕ → Type 0
+FetchIn W list = Is (codes " (") ⨾ ItemsText 32 (ItemIn W) list ⨾ Is (codes ")") ⨾ Is crlf
+
+-- words in any case
+abbrev pub ItemText : FetchItem → List ℕ → Type 0
+ItemText item text = ItemIn Word item text
+
+abbrev pub FetchLine : List FetchItem → List ℕ → Type 0
+FetchLine list text = FetchIn Word list text
+
+-- ---- how they are read: each item ends before the first byte that is no atom's
+
+abbrev pub uid : ℕ → FetchItem
+uid n = items.Uid n
+
+abbrev pub flags : ℕ → FetchItem
+flags set = items.Flags set
+
+abbrev pub size : ℕ → FetchItem
+size n = items.Size n
+
+abbrev pub body : Option WireString → FetchItem
+body string = items.Body string
+
+abbrev pub head : Option WireString → FetchItem
+head string = items.Head string
+
+unfoldable pub item_value_at : ItemWord → List ℕ → Result (FetchItem × List ℕ) Stop
+item_value_at words.Uid = mapped uid (ended is_atom_byte nz_at)
+item_value_at words.Flags = mapped flags (ended is_atom_byte flags_at)
+item_value_at words.Size = mapped size (ended is_atom_byte number_at)
+item_value_at words.Body = mapped body (nstring_at Replies)
+item_value_at words.Head = mapped head (nstring_at Replies)
+
+abbrev pub item_word_at : List ℕ → Result (ItemWord × List ℕ) Stop
+item_word_at = keys_at item_word words.Uid later_item_words
+
+unfoldable pub item_at : List ℕ → Result (FetchItem × List ℕ) Stop
+item_at = seq item_word_at item_value_at
+
+unfoldable pub item_list_at : List ℕ → Result (List FetchItem × List ℕ) Stop
+item_list_at = items_at 32 item_at
+
+unfoldable pub fetch_at : List ℕ → Result (List FetchItem × List ℕ) Stop
+fetch_at = skip (byte_at 32) (skip (byte_at 40) (keep item_list_at (skip (byte_at 41) crlf_at)))

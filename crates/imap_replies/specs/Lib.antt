@@ -1,0 +1,9 @@
+pub mod Words
+pub mod Others
+pub mod Heads
+pub mod Lines
+pub mod Responses
+pub mod Fetches
+pub mod Listings
+pub mod Replies
+pub mod ReplyReading

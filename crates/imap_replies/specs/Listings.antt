@@ -1,0 +1,47 @@
+-- LIST replies (RFC 9051, section 9: mailbox-list; in the profile no extended data follow).
+use Rattle.std.specs.Prelude.{ℕ, Bool, List, codes, Option, None, Some, Result, ◌==◌}
+use Rattle.wire_reader.specs.declared.side.Side.TheVariants.{Replies}
+use Rattle.wire_reader.specs.declared.stop.Stop.{Stop}
+use Rattle.wire_reader.specs.Spelling.{◌⨾◌, Is, Word, crlf}
+use Rattle.wire_reader.specs.Reading.{mapped, skip, keep, both, by_first, byte_at, crlf_at}
+use Rattle.wire_reader.specs.Words.{word_at}
+use Rattle.wire_tokens.specs.declared.astring.AString.{AString}
+use Rattle.wire_tokens.specs.Delimiters.{DelimiterText, delimiter_at}
+use Rattle.wire_tokens.specs.Strings.{AStringText, astring_at}
+use Rattle.wire_tokens.specs.FlagLists.{AttributesText, attributes_at}
+
+-- a quoted string of one byte, or NIL; `W` says how words stand there
+abbrev pub MarkIn : (List ℕ → List ℕ → Type 0) → Option ℕ → List ℕ → Type 0
+MarkIn W None text = W (codes "NIL") text
+MarkIn W (Some c) text = DelimiterText c text
+
+abbrev pub ListValue : Type 0
+ListValue = List (List ℕ) × (Option ℕ × AString)
+
+-- behind LIST
+abbrev pub ListIn : (List ℕ → List ℕ → Type 0) → List (List ℕ) → Option ℕ → AString → List ℕ → Type 0
+ListIn W attributes delimiter name = Is (codes " ") ⨾ AttributesText attributes ⨾ Is (codes " ") ⨾ MarkIn W delimiter ⨾ Is (codes " ") ⨾ AStringText Replies name ⨾ Is crlf
+
+-- words in any case
+abbrev pub MarkText : Option ℕ → List ℕ → Type 0
+MarkText mark text = MarkIn Word mark text
+
+abbrev pub ListLine : List (List ℕ) → Option ℕ → AString → List ℕ → Type 0
+ListLine attributes delimiter name text = ListIn Word attributes delimiter name text
+
+-- ---- how they are read
+
+abbrev pub is_quote : ℕ → Bool
+is_quote b = b == 34
+
+abbrev pub some_mark : ℕ → Option ℕ
+some_mark b = Some b
+
+abbrev pub no_mark : Unit {0} → Option ℕ
+no_mark _ = None
+
+unfoldable pub mark_at : List ℕ → Result (Option ℕ × List ℕ) Stop
+mark_at = by_first is_quote (mapped some_mark delimiter_at) (mapped no_mark (word_at (codes "NIL")))
+
+unfoldable pub list_at : List ℕ → Result (ListValue × List ℕ) Stop
+list_at = skip (byte_at 32) (both attributes_at (skip (byte_at 32) (both mark_at (skip (byte_at 32) (keep (astring_at Replies) crlf_at)))))

@@ -1,0 +1,20 @@
+//! The replies of an IMAP server (RFC 9051, section 7, in the profile of docs/FORMATS.md), read and written.
+#![tactic(auto)]
+
+mod append;
+mod code_head;
+mod event;
+pub mod fetch;
+mod fetch_writing;
+mod head;
+mod lines;
+mod listing;
+pub mod other;
+pub mod reading;
+pub mod reply;
+pub mod response;
+mod response_writing;
+#[cfg(test)]
+mod tests;
+pub mod word;
+pub mod writing;

@@ -1,0 +1,20 @@
+//! Lines of IMAP4rev2 (RFC 9051, in the profile of docs/FORMATS.md), both ways: commands and replies as values, read and
+//! written.
+#![tactic(auto)]
+
+pub use imap_commands::command::{Command, FetchItems, Request, StoreMode};
+pub use imap_commands::message::Message;
+pub use imap_commands::pattern::Pattern;
+pub use imap_commands::reading::read_command;
+pub use imap_commands::writing::write_command;
+pub use imap_replies::fetch::{FetchItem, FetchList};
+pub use imap_replies::other::{OtherCode, OtherEvent, OtherWord};
+pub use imap_replies::reading::read_reply;
+pub use imap_replies::reply::Reply;
+pub use imap_replies::response::{Code, ResponseText};
+pub use imap_replies::word::{NoticeKind, Status};
+pub use imap_replies::writing::write_reply;
+pub use wire_reader::answer::{Read, WireFault};
+
+#[cfg(test)]
+mod limits;

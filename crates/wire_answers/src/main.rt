@@ -1,0 +1,123 @@
+//! Prints what the readers of IMAP lines answer to the examples on standard input: to each whole, to each of its
+//! beginnings, and to it with each byte changed to others. `bench/wire-answers.py` decides the same in another way.
+#![tactic(auto)]
+
+mod answer;
+mod example;
+
+use crate::answer::Answer;
+use crate::example::{Example, read_example};
+use std::alloc::{AllocError, Global};
+use std::io;
+use std::io::{Read, Write};
+use std::process::ExitCode;
+use texts::fault::EscapeFault;
+use thiserror::Error;
+
+/// What each byte of an example is changed to.
+const CHANGES: &[u8] = b"\x00\n\r \"(*0:[\\]{az\x7f\xe9";
+
+/// Why the answers are not printed.
+#[derive(Debug, Drop, Error)]
+enum Failure {
+    #[error("cannot read or write")]
+    Device,
+    #[error("a line is no example")]
+    NoExample,
+    #[error("no memory")]
+    NoMemory,
+}
+
+impl From<io::Error> for Failure {
+    fn from(_fault: io::Error) -> Failure {
+        Failure::Device
+    }
+}
+
+impl From<AllocError> for Failure {
+    fn from(_fault: AllocError) -> Failure {
+        Failure::NoMemory
+    }
+}
+
+impl From<EscapeFault> for Failure {
+    fn from(fault: EscapeFault) -> Failure {
+        match fault {
+            EscapeFault::NotEscaped => Failure::NoExample,
+            EscapeFault::NoMemory => Failure::NoMemory,
+        }
+    }
+}
+
+fn main(rt: HostRuntime) -> ExitCode {
+    let (mut input, mut out, mut err) = (rt.stdin(), rt.stdout(), rt.stderr());
+    match answer_all(rt.alloc(), &mut input, &mut out) {
+        Ok(()) => ExitCode::SUCCESS,
+        Err(failure) => {
+            let _ = writeln!(err, "wire_answers: {failure}");
+            ExitCode::FAILURE
+        }
+    }
+}
+
+fn answer_all<I: Read, O: Write>(alloc: Global, input: &mut I, out: &mut O) -> Result<(), Failure> {
+    let mut text = Vec::new(alloc);
+    input.read_to_end(&mut text)?;
+    let mut answers = String::new(alloc);
+    for line in text.split(|b| *b == b'\n') {
+        if !line.is_empty() {
+            let example = read_example(alloc, line)?;
+            push_answers(alloc, &mut answers, &example)?;
+        }
+    }
+    out.write_all(answers.as_bytes())?;
+    Ok(out.flush()?)
+}
+
+/// Adds the lines of an example: the answer to the whole and, if it is tried in parts, the others.
+fn push_answers(alloc: Global, answers: &mut String, example: &Example) -> Result<(), AllocError> {
+    let bytes = example.bytes.as_slice();
+    let whole = Answer::of(alloc, example.reader, bytes);
+    writeln!(answers, "{whole}")?;
+    if example.in_parts {
+        push_beginnings(alloc, answers, example)?;
+        for place in 0..bytes.len() {
+            push_changed(alloc, answers, example, place)?;
+        }
+    }
+    Ok(())
+}
+
+/// Adds the answers to each beginning of the example.
+fn push_beginnings(
+    alloc: Global,
+    answers: &mut String,
+    example: &Example,
+) -> Result<(), AllocError> {
+    for length in 0..example.bytes.len() {
+        let answer = Answer::of(alloc, example.reader, &example.bytes[..length]);
+        let separator = if length == 0 { "" } else { ", " };
+        write!(answers, "{separator}{answer}")?;
+    }
+    answers.push('\n')
+}
+
+/// Adds the answers to the example with one byte changed.
+fn push_changed(
+    alloc: Global,
+    answers: &mut String,
+    example: &Example,
+    place: usize,
+) -> Result<(), AllocError> {
+    let mut bytes = Vec::new(alloc);
+    bytes.extend_from_slice(&example.bytes)?;
+    for (index, change) in CHANGES.iter().enumerate() {
+        if let Some(byte) = bytes.get_mut(place) {
+            *byte = *change;
+        }
+        let answer = Answer::of(alloc, example.reader, &bytes);
+        let separator = if index == 0 { "" } else { ", " };
+        write!(answers, "{separator}{answer}")?;
+    }
+    answers.push('\n')
+}
