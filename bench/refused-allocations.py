@@ -1,9 +1,9 @@
 #!/usr/bin/env python3
 """Refuses each allocation of a run in turn, and checks that the output is whole or that want of memory is told.
 
-usage: bench/refused-allocations.py PROGRAM WORLD..
+usage: bench/refused-allocations.py PROGRAM INPUT..
 
-PROGRAM is run on each WORLD, once without a refusal and then with the first allocation refused, with the second, and
+PROGRAM is mbplan with worlds for INPUT, or wire_answers with bench/few-lines.txt. It is run on each INPUT, once without a refusal and then with the first allocation refused, with the second, and
 so on until a run meets no refusal. A run with a refusal has to give the unbroken run's output and status, or nothing
 on standard output, `NAME: no memory` on standard error and status 1.
 """

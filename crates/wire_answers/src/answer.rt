@@ -1,5 +1,6 @@
 //! What a reader answers, without the value that it reads.
 
+use crate::Failure;
 use crate::example::Reader;
 use imap_wire::{Read, WireFault, read_command, read_reply};
 use std::alloc::Global;
@@ -19,11 +20,15 @@ pub enum Answer {
 }
 
 impl Answer {
-    /// The answer of this reader.
-    pub fn of(alloc: Global, reader: Reader, bytes: &[u8]) -> Answer {
-        match reader {
+    /// The answer of this reader, unless memory runs out.
+    pub fn of(alloc: Global, reader: Reader, bytes: &[u8]) -> Result<Answer, Failure> {
+        let answer = match reader {
             Reader::Commands => Answer::without_value(read_command(alloc, bytes)),
             Reader::Replies => Answer::without_value(read_reply(alloc, bytes)),
+        };
+        match answer {
+            Answer::Fault(WireFault::NoMemory) => Err(Failure::NoMemory),
+            answer => Ok(answer),
         }
     }
 

@@ -9,7 +9,7 @@ use crate::answer::Answer;
 use crate::example::{Example, read_example};
 use std::alloc::{AllocError, Global};
 use std::io;
-use std::io::{Read, Write};
+use std::io::{ErrorKind, Read, Write};
 use std::process::ExitCode;
 use texts::fault::EscapeFault;
 use thiserror::Error;
@@ -29,8 +29,11 @@ enum Failure {
 }
 
 impl From<io::Error> for Failure {
-    fn from(_fault: io::Error) -> Failure {
-        Failure::Device
+    fn from(fault: io::Error) -> Failure {
+        match fault.kind() {
+            ErrorKind::OutOfMemory => Failure::NoMemory,
+            _ => Failure::Device,
+        }
     }
 }
 
@@ -75,9 +78,9 @@ fn answer_all<I: Read, O: Write>(alloc: Global, input: &mut I, out: &mut O) -> R
 }
 
 /// Adds the lines of an example: the answer to the whole and, if it is tried in parts, the others.
-fn push_answers(alloc: Global, answers: &mut String, example: &Example) -> Result<(), AllocError> {
+fn push_answers(alloc: Global, answers: &mut String, example: &Example) -> Result<(), Failure> {
     let bytes = example.bytes.as_slice();
-    let whole = Answer::of(alloc, example.reader, bytes);
+    let whole = Answer::of(alloc, example.reader, bytes)?;
     writeln!(answers, "{whole}")?;
     if example.in_parts {
         push_beginnings(alloc, answers, example)?;
@@ -89,17 +92,13 @@ fn push_answers(alloc: Global, answers: &mut String, example: &Example) -> Resul
 }
 
 /// Adds the answers to each beginning of the example.
-fn push_beginnings(
-    alloc: Global,
-    answers: &mut String,
-    example: &Example,
-) -> Result<(), AllocError> {
+fn push_beginnings(alloc: Global, answers: &mut String, example: &Example) -> Result<(), Failure> {
     for length in 0..example.bytes.len() {
-        let answer = Answer::of(alloc, example.reader, &example.bytes[..length]);
+        let answer = Answer::of(alloc, example.reader, &example.bytes[..length])?;
         let separator = if length == 0 { "" } else { ", " };
         write!(answers, "{separator}{answer}")?;
     }
-    answers.push('\n')
+    Ok(answers.push('\n')?)
 }
 
 /// Adds the answers to the example with one byte changed.
@@ -108,16 +107,16 @@ fn push_changed(
     answers: &mut String,
     example: &Example,
     place: usize,
-) -> Result<(), AllocError> {
+) -> Result<(), Failure> {
     let mut bytes = Vec::new(alloc);
     bytes.extend_from_slice(&example.bytes)?;
     for (index, change) in CHANGES.iter().enumerate() {
         if let Some(byte) = bytes.get_mut(place) {
             *byte = *change;
         }
-        let answer = Answer::of(alloc, example.reader, &bytes);
+        let answer = Answer::of(alloc, example.reader, &bytes)?;
         let separator = if index == 0 { "" } else { ", " };
         write!(answers, "{separator}{answer}")?;
     }
-    answers.push('\n')
+    Ok(answers.push('\n')?)
 }
