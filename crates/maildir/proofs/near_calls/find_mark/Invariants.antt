@@ -1,0 +1,9 @@
+use Rattle.std.proofs.Common.{◌≡◌, ◌≤◌, true, false}
+use Rattle.maildir.proofs.near_calls.find_mark.Given as goal
+
+abbrev pub invariant-loop-entry : goal.invariant-loop-entry
+invariant-loop-entry g l = record {
+  keeps : g.F.Folder.is_honest ≡ true → (g.F.Folder.seen l.folder).stored ≡ (g.F.Folder.seen l.initial.folder).stored;
+  stops : (g.F.Folder.seen l.initial.folder).stops ≤ (g.F.Folder.seen l.folder).stops;
+  whole : (g.F.Folder.seen l.initial.folder).is_broken ≡ false → (g.F.Folder.seen l.folder).is_broken ≡ false;
+}

@@ -1,0 +1,11 @@
+pub mod Cut
+pub mod DiskFolders
+pub mod Folders
+pub mod Letters
+pub mod MemFolders
+pub mod Metas
+pub mod Names
+pub mod NearCalls
+pub mod NearEffects
+pub mod NearFaults
+pub mod Number

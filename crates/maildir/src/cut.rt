@@ -1,0 +1,23 @@
+//! Texts cut at a byte.
+
+ghost use Rattle.std.specs.Prelude.{◌≡◌};
+ghost use Rattle.std.specs.Option.{option_map};
+ghost use Rattle.maildir.specs.Cut.{cut_first, cut_last};
+
+use memchr::{memchr, memrchr};
+
+/// What stands before the first such byte and what stands behind it.
+pub fn cut(text: &[u8], byte: u8) -> Option<(&[u8], &[u8])>
+    ensures { option_map (λ parts. (parts.0.now, parts.1.now)) result ≡ cut_first byte text.now }
+{
+    let place = memchr(byte, text)?;
+    Some((&text[..place], &text[place + 1..]))
+}
+
+/// What stands before the last such byte and what stands behind it.
+pub fn cut_at_last(text: &[u8], byte: u8) -> Option<(&[u8], &[u8])>
+    ensures { option_map (λ parts. (parts.0.now, parts.1.now)) result ≡ cut_last byte text.now }
+{
+    let place = memrchr(byte, text)?;
+    Some((&text[..place], &text[place + 1..]))
+}

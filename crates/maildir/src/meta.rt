@@ -1,0 +1,66 @@
+//! The meta file of a mailbox: its validity and its next UID.
+
+ghost use Rattle.std.specs.Prelude.{◌≡◌, ◌<◌, IfOk, IfSome};
+
+use crate::cut::cut;
+use crate::number::{push_number, read_u32};
+use std::alloc::{AllocError, Global};
+
+/// The validity of a mailbox and the next UID that it gives.
+#[derive(Clone, Copy, Debug, PartialEq, Eq)]
+pub struct Meta {
+    /// Its UIDVALIDITY, 1 to 4294967295.
+    pub validity: u32,
+    /// Its next UID, 1 to 4294967295.
+    pub next: u32,
+}
+
+impl Meta {
+    ghost use Rattle.maildir.specs.Metas.{meta_of, meta_of_numbers, meta_text};
+    ghost use Rattle.maildir.specs.Number.{number_of};
+
+    /// What the text of a meta file says, or none if it is not spelled so. It takes no memory.
+    pub fn read(text: &[u8]) -> Option<Meta>
+        ensures value { result ≡ meta_of text.now }
+        ensures next { IfSome result (λ meta. 0 < meta.next) }
+    {
+        let (first, rest) = cut(text, b'\n')?;
+        let (second, behind) = cut(rest, b'\n')?;
+        if behind.is_empty() {
+            Meta::of_lines(first, second)
+        } else {
+            None
+        }
+    }
+
+    /// What the two lines of a meta file say.
+    fn of_lines(first: &[u8], second: &[u8]) -> Option<Meta>
+        ensures value { result ≡ meta_of_numbers (number_of first.now) (number_of second.now) }
+        ensures next { IfSome result (λ meta. 0 < meta.next) }
+    {
+        let validity = read_u32(first)?;
+        let highest = read_u32(second)?;
+        if validity > 0 && highest < u32::MAX {
+            Some(Meta {
+                validity,
+                next: highest + 1,
+            })
+        } else {
+            None
+        }
+    }
+
+    /// The text of the meta file.
+    ///
+    /// `AllocError`: memory ran out.
+    pub fn text(self, alloc: Global) -> Result<Vec<u8>, AllocError>
+        ensures { IfOk result (λ text. text.items ≡ meta_text self) }
+    {
+        let mut text = Vec::new(alloc);
+        push_number(&mut text, self.validity)?;
+        text.extend_from_slice(b"\n")?;
+        push_number(&mut text, self.next.saturating_sub(1))?;
+        text.extend_from_slice(b"\n")?;
+        Ok(text)
+    }
+}

@@ -1,0 +1,66 @@
+//! The faults of the near mailbox.
+
+use crate::folder::FolderFault;
+use std::alloc::{AllocError, AllocFailed};
+use thiserror::Error;
+
+/// Why a call of the near mailbox has no answer.
+///
+/// After `Stopped` and `NoMemory` every call answers `Stopped`, until the folder is opened again and then the box.
+#[derive(Clone, Copy, Debug, PartialEq, Eq, Error)]
+pub enum NearFault {
+    /// A call of the folder stopped, or an earlier call of the box failed.
+    #[error("stopped")]
+    Stopped,
+    /// The folder lacks `cur`, `new` or `tmp`.
+    #[error("absent")]
+    Absent,
+    /// Two files have one UID.
+    #[error("two files with one UID")]
+    TwoWithOneUid,
+    /// The meta file is not spelled as one, or is missing beside a file with a UID, or a UID is not below the next one.
+    #[error("bad meta file")]
+    BadMeta,
+    /// There is no UID left; nothing was changed.
+    #[error("no UID left")]
+    UidsExhausted,
+    /// A growth was refused.
+    #[error("no memory")]
+    NoMemory,
+}
+
+impl From<FolderFault> for NearFault {
+    ghost use Rattle.std.specs.Prelude.{◌≡◌};
+    ghost use Rattle.maildir.specs.NearFaults.{near_fault};
+
+    ghost from_gives = { λ fault near. near ≡ near_fault fault };
+
+    fn from(fault: FolderFault) -> NearFault {
+        match fault {
+            FolderFault::Stopped => NearFault::Stopped,
+            FolderFault::NoMemory => NearFault::NoMemory,
+        }
+    }
+}
+
+impl From<AllocError> for NearFault {
+    ghost use Rattle.std.specs.Prelude.{◌≡◌};
+    ghost use Rattle.maildir.specs.declared.near_fault.NearFault.TheVariants.{NoMemory};
+
+    ghost from_gives = { λ _ fault. fault ≡ NoMemory };
+
+    fn from(_fault: AllocError) -> NearFault {
+        NearFault::NoMemory
+    }
+}
+
+impl<T: Drop> From<AllocFailed<T>> for NearFault {
+    ghost use Rattle.std.specs.Prelude.{◌≡◌};
+    ghost use Rattle.maildir.specs.declared.near_fault.NearFault.TheVariants.{NoMemory};
+
+    ghost from_gives = { λ _ fault. fault ≡ NoMemory };
+
+    fn from(_fault: AllocFailed<T>) -> NearFault {
+        NearFault::NoMemory
+    }
+}

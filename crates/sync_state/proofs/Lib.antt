@@ -1,0 +1,12 @@
+pub mod LineLemmas
+pub mod PairLemmas
+pub mod StateLemmas
+pub mod StepLemmas
+pub mod ItemLemmas
+pub mod PlaceLemmas
+pub mod GoLemmas
+pub mod LogLemmas
+pub mod JournalLemmas
+pub mod JournalEnds
+pub mod JournalTails
+pub mod MendLemmas

@@ -1,0 +1,13 @@
+-- What a fault of a text says.
+use Rattle.std.specs.Prelude.{ℕ, List}
+use Rattle.sync_state.specs.declared.fault.BookFault.{BookFault}
+use Rattle.sync_state.specs.declared.fault.BookFault.TheVariants.{Stopped, BadState, BadJournal, NoMemory}
+use Rattle.sync_state.specs.Lines.{IsBadLine}
+use Rattle.sync_state.specs.StateText.{StateLines}
+
+-- the bad line of a state text, or want of memory
+abbrev pub TellsState : List ℕ → BookFault → Type 0
+TellsState text Stopped = ⊥
+TellsState text (BadState line) = IsBadLine StateLines text line
+TellsState text (BadJournal line) = ⊥
+TellsState text NoMemory = Unit {0}

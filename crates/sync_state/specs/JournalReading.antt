@@ -1,0 +1,108 @@
+-- What the parts of reading a journal tell.
+use Rattle.std.specs.Prelude.{ℕ, zero, suc, ◌+◌, ◌<◌, ◌^◌, ◌≡◌, ◌≢◌, true, false, List, [], ◌∷◌, ◌++◌, All, map, length, not, ◌==◌}
+use Rattle.rules.specs.declared.plan.Step.{Step}
+use Rattle.rules.specs.declared.plan.Note.{Note}
+use Rattle.rules.specs.declared.plan.Plan.{Plan}
+use Rattle.sync_state.specs.declared.fault.BookFault.{BookFault}
+use Rattle.sync_state.specs.declared.fault.BookFault.TheVariants.{Stopped, BadState, BadJournal, NoMemory}
+use Rattle.sync_state.specs.declared.journal.Logged.{Logged}
+use Rattle.sync_state.specs.declared.journal.WrittenJournal.{WrittenJournal}
+use Rattle.sync_state.specs.declared.journal_read.PlanHead.{PlanHead}
+use Rattle.sync_state.specs.Lines.{AreLines, OneLine, HasNoLine}
+use Rattle.sync_state.specs.JournalText.{IsPlanSide, FitsStep, IsLog, log_line, log_lines, plan_head_lines, is_below, rises, bottom, HasGo, IsBadJournal, JournalText}
+use Rattle.sync_state.specs.Places.{last_of}
+
+-- the bad line of a journal's text with `go`, or want of memory
+abbrev pub TellsJournal : List ℕ → BookFault → Type 0
+TellsJournal text Stopped = ⊥
+TellsJournal text (BadState line) = ⊥
+TellsJournal text (BadJournal line) = HasGo text × IsBadJournal text line
+TellsJournal text NoMemory = Unit {0}
+
+abbrev pub TellsHead : List ℕ → BookFault → Type 0
+TellsHead text Stopped = ⊥
+TellsHead text (BadState line) = ⊥
+TellsHead text (BadJournal line) = IsBadJournal text line
+TellsHead text NoMemory = ⊥
+
+abbrev pub with_items : PlanHead → List Step → List Note → Plan
+with_items h steps notes = record { run = h.run.0; far = h.far; near = h.near; steps = steps; notes = notes }
+
+pub record PlanHeadFits (h : PlanHead) : Type 0 where
+  pub run : h.run.0 < 2 ^ 64
+  pub far : IsPlanSide h.far
+  pub near : IsPlanSide h.near
+
+pub record PlanHeadRead (h : PlanHead) (text rest : List ℕ) : Type 0 where
+  pub fits : PlanHeadFits h
+  pub lines : AreLines (plan_head_lines (with_items h [] [])) text rest
+
+-- ---- steps and notes, each of which has a line and a place
+
+pub record AreItems {A : Type 0} (fits : A → Type 0) (line : A → List ℕ) (place : A → ℕ × ℕ × ℕ) (items : List A) (text rest : List ℕ) : Type 0 where
+  pub fitting : All fits items
+  pub rise : rises bottom (map place items) ≡ true
+  pub lines : AreLines (map line items) text rest
+
+pub record ItemsRead {A : Type 0} (fits : A → Type 0) (line : A → List ℕ) (place : A → ℕ × ℕ × ℕ) (items : List A) (text rest : List ℕ) : Type 0 where
+  pub are : AreItems fits line place items text rest
+  pub all : HasNoLine [] fits line rest
+
+-- one that may not stand behind those before it
+pub record IsBadItem {A : Type 0} (fits : A → Type 0) (line : A → List ℕ) (place : A → ℕ × ℕ × ℕ) (taken : ℕ) (text : List ℕ) (number : ℕ) : Type 0 where
+  pub before : List A
+  pub item : A
+  pub rest : List ℕ
+  pub behind : List ℕ
+  pub are : AreItems fits line place before text rest
+  pub fitting : fits item
+  pub one_line : OneLine (line item)
+  pub parts : rest ≡ line item ++ 10 ∷ behind
+  pub stops : is_below (last_of bottom (map place before)) (place item) ≡ false
+  pub number_is : number ≡ taken + length before + 1
+
+abbrev pub TellsItem : {A : Type 0} → (A → Type 0) → (A → List ℕ) → (A → ℕ × ℕ × ℕ) → ℕ → List ℕ → BookFault → Type 0
+TellsItem fits line place taken text Stopped = ⊥
+TellsItem fits line place taken text (BadState number) = ⊥
+TellsItem fits line place taken text (BadJournal number) = IsBadItem fits line place taken text number
+TellsItem fits line place taken text NoMemory = Unit {0}
+
+-- ---- the log
+
+-- the step of this place in the list may be logged so
+abbrev pub FitsAt : List Step → ℕ → Logged → Type 0
+FitsAt [] k logged = ⊥
+FitsAt (s ∷ steps) zero logged = FitsStep s logged
+FitsAt (s ∷ steps) (suc k) logged = FitsAt steps k logged
+
+pub record AreLogged (steps : List Step) (log : List Logged) (text rest : List ℕ) : Type 0 where
+  pub fits : IsLog steps log
+  pub lines : AreLines (log_lines 1 log) text rest
+
+pub record LogRead (steps : List Step) (log : List Logged) (text rest : List ℕ) : Type 0 where
+  pub are : AreLogged steps log text rest
+  pub no_line : OneLine rest
+
+-- a line that does not log the next step
+pub record IsBadLog (steps : List Step) (taken : ℕ) (text : List ℕ) (number : ℕ) : Type 0 where
+  pub before : List Logged
+  pub line : List ℕ
+  pub rest : List ℕ
+  pub behind : List ℕ
+  pub are : AreLogged steps before text rest
+  pub one_line : OneLine line
+  pub parts : rest ≡ line ++ 10 ∷ behind
+  pub none : (logged : Logged) → FitsAt steps (length before) logged → line ≢ log_line (length before + 1) logged
+  pub number_is : number ≡ taken + length before + 1
+
+abbrev pub TellsLog : List Step → ℕ → List ℕ → BookFault → Type 0
+TellsLog steps taken text Stopped = ⊥
+TellsLog steps taken text (BadState number) = ⊥
+TellsLog steps taken text (BadJournal number) = IsBadLog steps taken text number
+TellsLog steps taken text NoMemory = Unit {0}
+
+-- a text holds this journal
+pub record IsWritten (written : WrittenJournal) (text : List ℕ) : Type 0 where
+  pub torn : List ℕ
+  pub spelled : JournalText written.journal text torn
+  pub is_torn : written.is_torn ≡ not (length torn == 0)

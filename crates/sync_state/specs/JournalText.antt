@@ -1,0 +1,177 @@
+-- The text of a journal: a plan, and the lines that log its steps.
+use Rattle.std.specs.Prelude.{ℕ, ◌+◌, ◌<◌, ◌^◌, ◌≡◌, Bool, true, ◌&&◌, ◌||◌, ◌==◌, nat_lt, if◌then◌else◌, List, [], ◌∷◌, ◌++◌, All, map, length, unwrap_or, codes, decimal}
+use Rattle.mailcore.specs.FlagSet.{FLAGS}
+use Rattle.mailcore.specs.FlagNames.{letters_of}
+use Rattle.mailcore.specs.Mark.{IsMark}
+use Rattle.rules.specs.declared.plan.Step.{Step}
+use Rattle.rules.specs.declared.plan.Step.TheVariants as step
+use Rattle.rules.specs.declared.plan.Note.{Note}
+use Rattle.rules.specs.declared.plan.Note.TheVariants as note
+use Rattle.rules.specs.declared.plan.PlanSide.{PlanSide}
+use Rattle.rules.specs.declared.plan.Plan.{Plan}
+use Rattle.rules.specs.Propagation.{New, Gone, Flags, Expunge, Record, Drop}
+use Rattle.rules.specs.Order.{place}
+use Rattle.sync_state.specs.declared.journal.Logged.{Logged}
+use Rattle.sync_state.specs.declared.journal.Logged.TheVariants.{Copied, Done, Void}
+use Rattle.sync_state.specs.declared.journal.Journal.{Journal}
+use Rattle.sync_state.specs.Words.{IsUid, IsPositive, IsUidOrNone, flags_word, direction_word, side_word}
+use Rattle.sync_state.specs.Lines.{OneLine, AreLines, Begins}
+use Rattle.sync_state.specs.StateText.{run_line, IsHighest}
+
+abbrev pub journal_title : List ℕ
+journal_title = codes "journal 1"
+
+abbrev pub plan_side_text : PlanSide → List ℕ
+plan_side_text side = decimal side.validity ++ 32 ∷ (decimal side.highest ++ 32 ∷ decimal side.next)
+
+abbrev pub plan_far_line : PlanSide → List ℕ
+plan_far_line side = codes "far " ++ plan_side_text side
+
+abbrev pub plan_near_line : PlanSide → List ℕ
+plan_near_line side = codes "near " ++ plan_side_text side
+
+-- flags that are set or cleared, behind their sign; nothing if there are none
+abbrev pub change : (sign flags : ℕ) → List ℕ
+change sign flags = if flags == 0 then [] else 32 ∷ sign ∷ letters_of flags
+
+abbrev pub step_line : Step → List ℕ
+step_line (step.New direction uid flags mark) = codes "s new " ++ (direction_word direction ++ 32 ∷ (decimal uid ++ 32 ∷ (flags_word flags ++ 32 ∷ mark)))
+step_line (step.Gone direction far near) = codes "s gone " ++ (direction_word direction ++ 32 ∷ (decimal far ++ 32 ∷ decimal near))
+step_line (step.Flags direction far near set cleared) =
+    codes "s flags " ++ (direction_word direction ++ 32 ∷ (decimal far ++ 32 ∷ (decimal near ++ (change 43 set ++ change 45 cleared))))
+step_line (step.Expunge side uid) = codes "s expunge " ++ (side_word side ++ 32 ∷ decimal uid)
+
+abbrev pub note_line : Note → List ℕ
+note_line (note.Record far near flags) = codes "n record " ++ (decimal far ++ 32 ∷ (decimal near ++ 32 ∷ flags_word flags))
+note_line (note.Drop far near) = codes "n drop " ++ (decimal (unwrap_or far 0) ++ 32 ∷ decimal (unwrap_or near 0))
+
+abbrev pub go_line : List ℕ
+go_line = codes "go"
+
+-- the line that logs the step of this number
+abbrev pub log_line : ℕ → Logged → List ℕ
+log_line number (Copied uid) = codes "d " ++ (decimal number ++ 32 ∷ decimal uid)
+log_line number Done = codes "d " ++ decimal number
+log_line number Void = codes "v " ++ decimal number
+
+-- the lines that log the steps from this number on
+abbrev pub log_lines : ℕ → List Logged → List (List ℕ)
+log_lines number [] = []
+log_lines number (logged ∷ log) = log_line number logged ∷ log_lines (number + 1) log
+
+abbrev pub plan_head_lines : Plan → List (List ℕ)
+plan_head_lines p = journal_title ∷ run_line p.run ∷ plan_far_line p.far ∷ plan_near_line p.near ∷ []
+
+abbrev pub plan_lines : Plan → List (List ℕ)
+plan_lines p = plan_head_lines p ++ ((map step_line p.steps ++ map note_line p.notes) ++ go_line ∷ [])
+
+-- ---- which journals have a text
+
+pub record IsPlanSide (side : PlanSide) : Type 0 where
+  pub validity : IsPositive side.validity
+  pub highest : IsHighest side.highest
+  pub next : IsPositive side.next
+
+abbrev pub IsStep : Step → Type 0
+IsStep (step.New direction uid flags mark) = IsUid uid × (flags < 2 ^ FLAGS) × IsMark mark
+IsStep (step.Gone direction far near) = IsUid far × IsUid near
+IsStep (step.Flags direction far near set cleared) = IsUid far × IsUid near × (set < 2 ^ FLAGS) × (cleared < 2 ^ FLAGS)
+IsStep (step.Expunge side uid) = IsUid uid
+
+abbrev pub IsNote : Note → Type 0
+IsNote (note.Record far near flags) = IsUid far × IsUid near × (flags < 2 ^ FLAGS)
+IsNote (note.Drop far near) = IsUidOrNone far × IsUidOrNone near
+
+-- the place of a step or a note in the order of a plan
+abbrev pub step_place : Step → ℕ × ℕ × ℕ
+step_place (step.New direction uid flags mark) = place (New direction uid)
+step_place (step.Gone direction far near) = place (Gone direction far near)
+step_place (step.Flags direction far near set cleared) = place (Flags direction far near set cleared)
+step_place (step.Expunge side uid) = place (Expunge side uid)
+
+abbrev pub note_place : Note → ℕ × ℕ × ℕ
+note_place (note.Record far near flags) = place (Record far near flags)
+note_place (note.Drop far near) = place (Drop (unwrap_or far 0) (unwrap_or near 0))
+
+-- as IsBelow
+abbrev pub is_below : (a b : ℕ × ℕ × ℕ) → Bool
+is_below a b = nat_lt a.0 b.0 || (a.0 == b.0 && (nat_lt a.1 b.1 || (a.1 == b.1 && nat_lt a.2 b.2)))
+
+-- each place is below the next one, from this one on
+abbrev pub rises : ℕ × ℕ × ℕ → List (ℕ × ℕ × ℕ) → Bool
+rises last [] = true
+rises last (p ∷ ps) = is_below last p && rises p ps
+
+-- no step has this place, and each has one above it
+abbrev pub bottom : ℕ × ℕ × ℕ
+bottom = (0, 0, 0)
+
+pub record IsPlan (p : Plan) : Type 0 where
+  pub run : p.run < 2 ^ 64
+  pub far : IsPlanSide p.far
+  pub near : IsPlanSide p.near
+  pub steps : All IsStep p.steps
+  pub notes : All IsNote p.notes
+  pub steps_rise : rises bottom (map step_place p.steps) ≡ true
+  pub notes_rise : rises bottom (map note_place p.notes) ≡ true
+
+-- how a new message may be logged
+abbrev pub LogsNew : Logged → Type 0
+LogsNew (Copied copy) = IsUid copy
+LogsNew Done = ⊥
+LogsNew Void = Unit {0}
+
+-- how another step is logged
+abbrev pub LogsOther : Logged → Type 0
+LogsOther (Copied copy) = ⊥
+LogsOther Done = Unit {0}
+LogsOther Void = ⊥
+
+-- how a step may be logged
+abbrev pub FitsStep : Step → Logged → Type 0
+FitsStep (step.New direction uid flags mark) logged = LogsNew logged
+FitsStep (step.Gone direction far near) logged = LogsOther logged
+FitsStep (step.Flags direction far near set cleared) logged = LogsOther logged
+FitsStep (step.Expunge side uid) logged = LogsOther logged
+
+-- the first steps are logged
+abbrev pub IsLog : List Step → List Logged → Type 0
+IsLog steps [] = Unit {0}
+IsLog [] (logged ∷ log) = ⊥
+IsLog (s ∷ steps) (logged ∷ log) = FitsStep s logged × IsLog steps log
+
+abbrev pub journal_lines : Journal → List (List ℕ)
+journal_lines j = plan_lines j.plan ++ log_lines 1 j.log
+
+pub record HasJournal (j : Journal) : Type 0 where
+  pub plan : IsPlan j.plan
+  pub log : IsLog j.plan.steps j.log
+
+-- the whole lines of a text are a journal's; a torn line may stand behind them
+pub record JournalText (j : Journal) (text torn : List ℕ) : Type 0 where
+  pub fits : HasJournal j
+  pub lines : AreLines (journal_lines j) text torn
+  pub no_line : OneLine torn
+
+-- the lines of some journal
+pub record JournalLines (lines : List (List ℕ)) : Type 0 where
+  pub journal : Journal
+  pub fits : HasJournal journal
+  pub same : lines ≡ journal_lines journal
+
+-- `go` is one of the whole lines
+pub record HasGo (text : List ℕ) : Type 0 where
+  pub before : List (List ℕ)
+  pub behind : List ℕ
+  pub lines : AreLines before text (go_line ++ 10 ∷ behind)
+
+-- The whole lines before the line of this number begin a journal, and are not all of it where no line follows. If that
+-- line is whole, no journal goes on with it.
+pub record IsBadJournal (text : List ℕ) (number : ℕ) : Type 0 where
+  pub before : List (List ℕ)
+  pub rest : List ℕ
+  pub lines : AreLines before text rest
+  pub number_is : number ≡ length before + 1
+  pub begins : Begins JournalLines before
+  pub stops : (line behind : List ℕ) → OneLine line → rest ≡ line ++ 10 ∷ behind → ¬ Begins JournalLines (before ++ line ∷ [])
+  pub unfinished : OneLine rest → ¬ JournalLines before

@@ -1,0 +1,15 @@
+pub mod Cuts
+pub mod Words
+pub mod WordLaws
+pub mod NumberLaws
+pub mod Lines
+pub mod StateText
+pub mod Faults
+pub mod StateReading
+pub mod JournalText
+pub mod Shelves
+pub mod MemShelves
+pub mod Places
+pub mod JournalReading
+pub mod Books
+pub mod BookFaults

@@ -1,0 +1,133 @@
+//! The text of a state.
+
+ghost use Rattle.std.specs.Prelude.{◌≡◌, ◌+◌, ◌++◌, ◌<◌, [], ◌∷◌, length, IfOk, IfErr, IfSome, IfNone, OnOk, OnErr, Err};
+ghost use Rattle.sync_state.specs.Lines.{lines_text, HasLine, HasNoLine};
+ghost use Rattle.sync_state.specs.StateText.{StateText, IsEntry, entry_line, end_line, state_lines};
+ghost use Rattle.sync_state.specs.Faults.{TellsState};
+ghost use Rattle.sync_state.specs.StateReading.{HeadRead, EntriesRead, TellsEntry, TellsEnd};
+
+use crate::fault::BookFault;
+use crate::lines::{Lines, push_line};
+use crate::words::{Highest, Positive, Run};
+use mailcore::fault::PushFault;
+use mailcore::flags::Flags;
+use mailcore::uid::Uid;
+use rules::entry::{Entries, Entry};
+use rules::state::SyncState;
+use std::alloc::Global;
+
+/// Far UID, near UID and flags.
+type EntryFields = (Option<Uid>, (Option<Uid>, Flags));
+
+/// The numbers with which a state begins.
+#[derive(Clone, Copy)]
+struct Head {
+    run: Run,
+    far: (Positive, Highest),
+    near: (Positive, Highest),
+}
+
+/// The state with this text. `BadState`: it is the text of no state.
+pub fn read_state_text(alloc: Global, text: &[u8]) -> Result<SyncState, BookFault>
+    ensures spelled { IfOk result (λ state. StateText state text.now) }
+    ensures refused { IfErr result (TellsState text.now) }
+{
+    let mut lines = Lines::new(text);
+    let head = read_head(&mut lines)?;
+    let entries = read_entries(alloc, &mut lines)?;
+    read_end(&mut lines)?;
+    Ok(SyncState {
+        run: head.run.0,
+        far_validity: head.far.0.0,
+        near_validity: head.near.0.0,
+        max_pulled: head.far.1.0,
+        max_pushed: head.near.1.0,
+        entries,
+    })
+}
+
+/// The numbers of the first four lines.
+fn read_head(lines: &mut Lines<'_>) -> Result<Head, BookFault>
+    requires { lines.old.taken ≡ 0 }
+    ensures ok { IfOk result (λ head. HeadRead head lines.old.rest.now lines.new.rest.now) }
+    ensures taken { OnOk result (lines.new.taken ≡ 4) }
+    ensures refused { IfErr result (TellsState lines.old.rest.now) }
+{
+    let Some(()) = lines.take(b"mbsync state 1") else {
+        return Err(BookFault::BadState(1));
+    };
+    let Some(run) = lines.take(b"run ") else {
+        return Err(BookFault::BadState(2));
+    };
+    let Some(far) = lines.take(b"far ") else {
+        return Err(BookFault::BadState(3));
+    };
+    let Some(near) = lines.take(b"near ") else {
+        return Err(BookFault::BadState(4));
+    };
+    Ok(Head { run, far, near })
+}
+
+/// The entries of the next lines.
+fn read_entries(alloc: Global, lines: &mut Lines<'_>) -> Result<Entries, BookFault>
+    ensures ok { IfOk result (λ entries. EntriesRead entries lines.old.rest.now lines.new.rest.now) }
+    ensures taken { IfOk result (λ entries. lines.new.taken ≡ lines.old.taken + length entries) }
+    ensures refused { IfErr result (TellsEntry lines.old.taken lines.old.rest.now) }
+{
+    let mut entries = Entries::new(alloc);
+    while let Some(entry) = take_entry(lines) {
+        match entries.push(entry) {
+            Ok(()) => {}
+            Err(PushFault::OutOfOrder) => return Err(BookFault::BadState(lines.taken)),
+            Err(PushFault::NoMemory) => return Err(BookFault::NoMemory),
+        }
+    }
+    Ok(entries)
+}
+
+/// Takes the next line if it is an entry.
+fn take_entry(lines: &mut Lines<'_>) -> Option<Entry>
+    ensures some { IfSome result (λ entry. HasLine [] IsEntry entry_line entry lines.old.rest.now lines.new.rest.now) }
+    ensures taken { IfSome result (λ _. lines.new.taken ≡ lines.old.taken + 1) }
+    ensures shorter { IfSome result (λ _. length lines.new.rest.now < length lines.old.rest.now) }
+    ensures none { IfNone result (HasNoLine [] IsEntry entry_line lines.old.rest.now) }
+    ensures unchanged { IfNone result (lines.new ≡ lines.old) }
+{
+    let (far, (near, flags)) = lines.take::<EntryFields>(b"e ")?;
+    Some(Entry { far, near, flags })
+}
+
+/// The last line, behind which nothing stands.
+fn read_end(lines: &mut Lines<'_>) -> Result<(), BookFault>
+    ensures ok { OnOk result (lines.old.rest.now ≡ end_line ++ 10 ∷ []) }
+    ensures refused { IfErr result (TellsEnd lines.old.taken lines.old.rest.now) }
+{
+    let Some(()) = lines.take(b"end") else {
+        return Err(BookFault::BadState(lines.taken + 1));
+    };
+    if lines.rest.is_empty() {
+        Ok(())
+    } else {
+        Err(BookFault::BadState(lines.taken + 1))
+    }
+}
+
+/// The text of a state. A state has one if it is of a run that was made, with UIDVALIDITYs from 1 on and no highest UID
+/// above 4294967294.
+pub fn write_state_text(alloc: Global, state: &SyncState) -> Result<Vec<u8>, BookFault>
+    ensures spelled { IfOk result (λ text. text.items ≡ lines_text (state_lines state.now)) }
+    ensures no_memory { OnErr result (result ≡ Err BookFault.NoMemory) }
+{
+    let mut text = Vec::new(alloc);
+    push_line(&mut text, b"mbsync state 1", ())?;
+    push_line(&mut text, b"run ", Run(state.run))?;
+    let far = (Positive(state.far_validity), Highest(state.max_pulled));
+    push_line(&mut text, b"far ", far)?;
+    let near = (Positive(state.near_validity), Highest(state.max_pushed));
+    push_line(&mut text, b"near ", near)?;
+    for entry in state.entries.as_slice() {
+        push_line(&mut text, b"e ", (entry.far, (entry.near, entry.flags)))?;
+    }
+    push_line(&mut text, b"end", ())?;
+    Ok(text)
+}
