@@ -26,6 +26,7 @@ pub fn write_flags(flags: Flags, out: &mut Vec<u8>) -> Result<(), AllocError>
     ensures ok { OnOk result (Appended (FlagsText flags) out.old.items out.new.items) }
     ensures err { OnErr result (out.new.items ≡ out.old.items) }
 {
+    // It tells the prover that the set has none but the six (docs/DECISIONS.md, "Forms").
     let _ = flags.bits();
     append_whole(flags, false, out)
 }
@@ -41,6 +42,7 @@ pub fn write_permanent_flags(
     ensures ok { OnOk result (Appended (PermanentFlagsText (flags, others)) out.old.items out.new.items) }
     ensures err { OnErr result (out.new.items ≡ out.old.items) }
 {
+    // It tells the prover that the set has none but the six (docs/DECISIONS.md, "Forms").
     let _ = flags.bits();
     append_whole(flags, others, out)
 }
