@@ -1,10 +1,11 @@
-pub mod FlagSet
-pub mod FlagNames
-pub mod Sides
-pub mod Mark
-pub mod Draws
 pub mod Content
 pub mod ContentExamples
 pub mod ContentLines
+pub mod Draws
+pub mod FlagNames
+pub mod FlagSet
 pub mod Laws
 pub mod Listed
+pub mod Mark
+pub mod Sides
+pub mod Stores

@@ -14,8 +14,6 @@ use Rattle.maildir.specs.declared.folder.Source.{Source}
 use Rattle.maildir.specs.declared.folder.Source.TheVariants.{Meta, Mail}
 use Rattle.maildir.specs.declared.folder.Origin.{Origin}
 use Rattle.maildir.specs.declared.folder.Origin.TheVariants.{Tmp, Delivered}
-use Rattle.maildir.specs.declared.folder.FolderFault.{FolderFault}
-use Rattle.maildir.specs.declared.folder.FolderFault.TheVariants.{Stopped}
 
 -- ---- what is stored
 
@@ -26,12 +24,6 @@ pub record Stored : Type 0 where
   pub files : List File
   pub copy : Option (List ℕ)
   pub meta : Option (List ℕ)
-
--- a folder as a contract sees it: what it stores, whether a call has stopped since it was opened, and how many have
-pub record Seen : Type 0 where
-  pub stored : Stored
-  pub is_broken : Bool
-  pub stops : ℕ
 
 abbrev pub is_place : Place → Place → Bool
 is_place New New = true
@@ -130,37 +122,6 @@ renamed (Delivered from) to s = renamed_file (name_at from) (name_at to) s
 pub record Renames (from : Origin) (to : Location) (old new : Stored) : Type 0 where
   pub was_there : is_there from old ≡ true
   pub now : new ≡ renamed from to old
-
--- ---- what an answer says
-
--- a call that answered: the folder had not stopped, and where it is honest the effect is there
-pub record Went (is_honest : Bool) (does : Stored → Stored → Type 0) (old new : Seen) : Type 0 where
-  pub was_whole : old.is_broken ≡ false
-  pub is_whole : new.is_broken ≡ false
-  pub stops : new.stops ≡ old.stops
-  pub effect : is_honest ≡ true → does old.stored new.stored
-
--- a call that stopped: from then on the folder is broken; one that was broken before is as it was
-pub record Halted (is_honest : Bool) (fault : FolderFault) (leaves : Stored → Stored → Type 0) (old new : Seen) : Type 0 where
-  pub is_broken : new.is_broken ≡ true
-  pub counted : fault ≡ Stopped → (old.is_broken ≡ true) ⊎ (old.stops < new.stops)
-  pub no_less : old.stops ≤ new.stops
-  pub stuck : old.is_broken ≡ true → (fault ≡ Stopped) × (new ≡ old)
-  pub left : is_honest ≡ true → leaves old.stored new.stored
-
--- a call of a folder: with its effect where it is Ok, else without it, or with it, or with a part of it
-abbrev pub Call : {T : Type 0} → Bool → (Stored → Stored → Type 0) → (Stored → Stored → Type 0) → Seen → Seen → Result T FolderFault → Type 0
-Call is_honest does half old new (Ok answer) = Went is_honest does old new
-Call is_honest does half old new (Err fault) =
-    Halted is_honest fault (λ s s'. (s' ≡ s) ⊎ (does s s' ⊎ half s s')) old new
-
--- a call that changes nothing and answers what is so
-abbrev pub Read : {T : Type 0} → Bool → (T → Stored → Type 0) → Seen → Seen → Result T FolderFault → Type 0
-Read is_honest tells old new (Ok answer) = Went is_honest (λ s s'. (s' ≡ s) × tells answer s) old new
-Read is_honest tells old new (Err fault) = Halted is_honest fault (λ s s'. s' ≡ s) old new
-
-abbrev pub Nothing : Stored → Stored → Type 0
-Nothing old new = ⊥
 
 -- what a vector holds, where there is one
 abbrev pub listed : Option (Vec FileName Global) → Option (List FileName)

@@ -1,11 +1,17 @@
 pub mod Cut
 pub mod DiskFolders
+pub mod Entries
 pub mod Folders
 pub mod Letters
+pub mod Mailboxes
 pub mod MemFolders
 pub mod Metas
 pub mod Names
 pub mod NearCalls
+pub mod NearContracts
 pub mod NearEffects
 pub mod NearFaults
 pub mod Number
+pub mod Sorting
+pub mod SurveyParts
+pub mod Surveys

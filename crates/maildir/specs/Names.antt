@@ -1,7 +1,7 @@
 -- The names of files in a Maildir folder.
-use Rattle.std.specs.Prelude.{◌≡◌, ℕ, ◌+◌, ◌<◌, ◌^◌, Bool, true, not, ◌&&◌, ◌||◌, ◌==◌, nat_eq, nat_lt, nat_le, IsTrue, List, [], ◌∷◌, ◌++◌, length, drop, slice_index, codes, decimal, Option, None, Some, if◌then◌else◌}
-use Rattle.std.specs.List.{list_all, starts_with}
-use Rattle.std.specs.Option.{option_map, option_copied}
+use Rattle.std.specs.Prelude.{◌≡◌, ℕ, ◌+◌, ◌<◌, ◌^◌, Bool, true, false, not, ◌&&◌, ◌||◌, ◌==◌, nat_eq, nat_lt, nat_le, IsTrue, List, [], ◌∷◌, ◌++◌, length, drop, slice_index, codes, decimal, Option, None, Some, is_none, if◌then◌else◌}
+use Rattle.std.specs.List.{list_all, list_any, starts_with}
+use Rattle.std.specs.Option.{option_map, option_and_then, option_copied}
 use Rattle.std.specs.Str.Parse.{digits_value}
 use Rattle.std.specs.Cmp.Lexicographic.{pointwise}
 use Rattle.maildir.specs.Cut.{Sides, cut_first, cut_last}
@@ -131,3 +131,20 @@ name_of_parts (Some (front, letters)) = name_before front letters
 -- the name that a text spells, or none
 unfoldable pub name_of : List ℕ → Option NameParts
 name_of text = name_of_parts (letters_at_end text)
+
+-- the UID that a name has, if it is spelled as one
+abbrev pub uid_in : List ℕ → Option ℕ
+uid_in name = option_and_then (λ parts. parts.uid) (name_of name)
+
+abbrev pub lacks_uid : Option NameParts → Bool
+lacks_uid None = false
+lacks_uid (Some parts) = is_none parts.uid
+
+-- a name that is spelled as one and has no UID: its file waits for one
+abbrev pub is_waiting : List ℕ → Bool
+is_waiting name = lacks_uid (name_of name)
+
+-- the UID is one of these
+abbrev pub is_one_of : List ℕ → Option ℕ → Bool
+is_one_of uids None = false
+is_one_of uids (Some uid) = list_any (λ u. uid == u) uids

@@ -1,8 +1,9 @@
 -- What calls of the near mailbox do to what its folder stores.
-use Rattle.std.specs.Prelude.{◌≡◌, ◌⊎◌, ℕ, ◌+◌, List, [], ◌++◌, ◌∷◌, decimal, codes, Option, None, Some, Result, Ok, Err, nat_eq, unwrap_or, if◌then◌else◌, length, take, Bool, true, false}
+use Rattle.std.specs.Prelude.{◌≡◌, ◌⊎◌, ℕ, ◌+◌, List, [], ◌++◌, ◌∷◌, decimal, codes, Option, None, Some, Result, Ok, Err, nat_eq, unwrap_or, if◌then◌else◌, length, take, map, filter, not, Bool, true, false}
 use Rattle.std.specs.Option.{option_map, option_map_or}
 use Rattle.std.specs.Cmp.Lexicographic.{pointwise}
 use Rattle.maildir.specs.declared.folder.Place.TheVariants.{Cur}
+use Rattle.maildir.specs.declared.folder.File.{File}
 use Rattle.maildir.specs.declared.folder.FileName.{FileName}
 use Rattle.maildir.specs.declared.meta.Meta.{Meta}
 use Rattle.maildir.specs.declared.survey.Entry.{Entry}
@@ -10,7 +11,7 @@ use Rattle.maildir.specs.declared.near_fault.NearFault.{NearFault}
 use Rattle.maildir.specs.Folders.{Stored, Begins, with_copy, with_meta, placed, renamed_file}
 use Rattle.maildir.specs.Letters.{flags_in, letters_with}
 use Rattle.maildir.specs.Metas.{meta_text}
-use Rattle.maildir.specs.Names.{NameParts, name_of, name_text}
+use Rattle.maildir.specs.Names.{NameParts, name_of, name_text, uid_in, is_one_of}
 
 -- ---- names
 
@@ -65,6 +66,28 @@ file_of entry = record { place = entry.place; name = entry.name }
 abbrev pub set_name : FileName → Option (List ℕ) → Stored → Stored
 set_name file None s = s
 set_name file (Some name) s = renamed_file file (record { place = Cur; name = name }) s
+
+-- a file under another name, in `cur`
+abbrev pub under_name : File → Option (List ℕ) → File
+under_name file None = file
+under_name file (Some name) = record { place = Cur; name = name; bytes = file.bytes }
+
+-- the flags of the message with this UID are changed: its file gets the name that they ask for
+abbrev pub flagged_file : (ℕ → ℕ) → (uid : ℕ) → File → File
+flagged_file change uid file =
+    if is_one_of (uid ∷ []) (uid_in file.name) then under_name file (name_flagged file.name (change (flags_by_name file.name))) else file
+
+abbrev pub flagged_files : (ℕ → ℕ) → (uid : ℕ) → Stored → Stored
+flagged_files change uid s = record s { files = map (flagged_file change uid) s.files }
+
+-- the files of these messages are removed
+abbrev pub without_uids : List ℕ → Stored → Stored
+without_uids uids s = record s { files = filter (λ file. not (is_one_of uids (uid_in file.name))) s.files }
+
+-- some of them are, in the order in which they are named
+pub record RemovesSome (uids : List ℕ) (s s' : Stored) : Type 0 where
+  pub count : ℕ
+  pub now : s' ≡ without_uids (take count uids) s
 
 abbrev pub raised : Meta → ℕ → Meta
 raised meta count = record { validity = meta.validity; next = meta.next + count }

@@ -2,7 +2,8 @@
 
 ghost use Rattle.std.specs.Prelude.{◌≡◌, ◌<◌, ◌≤◌, true, length, OnOk, OnErr, IfErr};
 
-use crate::folder::{FileName, Folder, FolderFault, Location, Origin, Place, Source};
+use crate::folder::{FileName, Folder, Location, Origin, Place, Source};
+use device::DeviceFault;
 use mailcore::octets::Octets;
 use std::alloc::Global;
 use std::io::{ErrorKind, Write};
@@ -33,7 +34,7 @@ pub struct DiskFolder<R: Files + AllocGlobal + Clone + Drop> {
 
 impl<R: Files + AllocGlobal + Clone + Drop> DiskFolder<R> {
     /// The folder at this path, which is looked at by the first call.
-    pub fn new(rt: R, path: &str) -> Result<DiskFolder<R>, FolderFault> {
+    pub fn new(rt: R, path: &str) -> Result<DiskFolder<R>, DeviceFault> {
         let path = String::from_str(rt.alloc(), path)?;
         let stops = Vec::new(rt.alloc());
         Ok(DiskFolder {
@@ -47,7 +48,7 @@ impl<R: Files + AllocGlobal + Clone + Drop> DiskFolder<R> {
     /// Makes the folder at this path with `cur`, `new` and `tmp`, as far as they are not there.
     ///
     /// `Stopped`: the system fails.
-    pub fn create(rt: R, path: &str) -> Result<DiskFolder<R>, FolderFault> {
+    pub fn create(rt: R, path: &str) -> Result<DiskFolder<R>, DeviceFault> {
         let folder = DiskFolder::new(rt, path)?;
         match folder.make() {
             Ok(()) => Ok(folder),
@@ -171,11 +172,11 @@ impl<R: Files + AllocGlobal + Clone + Drop> DiskFolder<R> {
     }
 
     // What a call of the system answered; after an error each later call stops.
-    fn told<T>(&mut self, answer: io::Result<T>) -> Result<T, FolderFault>
+    fn told<T>(&mut self, answer: io::Result<T>) -> Result<T, DeviceFault>
         ensures ok { OnOk result (self.new.is_broken ≡ self.old.is_broken) }
         ensures ok_stops { OnOk result (self.new.stops ≡ self.old.stops) }
         ensures broken { OnErr result (self.new.is_broken ≡ true) }
-        ensures counted { IfErr result (λ fault. fault ≡ FolderFault.Stopped → length self.old.stops.items < length self.new.stops.items) }
+        ensures counted { IfErr result (λ fault. fault ≡ DeviceFault.Stopped → length self.old.stops.items < length self.new.stops.items) }
         ensures no_less { length self.old.stops.items ≤ length self.new.stops.items }
     {
         match answer {
@@ -183,8 +184,8 @@ impl<R: Files + AllocGlobal + Clone + Drop> DiskFolder<R> {
             Err(error) => {
                 self.is_broken = true;
                 let fault = fault_of(&error);
-                if fault == FolderFault::Stopped && self.stops.push(0).is_err() {
-                    return Err(FolderFault::NoMemory);
+                if fault == DeviceFault::Stopped && self.stops.push(0).is_err() {
+                    return Err(DeviceFault::NoMemory);
                 }
                 Err(fault)
             }
@@ -193,11 +194,11 @@ impl<R: Files + AllocGlobal + Clone + Drop> DiskFolder<R> {
 }
 
 // A stop, or want of memory.
-fn fault_of(error: &io::Error) -> FolderFault {
+fn fault_of(error: &io::Error) -> DeviceFault {
     if error.kind() == ErrorKind::OutOfMemory {
-        FolderFault::NoMemory
+        DeviceFault::NoMemory
     } else {
-        FolderFault::Stopped
+        DeviceFault::Stopped
     }
 }
 
@@ -216,49 +217,49 @@ impl<R: Files + AllocGlobal + Clone + Drop> Folder for DiskFolder<R> {
 
     ghost seen = { λ folder. seen_on_disk folder.is_broken folder.stops };
 
-    fn names(&mut self) -> Result<Option<Vec<FileName>>, FolderFault> {
+    fn names(&mut self) -> Result<Option<Vec<FileName>>, DeviceFault> {
         if self.is_broken {
-            return Err(FolderFault::Stopped);
+            return Err(DeviceFault::Stopped);
         }
         let answer = self.listed();
         self.told(answer)
     }
 
-    fn read(&mut self, file: Source<'_>) -> Result<Option<Vec<u8>>, FolderFault> {
+    fn read(&mut self, file: Source<'_>) -> Result<Option<Vec<u8>>, DeviceFault> {
         if self.is_broken {
-            return Err(FolderFault::Stopped);
+            return Err(DeviceFault::Stopped);
         }
         let answer = self.bytes_of(file);
         self.told(answer)
     }
 
-    fn write_tmp(&mut self, bytes: &[u8]) -> Result<(), FolderFault> {
+    fn write_tmp(&mut self, bytes: &[u8]) -> Result<(), DeviceFault> {
         if self.is_broken {
-            return Err(FolderFault::Stopped);
+            return Err(DeviceFault::Stopped);
         }
         let answer = self.write(COPY, bytes);
         self.told(answer)
     }
 
-    fn rename(&mut self, from: Origin<'_>, to: Location<'_>) -> Result<(), FolderFault> {
+    fn rename(&mut self, from: Origin<'_>, to: Location<'_>) -> Result<(), DeviceFault> {
         if self.is_broken {
-            return Err(FolderFault::Stopped);
+            return Err(DeviceFault::Stopped);
         }
         let answer = self.give_name(from, to);
         self.told(answer)
     }
 
-    fn remove(&mut self, file: Location<'_>) -> Result<(), FolderFault> {
+    fn remove(&mut self, file: Location<'_>) -> Result<(), DeviceFault> {
         if self.is_broken {
-            return Err(FolderFault::Stopped);
+            return Err(DeviceFault::Stopped);
         }
         let answer = self.take_out(file);
         self.told(answer)
     }
 
-    fn replace_meta(&mut self, text: &[u8]) -> Result<(), FolderFault> {
+    fn replace_meta(&mut self, text: &[u8]) -> Result<(), DeviceFault> {
         if self.is_broken {
-            return Err(FolderFault::Stopped);
+            return Err(DeviceFault::Stopped);
         }
         let answer = self.write_meta(text);
         self.told(answer)

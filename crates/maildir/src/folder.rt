@@ -2,9 +2,8 @@
 
 ghost use Rattle.std.specs.Prelude.{◌≡◌, Bool, false};
 
+use device::DeviceFault;
 use mailcore::octets::Octets;
-use std::alloc::{AllocError, AllocFailed};
-use thiserror::Error;
 
 /// Where the file of a message stands.
 #[derive(Clone, Copy, Debug, PartialEq, Eq, PartialOrd, Ord)]
@@ -62,75 +61,43 @@ pub enum Origin<'a> {
     Delivered(Location<'a>),
 }
 
-/// Why a call of a folder has no answer. From then on each call stops, until `reopen`.
-#[derive(Clone, Copy, Debug, PartialEq, Eq, Error)]
-pub enum FolderFault {
-    /// The call stopped, before its effect, in it or after it.
-    #[error("stopped")]
-    Stopped,
-    /// A growth was refused, which leaves what a stop leaves.
-    #[error("no memory")]
-    NoMemory,
-}
-
-impl From<AllocError> for FolderFault {
-    ghost use Rattle.std.specs.Prelude.{◌≡◌};
-    ghost use Rattle.maildir.specs.declared.folder.FolderFault.TheVariants.{NoMemory};
-
-    ghost from_gives = { λ _ fault. fault ≡ NoMemory };
-
-    fn from(_fault: AllocError) -> FolderFault {
-        FolderFault::NoMemory
-    }
-}
-
-impl<T: Drop> From<AllocFailed<T>> for FolderFault {
-    ghost use Rattle.std.specs.Prelude.{◌≡◌};
-    ghost use Rattle.maildir.specs.declared.folder.FolderFault.TheVariants.{NoMemory};
-
-    ghost from_gives = { λ _ fault. fault ≡ NoMemory };
-
-    fn from(_fault: AllocFailed<T>) -> FolderFault {
-        FolderFault::NoMemory
-    }
-}
-
 /// A Maildir folder: its files in `new` and `cur`, a copy that is being written in `tmp`, and the meta file.
 ///
 /// Each call answers Ok with its effect, or a fault with its effect, without it, or (`write_tmp` alone) with a beginning
 /// of its bytes. After a fault each call answers `Stopped` and changes nothing, until `reopen`, which keeps what is
 /// stored.
 pub trait Folder {
-    ghost use Rattle.maildir.specs.Folders.{Seen, Call, Read, Lists, Begins, Renames, Nothing, bytes_of, with_copy, with_meta, removed, listed, text_of};
+    ghost use Rattle.device.specs.Calls.{Seen, Call, Read, Nothing};
+    ghost use Rattle.maildir.specs.Folders.{Stored, Lists, Begins, Renames, bytes_of, with_copy, with_meta, removed, listed, text_of};
 
     /// Whether the folder gives back what was written, and nobody else writes to it.
     ghost is_honest: { Bool };
 
     /// What is stored, whether a call has stopped since the folder was opened, and how many calls have stopped.
-    ghost seen: { Self → Seen };
+    ghost seen: { Self → Seen Stored };
 
     /// The names in `new` and `cur`, in any order, or none where `new`, `cur` or `tmp` is missing.
-    fn names(&mut self) -> Result<Option<Vec<FileName>>, FolderFault>
+    fn names(&mut self) -> Result<Option<Vec<FileName>>, DeviceFault>
         ensures { Read is_honest (λ names. Lists (listed names)) (seen self.old) (seen self.new) result };
 
     /// The bytes of a file, or none where it is missing.
-    fn read(&mut self, file: Source<'_>) -> Result<Option<Vec<u8>>, FolderFault>
+    fn read(&mut self, file: Source<'_>) -> Result<Option<Vec<u8>>, DeviceFault>
         ensures { Read is_honest (λ bytes s. text_of bytes ≡ bytes_of file.entry s) (seen self.old) (seen self.new) result };
 
     /// Writes the copy in `tmp`, over one that is there. A stopped one may leave any beginning of its bytes.
-    fn write_tmp(&mut self, bytes: &[u8]) -> Result<(), FolderFault>
+    fn write_tmp(&mut self, bytes: &[u8]) -> Result<(), DeviceFault>
         ensures { Call is_honest (λ s s'. s' ≡ with_copy bytes.now s) (Begins bytes.now) (seen self.old) (seen self.new) result };
 
     /// Gives a file another name, in `new` or `cur`. A file that has that name already goes.
-    fn rename(&mut self, from: Origin<'_>, to: Location<'_>) -> Result<(), FolderFault>
+    fn rename(&mut self, from: Origin<'_>, to: Location<'_>) -> Result<(), DeviceFault>
         ensures { Call is_honest (Renames from.entry to.entry) Nothing (seen self.old) (seen self.new) result };
 
     /// Removes a file.
-    fn remove(&mut self, file: Location<'_>) -> Result<(), FolderFault>
+    fn remove(&mut self, file: Location<'_>) -> Result<(), DeviceFault>
         ensures { Call is_honest (λ s s'. s' ≡ removed file.entry s) Nothing (seen self.old) (seen self.new) result };
 
     /// Puts this text in place of the meta file's.
-    fn replace_meta(&mut self, text: &[u8]) -> Result<(), FolderFault>
+    fn replace_meta(&mut self, text: &[u8]) -> Result<(), DeviceFault>
         ensures { Call is_honest (λ s s'. s' ≡ with_meta text.now s) Nothing (seen self.old) (seen self.new) result };
 
     /// Opens the folder again, so that calls are answered again.

@@ -5,7 +5,8 @@ ghost use Rattle.std.specs.Option.{option_map};
 ghost use Rattle.std.specs.List.{list_any};
 ghost use Rattle.maildir.specs.Folders.{is_at, without, left, is_left, moved, name_of_file, name_at, is_there, renamed, AreApart, bytes_of, text_of};
 
-use crate::folder::{File, FileName, Folder, FolderFault, Location, Origin, Place, Source};
+use crate::folder::{File, FileName, Folder, Location, Origin, Place, Source};
+use device::DeviceFault;
 use mailcore::octets::Octets;
 use std::alloc::{AllocError, Global};
 
@@ -123,28 +124,28 @@ impl MemFolder {
     }
 
     // The call stops, and each later one too.
-    fn halt(&mut self) -> FolderFault
+    fn halt(&mut self) -> DeviceFault
         ensures stored { stored_in self.new ≡ stored_in self.old }
         ensures broken { self.new.is_broken ≡ true }
-        ensures stopped { result ≡ FolderFault.Stopped → length self.old.stops.items < length self.new.stops.items }
+        ensures stopped { result ≡ DeviceFault.Stopped → length self.old.stops.items < length self.new.stops.items }
         ensures no_less { length self.old.stops.items ≤ length self.new.stops.items }
     {
         self.is_broken = true;
         match self.stops.push(0) {
-            Ok(()) => FolderFault::Stopped,
-            Err(_) => FolderFault::NoMemory,
+            Ok(()) => DeviceFault::Stopped,
+            Err(_) => DeviceFault::NoMemory,
         }
     }
 
     // The call finds no memory, and each later one stops.
-    fn lack(&mut self) -> FolderFault
-        ensures fault { result ≡ FolderFault.NoMemory }
+    fn lack(&mut self) -> DeviceFault
+        ensures fault { result ≡ DeviceFault.NoMemory }
         ensures stored { stored_in self.new ≡ stored_in self.old }
         ensures broken { self.new.is_broken ≡ true }
         ensures stops { self.new.stops ≡ self.old.stops }
     {
         self.is_broken = true;
-        FolderFault::NoMemory
+        DeviceFault::NoMemory
     }
 
     // Counts a call, and says where it stops.
@@ -241,9 +242,9 @@ impl Folder for MemFolder {
 
     ghost seen = { seen_of };
 
-    fn names(&mut self) -> Result<Option<Vec<FileName>>, FolderFault> {
+    fn names(&mut self) -> Result<Option<Vec<FileName>>, DeviceFault> {
         if self.is_broken {
-            return Err(FolderFault::Stopped);
+            return Err(DeviceFault::Stopped);
         }
         if self.next_cut(FolderCall::Names).is_some() {
             return Err(self.halt());
@@ -257,9 +258,9 @@ impl Folder for MemFolder {
         }
     }
 
-    fn read(&mut self, file: Source<'_>) -> Result<Option<Vec<u8>>, FolderFault> {
+    fn read(&mut self, file: Source<'_>) -> Result<Option<Vec<u8>>, DeviceFault> {
         if self.is_broken {
-            return Err(FolderFault::Stopped);
+            return Err(DeviceFault::Stopped);
         }
         if self.next_cut(FolderCall::Read).is_some() {
             return Err(self.halt());
@@ -270,9 +271,9 @@ impl Folder for MemFolder {
         }
     }
 
-    fn write_tmp(&mut self, bytes: &[u8]) -> Result<(), FolderFault> {
+    fn write_tmp(&mut self, bytes: &[u8]) -> Result<(), DeviceFault> {
         if self.is_broken {
-            return Err(FolderFault::Stopped);
+            return Err(DeviceFault::Stopped);
         }
         let cut = self.next_cut(FolderCall::WriteTmp);
         let written = match cut {
@@ -290,9 +291,9 @@ impl Folder for MemFolder {
         Ok(())
     }
 
-    fn rename(&mut self, from: Origin<'_>, to: Location<'_>) -> Result<(), FolderFault> {
+    fn rename(&mut self, from: Origin<'_>, to: Location<'_>) -> Result<(), DeviceFault> {
         if self.is_broken {
-            return Err(FolderFault::Stopped);
+            return Err(DeviceFault::Stopped);
         }
         let cut = self.next_cut(FolderCall::Rename);
         if stops_before(cut) || !self.has(from) {
@@ -307,9 +308,9 @@ impl Folder for MemFolder {
         Ok(())
     }
 
-    fn remove(&mut self, file: Location<'_>) -> Result<(), FolderFault> {
+    fn remove(&mut self, file: Location<'_>) -> Result<(), DeviceFault> {
         if self.is_broken {
-            return Err(FolderFault::Stopped);
+            return Err(DeviceFault::Stopped);
         }
         let cut = self.next_cut(FolderCall::Remove);
         if stops_before(cut) || !has_file(&self.files, file.place, file.name) {
@@ -322,9 +323,9 @@ impl Folder for MemFolder {
         Ok(())
     }
 
-    fn replace_meta(&mut self, text: &[u8]) -> Result<(), FolderFault> {
+    fn replace_meta(&mut self, text: &[u8]) -> Result<(), DeviceFault> {
         if self.is_broken {
-            return Err(FolderFault::Stopped);
+            return Err(DeviceFault::Stopped);
         }
         let cut = self.next_cut(FolderCall::ReplaceMeta);
         if stops_before(cut) {

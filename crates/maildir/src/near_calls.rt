@@ -1,8 +1,13 @@
 //! What calls of the near mailbox do to its folder, file by file.
 
-ghost use Rattle.std.specs.Prelude.{◌≡◌, ◌<◌, ◌+◌, ◌^◌, true, length, IfSome, IfOk, SomeIff};
-ghost use Rattle.std.specs.List.{HoldsAt};
-ghost use Rattle.maildir.specs.Folders.{text_of, name_at, renamed_file, Nothing};
+ghost use Rattle.std.specs.Prelude.{◌≡◌, ◌≢◌, ◌<◌, ◌+◌, ◌^◌, true, None, All, [], ◌∷◌, ◌++◌, length, map, nat_lt, IfSome, IfOk, IfErr, OnOk, SomeIff};
+ghost use Rattle.std.specs.List.{HoldsAt, list_all};
+ghost use Rattle.std.specs.Option.{option_and_then};
+ghost use Rattle.mailcore.specs.Content.{mark_of};
+ghost use Rattle.device.specs.Calls.{Nothing};
+ghost use Rattle.maildir.specs.Entries.{AreRising, AreThere, message_at, item_at};
+ghost use Rattle.maildir.specs.NearContracts.{bytes_in, is_mark, marked_in};
+ghost use Rattle.maildir.specs.Folders.{bytes_at, text_of, name_at, renamed_file};
 ghost use Rattle.maildir.specs.NearEffects.{flags_by_name, name_flagged, copy_name, copy_base, set_name, file_of, admitted, name_admitted, Does};
 ghost use Rattle.maildir.specs.NearCalls.{Part};
 
@@ -46,10 +51,37 @@ pub fn waiting_at(file: &FileName) -> Location<'_>
 pub fn place_of(entries: &[Entry], uid: Uid) -> Option<usize>
     ensures within { IfSome result (λ i. i < length entries.now) }
     ensures found { IfSome result (λ i. HoldsAt (λ entry. entry.uid ≡ uid) entries.now i) }
+    ensures missing { AreRising entries.now → result ≡ None → All (λ entry. entry.uid ≢ uid) entries.now }
 {
     entries
         .binary_search_by_key(&uid.get(), |entry| entry.uid.get())
         .ok()
+}
+
+/// The bytes of a message, or none where its file is gone.
+pub fn read_message<F: Folder>(folder: &mut F, entry: &Entry) -> Result<Option<Vec<u8>>, NearFault>
+    ensures part { Part (F.seen folder.old) (F.seen folder.new) result }
+    ensures keeps { F.is_honest ≡ true → (F.seen folder.new).stored ≡ (F.seen folder.old).stored }
+    ensures bytes { F.is_honest ≡ true → IfOk result (λ bytes. text_of bytes ≡ bytes_at entry.now.place entry.now.name (F.seen folder.old).stored) }
+{
+    Ok(folder.read(Source::Mail(location(entry)))?)
+}
+
+/// The bytes of the message with this UID, or none where it or its file is gone.
+pub fn find_message<F: Folder>(
+    folder: &mut F,
+    entries: &[Entry],
+    uid: Uid,
+) -> Result<Option<Vec<u8>>, NearFault>
+    ensures part { Part (F.seen folder.old) (F.seen folder.new) result }
+    ensures keeps { F.is_honest ≡ true → (F.seen folder.new).stored ≡ (F.seen folder.old).stored }
+    ensures bytes { F.is_honest ≡ true → AreRising entries.now → AreThere entries.now (F.seen folder.old).stored
+        → IfOk result (λ bytes. text_of bytes ≡ bytes_in uid (map (message_at (F.seen folder.old).stored) entries.now)) }
+{
+    match place_of(entries, uid) {
+        Some(i) => read_message(folder, &entries[i]),
+        None => Ok(None),
+    }
 }
 
 /// What the messages list. One whose file is gone is passed over.
@@ -60,21 +92,32 @@ pub fn listed<F: Folder>(
 ) -> Result<Items, NearFault>
     ensures part { Part (F.seen folder.old) (F.seen folder.new) result }
     ensures keeps { F.is_honest ≡ true → (F.seen folder.new).stored ≡ (F.seen folder.old).stored }
+    ensures shows { F.is_honest ≡ true → AreRising entries.now → AreThere entries.now (F.seen folder.old).stored
+        → IfOk result (λ items. items ≡ map (item_at (F.seen folder.old).stored) entries.now) }
 {
     let mut items = Items::new(alloc);
     for entry in entries {
-        if let Some(bytes) = folder.read(Source::Mail(location(entry)))? {
+        if let Some(bytes) = read_message(folder, entry)? {
             let item = Item {
                 uid: entry.uid,
                 flags: flags_of(entry),
                 fit: fit(Side::Near, &bytes),
             };
-            if items.push(item) == Err(PushFault::NoMemory) {
-                return Err(NearFault::NoMemory);
-            }
+            push_item(&mut items, item)?;
         }
     }
     Ok(items)
+}
+
+/// Adds an item behind those that stand below it.
+fn push_item(items: &mut Items, item: Item) -> Result<(), NearFault>
+    ensures memory { IfErr result (λ fault. fault ≡ NearFault.NoMemory) }
+    ensures pushed { list_all (λ i. nat_lt i.uid item.uid) items.old ≡ true → OnOk result (items.new ≡ items.old ++ item ∷ []) }
+{
+    match items.push(item) {
+        Ok(()) | Err(PushFault::OutOfOrder) => Ok(()),
+        Err(PushFault::NoMemory) => Err(NearFault::NoMemory),
+    }
 }
 
 /// The least UID of at least `from` whose message has the mark. A message whose file is gone is passed over.
@@ -86,17 +129,34 @@ pub fn find_mark<F: Folder>(
 ) -> Result<Option<Uid>, NearFault>
     ensures part { Part (F.seen folder.old) (F.seen folder.new) result }
     ensures keeps { F.is_honest ≡ true → (F.seen folder.new).stored ≡ (F.seen folder.old).stored }
+    ensures found { F.is_honest ≡ true → AreThere entries.now (F.seen folder.old).stored
+        → IfOk result (λ found. found ≡ marked_in mark from (map (message_at (F.seen folder.old).stored) entries.now)) }
 {
     for entry in entries {
-        if entry.uid.get() >= from {
-            if let Some(bytes) = folder.read(Source::Mail(location(entry)))? {
-                if mark_of(&bytes) == Some(mark) {
-                    return Ok(Some(entry.uid));
-                }
-            }
+        if entry.uid.get() >= from && has_mark(folder, entry, mark)? {
+            return Ok(Some(entry.uid));
         }
     }
     Ok(None)
+}
+
+/// Whether a message has the mark. One whose file is gone has none.
+fn has_mark<F: Folder>(folder: &mut F, entry: &Entry, mark: Tuid) -> Result<bool, NearFault>
+    ensures part { Part (F.seen folder.old) (F.seen folder.new) result }
+    ensures keeps { F.is_honest ≡ true → (F.seen folder.new).stored ≡ (F.seen folder.old).stored }
+    ensures mark { F.is_honest ≡ true → IfOk result (λ is. is ≡ is_mark (option_and_then mark_of (bytes_at entry.now.place entry.now.name (F.seen folder.old).stored)) mark) }
+{
+    match read_message(folder, entry)? {
+        Some(bytes) => Ok(bears(&bytes, mark)),
+        None => Ok(false),
+    }
+}
+
+/// Whether these bytes are those of a copy under this mark.
+fn bears(bytes: &[u8], mark: Tuid) -> bool
+    ensures { result ≡ is_mark (mark_of bytes.now) mark }
+{
+    mark_of(bytes) == Some(mark)
 }
 
 /// The flags of a message.

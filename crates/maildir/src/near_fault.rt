@@ -1,6 +1,6 @@
 //! The faults of the near mailbox.
 
-use crate::folder::FolderFault;
+use device::DeviceFault;
 use std::alloc::{AllocError, AllocFailed};
 use thiserror::Error;
 
@@ -29,16 +29,16 @@ pub enum NearFault {
     NoMemory,
 }
 
-impl From<FolderFault> for NearFault {
+impl From<DeviceFault> for NearFault {
     ghost use Rattle.std.specs.Prelude.{◌≡◌};
     ghost use Rattle.maildir.specs.NearFaults.{near_fault};
 
     ghost from_gives = { λ fault near. near ≡ near_fault fault };
 
-    fn from(fault: FolderFault) -> NearFault {
+    fn from(fault: DeviceFault) -> NearFault {
         match fault {
-            FolderFault::Stopped => NearFault::Stopped,
-            FolderFault::NoMemory => NearFault::NoMemory,
+            DeviceFault::Stopped => NearFault::Stopped,
+            DeviceFault::NoMemory => NearFault::NoMemory,
         }
     }
 }

@@ -27,7 +27,7 @@ none_is : (x : Option ℕ) → is_none x ≡ true → x ≡ None
 none_is None h = refl
 none_is (Some u) h = absurd (false≢true h)
 
-once : (x y : Option ℕ) → (not (is_same x y) || is_none x) ≡ true → x ≡ y → x ≡ None
+pub once : (x y : Option ℕ) → (not (is_same x y) || is_none x) ≡ true → x ≡ y → x ≡ None
 once x y h e = elim (or_cases (not (is_same x y)) (is_none x) h) [
   | inl other ↦ absurd (false≢true (rw (same_is x y e) at other))
   | inr none ↦ none_is x none

@@ -1,4 +1,5 @@
 pub mod FlagLemmas
 pub mod EntryLemmas
+pub mod EntryEnds
 pub mod Walks
 pub mod LookUps

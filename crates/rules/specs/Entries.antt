@@ -10,6 +10,11 @@ abbrev pub uid_of : Side → Entry → ℕ
 uid_of Far e = unwrap_or e.far 0
 uid_of Near e = unwrap_or e.near 0
 
+-- the UID on a side, if the side has not vanished
+abbrev pub uid_on : Side → Entry → Option ℕ
+uid_on Far e = e.far
+uid_on Near e = e.near
+
 -- neither side has vanished
 abbrev pub is_full : Entry → Bool
 is_full e = is_some e.far && is_some e.near

@@ -1,6 +1,7 @@
 pub use Rattle.mailcore.specs.Sides
 pub use Rattle.mailcore.specs.FlagSet
 pub mod Entries
+pub mod EntryParts
 pub mod Options
 pub mod FlagRule
 pub mod Propagation

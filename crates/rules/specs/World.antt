@@ -9,7 +9,8 @@ use Rattle.mailcore.specs.declared.side.Direction.TheVariants.{Pull, Push}
 use Rattle.mailcore.specs.declared.mailbox.Message.{Message}
 use Rattle.mailcore.specs.Sides.{source, towards}
 use Rattle.mailcore.specs.Content.{copy_text}
-use Rattle.mailcore.specs.Listed.{AreRising, AreBelow, item_of}
+use Rattle.mailcore.specs.Listed.{item_of}
+pub use Rattle.mailcore.specs.Stores.{Store, Waiting, IsStore, numbered}
 use Rattle.rules.specs.declared.entry.Entry.{Entry}
 use Rattle.rules.specs.declared.state.SyncState.{SyncState}
 use Rattle.rules.specs.declared.options.Options.{Options}
@@ -17,17 +18,6 @@ use Rattle.rules.specs.Entries.{ArePairs, uid_of}
 use Rattle.rules.specs.Scene.{Scene}
 use Rattle.rules.specs.Called.{is_new, is_expunged, flags_after}
 use Rattle.rules.specs.Outcome.{entries_after, highest_after}
-
--- what a mailbox stores
-pub record Store : Type 0 where
-  pub validity : ℕ
-  pub next : ℕ
-  pub messages : List Message
-
--- a near file that has no UID yet
-pub record Waiting : Type 0 where
-  pub flags : ℕ
-  pub bytes : List ℕ
 
 pub record World : Type 0 where
   pub far : Store
@@ -38,11 +28,6 @@ pub record World : Type 0 where
 abbrev pub store : World → Side → Store
 store w Far = w.far
 store w Near = w.near
-
--- UIDs rise and are below the next one
-pub record IsStore (s : Store) : Type 0 where
-  pub rising : AreRising s.messages
-  pub below : AreBelow s.messages s.next
 
 -- what is always so of a world
 pub record IsWorld (w : World) : Type 0 where
@@ -58,10 +43,6 @@ pub record NamesBelow (w : World) : Type 0 where
   pub near : All (λ e. uid_of Near e < w.near.next) w.state.entries
 
 -- ---- admission: waiting files become messages, in order, under the UIDs from next on
-
-abbrev pub numbered : (next : ℕ) → List Waiting → List Message
-numbered next [] = []
-numbered next (f ∷ fs) = record { uid = next; flags = f.flags; bytes = f.bytes } ∷ numbered (next + 1) fs
 
 abbrev pub admitted : World → World
 admitted w = record {

@@ -1,14 +1,16 @@
 //! Entries: the pairs of messages that earlier runs made.
 
-ghost use Rattle.std.specs.Prelude.{◌≡◌, ◌↔◌, ◌<◌, ◌^◌, ◌++◌, [], ◌∷◌, true, false, OnOk, OnErr, IsErrOf};
-ghost use Rattle.std.specs.List.{list_all};
-ghost use Rattle.rules.specs.Entries.{ArePairs, follows, has_a_side, is_full, may_end, uid_of, uids_of};
+ghost use Rattle.std.specs.Prelude.{◌≡◌, ◌↔◌, ℕ, ◌-◌, ◌<◌, ◌++◌, List, [], ◌∷◌, length, true, false, None, Some, Err, OnOk, OnErr, IsErrOf};
+ghost use Rattle.std.specs.List.{list_all, list_any, slice_get};
+ghost use Rattle.rules.specs.Entries.{ArePairs, follows, has_a_side, is_full, is_same, may_end, uid_of, uid_on, uids_of};
+ghost use Rattle.rules.specs.EntryParts.{KnowsNear, is_above, is_above_last, is_near_free};
 
 use mailcore::fault::PushFault;
 use mailcore::flags::Flags;
 use mailcore::side::Side;
 use mailcore::uid::Uid;
-use std::alloc::Global;
+use std::alloc::{AllocError, Global};
+use std::collections::BTreeSet;
 use std::marker::Model;
 
 /// A pair of messages that an earlier run made, with the flags that both had then. A side with no UID has vanished,
@@ -26,7 +28,8 @@ pub struct Entry {
 impl Entry {
     /// The number of the UID on this side, 0 if the side has vanished, as in the texts of states and plans.
     pub fn number(&self, side: Side) -> u32
-        ensures { result ≡ uid_of side self.now }
+        ensures number { result ≡ uid_of side self.now }
+        ensures vanished { result ≡ 0 → uid_on side self.now ≡ None }
     {
         match side {
             Side::Far => self.far.map_or(0, |uid| uid.get()),
@@ -42,6 +45,13 @@ impl Entry {
             (Some(far), Some(near)) => Some((far, near)),
             _ => None,
         }
+    }
+
+    /// Whether a side has not vanished.
+    pub fn has_a_side(&self) -> bool
+        ensures { result ≡ has_a_side self.now }
+    {
+        self.far.is_some() || self.near.is_some()
     }
 
     /// Whether neither side has vanished.
@@ -71,6 +81,8 @@ pub struct ListedPair {
 #[derive(Debug, Drop)]
 pub struct Entries {
     list: Vec<Entry>,
+    // The near UIDs of the list, so that `push` need not go over it. There are none behind `from_vec`, which takes no memory.
+    near: Option<BTreeSet<u32>>,
 }
 
 impl Model for Entries {
@@ -80,10 +92,11 @@ impl Model for Entries {
     ghost Value = { List Entry };
 
     ghost use Rattle.rules.specs.Entries.{ArePairs};
+    ghost use Rattle.rules.specs.EntryParts.{KnowsNear};
 
     ghost view = { λ a. a.list.items };
 
-    ghost invariant = { λ a. ArePairs a.list.items };
+    ghost invariant = { λ a. ArePairs a.list.items × KnowsNear a.near a.list.items };
 }
 
 impl Entries {
@@ -93,7 +106,16 @@ impl Entries {
     {
         Entries {
             list: Vec::new(alloc),
+            near: Some(BTreeSet::new(alloc)),
         }
+    }
+
+    /// These entries, without taking memory.
+    pub fn from_vec(list: Vec<Entry>) -> Self
+        requires { ArePairs list.items }
+        ensures { result ≡ list.items }
+    {
+        Entries { list, near: None }
     }
 
     /// All of them.
@@ -112,38 +134,91 @@ impl Entries {
         ensures out_of_order { IsErrOf result PushFault.OutOfOrder ↔ (may_end entry self.old ≡ false) }
         ensures err { OnErr result (self.new ≡ self.old) }
     {
-        if !may_stand_last(&self.list, &entry) {
+        if !may_stand_last(&self.near, &self.list, &entry) {
             return Err(PushFault::OutOfOrder);
         }
         self.list.push(entry)?;
-        Ok(())
+        match remember(&mut self.near, entry.near) {
+            Ok(()) => Ok(()),
+            Err(refused) => {
+                self.list.pop();
+                Err(refused)
+            }
+        }
     }
 }
 
-fn may_stand_last(entries: &[Entry], entry: &Entry) -> bool
+fn may_stand_last(known: &Option<BTreeSet<u32>>, entries: &[Entry], entry: &Entry) -> bool
+    requires pairs { ArePairs entries.now }
+    requires known { KnowsNear known.now entries.now }
     ensures { result ≡ may_end entry.now entries.now }
 {
-    has_side(entry) && all_before(entries, entry)
+    entry.has_a_side() && follows_all(known, entries, entry)
 }
 
-fn has_side(entry: &Entry) -> bool
-    ensures { result ≡ has_a_side entry.now }
-{
-    entry.far.is_some() || entry.near.is_some()
-}
-
-fn all_before(entries: &[Entry], entry: &Entry) -> bool
+/// In order behind others: they rise, so that the last one stands for all but their near UIDs.
+fn follows_all(known: &Option<BTreeSet<u32>>, entries: &[Entry], entry: &Entry) -> bool
+    requires pairs { ArePairs entries.now }
+    requires known { KnowsNear known.now entries.now }
     ensures { result ≡ list_all (λ a. follows a entry.now) entries.now }
 {
-    entries.iter().all(|other| may_follow(other, entry))
+    is_above_last(entries, entry) && is_near_free(known, entries, entry.near)
 }
 
-fn may_follow(other: &Entry, entry: &Entry) -> bool
-    ensures { result ≡ follows other.now entry.now }
+fn is_above_last(entries: &[Entry], entry: &Entry) -> bool
+    ensures last { result ≡ is_above_last (slice_get entries.now (length entries.now - 1)) entry.now }
+    ensures positive { 0 < length entries.now → (uid : ℕ) → entry.now.far ≡ Some uid → 0 < uid }
+{
+    match entries.last() {
+        Some(last) => is_above(last, entry),
+        None => true,
+    }
+}
+
+/// Whether the entry is in order behind another, and has another far UID.
+fn is_above(other: &Entry, entry: &Entry) -> bool
+    ensures above { result ≡ is_above other.now entry.now }
+    ensures positive { (uid : ℕ) → entry.now.far ≡ Some uid → 0 < uid }
 {
     let (far, near) = (other.number(Side::Far), other.number(Side::Near));
     let (next_far, next_near) = (entry.number(Side::Far), entry.number(Side::Near));
     (far < next_far || (far == next_far && near < next_near))
         && (other.far != entry.far || other.far.is_none())
-        && (other.near != entry.near || other.near.is_none())
+}
+
+fn is_near_free(known: &Option<BTreeSet<u32>>, entries: &[Entry], near: Option<Uid>) -> bool
+    requires { KnowsNear known.now entries.now }
+    ensures { result ≡ is_near_free near entries.now }
+{
+    let Some(uid) = near else {
+        return true;
+    };
+    match known {
+        Some(uids) => !uids.contains(&uid.get()),
+        None => !has_near_uid(entries, uid),
+    }
+}
+
+fn has_near_uid(entries: &[Entry], uid: Uid) -> bool
+    ensures { result ≡ list_any (λ e. is_same e.near (Some uid)) entries.now }
+{
+    entries.iter().any(|entry| is_near(entry, uid))
+}
+
+fn is_near(entry: &Entry, uid: Uid) -> bool
+    ensures { result ≡ is_same entry.now.near (Some uid) }
+{
+    entry.near == Some(uid)
+}
+
+/// Keeps one more near UID.
+fn remember(known: &mut Option<BTreeSet<u32>>, near: Option<Uid>) -> Result<(), PushFault>
+    ensures ok { OnOk result ((es : List Entry) (e : Entry) → e.near ≡ near → KnowsNear known.old es → KnowsNear known.new (es ++ e ∷ [])) }
+    ensures err { OnErr result ((es : List Entry) → KnowsNear known.old es → KnowsNear known.new es) }
+    ensures no_memory { OnErr result (result ≡ Err PushFault.NoMemory) }
+{
+    if let (Some(uids), Some(uid)) = (known, near) {
+        uids.insert(uid.get())?;
+    }
+    Ok(())
 }

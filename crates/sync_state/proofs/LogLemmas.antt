@@ -15,7 +15,7 @@ log_lines-push number (x ∷ log) l =
     let e : number + 1 + length log ≡ number + suc (length log) = omega arith in
     ap (λ (z : List (List ℕ)). log_line number x ∷ z) (log_lines-push (number + 1) log l ∙ ap (λ (n : ℕ). log_lines (number + 1) log ++ log_line n l ∷ []) e)
 
-log-push : (steps : List Step) (log : List Logged) (l : Logged) → IsLog steps log → FitsAt steps (length log) l → IsLog steps (log ++ l ∷ [])
+pub log-push : (steps : List Step) (log : List Logged) (l : Logged) → IsLog steps log → FitsAt steps (length log) l → IsLog steps (log ++ l ∷ [])
 log-push [] [] l is f = absurd f
 log-push (s ∷ steps) [] l is f = (f, tt)
 log-push [] (x ∷ log) l is f = absurd is

@@ -1,16 +1,19 @@
 -- What a book is: what the two files of a shelf say.
-use Rattle.std.specs.Prelude.{ℕ, ◌+◌, ◌<◌, ◌≤◌, ◌≡◌, ◌⊎◌, false, List, [], Option, Some, None}
+use Rattle.std.specs.Prelude.{ℕ, ◌+◌, ◌<◌, ◌≤◌, ◌≡◌, ◌⊎◌, Bool, true, false, List, [], Option, Some, None, Result, Ok, Err}
+use Rattle.device.specs.Calls.{Seen}
 use Rattle.rules.specs.declared.state.SyncState.{SyncState}
 use Rattle.sync_state.specs.declared.fault.BookFault.{BookFault}
 use Rattle.sync_state.specs.declared.fault.BookFault.TheVariants.{Stopped, BadState, BadJournal, NoMemory}
+use Rattle.sync_state.specs.declared.journal.Journal.{Journal}
 use Rattle.sync_state.specs.declared.journal.WrittenJournal.{WrittenJournal}
 use Rattle.sync_state.specs.declared.book.Pending.{Pending}
 use Rattle.sync_state.specs.declared.book.Pending.TheVariants.{Missing, Useless, Planned}
 use Rattle.sync_state.specs.Lines.{IsBadLine}
 use Rattle.sync_state.specs.StateText.{StateText, StateLines}
-use Rattle.sync_state.specs.JournalText.{HasGo, IsBadJournal}
+use Rattle.sync_state.specs.JournalText.{HasGo, IsBadJournal, HasJournal}
 use Rattle.sync_state.specs.JournalReading.{IsWritten}
-use Rattle.sync_state.specs.Shelves.{Files, Seen}
+use Rattle.sync_state.specs.Agreement.{Agrees, disagreement}
+use Rattle.sync_state.specs.Shelves.{Files}
 
 -- a plan of the next run is pending
 abbrev pub IsPlanned : Pending → Type 0
@@ -36,23 +39,44 @@ HoldsState (Some text) s = StateText s text
 pub record IsUseless (run : ℕ) (text : List ℕ) : Type 0 where
   pub old : HasGo text → (written : WrittenJournal) × IsWritten written text × (written.journal.plan.run ≤ run)
 
-pub record IsPending (run : ℕ) (written : WrittenJournal) (text : List ℕ) : Type 0 where
+-- there is a plan of the next run
+pub record IsNext (run : ℕ) (written : WrittenJournal) (text : List ℕ) : Type 0 where
   pub written_is : IsWritten written text
   pub next : written.journal.plan.run ≡ run + 1
 
--- the journal's file holds this, behind the state of a run
-abbrev pub HoldsJournal : ℕ → Option (List ℕ) → Pending → Type 0
-HoldsJournal run None Missing = Unit {0}
-HoldsJournal run None Useless = ⊥
-HoldsJournal run None (Planned written) = ⊥
-HoldsJournal run (Some text) Missing = ⊥
-HoldsJournal run (Some text) Useless = IsUseless run text
-HoldsJournal run (Some text) (Planned written) = IsPending run written text
+-- there is one that agrees with the state
+pub record IsPending (s : SyncState) (written : WrittenJournal) (text : List ℕ) : Type 0 where
+  pub is_next : IsNext s.run written text
+  pub agrees : Agrees s.entries written.journal
+
+-- the journal's file holds this, behind this state
+abbrev pub HoldsJournal : SyncState → Option (List ℕ) → Pending → Type 0
+HoldsJournal s None Missing = Unit {0}
+HoldsJournal s None Useless = ⊥
+HoldsJournal s None (Planned written) = ⊥
+HoldsJournal s (Some text) Missing = ⊥
+HoldsJournal s (Some text) Useless = IsUseless s.run text
+HoldsJournal s (Some text) (Planned written) = IsPending s written text
+
+pub record Held (files : Files) (state : SyncState) (pending : Pending) : Type 0 where
+  pub state_file : HoldsState files.state state
+  pub journal_file : HoldsJournal state files.journal pending
 
 -- the files hold this state and this journal
-pub record Holds (files : Files) (state : SyncState) (pending : Pending) : Type 0 where
-  pub state_file : HoldsState files.state state
-  pub journal_file : HoldsJournal state.run files.journal pending
+abbrev pub Holds : Files → SyncState → Pending → Type 0
+Holds files state pending = ∥ Held files state pending ∥₁
+
+-- a journal of the next run: it has a text and agrees with the state
+pub record IsFitting (state : SyncState) (journal : Journal) : Type 0 where
+  pub has_text : HasJournal journal
+  pub next : journal.plan.run ≡ state.run + 1
+  pub agrees : Agrees state.entries journal
+
+-- a journal that is pending is one of the next run
+abbrev pub Fits : SyncState → Pending → Type 0
+Fits state Missing = Unit {0}
+Fits state Useless = Unit {0}
+Fits state (Planned written) = IsFitting state written.journal
 
 -- why a state's file was not read
 abbrev pub TellsStateFile : Option (List ℕ) → BookFault → Type 0
@@ -62,9 +86,9 @@ TellsStateFile (Some text) (BadState line) = IsBadLine StateLines text line
 TellsStateFile file (BadJournal line) = ⊥
 TellsStateFile file NoMemory = Unit {0}
 
--- a call ended by stopping only where the shelf told a stop, or had stopped before
-abbrev pub StopsTold : BookFault → Seen → Seen → Type 0
-StopsTold Stopped old new = old.stops < new.stops
+-- a book is opened: it tells a stop only where the shelf stopped then, or had stopped before
+abbrev pub StopsTold : BookFault → Seen Files → Seen Files → Type 0
+StopsTold Stopped old new = (old.is_broken ≡ true) ⊎ (old.stops < new.stops)
 StopsTold (BadState line) old new = Unit {0}
 StopsTold (BadJournal line) old new = Unit {0}
 StopsTold NoMemory old new = Unit {0}
@@ -75,19 +99,36 @@ pub record IsAhead (run : ℕ) (text : List ℕ) : Type 0 where
   pub written_is : IsWritten written text
   pub ahead : run + 1 < written.journal.plan.run
 
+-- a plan of the next run whose first line that does not agree with the state is this one
+pub record IsDisagreeing (s : SyncState) (text : List ℕ) (line : ℕ) : Type 0 where
+  pub written : WrittenJournal
+  pub is_next : IsNext s.run written text
+  pub disagrees : disagreement s.entries written.journal ≡ Some line
+
+-- a text with `go` that is not a journal's from this line on, or not the one of the next run, or does not agree with the state
+abbrev pub IsRefused : SyncState → List ℕ → (line : ℕ) → Type 0
+IsRefused s text line = (HasGo text × IsBadJournal text line) ⊎ (((line ≡ 2) × IsAhead s.run text) ⊎ IsDisagreeing s text line)
+
+-- why a journal's text was not read
+abbrev pub TellsPending : SyncState → List ℕ → BookFault → Type 0
+TellsPending s text Stopped = ⊥
+TellsPending s text (BadState line) = ⊥
+TellsPending s text (BadJournal line) = IsRefused s text line
+TellsPending s text NoMemory = Unit {0}
+
 -- why a journal's file was not read
-abbrev pub TellsJournalFile : ℕ → Option (List ℕ) → BookFault → Type 0
-TellsJournalFile run file Stopped = Unit {0}
-TellsJournalFile run file (BadState line) = ⊥
-TellsJournalFile run None (BadJournal line) = ⊥
-TellsJournalFile run (Some text) (BadJournal line) = (HasGo text × IsBadJournal text line) ⊎ ((line ≡ 2) × IsAhead run text)
-TellsJournalFile run file NoMemory = Unit {0}
+abbrev pub TellsJournalFile : SyncState → Option (List ℕ) → BookFault → Type 0
+TellsJournalFile s file Stopped = Unit {0}
+TellsJournalFile s file (BadState line) = ⊥
+TellsJournalFile s None (BadJournal line) = ⊥
+TellsJournalFile s (Some text) (BadJournal line) = IsRefused s text line
+TellsJournalFile s file NoMemory = Unit {0}
 
 -- the state's file was read, and the journal's was not
 pub record JournalRefused (files : Files) (fault : BookFault) : Type 0 where
   pub state : SyncState
   pub state_file : HoldsState files.state state
-  pub journal_file : TellsJournalFile state.run files.journal fault
+  pub journal_file : TellsJournalFile state files.journal fault
 
 -- why a book was not opened
 abbrev pub TellsOpen : Files → BookFault → Type 0
@@ -99,6 +140,34 @@ mended Missing = Missing
 mended Useless = Useless
 mended (Planned written) = Planned (record written { is_torn = false })
 
--- the files hold this state, and the journal with its torn line or without it
-abbrev pub IsMendedOrNot : Files → SyncState → Pending → Type 0
-IsMendedOrNot files state pending = Holds files state pending ⊎ Holds files state (mended pending)
+-- with a torn line
+abbrev pub torn : Pending → Pending
+torn Missing = Missing
+torn Useless = Useless
+torn (Planned written) = Planned (record written { is_torn = true })
+
+-- ---- calls
+
+-- a book as a contract sees it between two calls: whether it goes on, and its shelf
+pub record Standing : Type 0 where
+  pub is_ready : Bool
+  pub shelf : Seen Files
+
+-- A call ends. Where it answers, the book was ready and goes on. Where it stops, the shelf stopped in this call, or the
+-- book had failed before, and then nothing was called; from then on it has failed. Where it finds no memory it has failed
+-- too. Where it is refused nothing was called, and the book goes on.
+abbrev pub Ends : {T : Type 0} → (is_refused : Bool) → Standing → Standing → Result T BookFault → Type 0
+Ends is_refused old new (Ok answer) = (is_refused ≡ false) × (old.is_ready ≡ true) × (new.is_ready ≡ true)
+Ends is_refused old new (Err Stopped) =
+    (new.is_ready ≡ false)
+    × (old.is_ready ≡ false → new.shelf ≡ old.shelf)
+    × (old.is_ready ≡ true → (is_refused ≡ false) × (old.shelf.stops < new.shelf.stops))
+Ends is_refused old new (Err NoMemory) = (is_refused ≡ false) × (old.is_ready ≡ true) × (new.is_ready ≡ false)
+Ends is_refused old new (Err (BadState line)) = (line ≡ 0) × (is_refused ≡ true) × (old.is_ready ≡ true) × (new ≡ old)
+Ends is_refused old new (Err (BadJournal line)) = ⊥
+
+-- a call that puts a journal in place of another leaves the new one where it answers, else the old one, the new one or
+-- what a part of the call leaves
+abbrev pub Leaves : {T : Type 0} → (old new part : Pending) → SyncState → Files → Result T BookFault → Type 0
+Leaves old new part state files (Ok answer) = Holds files state new
+Leaves old new part state files (Err fault) = Holds files state old ⊎ (Holds files state new ⊎ Holds files state part)

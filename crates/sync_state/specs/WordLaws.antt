@@ -41,7 +41,7 @@ letter_is sep low Answered e = absurd (omega (arith, e))
 letter_is sep low Seen e = absurd (omega (arith, e))
 letter_is sep low Deleted e = absurd (omega (arith, e))
 
-letters-lack : (sep : ℕ) → sep < 68 → (flags : ℕ) → Lacks sep (letters_of flags)
+pub letters-lack : (sep : ℕ) → sep < 68 → (flags : ℕ) → Lacks sep (letters_of flags)
 letters-lack sep low flags =
     let some : List Flag = filter (λ flag. has flags (place flag)) all_flags in
     All-map (λ b. b ≢ sep) letter some (λ k d l. letter_is sep low _)

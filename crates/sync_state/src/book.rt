@@ -1,15 +1,18 @@
 //! A book: the state of the last run and the journal of the run that is under way, kept on a shelf.
 
-ghost use Rattle.std.specs.Prelude.{◌≡◌, ◌≤◌, ◌⊎◌, false, true, None, Err, IfOk, IfErr, OnOk, OnErr, MatchOption};
+ghost use Rattle.std.specs.Prelude.{◌≡◌, ◌≤◌, ◌⊎◌, All, false, true, Some, IfOk, IfErr, OnOk, OnErr, MatchOption};
 ghost use Rattle.sync_state.specs.declared.journal.WrittenJournal.{WrittenJournal};
-ghost use Rattle.sync_state.specs.Shelves.{Same, Puts};
-ghost use Rattle.sync_state.specs.Books.{Holds, HoldsState, HoldsJournal, IsPlanned, IsMendedOrNot, mended, TellsOpen, TellsStateFile, TellsJournalFile, StopsTold};
+ghost use Rattle.sync_state.specs.Books.{Holds, HoldsState, HoldsJournal, IsPlanned, Fits, Ends, Leaves, mended, TellsOpen, TellsStateFile, TellsJournalFile, TellsPending, StopsTold};
+ghost use Rattle.sync_state.specs.BookLaws.{Fits-prop, entries_fit-prop};
+ghost use Rattle.sync_state.specs.StateText.{IsEntry};
 
+use crate::agreement::disagreement;
 use crate::fault::BookFault;
 use crate::journal::{Journal, WrittenJournal};
 use crate::journal_text::{read_journal, write_journal};
-use crate::shelf::{File, Shelf, ShelfFault};
+use crate::shelf::{File, Shelf};
 use crate::state_text::read_state_text;
+use device::DeviceFault;
 use rules::state::SyncState;
 use std::alloc::Global;
 
@@ -24,27 +27,27 @@ pub enum Pending {
     Planned(WrittenJournal),
 }
 
-impl From<ShelfFault> for BookFault {
+impl From<DeviceFault> for BookFault {
     ghost use Rattle.sync_state.specs.BookFaults.{of_shelf};
 
     ghost from_gives = { λ fault told. told ≡ of_shelf fault };
 
-    fn from(fault: ShelfFault) -> BookFault {
+    fn from(fault: DeviceFault) -> BookFault {
         match fault {
-            ShelfFault::Stopped => BookFault::Stopped,
-            ShelfFault::NoMemory => BookFault::NoMemory,
+            DeviceFault::Stopped => BookFault::Stopped,
+            DeviceFault::NoMemory => BookFault::NoMemory,
         }
     }
 }
 
 /// The state that the state's file holds. No file: no run was made.
 fn read_state_file<S: Shelf>(alloc: Global, shelf: &mut S) -> Result<SyncState, BookFault>
-    ensures was_honest { S.honest shelf.new → S.honest shelf.old }
-    ensures holds { IfOk result (λ state. S.honest shelf.new → HoldsState (S.seen shelf.new).files.state state) }
-    ensures files { S.honest shelf.new → (S.seen shelf.new).files ≡ (S.seen shelf.old).files }
-    ensures whole { OnOk result ((S.seen shelf.new).broken ≡ false) }
+    ensures holds { IfOk result (λ state. S.is_honest ≡ true → HoldsState (S.seen shelf.new).stored.state state) }
+    ensures entries_fit { IfOk result (λ state. All IsEntry state.entries) }
+    ensures files { S.is_honest ≡ true → (S.seen shelf.new).stored ≡ (S.seen shelf.old).stored }
+    ensures whole { OnOk result ((S.seen shelf.new).is_broken ≡ false) }
     ensures stops { (S.seen shelf.old).stops ≤ (S.seen shelf.new).stops }
-    ensures refused { IfErr result (λ fault. S.honest shelf.new → TellsStateFile (S.seen shelf.new).files.state fault) }
+    ensures refused { IfErr result (λ fault. S.is_honest ≡ true → TellsStateFile (S.seen shelf.new).stored.state fault) }
     ensures told { IfErr result (λ fault. StopsTold fault (S.seen shelf.old) (S.seen shelf.new)) }
 {
     match shelf.read(File::State)? {
@@ -53,41 +56,59 @@ fn read_state_file<S: Shelf>(alloc: Global, shelf: &mut S) -> Result<SyncState, 
     }
 }
 
-/// What the journal's file holds, behind the state of a run.
-fn read_journal_file<S: Shelf>(alloc: Global, shelf: &mut S, run: u64) -> Result<Pending, BookFault>
-    ensures was_honest { S.honest shelf.new → S.honest shelf.old }
-    ensures holds { IfOk result (λ pending. S.honest shelf.new → HoldsJournal run (S.seen shelf.new).files.journal pending) }
-    ensures files { S.honest shelf.new → (S.seen shelf.new).files ≡ (S.seen shelf.old).files }
-    ensures whole { OnOk result ((S.seen shelf.new).broken ≡ false) }
+/// What the journal's file holds, behind this state.
+fn read_journal_file<S: Shelf>(
+    alloc: Global,
+    shelf: &mut S,
+    state: &SyncState,
+) -> Result<Pending, BookFault>
+    ensures holds { IfOk result (λ pending. S.is_honest ≡ true → HoldsJournal state.now (S.seen shelf.new).stored.journal pending) }
+    ensures fits { IfOk result (Fits state.now) }
+    ensures files { S.is_honest ≡ true → (S.seen shelf.new).stored ≡ (S.seen shelf.old).stored }
+    ensures whole { OnOk result ((S.seen shelf.new).is_broken ≡ false) }
     ensures stops { (S.seen shelf.old).stops ≤ (S.seen shelf.new).stops }
-    ensures refused { IfErr result (λ fault. S.honest shelf.new → TellsJournalFile run (S.seen shelf.new).files.journal fault) }
+    ensures refused { IfErr result (λ fault. S.is_honest ≡ true → TellsJournalFile state.now (S.seen shelf.new).stored.journal fault) }
     ensures told { IfErr result (λ fault. StopsTold fault (S.seen shelf.old) (S.seen shelf.new)) }
 {
-    let Some(text) = shelf.read(File::Journal)? else {
-        return Ok(Pending::Missing);
-    };
-    let Some(written) = read_journal(alloc, &text)? else {
+    match shelf.read(File::Journal)? {
+        Some(text) => read_pending(alloc, &text, state),
+        None => Ok(Pending::Missing),
+    }
+}
+
+/// What a journal's file with this text holds, behind this state.
+fn read_pending(alloc: Global, text: &[u8], state: &SyncState) -> Result<Pending, BookFault>
+    ensures holds { IfOk result (λ pending. HoldsJournal state.now (Some text.now) pending) }
+    ensures fits { IfOk result (Fits state.now) }
+    ensures refused { IfErr result (TellsPending state.now text.now) }
+{
+    let Some(written) = read_journal(alloc, text)? else {
         return Ok(Pending::Useless);
     };
-    if written.journal.plan.run <= run {
+    if written.journal.plan.run <= state.run {
         return Ok(Pending::Useless);
     }
-    if written.journal.plan.run - 1 > run {
+    if written.journal.plan.run - 1 > state.run {
         return Err(BookFault::BadJournal(2));
     }
-    Ok(Pending::Planned(written))
+    match disagreement(state.entries.as_slice(), &written.journal) {
+        Some(line) => Err(BookFault::BadJournal(line)),
+        None => Ok(Pending::Planned(written)),
+    }
 }
 
 /// What both files hold.
 fn read_files<S: Shelf>(alloc: Global, shelf: &mut S) -> Result<(SyncState, Pending), BookFault>
-    ensures was_honest { S.honest shelf.new → S.honest shelf.old }
-    ensures holds { IfOk result (λ held. S.honest shelf.new → Holds (S.seen shelf.new).files held.0 held.1) }
-    ensures files { S.honest shelf.new → (S.seen shelf.new).files ≡ (S.seen shelf.old).files }
-    ensures refused { IfErr result (λ fault. S.honest shelf.new → TellsOpen (S.seen shelf.new).files fault) }
+    ensures holds { IfOk result (λ held. S.is_honest ≡ true → Holds (S.seen shelf.new).stored held.0 held.1) }
+    ensures fits { IfOk result (λ held. Fits held.0 held.1) }
+    ensures entries_fit { IfOk result (λ held. All IsEntry held.0.entries) }
+    ensures whole { OnOk result ((S.seen shelf.new).is_broken ≡ false) }
+    ensures files { S.is_honest ≡ true → (S.seen shelf.new).stored ≡ (S.seen shelf.old).stored }
+    ensures refused { IfErr result (λ fault. S.is_honest ≡ true → TellsOpen (S.seen shelf.new).stored fault) }
     ensures told { IfErr result (λ fault. StopsTold fault (S.seen shelf.old) (S.seen shelf.new)) }
 {
     let state = read_state_file(alloc, shelf)?;
-    let pending = read_journal_file(alloc, shelf, state.run)?;
+    let pending = read_journal_file(alloc, shelf, &state)?;
     Ok((state, pending))
 }
 
@@ -104,23 +125,27 @@ pub struct OpenFault<S> {
 ///
 /// After `Stopped` and `NoMemory` each call answers `Stopped`: the shelf is to be reopened, and a new book opened.
 #[derive(Debug, Drop)]
-pub struct Book<S> {
-    alloc: Global,
-    shelf: S,
-    state: SyncState,
-    pending: Pending,
-    is_ready: bool,
+pub struct Book<S: Shelf> {
+    pub(crate) alloc: Global,
+    pub(crate) shelf: S,
+    pub(crate) state: SyncState,
+    pub(crate) pending: Pending,
+    pub(crate) is_ready: bool,
+    ghost is_whole: { is_ready ≡ true → (S.seen shelf).is_broken ≡ false },
+    ghost holds: { is_ready ≡ true → S.is_honest ≡ true → Holds (S.seen shelf).stored state pending },
+    ghost fits: { Fits state pending } by { Fits-prop state pending },
+    ghost entries_fit: { All IsEntry state.entries } by { entries_fit-prop state },
 }
 
 impl<S: Shelf> Book<S> {
     /// Reads both files and changes nothing. `BadState`: the state is not spelled so. `BadJournal`: a journal with `go`
-    /// is not spelled so, or it is of a run above the next one, which is line 2.
+    /// is not spelled so, or it is of a run above the next one, which is line 2, or it is of the next one and disagrees
+    /// with the state.
     pub fn open(alloc: Global, shelf: S) -> Result<Book<S>, OpenFault<S>>
-        ensures holds { IfOk result (λ book. S.honest book.shelf → Holds (S.seen book.shelf).files book.state book.pending) }
-        ensures files { IfOk result (λ book. S.honest book.shelf → (S.seen book.shelf).files ≡ (S.seen shelf).files) }
+        ensures files { IfOk result (λ book. S.is_honest ≡ true → (S.seen book.shelf).stored ≡ (S.seen shelf).stored) }
         ensures ready { IfOk result (λ book. book.is_ready ≡ true) }
-        ensures handed_back { IfErr result (λ f. S.honest f.shelf → (S.seen f.shelf).files ≡ (S.seen shelf).files) }
-        ensures refused { IfErr result (λ f. S.honest f.shelf → TellsOpen (S.seen f.shelf).files f.fault) }
+        ensures handed_back { IfErr result (λ f. S.is_honest ≡ true → (S.seen f.shelf).stored ≡ (S.seen shelf).stored) }
+        ensures refused { IfErr result (λ f. S.is_honest ≡ true → TellsOpen (S.seen f.shelf).stored f.fault) }
         ensures told { IfErr result (λ f. StopsTold f.fault (S.seen shelf) (S.seen f.shelf)) }
     {
         let mut shelf = shelf;
@@ -157,19 +182,23 @@ impl<S: Shelf> Book<S> {
     pub fn into_shelf(self) -> S
         ensures { result ≡ self.shelf }
     {
-        self.shelf
+        let Book {
+            alloc: _,
+            shelf,
+            state: _,
+            pending: _,
+            is_ready: _,
+        } = self;
+        shelf
     }
 
     /// Removes the journal, if there is one.
     pub fn discard(&mut self) -> Result<(), BookFault>
-        ensures was_honest { S.honest self.new.shelf → S.honest self.old.shelf }
         ensures state { self.new.state ≡ self.old.state }
         ensures removed { OnOk result (self.new.pending ≡ Pending.Missing) }
-        ensures holds { OnOk result (S.honest self.new.shelf → Holds (S.seen self.old.shelf).files self.old.state self.old.pending → Holds (S.seen self.new.shelf).files self.new.state self.new.pending) }
-        ensures files { S.honest self.new.shelf → Same (S.seen self.old.shelf).files (S.seen self.new.shelf).files ⊎ Puts File.Journal None (S.seen self.old.shelf).files (S.seen self.new.shelf).files }
-        ensures failed { OnErr result (self.new.is_ready ≡ false) }
-        ensures stuck { self.old.is_ready ≡ false → result ≡ Err BookFault.Stopped }
-        ensures told { IfErr result (λ fault. StopsTold fault (S.seen self.old.shelf) (S.seen self.new.shelf) ⊎ (self.old.is_ready ≡ false)) }
+        ensures kept { OnErr result (self.new.pending ≡ self.old.pending) }
+        ensures holds { S.is_honest ≡ true → self.old.is_ready ≡ true → Leaves self.old.pending Pending.Missing Pending.Missing self.old.state (S.seen self.new.shelf).stored result }
+        ensures ends { Ends false (record { is_ready = self.old.is_ready; shelf = S.seen self.old.shelf }) (record { is_ready = self.new.is_ready; shelf = S.seen self.new.shelf }) result }
     {
         if !self.is_ready {
             return Err(BookFault::Stopped);
@@ -183,16 +212,14 @@ impl<S: Shelf> Book<S> {
         self.is_ready = true;
         Ok(())
     }
+
     /// Takes a torn last line off a journal whose plan is pending, if there is one.
     pub fn mend(&mut self) -> Result<(), BookFault>
-        ensures was_honest { S.honest self.new.shelf → S.honest self.old.shelf }
         ensures state { self.new.state ≡ self.old.state }
         ensures mended { OnOk result (self.new.pending ≡ mended self.old.pending) }
-        ensures holds { OnOk result (S.honest self.new.shelf → Holds (S.seen self.old.shelf).files self.old.state self.old.pending → Holds (S.seen self.new.shelf).files self.new.state self.new.pending) }
-        ensures holds_err { OnErr result (S.honest self.new.shelf → Holds (S.seen self.old.shelf).files self.old.state self.old.pending → IsMendedOrNot (S.seen self.new.shelf).files self.old.state self.old.pending) }
-        ensures failed { OnErr result (self.new.is_ready ≡ false) }
-        ensures stuck { self.old.is_ready ≡ false → result ≡ Err BookFault.Stopped }
-        ensures told { IfErr result (λ fault. StopsTold fault (S.seen self.old.shelf) (S.seen self.new.shelf) ⊎ (self.old.is_ready ≡ false)) }
+        ensures kept { OnErr result (self.new.pending ≡ self.old.pending) }
+        ensures holds { S.is_honest ≡ true → self.old.is_ready ≡ true → Leaves self.old.pending (mended self.old.pending) self.old.pending self.old.state (S.seen self.new.shelf).stored result }
+        ensures ends { Ends false (record { is_ready = self.old.is_ready; shelf = S.seen self.old.shelf }) (record { is_ready = self.new.is_ready; shelf = S.seen self.new.shelf }) result }
     {
         if !self.is_ready {
             return Err(BookFault::Stopped);

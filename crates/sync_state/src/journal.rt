@@ -1,9 +1,10 @@
 //! What a journal holds: a plan, and which of its steps are logged.
 
-ghost use Rattle.std.specs.Prelude.{◌≡◌};
+ghost use Rattle.std.specs.Prelude.{◌≡◌, ◌++◌, ◌∷◌, [], OnOk, OnErr};
 
 use mailcore::uid::Uid;
 use rules::plan::Plan;
+use std::alloc::AllocError;
 use std::marker::Model;
 
 /// How a step is logged.
@@ -45,6 +46,15 @@ impl Log {
         ensures { result.now ≡ self.now }
     {
         &self.list
+    }
+
+    /// Logs one step more.
+    pub fn push(&mut self, logged: Logged) -> Result<(), AllocError>
+        ensures ok { OnOk result (self.new ≡ self.old ++ logged ∷ []) }
+        ensures err { OnErr result (self.new ≡ self.old) }
+    {
+        self.list.push(logged)?;
+        Ok(())
     }
 
     /// Gives it back, without taking memory.

@@ -1,7 +1,12 @@
 //! The state of the last run and the journal of a run: their texts, and a book of both that survives any stop.
 #![tactic(auto)]
 
+pub mod agreement;
 pub mod book;
+pub mod book_log;
+pub mod commit;
+pub mod committed;
+pub mod disk_shelf;
 pub mod fault;
 pub mod fields;
 pub mod items;

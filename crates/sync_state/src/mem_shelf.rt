@@ -1,9 +1,10 @@
 //! A shelf in memory, whose calls stop where a schedule says so.
 
-ghost use Rattle.std.specs.Prelude.{◌≡◌, ◌<◌, ◌≤◌, ◌++◌, ◌⊎◌, [], true, false, length, take, IfOk, IfErr, OnOk, OnErr, Some, None, unwrap_or};
-ghost use Rattle.std.specs.Option.{option_map};
+ghost use Rattle.std.specs.Prelude.{◌≡◌, ◌<◌, ◌≤◌, ◌++◌, [], true, false, length, IfOk, IfErr, OnOk, OnErr, Some, unwrap_or};
+ghost use Rattle.sync_state.specs.Shelves.{bytes_of};
 
-use crate::shelf::{File, Shelf, ShelfFault};
+use crate::shelf::{File, Shelf};
+use device::DeviceFault;
 use std::alloc::{AllocError, Global};
 
 /// A call of a shelf.
@@ -70,7 +71,7 @@ pub struct MemShelf {
     alloc: Global,
     state: Option<Vec<u8>>,
     journal: Option<Vec<u8>>,
-    broken: bool,
+    is_broken: bool,
     /// An element for each call that has stopped.
     stops: Vec<()>,
     schedule: Vec<ShelfStop>,
@@ -88,13 +89,13 @@ impl MemShelf {
         schedule: Vec<ShelfStop>,
     ) -> Self
         ensures files { (result.state ≡ state) × (result.journal ≡ journal) }
-        ensures whole { (result.broken ≡ false) × (result.stops.items ≡ []) }
+        ensures whole { (result.is_broken ≡ false) × (result.stops.items ≡ []) }
     {
         MemShelf {
             alloc,
             state,
             journal,
-            broken: false,
+            is_broken: false,
             stops: Vec::new(alloc),
             schedule,
             counts: Counts {
@@ -123,52 +124,53 @@ impl MemShelf {
     }
 
     /// The call stops, and each later one too.
-    fn halt(&mut self) -> ShelfFault
+    fn halt(&mut self) -> DeviceFault
         ensures files { files_of self.new ≡ files_of self.old }
-        ensures broken { self.new.broken ≡ true }
-        ensures stopped { result ≡ ShelfFault.Stopped → length self.old.stops.items < length self.new.stops.items }
+        ensures broken { self.new.is_broken ≡ true }
+        ensures stopped { result ≡ DeviceFault.Stopped → length self.old.stops.items < length self.new.stops.items }
         ensures no_less { length self.old.stops.items ≤ length self.new.stops.items }
     {
-        self.broken = true;
+        self.is_broken = true;
         match self.stops.push(()) {
-            Ok(()) => ShelfFault::Stopped,
-            Err(_) => ShelfFault::NoMemory,
+            Ok(()) => DeviceFault::Stopped,
+            Err(_) => DeviceFault::NoMemory,
         }
     }
 
     /// The call finds no memory, and each later one stops.
-    fn lack(&mut self) -> ShelfFault
-        ensures fault { result ≡ ShelfFault.NoMemory }
+    fn lack(&mut self) -> DeviceFault
+        ensures fault { result ≡ DeviceFault.NoMemory }
         ensures files { files_of self.new ≡ files_of self.old }
-        ensures broken { self.new.broken ≡ true }
+        ensures broken { self.new.is_broken ≡ true }
         ensures stops { self.new.stops ≡ self.old.stops }
     {
-        self.broken = true;
-        ShelfFault::NoMemory
+        self.is_broken = true;
+        DeviceFault::NoMemory
     }
 
-    /// Where the next such call stops, if it does.
-    fn next_stop(&mut self, call: ShelfCall) -> Option<Moment>
+    /// Counts a call, and says where it stops, if it does. A shelf that has stopped answers `Stopped`.
+    fn next_stop(&mut self, call: ShelfCall) -> Result<Option<Moment>, DeviceFault>
         ensures files { files_of self.new ≡ files_of self.old }
         ensures stops { self.new.stops ≡ self.old.stops }
-        ensures broken { self.new.broken ≡ self.old.broken }
-        ensures stuck { self.old.broken ≡ true → result ≡ Some Moment.Before }
+        ensures broken { self.new.is_broken ≡ self.old.is_broken }
+        ensures whole { OnOk result (self.old.is_broken ≡ false) }
+        ensures stuck { IfErr result (λ fault. (fault ≡ DeviceFault.Stopped) × (self.old.is_broken ≡ true)) }
     {
-        if self.broken {
-            return Some(Moment::Before);
+        if self.is_broken {
+            return Err(DeviceFault::Stopped);
         }
         let number = self.counts.next(call);
         let stop = self
             .schedule
             .iter()
-            .find(|stop| stop.call == call && stop.number == number)?;
-        Some(stop.moment)
+            .find(|stop| stop.call == call && stop.number == number);
+        Ok(stop.map(|stop| stop.moment))
     }
 }
 
 /// A copy of a file.
 fn copy_of(alloc: Global, bytes: &Option<Vec<u8>>) -> Result<Option<Vec<u8>>, AllocError>
-    ensures { IfOk result (λ copy. option_map (λ b. b.items) copy ≡ option_map (λ b. b.items) bytes.now) }
+    ensures { IfOk result (λ copy. bytes_of copy ≡ bytes_of bytes.now) }
 {
     match bytes {
         Some(bytes) => Ok(Some(Vec::from_slice(alloc, bytes)?)),
@@ -178,8 +180,8 @@ fn copy_of(alloc: Global, bytes: &Option<Vec<u8>>) -> Result<Option<Vec<u8>>, Al
 
 /// Adds bytes to a file, which is made if it is missing.
 fn extend(file: &mut Option<Vec<u8>>, alloc: Global, bytes: &[u8]) -> Result<(), AllocError>
-    ensures ok { OnOk result (option_map (λ b. b.items) file.new ≡ Some (unwrap_or (option_map (λ b. b.items) file.old) [] ++ bytes.now)) }
-    ensures err { OnErr result (option_map (λ b. b.items) file.new ≡ option_map (λ b. b.items) file.old) }
+    ensures ok { OnOk result (bytes_of file.new ≡ Some (unwrap_or (bytes_of file.old) [] ++ bytes.now)) }
+    ensures err { OnErr result (bytes_of file.new ≡ bytes_of file.old) }
 {
     match file {
         Some(old) => old.extend_from_slice(bytes),
@@ -198,7 +200,7 @@ impl MemShelf {
     fn extend(&mut self, file: File, bytes: &[u8]) -> Result<(), AllocError>
         ensures ok { OnOk result (Appends file bytes.now (files_of self.old) (files_of self.new)) }
         ensures err { OnErr result (files_of self.new ≡ files_of self.old) }
-        ensures broken { self.new.broken ≡ self.old.broken }
+        ensures broken { self.new.is_broken ≡ self.old.is_broken }
         ensures stops { self.new.stops ≡ self.old.stops }
     {
         match file {
@@ -209,8 +211,8 @@ impl MemShelf {
 
     /// Gives a file these bytes, or removes it.
     fn put(&mut self, file: File, bytes: Option<Vec<u8>>)
-        ensures files { Puts file (option_map (λ b. b.items) bytes) (files_of self.old) (files_of self.new) }
-        ensures broken { self.new.broken ≡ self.old.broken }
+        ensures files { Puts file (bytes_of bytes) (files_of self.old) (files_of self.new) }
+        ensures broken { self.new.is_broken ≡ self.old.is_broken }
         ensures stops { self.new.stops ≡ self.old.stops }
     {
         match file {
@@ -223,12 +225,12 @@ impl MemShelf {
 impl Shelf for MemShelf {
     ghost use Rattle.sync_state.specs.MemShelves.{seen_of};
 
-    ghost honest = { λ _. Unit {0} };
+    ghost is_honest = { true };
 
     ghost seen = { seen_of };
 
-    fn read(&mut self, file: File) -> Result<Option<Vec<u8>>, ShelfFault> {
-        if self.next_stop(ShelfCall::Read).is_some() {
+    fn read(&mut self, file: File) -> Result<Option<Vec<u8>>, DeviceFault> {
+        if self.next_stop(ShelfCall::Read)?.is_some() {
             return Err(self.halt());
         }
         let copy = match file {
@@ -241,19 +243,14 @@ impl Shelf for MemShelf {
         }
     }
 
-    fn append(&mut self, file: File, bytes: &[u8]) -> Result<(), ShelfFault> {
-        let stop = self.next_stop(ShelfCall::Append);
-        if stop == Some(Moment::Before) {
-            return Err(self.halt());
-        }
-        if let Some(Moment::Part(count)) = stop {
-            let part = &bytes[..count.min(bytes.len())];
-            return match self.extend(file, part) {
-                Ok(()) => Err(self.halt()),
-                Err(_) => Err(self.lack()),
-            };
-        }
-        if self.extend(file, bytes).is_err() {
+    fn append(&mut self, file: File, bytes: &[u8]) -> Result<(), DeviceFault> {
+        let stop = self.next_stop(ShelfCall::Append)?;
+        let written = match stop {
+            None | Some(Moment::After) => bytes,
+            Some(Moment::Before) => return Err(self.halt()),
+            Some(Moment::Part(count)) => &bytes[..count.min(bytes.len())],
+        };
+        if self.extend(file, written).is_err() {
             return Err(self.lack());
         }
         if stop.is_some() {
@@ -262,8 +259,8 @@ impl Shelf for MemShelf {
         Ok(())
     }
 
-    fn replace(&mut self, file: File, bytes: &[u8]) -> Result<(), ShelfFault> {
-        let stop = self.next_stop(ShelfCall::Replace);
+    fn replace(&mut self, file: File, bytes: &[u8]) -> Result<(), DeviceFault> {
+        let stop = self.next_stop(ShelfCall::Replace)?;
         if stop.is_some() && stop != Some(Moment::After) {
             return Err(self.halt());
         }
@@ -277,8 +274,8 @@ impl Shelf for MemShelf {
         Ok(())
     }
 
-    fn remove(&mut self, file: File) -> Result<(), ShelfFault> {
-        let stop = self.next_stop(ShelfCall::Remove);
+    fn remove(&mut self, file: File) -> Result<(), DeviceFault> {
+        let stop = self.next_stop(ShelfCall::Remove)?;
         if stop.is_some() && stop != Some(Moment::After) {
             return Err(self.halt());
         }
@@ -290,6 +287,6 @@ impl Shelf for MemShelf {
     }
 
     fn reopen(&mut self) {
-        self.broken = false;
+        self.is_broken = false;
     }
 }

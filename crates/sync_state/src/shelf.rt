@@ -1,10 +1,8 @@
-//! Where the state and the journal are kept: two files that a call may leave half done only by stopping.
+//! Where the state and the journal are kept: two files as a device whose calls may stop.
 
-ghost use Rattle.std.specs.Prelude.{◌≡◌, ◌⊎◌, None, Some, false};
-ghost use Rattle.std.specs.Option.{option_map};
-ghost use Rattle.sync_state.specs.Shelves.{Seen, Call, Same, Gives, Puts, Appends, AppendsPart};
+ghost use Rattle.std.specs.Prelude.{◌≡◌, None, Some, Bool, false};
 
-use thiserror::Error;
+use device::DeviceFault;
 
 /// A file of a shelf.
 #[derive(Clone, Copy, Debug, PartialEq, Eq)]
@@ -15,52 +13,36 @@ pub enum File {
     Journal,
 }
 
-/// Why a call of a shelf has no answer.
-#[derive(Clone, Copy, Debug, PartialEq, Eq, Error)]
-pub enum ShelfFault {
-    /// The call was stopped, with its effect or without it, or an earlier one was.
-    #[error("stopped")]
-    Stopped,
-    /// A growth was refused. The files are as after a stop.
-    #[error("no memory")]
-    NoMemory,
-}
-
-/// Two files. After a fault each call answers a fault and changes nothing, until `reopen`.
-///
-/// What is said of the files holds where the shelf is honest: a shelf on a disk owes it only as far as the disk keeps
-/// its word.
+/// Two files. Each call answers Ok with its effect, or a fault with its effect, without it, or (`append` alone) with a
+/// beginning of its bytes. After a fault each call answers `Stopped` and changes nothing, until `reopen`, which keeps
+/// the files.
 pub trait Shelf {
-    /// The shelf has kept its word so far.
-    ghost honest: { Self → Type 0 };
+    ghost use Rattle.device.specs.Calls.{Seen, Call, Read, Nothing};
+    ghost use Rattle.sync_state.specs.Shelves.{Files, Gives, Puts, Appends, AppendsPart};
+
+    /// Whether the shelf gives back what was written, and nobody else writes to it.
+    ghost is_honest: { Bool };
 
     /// The files, whether a call has stopped since the shelf was opened, and how many calls have stopped.
-    ghost seen: { Self → Seen };
+    ghost seen: { Self → Seen Files };
 
     /// The bytes of a file, or none if it is missing.
-    fn read(&mut self, file: File) -> Result<Option<Vec<u8>>, ShelfFault>
-        ensures was_honest { honest self.new → honest self.old }
-        ensures call { Call (honest self.new) (λ bytes. Gives file (option_map (λ b. b.items) bytes)) Same (seen self.old) (seen self.new) result };
+    fn read(&mut self, file: File) -> Result<Option<Vec<u8>>, DeviceFault>
+        ensures { Read is_honest (Gives file) (seen self.old) (seen self.new) result };
 
     /// Adds bytes behind those of a file, which is made if it is missing. A stopped call may leave any beginning of them.
-    fn append(&mut self, file: File, bytes: &[u8]) -> Result<(), ShelfFault>
-        ensures was_honest { honest self.new → honest self.old }
-        ensures call { Call (honest self.new) (λ _. Appends file bytes.now) (λ a b. Same a b ⊎ AppendsPart file bytes.now a b) (seen self.old) (seen self.new) result };
+    fn append(&mut self, file: File, bytes: &[u8]) -> Result<(), DeviceFault>
+        ensures { Call is_honest (Appends file bytes.now) (AppendsPart file bytes.now) (seen self.old) (seen self.new) result };
 
     /// Gives a file these bytes in place of its own, all of them or none.
-    fn replace(&mut self, file: File, bytes: &[u8]) -> Result<(), ShelfFault>
-        ensures was_honest { honest self.new → honest self.old }
-        ensures call { Call (honest self.new) (λ _. Puts file (Some bytes.now)) Same (seen self.old) (seen self.new) result };
+    fn replace(&mut self, file: File, bytes: &[u8]) -> Result<(), DeviceFault>
+        ensures { Call is_honest (Puts file (Some bytes.now)) Nothing (seen self.old) (seen self.new) result };
 
     /// Removes a file, if it is there.
-    fn remove(&mut self, file: File) -> Result<(), ShelfFault>
-        ensures was_honest { honest self.new → honest self.old }
-        ensures call { Call (honest self.new) (λ _. Puts file None) Same (seen self.old) (seen self.new) result };
+    fn remove(&mut self, file: File) -> Result<(), DeviceFault>
+        ensures { Call is_honest (Puts file None) Nothing (seen self.old) (seen self.new) result };
 
-    /// Begins anew after a fault: the files are kept.
+    /// Opens the shelf again, so that calls are answered again.
     fn reopen(&mut self)
-        ensures was_honest { honest self.new → honest self.old }
-        ensures files { honest self.new → (seen self.new).files ≡ (seen self.old).files }
-        ensures whole { (seen self.new).broken ≡ false }
-        ensures stops { (seen self.new).stops ≡ (seen self.old).stops };
+        ensures { seen self.new ≡ record (seen self.old) { is_broken = false } };
 }

@@ -1,5 +1,12 @@
 //! Worked texts of states and journals.
 
+mod beginnings;
+mod calls;
+mod commits;
+mod on_disk;
+mod opened;
+mod stops;
+
 use crate::fault::BookFault;
 use crate::journal_text::{read_journal, write_plan};
 use crate::state_text::{read_state_text, write_state_text};

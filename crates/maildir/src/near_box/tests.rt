@@ -1,11 +1,16 @@
 use super::*;
-use crate::disk_folder::DiskFolder;
-use crate::folder::File;
+use crate::folder::{File, Source};
 use crate::mem_folder::{Cut, FolderCall, MemFolder, Stop};
 use mailcore::flags::Flag;
 use std::alloc::AllocError;
+use std::num::NonZeroU32;
 use std::test::Fail;
-use std::{env, fs};
+
+mod calls;
+mod disk;
+mod operation;
+mod steps;
+mod stops;
 
 /// The names in `new` and `cur` in order, a line each, and the text of the meta file.
 fn shown<F: Folder>(alloc: Global, folder: &mut F) -> Result<Vec<u8>, Fail> {
@@ -53,7 +58,8 @@ fn two_waiting(alloc: Global, schedule: Vec<Stop>) -> Result<MemFolder, Fail> {
 }
 
 fn opened<F: Folder + Drop>(alloc: Global, folder: F) -> Result<NearBox<F>, NearFault> {
-    match NearBox::open(alloc, folder, 9) {
+    let nine = NonZeroU32::new(9).ok_or(NearFault::BadMeta)?;
+    match NearBox::open(alloc, folder, nine) {
         Ok(near) => Ok(near),
         Err((fault, _folder)) => Err(fault),
     }
@@ -112,6 +118,8 @@ fn bad_folders_are_refused(rt: HostRuntime) -> Result<(), Fail> {
     let alloc = rt.alloc();
     let twice = fault_of(alloc, &[b"a,U=1:2,", b"c,U=1"], Some(b"9\n4\n"))?;
     assert_eq!(rt; twice, Some(NearFault::TwoWithOneUid));
+    let both = fault_of(alloc, &[b"a,U=5:2,", b"c,U=5"], Some(b"9\n4\n"))?;
+    assert_eq!(rt; both, Some(NearFault::TwoWithOneUid), "and a bad meta file");
     let above = fault_of(alloc, &[b"a,U=5:2,"], Some(b"9\n4\n"))?;
     assert_eq!(rt; above, Some(NearFault::BadMeta));
     let missing = fault_of(alloc, &[b"a,U=5:2,"], None)?;
@@ -119,6 +127,7 @@ fn bad_folders_are_refused(rt: HostRuntime) -> Result<(), Fail> {
     let unspelled = fault_of(alloc, &[], Some(b"9\n04\n"))?;
     assert_eq!(rt; unspelled, Some(NearFault::BadMeta));
     let mut folder = MemFolder::new(alloc, Vec::new(alloc));
+    folder.put_meta(octets(alloc, b"9\n04\n")?);
     folder.hide();
     assert_eq!(rt; opened(alloc, folder).err(), Some(NearFault::Absent));
     Ok(())
@@ -150,9 +159,12 @@ fn copies_are_sought_from_a_uid_on(rt: HostRuntime) -> Result<(), Fail> {
     let alloc = rt.alloc();
     let mark = Tuid::read(b"AQAAAAAAAAAC").ok_or("not a mark")?;
     let mut near = opened(alloc, MemFolder::new(alloc, Vec::new(alloc)))?;
-    let uid = near.append(b"X-TUID: AQAAAAAAAAAC\nx\n", Flags::none())?;
-    assert_eq!(rt; near.find_mark(mark, 1)?, Some(uid));
-    assert_eq!(rt; near.find_mark(mark, 2)?, None);
+    let first = near.append(b"X-TUID: AQAAAAAAAAAC\nx\n", Flags::none())?;
+    let _ = near.append(b"X-TUID: AQAAAAAAAAAD\nx\n", Flags::none())?;
+    let third = near.append(b"X-TUID: AQAAAAAAAAAC\ny\n", Flags::none())?;
+    assert_eq!(rt; near.find_mark(mark, 1)?, Some(first));
+    assert_eq!(rt; near.find_mark(mark, 2)?, Some(third));
+    assert_eq!(rt; near.find_mark(mark, 4)?, None);
     let _ = near.into_folder();
     Ok(())
 }
@@ -216,37 +228,5 @@ fn stopped_appends_give_no_uid_twice(rt: HostRuntime) -> Result<(), Fail> {
             "{call:?} {cut:?}"
         );
     }
-    Ok(())
-}
-
-#[test]
-fn a_folder_on_a_disk_does_the_same(rt: HostRuntime) -> Result<(), Fail> {
-    let alloc = rt.alloc();
-    let root = env::temp_dir(&rt)?;
-    let root = root.as_path().as_str();
-    let path = format!(in alloc; "{root}/near_box_on_a_disk")?;
-    let path = path.as_str();
-    let _ = fs::remove_dir_all(&rt, path);
-    let folder = DiskFolder::create(rt.clone()?, path)?;
-    fs::write(&rt, format!(in alloc; "{path}/cur/a:2,S")?.as_str(), "x\n")?;
-    fs::write(&rt, format!(in alloc; "{path}/new/b")?.as_str(), "y\n")?;
-    let mut near = opened(alloc, folder)?;
-    near.admit()?;
-    assert_eq!(rt; near.append(b"z\n", Flags::none())?.get(), 3);
-    let second = Uid::new(2).ok_or("no UID")?;
-    near.add_flags(second, Flags::only(Flag::Flagged))?;
-    let mut near = opened(alloc, near.into_folder())?;
-    assert_eq!(rt; near.list()?.items.as_slice().len(), 3);
-    let _ = near.into_folder();
-    let meta = fs::read(&rt, format!(in alloc; "{path}/.uidvalidity")?.as_str())?;
-    assert_eq!(rt; meta.as_slice(), b"9\n3\n".as_slice());
-    let copy = fs::read(
-        &rt,
-        format!(in alloc; "{path}/cur/9.3.mbsync,U=3:2,")?.as_str(),
-    )?;
-    assert_eq!(rt; copy.as_slice(), b"z\n".as_slice());
-    let moved = fs::read(&rt, format!(in alloc; "{path}/cur/b,U=2:2,F")?.as_str())?;
-    assert_eq!(rt; moved.as_slice(), b"y\n".as_slice());
-    fs::remove_dir_all(&rt, path)?;
     Ok(())
 }

@@ -1,4 +1,6 @@
-use Rattle.std.proofs.Common.{◌≡◌, ◌≤◌, true, false}
+use Rattle.std.proofs.Common.{◌≡◌, ◌≤◌, true, false, map, drop}
+use Rattle.maildir.specs.Entries.{AreThere, message_at}
+use Rattle.maildir.specs.NearContracts.{marked_in}
 use Rattle.maildir.proofs.near_calls.find_mark.Given as goal
 
 abbrev pub invariant-loop-entry : goal.invariant-loop-entry
@@ -6,4 +8,7 @@ invariant-loop-entry g l = record {
   keeps : g.F.Folder.is_honest ≡ true → (g.F.Folder.seen l.folder).stored ≡ (g.F.Folder.seen l.initial.folder).stored;
   stops : (g.F.Folder.seen l.initial.folder).stops ≤ (g.F.Folder.seen l.folder).stops;
   whole : (g.F.Folder.seen l.initial.folder).is_broken ≡ false → (g.F.Folder.seen l.folder).is_broken ≡ false;
+  none_before : g.F.Folder.is_honest ≡ true → AreThere l.entries (g.F.Folder.seen l.initial.folder).stored
+      → marked_in l.mark l.from (map (message_at (g.F.Folder.seen l.initial.folder).stored) (drop l.entry-index l.entries))
+      ≡ marked_in l.mark l.from (map (message_at (g.F.Folder.seen l.initial.folder).stored) l.entries);
 }

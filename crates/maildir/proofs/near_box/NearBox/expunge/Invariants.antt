@@ -1,9 +1,15 @@
-use Rattle.std.proofs.Common.{◌≡◌, ◌≤◌, false}
+use Rattle.std.proofs.Common.{◌≡◌, ◌≤◌, true, false, take}
+use Rattle.maildir.specs.NearEffects.{without_uids}
+use Rattle.maildir.specs.Surveys.{Surveys}
 use Rattle.maildir.proofs.near_box.NearBox.expunge.Given as goal
 
 abbrev pub invariant-loop-uid : goal.invariant-loop-uid
 invariant-loop-uid g l = record {
   begun : l.self.is_ready ≡ false;
+  fresh : l.self.fresh ≡ l.initial.self.fresh;
   stops : (g.F.Folder.seen l.initial.self.folder).stops ≤ (g.F.Folder.seen l.self.folder).stops;
   whole : (g.F.Folder.seen l.initial.self.folder).is_broken ≡ false → (g.F.Folder.seen l.self.folder).is_broken ≡ false;
+  surveys : g.F.Folder.is_honest ≡ true → Surveys l.self.survey l.self.fresh (g.F.Folder.seen l.self.folder).stored;
+  removed : g.F.Folder.is_honest ≡ true → (g.F.Folder.seen l.self.folder).stored
+      ≡ without_uids (take l.uid-index l.uids) (g.F.Folder.seen l.initial.self.folder).stored;
 }

@@ -1,8 +1,8 @@
-use Rattle.std.proofs.Common.{◌≡◌, ◌∙◌, false, inl, inr, sym, subst, rules}
+use Rattle.std.proofs.Common.{◌≡◌, ◌∙◌, true, false, Some, sym, subst, rules}
+use Rattle.std.proofs.lemmas.Result.{err_from_is_err_and}
 use Rattle.sync_state.specs.declared.book.Pending.{Pending}
-use Rattle.sync_state.specs.Shelves.{Files}
-use Rattle.sync_state.specs.Books.{Holds, IsMendedOrNot}
-use Rattle.sync_state.proofs.MendLemmas.{mended_holds, already_mended, none_to_mend, on_err}
+use Rattle.sync_state.specs.Books.{Holds, Fits, mended}
+use Rattle.sync_state.proofs.BookLemmas.{journal_put, journal_put_or_not, pending_mended, mended_fits, already_mended, none_to_mend}
 use Rattle.sync_state.proofs.book.Book.mend.Goals as goal
 
 pub returns-in_default-clause-mended : goal.returns-in_default-clause-mended
@@ -13,26 +13,29 @@ returns-then-not-written-clause-mended g c =
     let torn : c.in-Planned.written.is_torn ≡ false = search rules in
     already_mended c.args.self.now.pending c.in-Planned.written c.in-Planned.is torn
 
-pub returns-in_err-replace-clause-holds_err : goal.returns-in_err-replace-clause-holds_err
-returns-in_err-replace-clause-holds_err g c =
-    let old = (g.S.Shelf.seen c.args.self.now.shelf).files in
-    let new = (g.S.Shelf.seen c.replace.new.self).files in
-    let state = c.args.self.now.state in
-    let p = c.args.self.now.pending in
+pub returns-in_err-replace-clause-holds : goal.returns-in_err-replace-clause-holds
+returns-in_err-replace-clause-holds g c = λ honest ready.
+    let e = err_from_is_err_and c.from_residual-in_err-replace.result c.from_residual-in_err-replace.ensures.1 in
+    let book = c.args.self.now in
     let text = c.deref.ensures.value ∙ c.in_ok-text.ensures.spelled in
-    on_err _ (g.S.Shelf.honest c.replace.new.self → Holds old state p → IsMendedOrNot new state p)
-    (λ honest holds. elim (c.in_err-replace.ensures.call.left honest) [
-      | inl same ↦ inl (subst (λ (f : Files). Holds f state p) (sym same) holds)
-      | inr done ↦ inr (mended_holds old new state p c.in-Planned.written c.deref.result.now c.in-Planned.is text done.1 holds)
-    ])
+    rw (e.1) (journal_put_or_not (Some c.deref.result.now) (g.S.Shelf.seen book.shelf).stored (g.S.Shelf.seen c.replace.new.self).stored book.state book.pending (mended book.pending) book.pending
+    (c.in_err-replace.ensures.left honest)
+    (pending_mended book.state (g.S.Shelf.seen book.shelf).stored.journal book.pending c.in-Planned.written c.deref.result.now c.in-Planned.is text)
+    (book.holds ready honest))
 
-pub returns-clause-holds : goal.returns-clause-holds
-returns-clause-holds g c =
-    let old = (g.S.Shelf.seen c.args.self.now.shelf).files in
-    let new = (g.S.Shelf.seen c.replace.new.self).files in
-    let state = c.args.self.now.state in
-    let p = c.args.self.now.pending in
+pub invariant_of-self-2 : goal.invariant_of-self-2
+invariant_of-self-2 g c =
+    let book = c.args.self.now in
+    let ready : book.is_ready ≡ true = search rules in
     let text = c.deref.ensures.value ∙ c.in_ok-text.ensures.spelled in
-    λ honest holds.
-    subst (λ (q : Pending). Holds new state q) (sym c.mend_pending.ensures)
-    (mended_holds old new state p c.in-Planned.written c.deref.result.now c.in-Planned.is text (c.in_ok-replace.ensures.call.effect honest) holds)
+    let new = (g.S.Shelf.seen c.replace.new.self).stored in
+    record {
+      entries_fit = book.entries_fit;
+      is_whole = λ _. c.in_ok-replace.ensures.is_whole;
+      holds = λ _ honest. subst (λ (q : Pending). Holds new book.state q) (sym c.mend_pending.ensures)
+          (journal_put (Some c.deref.result.now) (g.S.Shelf.seen book.shelf).stored new book.state book.pending (mended book.pending)
+          (c.in_ok-replace.ensures.effect honest)
+          (pending_mended book.state (g.S.Shelf.seen book.shelf).stored.journal book.pending c.in-Planned.written c.deref.result.now c.in-Planned.is text)
+          (book.holds ready honest));
+      fits = subst (λ (q : Pending). Fits book.state q) (sym c.mend_pending.ensures) (mended_fits book.state book.pending book.fits);
+    }
