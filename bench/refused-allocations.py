@@ -3,8 +3,10 @@
 
 usage: bench/refused-allocations.py PROGRAM INPUT..
 
-PROGRAM is mbplan with worlds for INPUT, or wire_answers with bench/few-lines.txt. It is run on each INPUT, once without a refusal and then with the first allocation refused, with the second, and
-so on until a run meets no refusal. A run with a refusal has to give the unbroken run's output and status, or nothing
+PROGRAM is mbplan with worlds for INPUT, wire_answers with bench/few-lines.txt, maildir_bench with an empty INPUT, as
+/dev/null, or state_bench with crates/state_bench/stdin, which also opens the files of a book that found no memory again and
+looks whether they still hold it. It is run on each INPUT, once without a refusal and then with the first allocation refused,
+with the second, and so on until a run meets no refusal. A run with a refusal has to give the unbroken run's output and status, or nothing
 on standard output, `NAME: no memory` on standard error and status 1.
 """
 import os

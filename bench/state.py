@@ -70,7 +70,8 @@ def measure_steps():
 
 
 def main():
-    subprocess.run(LAUNCH, input=b"", stdout=subprocess.DEVNULL, check=True)
+    with open(os.path.join(TOP, "crates", "state_bench", "stdin"), "rb") as example:
+        subprocess.run(LAUNCH, stdin=example, stdout=subprocess.DEVNULL, check=True)
     measure_text("state", state(10000))
     measure_text("state", state(100000))
     measure_text("journal", journal(100000, 0))
