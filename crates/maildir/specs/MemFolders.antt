@@ -1,11 +1,19 @@
 -- What a folder in memory stores.
-use Rattle.std.specs.Prelude.{length}
+use Rattle.std.specs.Prelude.{true, false, [], length, None}
 use Rattle.device.specs.Calls.{Seen}
 use Rattle.maildir.specs.Folders.{Stored}
 use Rattle.maildir.specs.declared.mem_folder.MemFolder.{MemFolder}
 
 abbrev pub stored_in : MemFolder → Stored
 stored_in m = record { is_there = m.is_there; files = m.files.items; copy = m.copy; meta = m.meta }
+
+-- a folder that is there, without a file
+abbrev pub empty : Stored
+empty = record { is_there = true; files = []; copy = None; meta = None }
+
+-- `cur`, `new` and `tmp` are not there
+abbrev pub hidden : Stored → Stored
+hidden s = record s { is_there = false }
 
 abbrev pub seen_of : MemFolder → Seen Stored
 seen_of m = record { stored = stored_in m; is_broken = m.is_broken; stops = length m.stops.items }

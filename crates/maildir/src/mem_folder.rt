@@ -65,10 +65,13 @@ pub struct MemFolder {
 }
 
 impl MemFolder {
-    ghost use Rattle.maildir.specs.MemFolders.{stored_in};
+    ghost use Rattle.maildir.specs.Folders.{with_meta};
+    ghost use Rattle.maildir.specs.MemFolders.{empty, hidden, seen_of, stored_in};
 
     /// A folder that is there, without a file and without a meta file, whose calls stop as the schedule says.
-    pub fn new(alloc: Global, schedule: Vec<Stop>) -> Self {
+    pub fn new(alloc: Global, schedule: Vec<Stop>) -> Self
+        ensures { seen_of result ≡ record { stored = empty; is_broken = false; stops = 0 } }
+    {
         MemFolder {
             alloc,
             is_there: true,
@@ -93,12 +96,16 @@ impl MemFolder {
     }
 
     /// Puts a meta file there.
-    pub fn put_meta(&mut self, text: Octets) {
+    pub fn put_meta(&mut self, text: Octets)
+        ensures { seen_of self.new ≡ record (seen_of self.old) { stored = with_meta text (stored_in self.old) } }
+    {
         self.meta = Some(text);
     }
 
     /// Takes the three folders away, as far as calls see.
-    pub fn hide(&mut self) {
+    pub fn hide(&mut self)
+        ensures { seen_of self.new ≡ record (seen_of self.old) { stored = hidden (stored_in self.old) } }
+    {
         self.is_there = false;
     }
 
