@@ -8,7 +8,6 @@ ghost use Rattle.wire_tokens.specs.Strings.{NStringText};
 ghost use Rattle.imap_replies.specs.declared.fetch.FetchItem.TheVariants as items;
 ghost use Rattle.imap_replies.specs.Fetches.{ItemIn, FetchIn};
 
-use crate::append::append_word;
 use crate::fetch::{FetchItem, FetchList};
 use std::alloc::AllocError;
 use wire_tokens::appending::append;
@@ -61,7 +60,7 @@ fn append_uid(uid: &NonZero, out: &mut Vec<u8>) -> Result<(), AllocError>
     ensures ok { OnOk result (Appended (ItemIn Is (items.Uid uid.now)) out.old.items out.new.items) }
     ensures kept { OnErr result (take (length out.old.items) out.new.items ≡ out.old.items) }
 {
-    append_word(b"UID ", out)?;
+    append(b"UID ", out)?;
     uid.write(out)?;
     Ok(())
 }
@@ -70,7 +69,7 @@ fn append_flags(flags: &FlagSet, out: &mut Vec<u8>) -> Result<(), AllocError>
     ensures ok { OnOk result (Appended (ItemIn Is (items.Flags flags.now)) out.old.items out.new.items) }
     ensures kept { OnErr result (take (length out.old.items) out.new.items ≡ out.old.items) }
 {
-    append_word(b"FLAGS ", out)?;
+    append(b"FLAGS ", out)?;
     write_flags(flags.flags(), out)?;
     Ok(())
 }
@@ -79,7 +78,7 @@ fn append_size(size: u32, out: &mut Vec<u8>) -> Result<(), AllocError>
     ensures ok { OnOk result (Appended (ItemIn Is (items.Size size)) out.old.items out.new.items) }
     ensures kept { OnErr result (take (length out.old.items) out.new.items ≡ out.old.items) }
 {
-    append_word(b"RFC822.SIZE ", out)?;
+    append(b"RFC822.SIZE ", out)?;
     write_number(size, out)?;
     Ok(())
 }
@@ -93,7 +92,7 @@ fn append_body(
     ensures ok { OnOk result (Appended (Is word.now ⨾ NStringText Replies body.now) out.old.items out.new.items) }
     ensures kept { OnErr result (take (length out.old.items) out.new.items ≡ out.old.items) }
 {
-    append_word(word, out)?;
+    append(word, out)?;
     append_string(body, out)?;
     Ok(())
 }

@@ -1,7 +1,6 @@
 //! The replies of an IMAP server (RFC 9051, section 7, in the profile of docs/FORMATS.md), read and written.
 #![tactic(auto)]
 
-mod append;
 mod code_head;
 mod event;
 pub mod fetch;

@@ -11,7 +11,6 @@ ghost use Rattle.imap_replies.specs.declared.response.Code.TheVariants as code;
 ghost use Rattle.imap_replies.specs.Lines.{RestText};
 ghost use Rattle.imap_replies.specs.Responses.{sp, CodeIn, ResponseIn};
 
-use crate::append::append_word;
 use crate::other::OtherCode;
 use crate::response::{Code, ResponseText};
 use std::alloc::AllocError;
@@ -65,7 +64,7 @@ fn append_bare(word: &[u8], out: &mut Vec<u8>) -> Result<(), AllocError>
     ensures ok { OnOk result (Appended (Is word.now ⨾ Is (codes "]")) out.old.items out.new.items) }
     ensures kept { OnErr result (take (length out.old.items) out.new.items ≡ out.old.items) }
 {
-    append_word(word, out)?;
+    append(word, out)?;
     append(b"]", out)?;
     Ok(())
 }
@@ -75,7 +74,7 @@ fn append_uid(word: &[u8], uid: &NonZero, out: &mut Vec<u8>) -> Result<(), Alloc
     ensures ok { OnOk result (Appended (Is word.now ⨾ Is sp ⨾ NzText uid.now ⨾ Is (codes "]")) out.old.items out.new.items) }
     ensures kept { OnErr result (take (length out.old.items) out.new.items ≡ out.old.items) }
 {
-    append_word(word, out)?;
+    append(word, out)?;
     append(b" ", out)?;
     uid.write(out)?;
     append(b"]", out)?;
@@ -86,7 +85,7 @@ fn append_permanent(flags: &FlagSet, others: bool, out: &mut Vec<u8>) -> Result<
     ensures ok { OnOk result (Appended (CodeIn Is (code.PermanentFlags flags.now others)) out.old.items out.new.items) }
     ensures kept { OnErr result (take (length out.old.items) out.new.items ≡ out.old.items) }
 {
-    append_word(b"PERMANENTFLAGS", out)?;
+    append(b"PERMANENTFLAGS", out)?;
     append(b" ", out)?;
     write_permanent_flags(flags.flags(), others, out)?;
     append(b"]", out)?;
@@ -97,7 +96,7 @@ fn append_two(validity: &NonZero, uid: &NonZero, out: &mut Vec<u8>) -> Result<()
     ensures ok { OnOk result (Appended (CodeIn Is (code.AppendUid validity.now uid.now)) out.old.items out.new.items) }
     ensures kept { OnErr result (take (length out.old.items) out.new.items ≡ out.old.items) }
 {
-    append_word(b"APPENDUID", out)?;
+    append(b"APPENDUID", out)?;
     append(b" ", out)?;
     validity.write(out)?;
     append(b" ", out)?;

@@ -10,7 +10,6 @@ ghost use Rattle.imap_replies.specs.Lines.{RestText};
 ghost use Rattle.imap_replies.specs.Listings.{MarkIn};
 ghost use Rattle.imap_replies.specs.Replies.{NamesLine, ReplyIn, ReplyText, WrittenReply};
 
-use crate::append::append_word;
 use crate::fetch::FetchList;
 use crate::fetch_writing::append_fetch;
 use crate::other::{OtherEvent, OtherWord};
@@ -98,9 +97,9 @@ fn append_status(status: Status, out: &mut Vec<u8>) -> Result<(), AllocError>
     ensures err { OnErr result (out.new.items ≡ out.old.items) }
 {
     match status {
-        Status::Ok => append_word(b"OK", out),
-        Status::No => append_word(b"NO", out),
-        Status::Bad => append_word(b"BAD", out),
+        Status::Ok => append(b"OK", out),
+        Status::No => append(b"NO", out),
+        Status::Bad => append(b"BAD", out),
     }
 }
 
@@ -124,11 +123,11 @@ fn append_kind(kind: NoticeKind, out: &mut Vec<u8>) -> Result<(), AllocError>
     ensures err { OnErr result (out.new.items ≡ out.old.items) }
 {
     match kind {
-        NoticeKind::Ok => append_word(b"OK", out),
-        NoticeKind::No => append_word(b"NO", out),
-        NoticeKind::Bad => append_word(b"BAD", out),
-        NoticeKind::Bye => append_word(b"BYE", out),
-        NoticeKind::Preauth => append_word(b"PREAUTH", out),
+        NoticeKind::Ok => append(b"OK", out),
+        NoticeKind::No => append(b"NO", out),
+        NoticeKind::Bad => append(b"BAD", out),
+        NoticeKind::Bye => append(b"BYE", out),
+        NoticeKind::Preauth => append(b"PREAUTH", out),
     }
 }
 
@@ -138,7 +137,7 @@ fn append_names(word: &[u8], names: &Option<Names<'_>>, out: &mut Vec<u8>) -> Re
     ensures kept { OnErr result (take (length out.old.items) out.new.items ≡ out.old.items) }
 {
     append(b"* ", out)?;
-    append_word(word, out)?;
+    append(word, out)?;
     append_names_line(names, out)?;
     Ok(())
 }
@@ -168,7 +167,7 @@ fn append_list(
     ensures kept { OnErr result (take (length out.old.items) out.new.items ≡ out.old.items) }
 {
     append(b"* ", out)?;
-    append_word(b"LIST", out)?;
+    append(b"LIST", out)?;
     append(b" ", out)?;
     attributes.write(out)?;
     append(b" ", out)?;
@@ -184,7 +183,7 @@ fn append_mark(delimiter: &Option<Delimiter>, out: &mut Vec<u8>) -> Result<(), A
     ensures err { OnErr result (out.new.items ≡ out.old.items) }
 {
     match delimiter {
-        None => append_word(b"NIL", out),
+        None => append(b"NIL", out),
         Some(delimiter) => delimiter.write(out),
     }
 }
@@ -194,7 +193,7 @@ fn append_flags(flags: &FlagSet, out: &mut Vec<u8>) -> Result<(), AllocError>
     ensures kept { OnErr result (take (length out.old.items) out.new.items ≡ out.old.items) }
 {
     append(b"* ", out)?;
-    append_word(b"FLAGS", out)?;
+    append(b"FLAGS", out)?;
     append(b" ", out)?;
     write_flags(flags.flags(), out)?;
     append(b"\r\n", out)?;
@@ -208,7 +207,7 @@ fn append_exists(number: u32, out: &mut Vec<u8>) -> Result<(), AllocError>
     append(b"* ", out)?;
     write_number(number, out)?;
     append(b" ", out)?;
-    append_word(b"EXISTS", out)?;
+    append(b"EXISTS", out)?;
     append(b"\r\n", out)?;
     Ok(())
 }
@@ -220,7 +219,7 @@ fn append_expunge(number: &NonZero, out: &mut Vec<u8>) -> Result<(), AllocError>
     append(b"* ", out)?;
     number.write(out)?;
     append(b" ", out)?;
-    append_word(b"EXPUNGE", out)?;
+    append(b"EXPUNGE", out)?;
     append(b"\r\n", out)?;
     Ok(())
 }
@@ -237,7 +236,7 @@ fn append_message(
     append(b"* ", out)?;
     number.write(out)?;
     append(b" ", out)?;
-    append_word(b"FETCH", out)?;
+    append(b"FETCH", out)?;
     append_fetch(items, out)?;
     Ok(())
 }

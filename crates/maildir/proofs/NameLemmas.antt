@@ -72,7 +72,7 @@ digits_lack byte other (d ∷ ds) all = All-cons (λ b. b ≢ byte) d ds (other_
 pub decimal_lacks : (byte n : ℕ) → IsOther byte → n < 2 ^ 64 → Lacks byte (decimal n)
 decimal_lacks byte n other small = digits_lack byte other (decimal n) (decimal_is_IsNumeral n small).0.1
 
-uid_is_small : (n : ℕ) → is_uid n ≡ true → n < 2 ^ 64
+pub uid_is_small : (n : ℕ) → is_uid n ≡ true → n < 2 ^ 64
 uid_is_small n is = grind (arith, nat_tests)
 
 -- ---- a UID at the end

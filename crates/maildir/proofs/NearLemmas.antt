@@ -100,24 +100,6 @@ near_files survey fresh s surveys =
 
 -- ---- waiting files
 
-waiting_of_names : (s : Stored) (files : List File) → All (IsThere s) files → map waiting_of files ≡ map (waiting_at s) (map name_of_file files)
-waiting_of_names s [] there = refl
-waiting_of_names s (file ∷ files) there =
-    rw (All-head (IsThere s) file files there)
-    (ap (λ (l : List Waiting). waiting_of file ∷ l) (waiting_of_names s files (All-tail (IsThere s) file files there)))
-
-pub waiting_files_there : (s : Stored) → AreApart s.files → All (IsThere s) (waiting_files s.files)
-waiting_files_there s apart =
-    let fs = filter (λ file. is_waiting file.name) s.files in
-    All-permutation (IsThere s) fs (sorted is_before fs) (sorted_permutes is_before fs)
-    (All-filter (λ file. is_waiting file.name) (IsThere s) s.files (files_are_there s apart))
-
-pub near_waiting : (survey : Survey) (fresh : ℕ) (s : Stored) → Surveys survey fresh s
-    → (near_of fresh s).waiting ≡ map (waiting_at s) survey.waiting.items
-near_waiting survey fresh s surveys =
-    waiting_of_names s (waiting_files s.files) (waiting_files_there s surveys.apart)
-    ∙ ap (λ (l : List FileName). map (waiting_at s) l) (sym surveys.waiting)
-
 -- ---- the meta file
 
 pub near_validity : (survey : Survey) (fresh : ℕ) (s : Stored) → Surveys survey fresh s → (near_of fresh s).store.validity ≡ survey.meta.validity

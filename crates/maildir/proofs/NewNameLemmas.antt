@@ -14,7 +14,7 @@ use Rattle.maildir.specs.Names.{NameParts, has_letters, is_base, is_base_byte, i
 use Rattle.maildir.specs.NearEffects.{copy_base, copy_name, name_admitted, letters_in, flags_by_name}
 use Rattle.maildir.proofs.CutLemmas.{Lacks}
 use Rattle.maildir.proofs.LetterLemmas.{letters_with-rise, flags_in-with}
-use Rattle.maildir.proofs.NameLemmas.{decimal_lacks, name_is_spelled, spelled_is_read}
+use Rattle.maildir.proofs.NameLemmas.{decimal_lacks, name_is_spelled, spelled_is_read, uid_is_small}
 
 -- ---- bases
 
@@ -73,9 +73,6 @@ numbered_name base uid letters is number are =
       waits = ap lacks_uid read;
       flags = ap (λ (r : Option NameParts). unwrap_or (option_map (λ parts. flags_in (letters_in parts)) r) (flags_in [])) read;
     }
-
-uid_is_small : (n : ℕ) → is_uid n ≡ true → n < 2 ^ 64
-uid_is_small n is = grind (arith, nat_tests)
 
 pub copy_is_numbered : (validity uid flags : ℕ) → validity < 2 ^ 64 → is_uid uid ≡ true → flags < 2 ^ FLAGS → IsNumbered (copy_name validity uid flags) uid flags
 copy_is_numbered validity uid flags small is fits =

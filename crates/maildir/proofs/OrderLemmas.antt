@@ -38,11 +38,5 @@ places_total = record { antisymm = places_antisymm; trans = places_trans; congr 
 pub names_total : IsTotalOrder file_cmp
 names_total = then_total (on_texts (λ (file : FileName). file.name)) (on_total (λ (file : FileName). file.place) places_total)
 
-files_total : IsTotalOrder (λ (a b : File). file_cmp (record { place = a.place; name = a.name }) (record { place = b.place; name = b.name }))
-files_total = on_total (λ (file : File). let name : FileName = record { place = file.place; name = file.name } in name) names_total
-
 pub names_in_order : IsStrictWeakOrder is_before
 names_in_order = ranks_by names_total (λ (file : FileName). file)
-
-pub files_in_order : IsStrictWeakOrder is_file_before
-files_in_order = ranks_by files_total (λ (file : File). file)

@@ -192,25 +192,6 @@ sorted_rises_by lt order (x ∷ xs) ordered =
     (All-permutation (AreOrdered lt x) xs (sorted lt xs) (sorted_permutes lt xs) (pairs_head (AreOrdered lt) x xs ordered))
     (sorted_rises_by lt order xs (pairs_tail (AreOrdered lt) x xs ordered))
 
-unequal : (m n : ℕ) → (m ≡ n → ⊥) → (ltb m n ≡ true) ⊎ (ltb n m ≡ true)
-unequal m n other = by_tests (ltb m n) refl (ltb n m) refl
-  where
-    by_tests : (a : Bool) → ltb m n ≡ a → (b : Bool) → ltb n m ≡ b → (a ≡ true) ⊎ (b ≡ true)
-    by_tests true e b f = inl refl
-    by_tests false e true f = inr refl
-    by_tests false e false f = absurd (other (grind (arith, nat_tests)))
-
-less_by_test : (m n : ℕ) → ltb m n ≡ true → m < n
-less_by_test m n e = grind (arith, nat_tests)
-
-pub sorted_rises : {A : Type 0} (key : A → ℕ) (xs : List A) → AllPairs (λ a b. key a ≡ key b → ⊥) xs
-    → AllPairs (λ a b. key a < key b) (sorted (λ a b. ltb (key a) (key b)) xs)
-sorted_rises {A} key xs once =
-    let lt : A → A → Bool = λ a b. ltb (key a) (key b) in
-    let up : AllPairs (λ a b. lt a b ≡ true) (sorted lt xs) =
-    sorted_rises_by lt (IsStrictWeakOrder-by_number key) xs (λ i j d less below. unequal (key (get_or xs i d)) (key (get_or xs j d)) (once i j d less below)) in
-    λ i j d less below. less_by_test (key (get_or (sorted lt xs) i d)) (key (get_or (sorted lt xs) j d)) (up i j d less below)
-
 -- ---- the same elements in order
 
 -- where an element stood before two changed places

@@ -1,6 +1,6 @@
 //! A Maildir folder on a disk.
 
-ghost use Rattle.std.specs.Prelude.{◌≡◌, ◌<◌, ◌≤◌, true, length, OnOk, OnErr, IfErr};
+ghost use Rattle.std.specs.Prelude.{◌≡◌, ◌<◌, ◌≤◌, [], true, false, length, OnOk, OnErr, IfOk, IfErr};
 
 use crate::folder::{FileName, Folder, Location, Origin, Place, Source};
 use device::DeviceFault;
@@ -34,7 +34,10 @@ pub struct DiskFolder<R: Files + AllocGlobal + Clone + Drop> {
 
 impl<R: Files + AllocGlobal + Clone + Drop> DiskFolder<R> {
     /// The folder at this path, which is looked at by the first call.
-    pub fn new(rt: R, path: &str) -> Result<DiskFolder<R>, DeviceFault> {
+    pub fn new(rt: R, path: &str) -> Result<DiskFolder<R>, DeviceFault>
+        ensures whole { IfOk result (λ folder. (folder.is_broken ≡ false) × (folder.stops.items ≡ [])) }
+        ensures no_memory { IfErr result (λ fault. fault ≡ DeviceFault.NoMemory) }
+    {
         let path = String::from_str(rt.alloc(), path)?;
         let stops = Vec::new(rt.alloc());
         Ok(DiskFolder {
@@ -48,7 +51,9 @@ impl<R: Files + AllocGlobal + Clone + Drop> DiskFolder<R> {
     /// Makes the folder at this path with `cur`, `new` and `tmp`, as far as they are not there.
     ///
     /// `Stopped`: the system fails.
-    pub fn create(rt: R, path: &str) -> Result<DiskFolder<R>, DeviceFault> {
+    pub fn create(rt: R, path: &str) -> Result<DiskFolder<R>, DeviceFault>
+        ensures whole { IfOk result (λ folder. (folder.is_broken ≡ false) × (folder.stops.items ≡ [])) }
+    {
         let folder = DiskFolder::new(rt, path)?;
         match folder.make() {
             Ok(()) => Ok(folder),

@@ -390,6 +390,3 @@ impl<F: Folder> NearBox<F> {
         Ok(())
     }
 }
-
-#[cfg(test)]
-mod tests;

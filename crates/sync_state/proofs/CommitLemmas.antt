@@ -1,16 +1,15 @@
 -- What the files hold once the state's file has changed.
-use Rattle.std.proofs.Common.{◌≡◌, ◌⊎◌, ◌≤◌, inl, inr, ℕ, List, Option, Some, None, sym, subst, arith}
+use Rattle.std.proofs.Common.{◌≡◌, ◌⊎◌, inl, inr, ℕ, List, Option, Some, None, sym, subst, arith}
 use Rattle.std.proofs.Math.Logic.{∥∥₁_map}
 use Rattle.rules.specs.declared.state.SyncState.{SyncState}
 use Rattle.sync_state.specs.declared.journal.WrittenJournal.{WrittenJournal}
 use Rattle.sync_state.specs.declared.shelf.File.TheVariants.{State, Journal}
-use Rattle.sync_state.specs.declared.book.Pending.{Pending}
 use Rattle.sync_state.specs.declared.book.Pending.TheVariants.{Missing, Useless, Planned}
 use Rattle.sync_state.specs.StateText.{StateText}
 use Rattle.sync_state.specs.Shelves.{Files, Puts, with_file}
 use Rattle.sync_state.specs.Books.{Held, Holds, HoldsJournal}
 use Rattle.sync_state.specs.Committed.{Commits}
-use Rattle.sync_state.specs.Commits.{Makes, HoldsCommitted, LeavesCommit}
+use Rattle.sync_state.specs.Commits.{LeavesCommit}
 use Rattle.sync_state.proofs.BookLemmas.{same_files, journal_put}
 
 -- the journal is of a run that was made

@@ -46,8 +46,8 @@ record LinesAgree (entries : List Entry) (j : Journal) : Type 0 where
   steps : list_all (λ b. b) (map (step_agrees entries) j.plan.steps) ≡ true
   log : list_all (λ b. b) (log_agrees entries j.plan.steps [] j.plan.steps j.log) ≡ true
 
-agreed : (entries : List Entry) (j : Journal) → Agrees entries j → LinesAgree entries j
-agreed entries j h =
+lines_of_agreed : (entries : List Entry) (j : Journal) → Agrees entries j → LinesAgree entries j
+lines_of_agreed entries j h =
     let lines = lines_agree entries j in
     let steps = map (step_agrees entries) j.plan.steps in
     let notes = map (note_agrees entries) j.plan.notes in
@@ -195,7 +195,7 @@ pub record AreCommitted (es : List Entry) : Type 0 where
 pub committed_pairs : (j : Journal) (old new : List Entry) → HasJournal j → ArePairs old → All IsEntry old → Agrees old j
     → IsPermutation (kept_entries j old ++ entries_of_copies j.plan.steps j.log) new → AllPairs IsNotAfter new → AreCommitted new
 committed_pairs j old new journal pairs fits agrees moves order =
-    let lines = agreed old j agrees in
+    let lines = lines_of_agreed old j agrees in
     let kept = kept_entries j old in
     let copies = entries_of_copies j.plan.steps j.log in
     let are = copies_are old j.plan.steps [] bottom j.plan.steps j.log journal.plan.steps_rise (λ side uid t. t) lines.log in

@@ -16,7 +16,7 @@ use Rattle.sync_state.specs.Places.{last_of}
 use Rattle.sync_state.specs.JournalReading.{PlanHeadFits, PlanHeadRead, with_items, IsBadItem}
 use Rattle.sync_state.proofs.LineLemmas.{more_lines}
 use Rattle.sync_state.proofs.ItemLemmas.{Behind, IsEnd, behind, head_line, rises-at}
-use Rattle.sync_state.proofs.PlaceLemmas.{step_places, note_places}
+use Rattle.sync_state.proofs.KnownLines.{step_places, note_places}
 use Rattle.sync_state.proofs.JournalLemmas.{journal_of}
 
 abbrev pub head : PlanHead → List (List ℕ)
@@ -55,11 +55,11 @@ go_is_no_step s = first_differs go_line (step_line s) 103 115 refl (step_begins 
 pub go_is_no_note : (n : Note) → go_line ≢ note_line n
 go_is_no_note n = first_differs go_line (note_line n) 103 110 refl (note_begins n) (λ h. absurd (omega (arith, h)))
 
-end_of_steps : (notes : List Note) (more : List (List ℕ)) → IsEnd IsStep step_line (map note_line notes ++ (go_line ∷ more))
+pub end_of_steps : (notes : List Note) (more : List (List ℕ)) → IsEnd IsStep step_line (map note_line notes ++ (go_line ∷ more))
 end_of_steps [] more = record { first = go_line; others = more; same = refl; foreign = λ s f. go_is_no_step s }
 end_of_steps (n ∷ notes) more = record { first = note_line n; others = map note_line notes ++ (go_line ∷ more); same = refl; foreign = λ s f. note_is_no_step n s }
 
-end_of_notes : (more : List (List ℕ)) → IsEnd IsNote note_line (go_line ∷ more)
+pub end_of_notes : (more : List (List ℕ)) → IsEnd IsNote note_line (go_line ∷ more)
 end_of_notes more = record { first = go_line; others = more; same = refl; foreign = λ n f. go_is_no_note n }
 
 abbrev pub BehindSteps : Journal → List Step → List (List ℕ) → Type 0

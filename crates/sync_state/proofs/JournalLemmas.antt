@@ -1,5 +1,5 @@
 -- Where the lines of a text stop beginning a journal's.
-use Rattle.std.proofs.Common.{◌≡◌, ℕ, ◌<◌, ◌^◌, List, [], ◌∷◌, ◌++◌, get_or, refl, ap, arith}
+use Rattle.std.proofs.Common.{◌≡◌, ℕ, ◌<◌, ◌^◌, List, [], ◌∷◌, ◌++◌, refl, arith}
 use Rattle.std.specs.Prelude.{codes, decimal}
 use Rattle.std.proofs.lemmas.List.Elements.{All-nil}
 use Rattle.rules.specs.declared.plan.Step.{Step}
@@ -16,13 +16,11 @@ use Rattle.sync_state.specs.StateText.{run_line, IsHighest}
 use Rattle.sync_state.specs.Lines.{AreLines, HasNoLine}
 use Rattle.sync_state.specs.JournalText.{journal_title, plan_far_line, plan_near_line, go_line, IsStep, IsNote, IsPlan, IsPlanSide, journal_lines, JournalLines, IsBadJournal}
 use Rattle.sync_state.specs.JournalReading.{PlanHeadFits, with_items}
+use Rattle.sync_state.proofs.StateLemmas.{nth}
 use Rattle.sync_state.proofs.LineLemmas.{no_lines}
 
 abbrev pub journal_of : PlanHead → List Step → List Note → List Logged → Journal
 journal_of h steps notes log = record { plan = with_items h steps notes; log = log }
-
-nth : (i : ℕ) (ls bs : List (List ℕ)) → ls ≡ bs → get_or ls i [] ≡ get_or bs i []
-nth i ls bs e = ap (λ (x : List (List ℕ)). get_or x i []) e
 
 plan_fits : (h : PlanHead) → PlanHeadFits h → IsPlan (with_items h [] [])
 plan_fits h f = record { run = f.run; far = f.far; near = f.near; steps = All-nil IsStep; notes = All-nil IsNote; steps_rise = refl; notes_rise = refl }

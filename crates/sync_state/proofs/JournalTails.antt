@@ -20,7 +20,7 @@ use Rattle.sync_state.specs.Places.{last_of}
 use Rattle.sync_state.specs.JournalReading.{PlanHeadRead, AreItems, ItemsRead, IsBadItem, FitsAt, LogRead, IsBadLog, TellsItem, TellsLog, TellsJournal}
 use Rattle.sync_state.proofs.LineLemmas.{more_lines, line_more}
 use Rattle.sync_state.proofs.ItemLemmas.{head_line, tail_lines}
-use Rattle.sync_state.proofs.PlaceLemmas.{note_places}
+use Rattle.sync_state.proofs.KnownLines.{note_places}
 use Rattle.sync_state.proofs.GoLemmas.{go_is_one_line}
 use Rattle.sync_state.proofs.JournalLemmas.{journal_of}
 use Rattle.sync_state.proofs.JournalEnds.{bad_step, head, notes_on, shape, note_is_no_step, go_is_no_step, go_is_no_note, behind_steps, behind_notes, none_stands, plan_of, no_log}

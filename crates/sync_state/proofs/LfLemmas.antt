@@ -36,11 +36,11 @@ IsInside b = b ≢ 10
 uid : (u : ℕ) → IsUid u → OneLine (decimal u)
 uid u is = decimal-lacks 10 (omega arith) u (omega (arith, is.below_last))
 
-uid_or_none : (u : Option ℕ) → IsUidOrNone u → OneLine (decimal (unwrap_or u 0))
+pub uid_or_none : (u : Option ℕ) → IsUidOrNone u → OneLine (decimal (unwrap_or u 0))
 uid_or_none None is = decimal-lacks 10 (omega arith) 0 (omega arith)
 uid_or_none (Some u) is = uid u is
 
-flags : (f : ℕ) → OneLine (flags_word f)
+pub flags : (f : ℕ) → OneLine (flags_word f)
 flags f = elim (f == 0) as (λ b. OneLine (cond b (codes "-") (letters_of f))) [
   | true ↦ lacks_lf (codes "-") refl
   | false ↦ letters-lack 10 (omega arith) f
@@ -66,10 +66,10 @@ changed sign f other = elim (f == 0) as (λ b. OneLine (cond b [] (32 ∷ sign �
 ]
 
 -- two words with a space between
-spaced : (a b : List ℕ) → OneLine a → OneLine b → OneLine (a ++ 32 ∷ b)
+pub spaced : (a b : List ℕ) → OneLine a → OneLine b → OneLine (a ++ 32 ∷ b)
 spaced a b la lb = All-append IsInside a (32 ∷ b) la (All-cons IsInside 32 b (λ e. absurd (omega (arith, e))) lb)
 
-behind : (start a : List ℕ) → OneLine start → OneLine a → OneLine (start ++ a)
+pub behind : (start a : List ℕ) → OneLine start → OneLine a → OneLine (start ++ a)
 behind start a ls la = All-append IsInside start a ls la
 
 -- ---- lines

@@ -14,12 +14,16 @@ pub mod ItemLemmas
 pub mod JournalEnds
 pub mod JournalLemmas
 pub mod JournalTails
+pub mod KnownBooks
+pub mod KnownJournals
+pub mod KnownLines
+pub mod KnownStates
+pub mod KnownTexts
 pub mod LfLemmas
 pub mod LineLemmas
 pub mod LogAgreement
 pub mod LogLemmas
 pub mod LoggedLemmas
 pub mod PairLemmas
-pub mod PlaceLemmas
 pub mod StateLemmas
 pub mod StepLemmas

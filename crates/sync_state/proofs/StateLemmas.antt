@@ -80,7 +80,7 @@ spelled h es f all pairs = record { state = with_entries h es; fits = fits_with 
 bare : (h : Head) → HeadFits h → StateLines (state_lines (with_entries h []))
 bare h f = spelled h [] f (All-nil IsEntry) no_pairs
 
-nth : (i : ℕ) (ls bs : List (List ℕ)) → ls ≡ bs → get_or ls i [] ≡ get_or bs i []
+pub nth : (i : ℕ) (ls bs : List (List ℕ)) → ls ≡ bs → get_or ls i [] ≡ get_or bs i []
 nth i ls bs e = ap (λ (x : List (List ℕ)). get_or x i []) e
 
 no_state_is_empty : StateLines [] → ⊥
@@ -160,7 +160,7 @@ entry_from a b s = let f = s.far in let n = s.near in let w = s.flags in
     ∙ ap (λ (x : Option ℕ). let e : Entry = record { far = b.far; near = x; flags = a.flags } in e) n
     ∙ ap (λ (x : ℕ). let e : Entry = record { far = b.far; near = b.near; flags = x } in e) w
 
-entry_line-injective : (a b : Entry) → IsEntry a → IsEntry b → entry_line a ≡ entry_line b → a ≡ b
+pub entry_line-injective : (a b : Entry) → IsEntry a → IsEntry b → entry_line a ≡ entry_line b → a ≡ b
 entry_line-injective a b fa fb e =
     let behind = ap (λ (x : List ℕ). drop 2 x) e in
     let s = same_cut 32 (decimal (uid_of Far a)) (decimal (uid_of Far b)) (decimal (uid_of Near a) ++ 32 ∷ flags_word a.flags) (decimal (uid_of Near b) ++ 32 ∷ flags_word b.flags)
@@ -172,7 +172,7 @@ entry_line-injective a b fa fb e =
       flags = flags-injective a.flags b.flags fa.flags fb.flags t.behind;
     })
 
-no_end : (e : Entry) → entry_line e ≢ end_line
+pub no_end : (e : Entry) → entry_line e ≢ end_line
 no_end e h = let c : 32 ≡ 110 = ap (λ (x : List ℕ). get_or x 1 0) h in absurd (omega (arith, c))
 
 -- entries behind others, up to the end

@@ -10,9 +10,6 @@ use mailcore::uid::Uid;
 use rules::entry::Entry;
 use rules::plan::{Note, Step};
 
-#[cfg(test)]
-mod tests;
-
 /// The number of the journal's first line, counted from 1, that does not agree with these entries, or none if each does.
 ///
 /// The source of a new message is in no entry, each other step and each note names a pair that is an entry, and the UID

@@ -8,17 +8,21 @@ pub mod commit;
 pub mod committed;
 pub mod disk_shelf;
 pub mod fault;
-pub mod fields;
-pub mod items;
+mod fields;
+mod items;
 pub mod journal;
-pub mod journal_lines;
+mod journal_lines;
 pub mod journal_read;
 pub mod journal_text;
+pub mod laws;
 pub mod lines;
 pub mod mem_shelf;
-pub mod place;
+mod place;
 pub mod shelf;
 pub mod state_text;
-#[cfg(test)]
-mod tests;
-pub mod words;
+mod words;
+
+pub use rules::entry::{Entries, Entry};
+pub use rules::options::{Cells, Directions, Options, Sides};
+pub use rules::plan::{Note, Notes, Plan, PlanSide, Step, Steps};
+pub use rules::state::SyncState;

@@ -79,7 +79,9 @@ pub struct MemShelf {
 }
 
 impl MemShelf {
+    ghost use Rattle.std.specs.Option.{option_map};
     ghost use Rattle.sync_state.specs.MemShelves.{files_of};
+    ghost use Rattle.sync_state.specs.Shelves.{file_at};
 
     /// A shelf with these files. Of two stops of one call the first in the schedule acts.
     pub fn new(
@@ -108,7 +110,9 @@ impl MemShelf {
     }
 
     /// The bytes of a file, if it is there.
-    pub fn bytes(&self, file: File) -> Option<&[u8]> {
+    pub fn bytes(&self, file: File) -> Option<&[u8]>
+        ensures { option_map (λ bytes. bytes.now) result ≡ file_at file (files_of self.now) }
+    {
         let bytes = match file {
             File::State => self.state.as_ref(),
             File::Journal => self.journal.as_ref(),

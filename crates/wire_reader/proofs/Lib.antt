@@ -30,5 +30,5 @@ pub mod Answering
 pub mod Lines
 pub mod PartFilled
 pub mod Folds
-pub mod TextSpans
+pub mod Fronts
 pub mod Decisive

@@ -9,4 +9,3 @@ pub mod Given
 pub mod Answers
 pub mod Filled
 pub mod Folding
-pub mod Spans

@@ -11,7 +11,7 @@ use Rattle.wire_reader.specs.Folding.{fold_by}
 use Rattle.wire_reader.proofs.Reader.{bind_ok, bind_err}
 use Rattle.wire_reader.proofs.Parts.{pair_is}
 use Rattle.wire_reader.proofs.Folds.{folded_is, fold_err, fold_goes}
-use Rattle.wire_reader.proofs.TextSpans.{front_is}
+use Rattle.wire_reader.proofs.Fronts.{front_is}
 use Rattle.wire_tokens.specs.declared.spaced.NameKind.{NameKind}
 use Rattle.wire_tokens.specs.declared.spaced.NameKind.TheVariants as kinds
 use Rattle.wire_tokens.specs.Atoms.{is_atom_byte, IsAtom}

@@ -3,4 +3,4 @@ use Rattle.imap_replies.proofs.response_writing.append_uid.Goals as goal
 
 pub returns-clause-ok : goal.returns-clause-ok
 returns-clause-ok c =
-    then_written c.in_ok-append_word.ensures.ok (then_written c.in_ok-append.ensures.ok (then_written c.in_ok-write.ensures.ok c.in_ok-append-2.ensures.ok))
+    then_written c.in_ok-append.ensures.ok (then_written c.in_ok-append-2.ensures.ok (then_written c.in_ok-write.ensures.ok c.in_ok-append-3.ensures.ok))

@@ -1,11 +1,11 @@
-use Rattle.std.proofs.Common.{◌≡◌, ◌∙◌, true, Some, List, ℕ, inl, inr, sym, subst, rules}
+use Rattle.std.proofs.Common.{◌∙◌, sym, subst}
 use Rattle.std.proofs.lemmas.Result.{err_from_is_err_and}
 use Rattle.sync_state.specs.declared.book.Pending.{Pending}
 use Rattle.sync_state.specs.declared.book.Pending.TheVariants.{Planned}
 use Rattle.sync_state.specs.StateText.{StateText}
 use Rattle.sync_state.specs.Books.{Holds}
 use Rattle.sync_state.specs.Commits.{LeavesCommit}
-use Rattle.sync_state.proofs.CommitLemmas.{state_put, state_put_or_not, journal_removed, journal_removed_or_not}
+use Rattle.sync_state.proofs.CommitLemmas.{state_put, state_put_or_not, journal_removed_or_not}
 use Rattle.sync_state.proofs.book.Book.commit.Goals as goal
 
 pub returns-in_err-replace-clause-leaves : goal.returns-in_err-replace-clause-leaves

@@ -3,10 +3,10 @@
 use super::calls::{Answer, begin, log};
 use super::opened::{DONE, Texts, Told, VOID, in_memory, told_by};
 use super::{PLAN, STATE};
-use crate::book::Book;
-use crate::fault::BookFault;
-use crate::mem_shelf::{MemShelf, Moment, ShelfCall, ShelfStop};
-use crate::shelf::{File, Shelf};
+use sync_state::book::Book;
+use sync_state::fault::BookFault;
+use sync_state::mem_shelf::{MemShelf, Moment, ShelfCall, ShelfStop};
+use sync_state::shelf::{File, Shelf};
 use std::alloc::Global;
 use std::process::Abort;
 use std::test::Fail;

@@ -2,7 +2,7 @@
 
 use super::operation::uid;
 use super::*;
-use crate::disk_folder::DiskFolder;
+use maildir::disk_folder::DiskFolder;
 use std::{env, fs, process};
 
 /// A folder of the test's own among the temporary files.

@@ -1,5 +1,6 @@
-//! Worked texts of states and journals.
+//! The book over shelves: worked texts of states and journals, and every stop.
 
+mod agreement;
 mod beginnings;
 mod calls;
 mod commits;
@@ -7,9 +8,9 @@ mod on_disk;
 mod opened;
 mod stops;
 
-use crate::fault::BookFault;
-use crate::journal_text::{read_journal, write_plan};
-use crate::state_text::{read_state_text, write_state_text};
+use sync_state::fault::BookFault;
+use sync_state::journal_text::{read_journal, write_plan};
+use sync_state::state_text::{read_state_text, write_state_text};
 use std::test::Fail;
 
 const STATE: &[u8] = b"mbsync state 1\nrun 1\nfar 1 2\nnear 1 0\ne 1 1 S\ne 2 2 -\nend\n";

@@ -2,9 +2,9 @@
 
 use super::opened::{Told, in_memory, opened, rows, told_by};
 use super::{PLAN, STATE};
-use crate::book::Book;
-use crate::disk_shelf::DiskShelf;
-use crate::shelf::{File, Shelf};
+use sync_state::book::Book;
+use sync_state::disk_shelf::DiskShelf;
+use sync_state::shelf::{File, Shelf};
 use device::DeviceFault;
 use std::process::Abort;
 use std::test::Fail;

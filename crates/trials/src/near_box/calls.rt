@@ -5,6 +5,7 @@ ghost use Rattle.std.specs.Prelude.{◌≡◌};
 use super::operation::{OPERATIONS, Operation, mark, start, uid};
 use super::*;
 use device::DeviceFault;
+use maildir::folder::{Location, Origin};
 
 /// A folder in memory that notes the names of its calls.
 #[derive(Drop)]

@@ -1,10 +1,10 @@
 //! What a new book says of the texts of a state and a journal.
 
 use super::{PLAN, STATE};
-use crate::book::Book;
-use crate::fault::BookFault;
-use crate::mem_shelf::{MemShelf, ShelfStop};
-use crate::shelf::Shelf;
+use sync_state::book::Book;
+use sync_state::fault::BookFault;
+use sync_state::mem_shelf::{MemShelf, ShelfStop};
+use sync_state::shelf::Shelf;
 use std::alloc::{AllocError, Global};
 use std::test::Fail;
 

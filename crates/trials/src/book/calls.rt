@@ -1,12 +1,12 @@
 //! Calls of a book that write its journal, made from the texts that they are to write.
 
-use crate::agreement::disagreement;
-use crate::book::Book;
-use crate::fault::BookFault;
-use crate::journal::{Journal, Log, Logged};
-use crate::journal_read::next_logged;
-use crate::journal_text::read_journal;
-use crate::shelf::Shelf;
+use sync_state::agreement::disagreement;
+use sync_state::book::Book;
+use sync_state::fault::BookFault;
+use sync_state::journal::{Journal, Log, Logged};
+use sync_state::journal_read::next_logged;
+use sync_state::journal_text::read_journal;
+use sync_state::shelf::Shelf;
 use std::alloc::Global;
 use std::test::Fail;
 

@@ -1,8 +1,8 @@
 //! Each beginning of a text is read or refused as its whole lines say.
 
 use super::{PLAN, STATE, logged, state_fault};
-use crate::fault::BookFault;
-use crate::journal_text::read_journal;
+use sync_state::fault::BookFault;
+use sync_state::journal_text::read_journal;
 use std::test::Fail;
 
 /// A journal with each kind of step and note, of which each step is logged.

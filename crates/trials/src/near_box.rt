@@ -1,13 +1,20 @@
-use super::*;
-use crate::folder::{File, Source};
-use crate::mem_folder::{Cut, FolderCall, MemFolder, Stop};
-use mailcore::flags::Flag;
-use std::alloc::AllocError;
+//! The near mailbox over folders: worked examples, and every stop.
+
+use mailcore::flags::{Flag, Flags};
+use mailcore::octets::Octets;
+use mailcore::tuid::Tuid;
+use mailcore::uid::Uid;
+use maildir::folder::{File, FileName, Folder, Place, Source};
+use maildir::mem_folder::{Cut, FolderCall, MemFolder, Stop};
+use maildir::near_box::NearBox;
+use maildir::near_fault::NearFault;
+use std::alloc::{AllocError, Global};
 use std::num::NonZeroU32;
 use std::test::Fail;
 
 mod calls;
 mod disk;
+mod names;
 mod operation;
 mod steps;
 mod stops;

@@ -4,7 +4,7 @@ use Rattle.rules.specs.declared.plan.Plan.{Plan}
 use Rattle.sync_state.specs.declared.journal.Logged.{Logged}
 use Rattle.sync_state.specs.Agreement.{Agrees, disagreement}
 use Rattle.sync_state.specs.BookLogs.{fresh}
-use Rattle.sync_state.proofs.tests.calls.begin.Goals as goal
+use Rattle.trials.proofs.book.calls.begin.Goals as goal
 
 without_log : (found : Option ℕ) (xs ys : List Entry) (plan : Plan) (log : List Logged) → found ≡ disagreement xs (record { plan = plan; log = log }) → found ≡ None → log ≡ [] → xs ≡ ys → Agrees ys (fresh plan)
 without_log found xs ys plan log e none empty same =
