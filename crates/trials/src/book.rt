@@ -8,10 +8,10 @@ mod on_disk;
 mod opened;
 mod stops;
 
+use std::test::Fail;
 use sync_state::fault::BookFault;
 use sync_state::journal_text::{read_journal, write_plan};
 use sync_state::state_text::{read_state_text, write_state_text};
-use std::test::Fail;
 
 const STATE: &[u8] = b"mbsync state 1\nrun 1\nfar 1 2\nnear 1 0\ne 1 1 S\ne 2 2 -\nend\n";
 

@@ -3,11 +3,11 @@
 use mailcore::side::Side;
 use mailcore::uid::Uid;
 use rules::state::SyncState;
+use std::test::Fail;
 use sync_state::agreement::{disagreement, is_taken};
 use sync_state::journal::WrittenJournal;
 use sync_state::journal_text::read_journal;
 use sync_state::state_text::read_state_text;
-use std::test::Fail;
 
 const STATE: &[u8] = b"mbsync state 1\nrun 1\nfar 1 4\nnear 1 0\ne 1 1 S\ne 2 2 -\ne 4 0 -\nend\n";
 

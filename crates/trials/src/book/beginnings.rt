@@ -1,9 +1,9 @@
 //! Each beginning of a text is read or refused as its whole lines say.
 
 use super::{PLAN, STATE, logged, state_fault};
+use std::test::Fail;
 use sync_state::fault::BookFault;
 use sync_state::journal_text::read_journal;
-use std::test::Fail;
 
 /// A journal with each kind of step and note, of which each step is logged.
 const FULL: &[u8] = b"journal 1\nrun 2\nfar 1 4 5\nnear 1 3 4\n\

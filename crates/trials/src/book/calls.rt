@@ -1,5 +1,7 @@
 //! Calls of a book that write its journal, made from the texts that they are to write.
 
+use std::alloc::Global;
+use std::test::Fail;
 use sync_state::agreement::disagreement;
 use sync_state::book::Book;
 use sync_state::fault::BookFault;
@@ -7,8 +9,6 @@ use sync_state::journal::{Journal, Log, Logged};
 use sync_state::journal_read::next_logged;
 use sync_state::journal_text::read_journal;
 use sync_state::shelf::Shelf;
-use std::alloc::Global;
-use std::test::Fail;
 
 /// What a call answered.
 pub type Answer = Result<(), BookFault>;

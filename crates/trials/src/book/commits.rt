@@ -4,13 +4,13 @@ use super::STATE;
 use super::calls::commit;
 use super::opened::{Texts, Told, in_memory, told_by};
 use super::stops::ALL_LOGGED;
+use std::alloc::Global;
+use std::process::Abort;
+use std::test::Fail;
 use sync_state::book::Book;
 use sync_state::fault::BookFault;
 use sync_state::mem_shelf::{Moment, ShelfCall, ShelfStop};
 use sync_state::shelf::{File, Shelf};
-use std::alloc::Global;
-use std::process::Abort;
-use std::test::Fail;
 
 /// The state of the second run.
 const COMMITTED: &[u8] =

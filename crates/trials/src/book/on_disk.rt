@@ -2,13 +2,13 @@
 
 use super::opened::{Told, in_memory, opened, rows, told_by};
 use super::{PLAN, STATE};
-use sync_state::book::Book;
-use sync_state::disk_shelf::DiskShelf;
-use sync_state::shelf::{File, Shelf};
 use device::DeviceFault;
 use std::process::Abort;
 use std::test::Fail;
 use std::{env, fs, io};
+use sync_state::book::Book;
+use sync_state::disk_shelf::DiskShelf;
+use sync_state::shelf::{File, Shelf};
 
 /// A folder for a test, and the paths of the two files in it.
 #[derive(Drop)]

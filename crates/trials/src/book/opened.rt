@@ -1,12 +1,12 @@
 //! What a new book says of the texts of a state and a journal.
 
 use super::{PLAN, STATE};
+use std::alloc::{AllocError, Global};
+use std::test::Fail;
 use sync_state::book::Book;
 use sync_state::fault::BookFault;
 use sync_state::mem_shelf::{MemShelf, ShelfStop};
 use sync_state::shelf::Shelf;
-use std::alloc::{AllocError, Global};
-use std::test::Fail;
 
 /// The texts of both files, where they are there.
 #[derive(Clone, Copy, Debug, PartialEq, Eq)]

@@ -3,13 +3,13 @@
 use super::calls::{Answer, begin, log};
 use super::opened::{DONE, Texts, Told, VOID, in_memory, told_by};
 use super::{PLAN, STATE};
+use std::alloc::Global;
+use std::process::Abort;
+use std::test::Fail;
 use sync_state::book::Book;
 use sync_state::fault::BookFault;
 use sync_state::mem_shelf::{MemShelf, Moment, ShelfCall, ShelfStop};
 use sync_state::shelf::{File, Shelf};
-use std::alloc::Global;
-use std::process::Abort;
-use std::test::Fail;
 
 /// A call of a book.
 #[derive(Clone, Copy, Debug, PartialEq, Eq)]
