@@ -9,7 +9,5 @@ pub mod pattern;
 pub mod reading;
 mod request_writing;
 mod requests;
-#[cfg(test)]
-mod tests;
 mod verb;
 pub mod writing;

@@ -13,7 +13,5 @@ pub mod reading;
 pub mod reply;
 pub mod response;
 mod response_writing;
-#[cfg(test)]
-mod tests;
 pub mod word;
 pub mod writing;

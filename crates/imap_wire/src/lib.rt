@@ -32,4 +32,10 @@ pub use wire_tokens::text::Text;
 pub use wire_tokens::uid_set::{SetEnd, SetItem, UidSet};
 
 #[cfg(test)]
+mod commands;
+#[cfg(test)]
 mod limits;
+#[cfg(test)]
+mod replies;
+#[cfg(test)]
+mod tokens;

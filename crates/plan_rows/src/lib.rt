@@ -1,10 +1,13 @@
-//! Tests of the program `mbplan`, whole: what it prints for a world, which texts it refuses, and how a world is written.
+//! Tests of the program `mbplan`, whole: what it prints for a world, which texts it refuses, and how a world is written;
+//! and of the calls of the planner.
 #![tactic(auto)]
 
 #[cfg(test)]
 mod bad_lines;
 #[cfg(test)]
 mod big_messages;
+#[cfg(test)]
+mod calls;
 #[cfg(test)]
 mod deletions;
 #[cfg(test)]

@@ -11,6 +11,4 @@ mod notes;
 pub mod order;
 pub mod plan;
 pub mod state;
-#[cfg(test)]
-mod tests;
 pub mod unfit;

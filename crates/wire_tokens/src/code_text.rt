@@ -90,21 +90,3 @@ fn is_code_text(b: u8) -> bool
 {
     is_text(b) && b != b']'
 }
-
-#[cfg(test)]
-mod tests {
-    use super::*;
-    use std::test::Fail;
-
-    #[test]
-    fn a_code_ends_at_its_bracket(rt: HostRuntime) -> Result<(), Fail> {
-        let (text, rest) = read_code_text(b"a [{5}] b").map_err(|_| "refused")?;
-        assert_eq!(rt; text.bytes(), b"a [{5}".as_slice());
-        assert_eq!(rt; rest, b" b".as_slice());
-        assert_eq!(rt;
-            read_code_text(b"a\r]").err(),
-            Some(Stop::Fails(Kind::Syntax, 2))
-        );
-        Ok(())
-    }
-}

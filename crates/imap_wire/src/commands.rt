@@ -1,8 +1,10 @@
-use crate::command::{Command, FetchItems, Request};
-use crate::message::Message;
-use crate::pattern::Pattern;
-use crate::reading::read_command;
-use crate::writing::write_command;
+//! Commands, read and written.
+
+use imap_commands::command::{Command, FetchItems, Request};
+use imap_commands::message::Message;
+use imap_commands::pattern::Pattern;
+use imap_commands::reading::read_command;
+use imap_commands::writing::write_command;
 use std::test::Fail;
 use wire_reader::answer::{Read, WireFault};
 use wire_tokens::tag::Tag;

@@ -1,16 +1,16 @@
-//! The public calls, on one small pair of mailboxes.
+//! The calls of the planner, on one small pair of mailboxes.
 
-use crate::fault::PlanFault;
-use crate::news::news;
-use crate::order::one_order;
-use crate::plan::plan;
-use crate::state::{Cells, Directions, Options, Sides, Step, SyncState};
-use crate::unfit::unfit;
 use mailcore::flags::{Flag, Flags};
 use mailcore::listing::{Item, Items, Listing};
 use mailcore::side::{Direction, Side};
 use mailcore::tuid::Tuid;
 use mailcore::uid::Uid;
+use planner::fault::PlanFault;
+use planner::news::news;
+use planner::order::one_order;
+use planner::plan::plan;
+use planner::state::{Cells, Directions, Options, Sides, Step, SyncState};
+use planner::unfit::unfit;
 use std::alloc::Global;
 use std::test::Fail;
 

@@ -1,10 +1,12 @@
-use crate::fetch::FetchItem;
-use crate::other::{OtherCode, OtherEvent, OtherWord};
-use crate::reading::read_reply;
-use crate::reply::Reply;
-use crate::response::{Code, ResponseText};
-use crate::word::{NoticeKind, Status};
-use crate::writing::write_reply;
+//! Replies, read and written.
+
+use imap_replies::fetch::FetchItem;
+use imap_replies::other::{OtherCode, OtherEvent, OtherWord};
+use imap_replies::reading::read_reply;
+use imap_replies::reply::Reply;
+use imap_replies::response::{Code, ResponseText};
+use imap_replies::word::{NoticeKind, Status};
+use imap_replies::writing::write_reply;
 use std::test::Fail;
 use wire_reader::answer::{Read, WireFault};
 use wire_tokens::string::WireString;
