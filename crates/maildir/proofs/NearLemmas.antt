@@ -1,27 +1,25 @@
 -- What a survey says of the mailbox that stands in the folder.
-use Rattle.std.proofs.Common.{◌≡◌, ℕ, suc, get_or, Bool, true, false, ltb, List, [], ◌∷◌, map, filter, Option, None, Some, All, refl, sym, ap, subst, ◌∙◌, arith}
+use Rattle.std.proofs.Common.{◌≡◌, ℕ, suc, get_or, Bool, true, false, ltb, List, [], ◌∷◌, map, Option, None, Some, All, refl, sym, ap, subst, ◌∙◌, arith}
 use Rattle.std.specs.Prelude.{find, unwrap_or}
 use Rattle.std.specs.List.{filter_map, cons_option}
 use Rattle.std.specs.Option.{option_map}
-use Rattle.std.proofs.lemmas.List.Elements.{All-nil, All-cons, All-head, All-tail, All-filter, All-weaker}
+use Rattle.std.proofs.lemmas.List.Elements.{All-nil, All-cons, All-head, All-tail, All-weaker}
 use Rattle.std.proofs.lemmas.List.Sorted.{All-permutation}
 use Rattle.mailcore.specs.declared.mailbox.Message.{Message}
 use Rattle.mailcore.specs.declared.listing.Item.{Item}
 use Rattle.mailcore.specs.declared.side.Side.TheVariants.{Near as NearSide}
 use Rattle.mailcore.specs.Listed.{item_of}
-use Rattle.mailcore.specs.Stores.{Waiting}
 use Rattle.maildir.specs.declared.folder.File.{File}
-use Rattle.maildir.specs.declared.folder.FileName.{FileName}
 use Rattle.maildir.specs.declared.meta.Meta.{Meta}
 use Rattle.maildir.specs.declared.survey.Entry.{Entry}
 use Rattle.maildir.specs.declared.survey.Survey.{Survey}
 use Rattle.maildir.specs.Folders.{Stored, AreApart, is_at, bytes_at, name_of_file}
-use Rattle.maildir.specs.Names.{uid_in, is_waiting}
+use Rattle.maildir.specs.Names.{uid_in}
 use Rattle.maildir.specs.NearEffects.{flags_by_name}
-use Rattle.maildir.specs.Mailboxes.{message_of, messages_in, by_uid, near_of, first_meta, waiting_files, waiting_of, is_before}
+use Rattle.maildir.specs.Mailboxes.{message_of, messages_in, by_uid, near_of, first_meta}
 use Rattle.maildir.specs.NearContracts.{bytes_in, bytes_of_message, marked_in, marked_uid}
 use Rattle.maildir.specs.Surveys.{Surveys, entry_of}
-use Rattle.maildir.specs.Entries.{message_at, item_at, waiting_at, AreThere, AreRising}
+use Rattle.maildir.specs.Entries.{message_at, item_at, AreThere, AreRising}
 use Rattle.maildir.specs.Sorting.{sorted}
 use Rattle.maildir.proofs.FileLemmas.{at_itself, at_true}
 use Rattle.maildir.proofs.SortingLemmas.{sorted_map, sorted_permutes}

@@ -1,26 +1,24 @@
 -- What the messages of a folder have in common with their entries.
-use Rattle.std.proofs.Common.{◌≡◌, ℕ, zero, suc, ◌+◌, ◌-◌, ◌<◌, ◌≤◌, Bool, true, false, ltb, ltb-true, ltb-false, List, [], ◌∷◌, length, get_or, map, filter, All, Option, None, Some, refl, sym, ap, subst, ◌∙◌, arith}
+use Rattle.std.proofs.Common.{◌≡◌, ℕ, zero, suc, ◌+◌, ◌-◌, ◌<◌, ◌≤◌, Bool, true, false, ltb, ltb-true, ltb-false, List, [], ◌∷◌, length, get_or, map, Option, None, Some, refl, sym, ap, subst, ◌∙◌, arith}
 use Rattle.std.specs.Prelude.{AllPairs, MatchBool}
 use Rattle.std.specs.List.{filter_map, cons_option, AllAdjacentBelow, IsAllAdjacentAnswer}
 use Rattle.std.specs.Option.{option_map}
-use Rattle.std.specs.List.Sorted.{IsPermutation, IsSortedBy, IsSortedByKey}
+use Rattle.std.specs.List.Sorted.{IsPermutation, IsSortedByKey}
 use Rattle.std.specs.Ordering.{nat_cmp, is_lt}
 use Rattle.std.specs.Cmp.{nat_cmp_total}
 use Rattle.std.proofs.lemmas.List.{get_or-map, length-map}
-use Rattle.std.proofs.lemmas.List.Sorted.{ranks_by, sorted_far, IsPermutation-map, IsPermutation-sym, IsPermutation-trans, IsStrictWeakOrder-by_number, All-permutation}
+use Rattle.std.proofs.lemmas.List.Sorted.{ranks_by, sorted_far}
 use Rattle.std.proofs.lemmas.Map.Keys.{ge_from_not_lt}
 use Rattle.mailcore.specs.declared.mailbox.Message.{Message}
 use Rattle.maildir.specs.declared.folder.File.{File}
 use Rattle.maildir.specs.declared.folder.FileName.{FileName}
-use Rattle.maildir.specs.declared.meta.Meta.{Meta}
 use Rattle.maildir.specs.declared.survey.Entry.{Entry}
-use Rattle.maildir.specs.Folders.{Stored, AreApart, name_of_file}
-use Rattle.maildir.specs.Mailboxes.{AreDistinct, messages_in, message_of, meta_in, HasMeta, IsMailbox}
+use Rattle.maildir.specs.Folders.{name_of_file}
+use Rattle.maildir.specs.Mailboxes.{AreDistinct, messages_in}
 use Rattle.maildir.specs.Names.{uid_in}
 use Rattle.maildir.specs.NearEffects.{flags_by_name}
 use Rattle.maildir.specs.SurveyParts.{named_entry}
-use Rattle.maildir.specs.Surveys.{entry_of, entries_in, Surveys}
-use Rattle.maildir.proofs.SortingLemmas.{pairs_permuted, sorted_permuted, sorted_permutes}
+use Rattle.maildir.specs.Surveys.{entry_of}
 use Rattle.maildir.proofs.SurveyLemmas.{picked_in_any_order}
 
 -- ---- keys of elements

@@ -3,14 +3,12 @@ use Rattle.std.proofs.Common.{◌≡◌, refl}
 use Rattle.std.specs.Cmp.{IsTotalOrder, IsStrictWeakOrder, then_total, on_total}
 use Rattle.std.specs.Cmp.Lexicographic.{on_texts}
 use Rattle.std.specs.Ordering.{ordering_reverse}
-use Rattle.std.specs.declared.cmp.Ordering.{Ordering}
-use Rattle.std.specs.declared.cmp.Ordering.TheVariants.{Less, Equal, Greater}
+use Rattle.std.specs.declared.cmp.Ordering.TheVariants.{Less, Equal}
 use Rattle.std.proofs.lemmas.List.Sorted.{ranks_by}
-use Rattle.maildir.specs.declared.folder.File.{File}
 use Rattle.maildir.specs.declared.folder.FileName.{FileName}
 use Rattle.maildir.specs.declared.folder.Place.{Place}
 use Rattle.maildir.specs.declared.folder.Place.TheVariants.{New, Cur}
-use Rattle.maildir.specs.Mailboxes.{place_cmp, is_before as is_file_before}
+use Rattle.maildir.specs.Mailboxes.{place_cmp}
 use Rattle.maildir.specs.SurveyParts.{file_cmp, is_before}
 
 places_antisymm : (x y : Place) → place_cmp x y ≡ ordering_reverse (place_cmp y x)

@@ -1,5 +1,5 @@
 -- What a survey finds is what stands in the folder.
-use Rattle.std.proofs.Common.{◌≡◌, ℕ, ◌<◌, ◌⊎◌, inl, inr, Bool, true, false, cond, ltb, lt-ltb, List, [], ◌∷◌, length, get_or, map, filter, All, Option, None, Some, refl, sym, ap, subst, ◌∙◌, arith}
+use Rattle.std.proofs.Common.{◌≡◌, ℕ, ◌<◌, Bool, true, false, cond, ltb, lt-ltb, List, [], ◌∷◌, length, get_or, map, filter, All, None, Some, refl, sym, ap, subst, ◌∙◌, arith}
 use Rattle.std.specs.Prelude.{AllPairs, is_some, nat_eq}
 use Rattle.std.specs.List.{filter_map}
 use Rattle.std.specs.List.Sorted.{IsPermutation, IsSortedBy, IsSortedByKey}
@@ -24,7 +24,7 @@ use Rattle.maildir.specs.Mailboxes.{AreDistinct, messages_in, meta_in, HasMeta, 
 use Rattle.maildir.specs.Names.{is_waiting}
 use Rattle.maildir.specs.Sorting.{put, sorted}
 use Rattle.maildir.specs.SurveyParts.{named_entry, waits, file_cmp, is_before}
-use Rattle.maildir.specs.Surveys.{entry_of, entries_in, Surveys}
+use Rattle.maildir.specs.Surveys.{entry_of, Surveys}
 use Rattle.maildir.proofs.OpenLemmas.{same_uids, entries_apart, messages_apart, entries_of_names, apart_rise, rising_apart}
 use Rattle.maildir.proofs.OrderLemmas.{names_total, names_in_order}
 use Rattle.maildir.proofs.SortingLemmas.{pairs_permuted, sorted_permuted, sorted_permutes}

@@ -1,5 +1,5 @@
 -- The mailbox that stands in a folder.
-use Rattle.std.specs.Prelude.{◌≡◌, ◌<◌, ℕ, ◌+◌, Bool, true, false, not, ◌&&◌, ◌==◌, nat_lt, List, [], ◌∷◌, ◌++◌, map, filter, length, take, drop, Option, None, Some, unwrap_or, All, AllPairs, if◌then◌else◌}
+use Rattle.std.specs.Prelude.{◌≡◌, ◌<◌, ℕ, ◌+◌, Bool, true, not, ◌==◌, nat_lt, List, [], ◌∷◌, ◌++◌, map, filter, length, take, drop, Option, None, Some, unwrap_or, All, AllPairs, if◌then◌else◌}
 use Rattle.std.specs.List.{filter_map}
 use Rattle.std.specs.Option.{option_map}
 use Rattle.std.specs.Ordering.{nat_cmp, is_lt, ordering_then}

@@ -1,7 +1,8 @@
 -- What a folder in memory stores.
-use Rattle.std.specs.Prelude.{true, false, [], length, None}
+use Rattle.std.specs.Prelude.{true, false, [], ◌∷◌, ◌++◌, length, None}
 use Rattle.device.specs.Calls.{Seen}
-use Rattle.maildir.specs.Folders.{Stored}
+use Rattle.maildir.specs.declared.folder.File.{File}
+use Rattle.maildir.specs.Folders.{Stored, without}
 use Rattle.maildir.specs.declared.mem_folder.MemFolder.{MemFolder}
 
 abbrev pub stored_in : MemFolder → Stored
@@ -10,6 +11,10 @@ stored_in m = record { is_there = m.is_there; files = m.files.items; copy = m.co
 -- a folder that is there, without a file
 abbrev pub empty : Stored
 empty = record { is_there = true; files = []; copy = None; meta = None }
+
+-- the file stands there, in place of one that has its place and name
+abbrev pub with_file : File → Stored → Stored
+with_file file s = record s { files = without file.place file.name s.files ++ file ∷ [] }
 
 -- `cur`, `new` and `tmp` are not there
 abbrev pub hidden : Stored → Stored

@@ -1,5 +1,5 @@
 -- What the calls of the near mailbox answer, and what they do to the mailbox that stands in its folder.
-use Rattle.std.specs.Prelude.{◌≡◌, ◌⊎◌, ℕ, ◌+◌, Bool, true, false, ◌&&◌, ◌==◌, nat_eq, nat_le, List, [], map, find, take, Option, None, Some, Result, Ok, Err}
+use Rattle.std.specs.Prelude.{◌≡◌, ◌⊎◌, ℕ, Bool, true, false, ◌&&◌, ◌==◌, nat_eq, nat_le, List, map, find, take, Option, None, Some, Result, Ok, Err}
 use Rattle.std.specs.Option.{option_map}
 use Rattle.std.specs.Cmp.Lexicographic.{pointwise}
 use Rattle.mailcore.specs.declared.side.Side.TheVariants.{Near as NearSide}
@@ -7,12 +7,11 @@ use Rattle.mailcore.specs.declared.listing.Listing.{Listing}
 use Rattle.mailcore.specs.declared.mailbox.Message.{Message}
 use Rattle.mailcore.specs.Content.{mark_of}
 use Rattle.mailcore.specs.Listed.{item_of}
-use Rattle.mailcore.specs.FlagSet.{union, minus}
 use Rattle.device.specs.Calls.{Effect}
 use Rattle.maildir.specs.declared.near_fault.NearFault.{NearFault}
 use Rattle.maildir.specs.declared.near_fault.NearFault.TheVariants.{Stopped, Absent, TwoWithOneUid, BadMeta, UidsExhausted, NoMemory}
 use Rattle.maildir.specs.Folders.{Stored}
-use Rattle.maildir.specs.Mailboxes.{Near, AreDistinct, messages_in, HasMeta, IsMailbox, flagged_near, expunged, with_next, numbered_near}
+use Rattle.maildir.specs.Mailboxes.{Near, AreDistinct, messages_in, HasMeta, IsMailbox, expunged, with_next, numbered_near}
 
 -- ---- open
 

@@ -1,6 +1,6 @@
 //! A Maildir folder on a disk.
 
-ghost use Rattle.std.specs.Prelude.{◌≡◌, ◌<◌, ◌≤◌, [], true, false, length, OnOk, OnErr, IfOk, IfErr};
+ghost use Rattle.std.specs.Prelude.{◌≡◌, ◌<◌, ◌≤◌, [], true, false, length, string_bytes, OnOk, OnErr, IfOk, IfErr};
 
 use crate::folder::{FileName, Folder, Location, Origin, Place, Source};
 use device::DeviceFault;
@@ -35,6 +35,7 @@ pub struct DiskFolder<R: Files + AllocGlobal + Clone + Drop> {
 impl<R: Files + AllocGlobal + Clone + Drop> DiskFolder<R> {
     /// The folder at this path, which is looked at by the first call.
     pub fn new(rt: R, path: &str) -> Result<DiskFolder<R>, DeviceFault>
+        ensures path { IfOk result (λ folder. string_bytes folder.path ≡ path.now) }
         ensures whole { IfOk result (λ folder. (folder.is_broken ≡ false) × (folder.stops.items ≡ [])) }
         ensures no_memory { IfErr result (λ fault. fault ≡ DeviceFault.NoMemory) }
     {
@@ -52,6 +53,7 @@ impl<R: Files + AllocGlobal + Clone + Drop> DiskFolder<R> {
     ///
     /// `Stopped`: the system fails.
     pub fn create(rt: R, path: &str) -> Result<DiskFolder<R>, DeviceFault>
+        ensures path { IfOk result (λ folder. string_bytes folder.path ≡ path.now) }
         ensures whole { IfOk result (λ folder. (folder.is_broken ≡ false) × (folder.stops.items ≡ [])) }
     {
         let folder = DiskFolder::new(rt, path)?;

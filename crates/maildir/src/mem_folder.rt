@@ -66,7 +66,7 @@ pub struct MemFolder {
 
 impl MemFolder {
     ghost use Rattle.maildir.specs.Folders.{with_meta};
-    ghost use Rattle.maildir.specs.MemFolders.{empty, hidden, seen_of, stored_in};
+    ghost use Rattle.maildir.specs.MemFolders.{empty, hidden, seen_of, stored_in, with_file};
 
     /// A folder that is there, without a file and without a meta file, whose calls stop as the schedule says.
     pub fn new(alloc: Global, schedule: Vec<Stop>) -> Self
@@ -89,8 +89,8 @@ impl MemFolder {
     ///
     /// `AllocError`: memory ran out, and the files are as before.
     pub fn put(&mut self, file: File) -> Result<(), AllocError>
-        ensures ok { OnOk result ((stored_in self.new).files ≡ without file.place file.name (stored_in self.old).files ++ file ∷ []) }
-        ensures err { OnErr result (stored_in self.new ≡ stored_in self.old) }
+        ensures ok { OnOk result (seen_of self.new ≡ record (seen_of self.old) { stored = with_file file (stored_in self.old) }) }
+        ensures err { OnErr result (seen_of self.new ≡ seen_of self.old) }
     {
         add_file(&mut self.files, file)
     }

@@ -1,6 +1,6 @@
 //! A shelf on a disk.
 
-ghost use Rattle.std.specs.Prelude.{◌≡◌, ◌<◌, ◌≤◌, [], true, false, length, OnOk, OnErr, IfOk, IfErr};
+ghost use Rattle.std.specs.Prelude.{◌≡◌, ◌<◌, ◌≤◌, [], true, false, length, string_bytes, OnOk, OnErr, IfOk, IfErr};
 
 use crate::shelf::{File, Shelf};
 use device::DeviceFault;
@@ -38,6 +38,7 @@ pub struct DiskShelf<R: Files + AllocGlobal + Clone + Drop> {
 impl<R: Files + AllocGlobal + Clone + Drop> DiskShelf<R> {
     /// The shelf in the folder at this path, which is there; it is looked at by the first call.
     pub fn new(rt: R, path: &str) -> Result<DiskShelf<R>, AllocError>
+        ensures path { IfOk result (λ shelf. string_bytes shelf.path ≡ path.now) }
         ensures whole { IfOk result (λ shelf. (shelf.is_broken ≡ false) × (shelf.stops.items ≡ [])) }
     {
         let path = String::from_str(rt.alloc(), path)?;

@@ -1,4 +1,4 @@
-use Rattle.std.proofs.Common.{◌∙◌, sym, ap, refl}
+use Rattle.std.proofs.Common.{◌∙◌, refl}
 use Rattle.maildir.proofs.LetterLemmas.{name_of-flagged, uid_in-flagged, flags-flagged}
 use Rattle.maildir.proofs.laws.names_by_their_flags.Goals as goal
 

@@ -1,7 +1,7 @@
 use Rattle.std.proofs.Common.{◌≡◌, ◌⊎◌, List, ap, subst, arith, ◌∙◌}
 use Rattle.std.proofs.lemmas.Result.{err_from_is_err_and}
 use Rattle.maildir.specs.declared.folder.FileName.{FileName}
-use Rattle.maildir.specs.NearEffects.{Admitting, admitted, set_aside_all}
+use Rattle.maildir.specs.NearEffects.{Admitting, set_aside_all}
 use Rattle.maildir.proofs.AdmitLemmas.{admitting, entries_so_far, renamed_so_far}
 use Rattle.maildir.proofs.near_box.NearBox.give_uids.Goals as goal
 

@@ -1,8 +1,4 @@
-use Rattle.std.proofs.Common.{subst, sym}
 use Rattle.std.specs.Int.NonZero.{non_zero_u32_get}
-use Rattle.maildir.specs.Folders.{Stored}
-use Rattle.maildir.specs.Mailboxes.{IsMailbox}
-use Rattle.maildir.specs.Surveys.{Surveys}
 use Rattle.maildir.proofs.SurveyedLemmas.{surveyed_mailbox}
 use Rattle.maildir.proofs.near_box.NearBox.open.Goals as goal
 

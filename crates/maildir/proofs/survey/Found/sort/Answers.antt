@@ -1,4 +1,4 @@
-use Rattle.std.proofs.Common.{rules, ◌≡◌}
+use Rattle.std.proofs.Common.{rules}
 use Rattle.std.proofs.lemmas.List.Sorted.{answers_always}
 use Rattle.maildir.specs.SurveyParts.{is_before}
 use Rattle.maildir.proofs.OrderLemmas.{names_in_order}
