@@ -24,6 +24,8 @@ pub mod LineLemmas
 pub mod LogAgreement
 pub mod LogLemmas
 pub mod LoggedLemmas
+pub mod OrderedItems
 pub mod PairLemmas
+pub mod PlanTexts
 pub mod StateLemmas
 pub mod StepLemmas

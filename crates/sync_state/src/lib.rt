@@ -9,6 +9,7 @@ pub mod committed;
 pub mod disk_shelf;
 pub mod fault;
 mod fields;
+pub mod has_text;
 mod items;
 pub mod journal;
 mod journal_lines;

@@ -4,6 +4,7 @@ mod agreement;
 mod beginnings;
 mod calls;
 mod commits;
+mod has_text;
 mod on_disk;
 mod opened;
 mod stops;

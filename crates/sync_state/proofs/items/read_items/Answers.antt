@@ -22,7 +22,7 @@ loop-item-preserved g c =
     let place = g.A.Item.place in
     let passed : c.is_below.result ≡ true = search rules in
     let below : is_below (last_of bottom (map place items)) (place x) ≡ true =
-    ap (λ (z : ℕ × ℕ × ℕ). is_below z (place x)) (sym inv.2) ∙ ap (λ (z : ℕ × ℕ × ℕ). is_below (place_at c.loop-item.last) z) (sym c.place-place.ensures)
+    ap (λ (z : ℕ × ℕ × ℕ). is_below z (place x)) (sym inv.2) ∙ ap (λ (z : ℕ × ℕ × ℕ). is_below (place_at c.loop-item.last) z) (sym c.place-place.ensures.place)
     ∙ sym c.is_below.ensures ∙ passed in
     let more = item_more g.A.Item.fits g.A.Item.line place items x c.args.lines.now.rest.now c.loop-item.lines.rest.now c.take_item.new.lines.rest.now inv.0 c.in-Some.ensures.some below in
     let same : c.push.new.self.items ≡ items ++ x ∷ [] = c.in_ok-push.ensures.items in
@@ -31,7 +31,7 @@ loop-item-preserved g c =
     let before = inv.1 in (
       subst (λ (z : List g.row.A.Denot). AreItems g.A.Item.fits g.A.Item.line place z c.args.lines.now.rest.now c.take_item.new.lines.rest.now) (sym same) more,
       omega (arith, length-append items (x ∷ [])),
-      c.place-place.ensures ∙ last_item place items x ∙ ap (λ (z : List g.row.A.Denot). last_of bottom (map place z)) (sym same),
+      c.place-place.ensures.place ∙ last_item place items x ∙ ap (λ (z : List g.row.A.Denot). last_of bottom (map place z)) (sym same),
     )
 
 pub returns-clause-ok : goal.returns-clause-ok
