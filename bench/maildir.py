@@ -15,6 +15,8 @@ import sys
 import tempfile
 import time
 
+from memory import peak
+
 TOP = os.path.dirname(os.path.dirname(os.path.abspath(__file__)))
 CRATES = ["texts", "device", "mailcore", "maildir", "maildir_bench"]
 PROGRAM = os.path.join(TOP, "crates", "maildir_bench", "out", "maildir_bench")
@@ -74,37 +76,6 @@ def run(folder, count):
     return seconds
 
 
-def fill(writer):
-    """Fills a pipe, so that the next write waits."""
-    os.set_blocking(writer, False)
-    try:
-        while True:
-            os.write(writer, bytes(4096))
-    except BlockingIOError:
-        os.set_blocking(writer, True)
-
-
-def status_of(child, word):
-    with open(f"/proc/{child.pid}/status", encoding="ascii") as file:
-        return re.search(rf"^{word}:\s+(\S+)", file.read(), re.MULTILINE).group(1)
-
-
-def peak(folder):
-    """The most memory of a run in bytes, asked for while the run waits to write its answer: what the system tells of a
-    process that has ended counts the memory of the one that started it."""
-    reader, writer = os.pipe()
-    fill(writer)
-    child = subprocess.Popen([PROGRAM, os.fsdecode(folder)], stdout=writer)
-    while status_of(child, "State") in "RD":
-        time.sleep(0.01)
-    kilobytes = int(status_of(child, "VmHWM"))
-    child.kill()
-    child.wait()
-    os.close(reader)
-    os.close(writer)
-    return kilobytes * 1024
-
-
 def calls(folder, count):
     """How many system calls a message a run makes, by their names, or none where strace is missing or may not be used."""
     if shutil.which("strace") is None:
@@ -123,7 +94,8 @@ def calls(folder, count):
 def measure(top, count):
     folder = os.path.join(top, b"%d" % count)
     make(folder, count)
-    seconds, memory = min(run(folder, count) for _ in range(3)), peak(folder)
+    seconds = min(run(folder, count) for _ in range(3))
+    memory = peak([PROGRAM, os.fsdecode(folder)])
     print("%7d messages  %7.3f s  %5.1f MB at most  %5.2f us and %4.0f bytes a message"
           % (count, seconds, memory / 1e6, seconds / count * 1e6, memory / count))
     print("        system calls a message: %s" % (calls(folder, count) or "not counted, strace cannot be used"))

@@ -9,7 +9,10 @@ import os
 import resource
 import subprocess
 import sys
+import tempfile
 import time
+
+from memory import peak
 
 TOP = os.path.dirname(os.path.dirname(os.path.abspath(__file__)))
 BIGGEST = 16777216
@@ -37,9 +40,13 @@ def measure(program, name, world):
     start = time.monotonic()
     ran = subprocess.run([program], input=world, stdout=subprocess.PIPE, check=True)
     seconds = time.monotonic() - start
-    usage = resource.getrusage(resource.RUSAGE_CHILDREN)
-    print("%-34s %9d bytes of text  %6d lines of plan  %7.2f s  %7.2f s of processor  %5d MB at most so far"
-          % (name, len(world), ran.stdout.count(b"\n"), seconds, usage.ru_utime - before, usage.ru_maxrss // 1024))
+    processor = resource.getrusage(resource.RUSAGE_CHILDREN).ru_utime - before
+    with tempfile.TemporaryFile() as source:
+        source.write(world)
+        source.seek(0)
+        memory = peak([program], source)
+    print("%-34s %9d bytes of text  %6d lines of plan  %7.2f s  %7.2f s of processor  %6.1f MB"
+          % (name, len(world), ran.stdout.count(b"\n"), seconds, processor, memory / 1e6))
 
 
 def main():

@@ -5,15 +5,16 @@
 
 A state of 10,000 entries and one of 100,000, a journal of 100,000 steps without a log and one whose steps are all logged,
 each read and written from memory; and the 10,000 steps of a journal on the disk logged by a call each: the file
-and its folder are synced each time. The memory is the greatest that the program held,
-and no less than this script's own, about 13 MB."""
+and its folder are synced each time. The memory is the greatest that the program held, in a run of its own."""
 import os
 import subprocess
 import tempfile
 
+from memory import peak
+
 TOP = os.path.dirname(os.path.dirname(os.path.abspath(__file__)))
 CRATES = ["texts", "device", "mailcore", "rules", "sync_state", "state_bench"]
-LAUNCH = [os.path.join(TOP, "bin", "launch"), "state_bench", *CRATES, "--"]
+PROGRAM = os.path.join(TOP, "crates", "state_bench", "out", "state_bench")
 MARK = "abcdefghijklmnopqrstuvwxyzABCDEFGHIJKLMNOPQRSTUVWXYZ0123456789-_"
 
 
@@ -38,40 +39,49 @@ def journal(count, logged):
         yield "d %d %d\n" % (n, n)
 
 
-def run(arguments, lines=()):
-    """The size of the input, what the program prints, its times in seconds, and its peak memory in megabytes."""
-    with tempfile.TemporaryFile() as source, tempfile.TemporaryFile() as out, tempfile.TemporaryFile() as err:
-        for line in lines:
-            source.write(line.encode())
-        size = source.tell()
-        source.seek(0)
-        started = subprocess.Popen(LAUNCH + arguments, stdin=source, stdout=out, stderr=err)
-        _, status, usage = os.wait4(started.pid, 0)
-        out.seek(0)
-        err.seek(0)
-        told, times = out.read().decode().strip(), err.read().decode().strip()
-    if status != 0:
-        raise SystemExit(times)
-    return size, told, [int(word) / 1e6 for word in times.split()], usage.ru_maxrss // 1024
+def run(arguments, source=subprocess.DEVNULL):
+    """What the program prints, and its times in seconds."""
+    ran = subprocess.run([PROGRAM, *arguments], stdin=source, capture_output=True, check=False)
+    if ran.returncode != 0:
+        raise SystemExit(ran.stderr.decode())
+    return ran.stdout.decode().strip(), [int(word) / 1e6 for word in ran.stderr.split()]
 
 
 def measure_text(kind, lines):
-    size, told, (reading, writing), megabytes = run([kind], lines)
-    print("%-8s %-30s %9d bytes  read in %8.3f s  written in %6.3f s  %4d MB"
-          % (kind, told, size, reading, writing, megabytes))
+    with tempfile.TemporaryFile() as source:
+        source.writelines(line.encode() for line in lines)
+        size = source.tell()
+        source.seek(0)
+        told, (reading, writing) = run([kind], source)
+        source.seek(0)
+        memory = peak([PROGRAM, kind], source)
+    print("%-8s %-30s %9d bytes  read in %8.3f s  written in %6.3f s  %5.1f MB"
+          % (kind, told, size, reading, writing, memory / 1e6))
 
 
-def measure_steps():
+def in_new_folder(act):
+    """What is answered for a folder whose journal has 10,000 steps, of which none is logged."""
     with tempfile.TemporaryDirectory() as folder:
         with open(os.path.join(folder, ".mbsyncstate.journal"), "w", encoding="ascii") as file:
             file.writelines(journal(10000, 0))
-        _, told, (logging,), megabytes = run(["steps", folder])
-    print("%-8s %-30s logged and synced in %8.3f s  %4d MB" % ("steps", told, logging, megabytes))
+        return act(folder)
+
+
+def measure_steps():
+    told, (logging,) = in_new_folder(lambda folder: run(["steps", folder]))
+    memory = in_new_folder(lambda folder: peak([PROGRAM, "steps", folder]))
+    print("%-8s %-30s logged and synced in %8.3f s  %5.1f MB" % ("steps", told, logging, memory / 1e6))
+
+
+def build():
+    """Proves and builds the program, if it is not there yet or is older than its sources, and runs it on its example."""
+    launch = os.path.join(TOP, "bin", "launch")
+    with open(os.path.join(TOP, "crates", "state_bench", "stdin"), "rb") as example:
+        subprocess.run([launch, "state_bench", *CRATES, "--"], stdin=example, stdout=subprocess.DEVNULL, check=True)
 
 
 def main():
-    with open(os.path.join(TOP, "crates", "state_bench", "stdin"), "rb") as example:
-        subprocess.run(LAUNCH, stdin=example, stdout=subprocess.DEVNULL, check=True)
+    build()
     measure_text("state", state(10000))
     measure_text("state", state(100000))
     measure_text("journal", journal(100000, 0))
