@@ -120,11 +120,7 @@ fn note_fits(note: &Note)
 
 fn uid_fits(uid: Option<Uid>)
     ensures { IsUidOrNone uid }
-{
-    if let Some(uid) = uid {
-        let _ = uid.get();
-    }
-}
+{}
 
 /// Takes the next line if it is one of these.
 fn take_item<A: Item>(lines: &mut Lines<'_>) -> Option<A>
