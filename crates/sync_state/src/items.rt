@@ -5,13 +5,11 @@ ghost use Rattle.sync_state.specs.Lines.{HasLine, HasNoLine};
 ghost use Rattle.sync_state.specs.JournalText.{IsStep, IsNote, step_line, note_line, step_place, note_place};
 ghost use Rattle.sync_state.specs.JournalReading.{ItemsRead, TellsItem};
 ghost use Rattle.sync_state.specs.Places.{place_at};
-ghost use Rattle.sync_state.specs.Words.{IsUidOrNone};
 
 use crate::fault::BookFault;
 use crate::journal_lines::{read_note, read_step};
 use crate::lines::Lines;
 use crate::place::Place;
-use mailcore::uid::Uid;
 use rules::plan::{Note, Step};
 use std::alloc::Global;
 use texts::cut::cut;
@@ -50,7 +48,7 @@ impl Item for Step {
     }
 
     fn place(&self) -> Place {
-        step_fits(self);
+        step_fits(*self);
         Place::of_step(self)
     }
 }
@@ -67,59 +65,19 @@ impl Item for Note {
     }
 
     fn place(&self) -> Place {
-        note_fits(self);
+        note_fits(*self);
         Place::of_note(self)
     }
 }
 
 /// What the types of a step's parts say.
-fn step_fits(step: &Step)
-    ensures { IsStep step.now }
-{
-    match *step {
-        Step::New {
-            uid,
-            flags,
-            mark,
-            ..
-        } => {
-            let _ = (uid.get(), flags.bits(), mark.text());
-        }
-        Step::Gone { far, near, .. } => {
-            let _ = (far.get(), near.get());
-        }
-        Step::Flags {
-            far,
-            near,
-            set,
-            cleared,
-            ..
-        } => {
-            let _ = (far.get(), near.get(), set.bits(), cleared.bits());
-        }
-        Step::Expunge { uid, .. } => {
-            let _ = uid.get();
-        }
-    }
-}
+fn step_fits(step: Step)
+    ensures { IsStep step }
+{}
 
 /// What the types of a note's parts say.
-fn note_fits(note: &Note)
-    ensures { IsNote note.now }
-{
-    match *note {
-        Note::Record { far, near, flags } => {
-            let _ = (far.get(), near.get(), flags.bits());
-        }
-        Note::Drop { far, near } => {
-            uid_fits(far);
-            uid_fits(near);
-        }
-    }
-}
-
-fn uid_fits(uid: Option<Uid>)
-    ensures { IsUidOrNone uid }
+fn note_fits(note: Note)
+    ensures { IsNote note }
 {}
 
 /// Takes the next line if it is one of these.
