@@ -3,11 +3,12 @@
 
 usage: bench/refused-allocations.py PROGRAM INPUT..
 
-PROGRAM is mbplan with worlds for INPUT, wire_answers with bench/few-lines.txt, maildir_bench with an empty INPUT, as
-/dev/null, or state_bench with crates/state_bench/stdin, which also opens the files of a book that found no memory again and
-looks whether they still hold it. It is run on each INPUT, once without a refusal and then with the first allocation refused,
-with the second, and so on until a run meets no refusal. A run with a refusal has to give the unbroken run's output and status, or nothing
-on standard output, `NAME: no memory` on standard error and status 1.
+PROGRAM is mbplan with worlds for INPUT, test_wire with bench/few-lines.txt, test_tokens with bench/few-tokens.txt,
+test_plan with bench/few-cases.txt, test_near_mailbox or test_book with the stdin of its crate, bench_maildir with an empty
+INPUT, as /dev/null, or bench_state with crates/bench_state/stdin, which also opens the files of a book that found no memory
+again and looks whether they still hold it. It is run on each INPUT, once without a refusal and then with the first
+allocation refused, with the second, and so on until a run meets no refusal. A run with a refusal has to give the unbroken
+run's output and status, or nothing on standard output, `NAME: no memory` on standard error and status 1.
 """
 import os
 import subprocess

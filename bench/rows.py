@@ -1,53 +1,110 @@
 #!/usr/bin/env python3
-"""Runs the built mbplan on each world of the tables in crates/plan_rows, and compares what it prints.
+"""Runs the built mbplan on each world of crates/test_plan's script, and compares what it prints.
 
 usage: bench/rows.py [PROGRAM]
 
-PROGRAM is bin/mbplan if it is left out. The tests of crates/plan_rows run the same worlds through the library; this is
-the way through the program, its standard input and its exit status. It stops at the first world whose output differs.
+PROGRAM is bin/mbplan if it is left out. The program test_plan runs the same worlds through the library; this is the way
+through mbplan, its standard input and its exit status. The worlds are those of the script's lines `world`, `line`, `behind` and
+`grow`, and what has to come of them is what stands behind these lines in test_plan's expected output. It stops at the first
+world whose output differs.
 """
-import ast
 import os
 import re
 import subprocess
 import sys
 
 TOP = os.path.dirname(os.path.dirname(os.path.abspath(__file__)))
-PLAIN = r'"(?:[^"\\]|\\.)*"'
-RAW = r'r#".*?"#'
-ROW = re.compile(f"shows: ({PLAIN}),\\s*world: ({RAW}|{PLAIN}),\\s*plan: ({PLAIN}),", re.DOTALL)
+CRATE = os.path.join(TOP, "crates", "test_plan")
 
 
-def value(literal):
-    """What a string literal stands for; the escapes that are used mean the same in Python."""
-    return literal[3:-2] if literal.startswith("r#") else ast.literal_eval(literal)
+def lines_of(name):
+    with open(os.path.join(CRATE, name), "rb") as file:
+        return file.read().split(b"\n")[:-1]
+
+
+def answered():
+    """Each line of the script, with the lines that stand behind it in the expected output."""
+    record = lines_of("stdout")
+    at = 0
+    for number, line in enumerate(lines_of("stdin"), 1):
+        if record[at:at + 1] != [line]:
+            sys.exit(f"rows.py: line {number} of the script is not line {at + 1} of the output")
+        begin = at = at + 1
+        while at < len(record) and record[at].startswith(b"  "):
+            at += 1
+        yield line, record[begin:at]
+    if at < len(record):
+        sys.exit(f"rows.py: line {at + 1} of the output belongs to no line of the script")
+
+
+def bytes_of(line):
+    """The bytes behind a line's words: between bars as they are, between quotes escaped."""
+    _, _, text = line.partition(b" " + line[-1:])
+    if line.endswith(b'"'):
+        return re.sub(rb"\\([0-9a-f]{2})", lambda found: bytes([int(found[1], 16)]), text[:-1])
+    return text[:-1]
+
+
+def with_line(world, number, change):
+    lines = world.split(b"\n")
+    lines[number - 1] = change(lines[number - 1])
+    return b"\n".join(lines)
+
+
+def changed(world, line):
+    """The world that a line of the script runs, and the last world behind that line."""
+    words = line.split(b" ")
+    if words[0] == b"line":
+        return with_line(world, int(words[1]), lambda _: bytes_of(line)), world
+    if words[0] == b"behind":
+        return world + bytes_of(line), world
+    if words[0] == b"grow":
+        grown = with_line(world, int(words[2]), lambda own: own[:-1] + b"a" * int(words[4]) + b'"')
+        return grown, grown
+    return None, world
 
 
 def rows():
-    """Each world of the tables: what it shows, its text and its plan."""
-    folder = os.path.join(TOP, "crates", "plan_rows", "src")
-    for name in sorted(os.listdir(folder)):
-        with open(os.path.join(folder, name), encoding="utf-8") as source:
-            text = source.read()
-        found = ROW.findall(text)
-        if len(found) != text.count("Planned {\n        shows:"):
-            sys.exit(f"rows.py: a row of {name} is not read")
-        for shows, world, plan in found:
-            yield value(shows), value(world), value(plan)
+    """Each world that is run over devices that do not fail, and the answer."""
+    world, is_taken = b"", False
+    for line, answer in answered():
+        if line == b"world":
+            world, is_taken = b"", True
+        elif is_taken:
+            world += b"" if line == b"." else line + b"\n"
+            is_taken = line not in (b".", b"end")
+            if not is_taken:
+                yield world, answer
+        else:
+            run, world = changed(world, line)
+            if run is not None:
+                yield run, answer
+
+
+def shown_text(name, text):
+    return [b"  " + name + (line[:-1] if line.endswith(b"\n") else line + b" (no line end)")
+            for line in text.splitlines(keepends=True)]
+
+
+def shown(ran):
+    """What a run gave, as test_plan shows it."""
+    status = b"  status %d" % ran.returncode
+    return shown_text(b"", ran.stdout) + shown_text(b"error: ", ran.stderr) + [status]
 
 
 def main():
     program = sys.argv[1] if len(sys.argv) > 1 else os.path.join(TOP, "bin", "mbplan")
     count = 0
-    for shows, world, plan in rows():
-        run = subprocess.run([program], input=world.encode(), capture_output=True, check=False)
-        if (run.returncode, run.stdout, run.stderr) != (0, plan.encode(), b""):
-            sys.exit(f"rows.py: {shows}\n{world}wanted:\n{plan}printed, with status {run.returncode}:\n"
-                     f"{run.stdout.decode()}{run.stderr.decode()}")
+    for world, answer in rows():
+        ran = subprocess.run([program], input=world, capture_output=True, check=False)
+        found = shown(ran)
+        if found != answer:
+            sys.exit("\n".join(["rows.py: this world (its first bytes)", world[:2000].decode("latin-1"), "wanted:",
+                                *[line.decode() for line in answer], "printed:", *[line.decode() for line in found]]))
         count += 1
     if count == 0:
-        sys.exit("rows.py: no row was found")
-    print(f"{count} worlds have their plans")
+        sys.exit("rows.py: no world was found")
+    print(f"{count} worlds have their answers")
 
 
 main()

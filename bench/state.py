@@ -4,17 +4,18 @@
     bench/state.py
 
 A state of 10,000 entries and one of 100,000, a journal of 100,000 steps without a log and one whose steps are all logged,
-each read and written from memory; and the 10,000 steps of a journal on the disk logged by a call each: the file
-and its folder are synced each time. The memory is the greatest that the program held, in a run of its own."""
+each read and written from memory; and the 10,000 steps of a journal on the disk logged by a call each. Logging syncs nothing, and
+the journal and its folder are synced once where it is opened: these calls are counted where strace can be used. The memory is the greatest that the program held, in a run of its own."""
 import os
+import shutil
 import subprocess
 import tempfile
 
 from memory import peak
 
 TOP = os.path.dirname(os.path.dirname(os.path.abspath(__file__)))
-CRATES = ["texts", "device", "mailcore", "rules", "sync_state", "state_bench"]
-PROGRAM = os.path.join(TOP, "crates", "state_bench", "out", "state_bench")
+CRATES = ["texts", "device", "mailcore", "rules", "sync_state", "bench_state"]
+PROGRAM = os.path.join(TOP, "crates", "bench_state", "out", "bench_state")
 MARK = "abcdefghijklmnopqrstuvwxyzABCDEFGHIJKLMNOPQRSTUVWXYZ0123456789-_"
 
 
@@ -67,17 +68,34 @@ def in_new_folder(act):
         return act(folder)
 
 
+def count_syncs(folder):
+    """How many files and folders are synced where the steps of a journal are logged, or none where strace cannot be used."""
+    if shutil.which("strace") is None:
+        return None
+    with tempfile.NamedTemporaryFile("r") as trace:
+        traced = subprocess.run(["strace", "-f", "-e", "trace=fsync", "-o", trace.name, PROGRAM, "steps", folder],
+                                stdin=subprocess.DEVNULL, capture_output=True, check=False)
+        return trace.read().count("fsync(") if traced.returncode == 0 else None
+
+
 def measure_steps():
     told, (logging,) = in_new_folder(lambda folder: run(["steps", folder]))
     memory = in_new_folder(lambda folder: peak([PROGRAM, "steps", folder]))
-    print("%-8s %-30s logged and synced in %8.3f s  %5.1f MB" % ("steps", told, logging, memory / 1e6))
+    print("%-8s %-30s logged in %8.3f s  %5.1f MB" % ("steps", told, logging, memory / 1e6))
+    syncs = in_new_folder(count_syncs)
+    if syncs is None:
+        print("syncs are not counted, strace cannot be used")
+    elif syncs == 2:
+        print("         the journal and its folder are synced once each")
+    else:
+        raise SystemExit(f"{syncs} syncs in place of 2")
 
 
 def build():
     """Proves and builds the program, if it is not there yet or is older than its sources, and runs it on its example."""
     launch = os.path.join(TOP, "bin", "launch")
-    with open(os.path.join(TOP, "crates", "state_bench", "stdin"), "rb") as example:
-        subprocess.run([launch, "state_bench", *CRATES, "--"], stdin=example, stdout=subprocess.DEVNULL, check=True)
+    with open(os.path.join(TOP, "crates", "bench_state", "stdin"), "rb") as example:
+        subprocess.run([launch, "bench_state", *CRATES, "--"], stdin=example, stdout=subprocess.DEVNULL, check=True)
 
 
 def main():

@@ -1,12 +1,12 @@
 #!/usr/bin/env python3
 """What a reader of IMAP lines has to answer, decided slowly and apart from the program: every way to spell is tried.
 
-usage: bench/wire-answers.py examples   prints the examples, which are the standard input of crates/wire_answers
+usage: bench/wire-answers.py examples   prints the examples, which are the standard input of crates/test_wire
        bench/wire-answers.py answers    prints their answers, which are to be its standard output
 
 An example is a line: C (a command) or R (a reply), a space, and the bytes as a world has them (docs/FORMATS.md), without
-quotes around. Its answers are those to the whole, to each of its beginnings, and, a line for each byte, to the bytes with
-that one changed to each of CHANGES. With c or r in place of C or R, the whole alone is asked for: so stand the lines of
+quotes around. Behind that line stand its answers: to the whole, to each of its beginnings, and, a line for each byte, to the
+bytes with that one changed to each of CHANGES. With c or r in place of C or R, the whole alone is asked for: so stand the lines of
 real servers, from bench/real-lines.txt.
 
     w N  whole, of N bytes    a N  a literal of N octets is asked for    p  partial
@@ -322,9 +322,10 @@ def main():
     with open(REAL_LINES, encoding="ascii") as file:
         real = [read(line) for line in file if not line.startswith("#")]
     for side, data in EXAMPLES + real:
+        print(side, shown(data))
         if sys.argv[1] == "examples":
-            print(side, shown(data))
-        elif side.isupper():
+            continue
+        if side.isupper():
             print("\n".join(answers(side, data)))
         else:
             print(answer(side.upper(), data))

@@ -9,7 +9,8 @@ import os
 import subprocess
 
 TOP = os.path.dirname(os.path.dirname(os.path.abspath(__file__)))
-CRATES = ["texts", "mailcore", "wire_reader", "wire_tokens", "imap_commands", "imap_replies", "imap_wire", "wire_bench"]
+CRATES = ["texts", "mailcore", "wire_reader", "wire_tokens", "wire_strings", "imap_commands", "imap_replies", "imap_wire",
+          "bench_wire"]
 BODY = 16777216
 
 
@@ -28,7 +29,7 @@ def measure(name, data):
     """The seconds of reading: the least of three runs."""
     best = None
     for _ in range(3):
-        run = subprocess.run([os.path.join(TOP, "bin", "launch"), "wire_bench", *CRATES, "--"], input=data,
+        run = subprocess.run([os.path.join(TOP, "bin", "launch"), "bench_wire", *CRATES, "--"], input=data,
                              capture_output=True, check=True)
         reading, scanning = (int(word) / 1e6 for word in run.stderr.split()[-2:])
         best = min(best, (reading, scanning)) if best else (reading, scanning)

@@ -1,9 +1,15 @@
-//! What is common to the devices that a mailbox or a state is kept on: how a call of one stops.
+//! What is common to the devices that a mailbox or a state is kept on: how a call of one stops, how one in memory stops by a
+//! schedule, and how one on a disk goes about with files.
 //!
 //! A call answers Ok with its effect, or a fault with its effect, without it, or with a part of it. After a fault each
 //! call answers `Stopped` and changes nothing, until the device is opened again, which keeps what is stored. A killed
 //! process is the next call answering `Stopped`.
 #![tactic(auto)]
+
+pub mod condition;
+pub mod disk;
+pub mod schedule;
+pub mod stop_count;
 
 use std::alloc::{AllocError, AllocFailed};
 use thiserror::Error;

@@ -6,12 +6,9 @@ use Rattle.wire_reader.specs.Lexical.{plus_limit, literal_limit}
 use Rattle.wire_reader.specs.Literal.{is_octet, Literal}
 use Rattle.wire_reader.specs.Filled.{filled_literal_at}
 use Rattle.wire_reader.proofs.PartFilled.{filled_literal_part}
-use Rattle.wire_tokens.specs.Literals.{IsLiteral}
+use Rattle.wire_strings.specs.Literals.{IsLiteral}
 use Rattle.imap_commands.specs.Messages.{IsMessage}
-
-at_most : (plus : Bool) (n : ℕ) → n ≤ cond plus plus_limit literal_limit → n ≤ literal_limit
-at_most true n h = omega (arith, h)
-at_most false n h = h
+use Rattle.wire_strings.proofs.StringParts.{most_octets}
 
 literal_of : (octets text : List ℕ) → Literal Commands octets text → IsLiteral octets
 literal_of octets text h =
@@ -19,7 +16,7 @@ literal_of octets text h =
     let last = measured.second.second.second in
     record {
       each = ap (list_all is_octet) (sym last.0) ∙ last.1.each;
-      most = subst (λ (n : ℕ). n ≤ literal_limit) (sym last.1.long ∙ ap length last.0) (at_most measured.value.1 measured.value.0 measured.first.most);
+      most = subst (λ (n : ℕ). n ≤ literal_limit) (sym last.1.long ∙ ap length last.0) (most_octets measured.value.1 measured.value.0 measured.first.most);
     }
 
 pub message_read : (xs octets rest : List ℕ) → filled_literal_at Commands xs ≡ Ok (octets, rest) → IsMessage octets

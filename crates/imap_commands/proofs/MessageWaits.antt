@@ -12,10 +12,10 @@ use Rattle.wire_reader.proofs.LiteralPhases.{length_leads}
 use Rattle.wire_reader.proofs.Reader.{Closed, Open}
 use Rattle.wire_reader.proofs.Part.{Part}
 use Rattle.wire_tokens.specs.Atoms.{is_atom_byte, is_tag_byte, TagText, tag_at}
-use Rattle.wire_tokens.specs.Strings.{ValueText, value_at}
+use Rattle.wire_strings.specs.Strings.{ValueText, value_at}
 use Rattle.wire_tokens.specs.FlagLists.{FlagsText, flags_at}
 use Rattle.wire_tokens.proofs.AtomParts.{tag_part}
-use Rattle.wire_tokens.proofs.StringParts.{value_part}
+use Rattle.wire_strings.proofs.StringParts.{value_part}
 use Rattle.wire_tokens.proofs.FlagParts.{flags_part}
 use Rattle.imap_commands.specs.declared.verb.Verb.TheVariants as verbs
 use Rattle.imap_commands.specs.Verbs.{word_of}

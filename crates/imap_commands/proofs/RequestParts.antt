@@ -13,13 +13,13 @@ use Rattle.wire_reader.proofs.Part.{Part, same_part, mapped_part, skip_part, kee
 use Rattle.wire_reader.proofs.PartWords.{IsKeyword, keys_part}
 use Rattle.wire_reader.proofs.PartFilled.{filled_literal_part}
 use Rattle.wire_tokens.specs.Atoms.{is_atom_byte}
-use Rattle.wire_tokens.specs.Quotes.{QuotedText}
+use Rattle.wire_strings.specs.Quotes.{QuotedText}
 use Rattle.wire_tokens.specs.Names.{NamesText}
 use Rattle.wire_tokens.specs.FlagLists.{FlagsText}
 use Rattle.wire_tokens.specs.Sets.{is_set_byte, SetText}
 use Rattle.wire_tokens.specs.declared.uid_set.SetItem.{SetItem}
-use Rattle.wire_tokens.proofs.QuoteParts.{quoted_part}
-use Rattle.wire_tokens.proofs.StringParts.{value_part}
+use Rattle.wire_strings.proofs.QuoteParts.{quoted_part}
+use Rattle.wire_strings.proofs.StringParts.{value_part}
 use Rattle.wire_tokens.proofs.NameParts.{names_part}
 use Rattle.wire_tokens.proofs.FlagParts.{flags_part}
 use Rattle.wire_tokens.proofs.SetParts.{set_part}

@@ -15,20 +15,7 @@ use Rattle.imap_commands.specs.Verbs.{word_of}
 use Rattle.imap_commands.specs.Requests.{verb_of, items_word, mode_word, AString, RequestText}
 use Rattle.imap_commands.specs.Commands.{Spelled}
 use Rattle.imap_commands.specs.Writing.{WrittenText, WrittenRequest, Written}
-
--- the parts, each as one of another language
-on_both : {P Q R S : List ℕ → Type 0} → ((t : List ℕ) → P t → R t) → ((t : List ℕ) → Q t → S t) → (t : List ℕ) → (P ⨾ Q) t → (R ⨾ S) t
-on_both f g t h = record { front = h.front; back = h.back; parts = h.parts; first = f h.front h.first; second = g h.back h.second }
-
-on_first : {P Q R : List ℕ → Type 0} → ((t : List ℕ) → P t → R t) → (t : List ℕ) → (P ⨾ Q) t → (R ⨾ Q) t
-on_first f t h = record { front = h.front; back = h.back; parts = h.parts; first = f h.front h.first; second = h.second }
-
-on_second : {P Q S : List ℕ → Type 0} → ((t : List ℕ) → Q t → S t) → (t : List ℕ) → (P ⨾ Q) t → (P ⨾ S) t
-on_second g t h = record { front = h.front; back = h.back; parts = h.parts; first = h.first; second = g h.back h.second }
-
--- a word in upper case is one in any case
-in_any_case : (w : List ℕ) → map upper w ≡ w → (t : List ℕ) → Is w t → Word w t
-in_any_case w up t e = ap (map upper) e ∙ up
+use Rattle.wire_reader.proofs.Written.{on_both, on_first, on_second, in_any_case}
 
 upper_verb : (k : Verb) → map upper (word_of k) ≡ word_of k
 upper_verb verbs.Capability = refl

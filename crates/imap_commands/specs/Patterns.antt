@@ -1,7 +1,7 @@
 -- Patterns of LIST commands (RFC 9051, section 9: list-mailbox; in the profile a quoted string).
 use Rattle.std.specs.Prelude.{◌≡◌, ℕ, true, List}
 use Rattle.std.specs.List.{list_all}
-use Rattle.wire_tokens.specs.Texts.{is_text}
+use Rattle.wire_strings.specs.Texts.{is_text}
 
 -- bytes that may stand in a quoted string
 abbrev pub IsPattern : List ℕ → Type 0

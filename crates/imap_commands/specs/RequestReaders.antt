@@ -5,8 +5,8 @@ use Rattle.wire_reader.specs.declared.stop.Stop.{Stop}
 use Rattle.wire_reader.specs.Filled.{filled_literal_at}
 use Rattle.wire_reader.specs.Reading.{mapped, both, skip, keep, byte_at, crlf_at}
 use Rattle.wire_reader.specs.Words.{keys_at}
-use Rattle.wire_tokens.specs.Quotes.{quoted_at}
-use Rattle.wire_tokens.specs.Strings.{value_at}
+use Rattle.wire_strings.specs.Quotes.{quoted_at}
+use Rattle.wire_strings.specs.Strings.{value_at}
 use Rattle.wire_tokens.specs.Names.{names_at}
 use Rattle.wire_tokens.specs.FlagLists.{flags_at}
 use Rattle.wire_tokens.specs.Sets.{set_at}

@@ -3,8 +3,8 @@ use Rattle.std.specs.Prelude.{ℕ, List, [], ◌∷◌, codes}
 use Rattle.wire_reader.specs.declared.side.Side.TheVariants.{Commands}
 use Rattle.wire_reader.specs.Spelling.{◌⨾◌, Is, Word, crlf}
 use Rattle.wire_reader.specs.Filled.{FilledLiteral}
-use Rattle.wire_tokens.specs.Quotes.{QuotedText}
-use Rattle.wire_tokens.specs.Strings.{ValueText}
+use Rattle.wire_strings.specs.Quotes.{QuotedText}
+use Rattle.wire_strings.specs.Strings.{ValueText}
 use Rattle.wire_tokens.specs.Names.{NamesText}
 use Rattle.wire_tokens.specs.FlagLists.{FlagsText}
 use Rattle.wire_tokens.specs.Sets.{SetText}

@@ -3,8 +3,8 @@ use Rattle.std.specs.Prelude.{ℕ, List}
 use Rattle.wire_reader.specs.Spelling.{◌⨾◌, Is, crlf}
 use Rattle.wire_reader.specs.Filled.{FilledLiteral}
 use Rattle.wire_tokens.specs.Atoms.{TagText}
-use Rattle.wire_tokens.specs.Quotes.{QuotedText}
-use Rattle.wire_tokens.specs.Strings.{OnEitherSide, ValueText}
+use Rattle.wire_strings.specs.Quotes.{QuotedText}
+use Rattle.wire_strings.specs.Strings.{OnEitherSide, ValueText}
 use Rattle.wire_tokens.specs.Names.{NamesText}
 use Rattle.wire_tokens.specs.FlagLists.{FlagsText}
 use Rattle.wire_tokens.specs.Sets.{SetText}

@@ -7,9 +7,9 @@ use crate::message::Message;
 use crate::pattern::Pattern;
 use crate::verb::Verb;
 use mailcore::flags::Flags;
+use wire_strings::text::Text;
 use wire_tokens::names::NameList;
 use wire_tokens::tag::Tag;
-use wire_tokens::text::Text;
 use wire_tokens::uid_set::UidSet;
 
 /// A command, with the tag by which its reply names it.

@@ -13,8 +13,8 @@ use std::marker::Model;
 use wire_reader::literal::filled_literal;
 use wire_reader::side::Side;
 use wire_reader::stop::ReadError;
-use wire_tokens::octets::Octets;
-use wire_tokens::string_writing::write_literal;
+use wire_strings::octets::Octets;
+use wire_strings::string_writing::write_literal;
 
 /// The octets of a message: 1 to 16777238, none of them 0.
 #[derive(Debug, Drop)]

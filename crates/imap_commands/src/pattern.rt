@@ -2,16 +2,16 @@
 
 ghost use Rattle.std.specs.Prelude.{◌≡◌, SomeIff, OnOk, OnErr};
 ghost use Rattle.wire_reader.specs.Given.{GivesOr};
-ghost use Rattle.wire_tokens.specs.Quotes.{QuotedText, quoted_at};
+ghost use Rattle.wire_strings.specs.Quotes.{QuotedText, quoted_at};
 ghost use Rattle.wire_tokens.specs.Writing.{Appended};
 ghost use Rattle.imap_commands.specs.Patterns.{IsPattern};
 
 use std::alloc::{AllocError, Global};
 use std::marker::Model;
 use wire_reader::stop::ReadError;
-use wire_tokens::line_text::all_text;
-use wire_tokens::quoted::read_quoted;
-use wire_tokens::string_writing::write_quoted;
+use wire_strings::line_text::all_text;
+use wire_strings::quoted::read_quoted;
+use wire_strings::string_writing::write_quoted;
 
 /// A pattern for names of mailboxes: bytes from 32 to 255 except 127.
 #[derive(Debug, Drop)]

@@ -12,10 +12,10 @@ use crate::message::Message;
 use crate::pattern::Pattern;
 use mailcore::flags::Flags;
 use std::alloc::AllocError;
+use wire_strings::text::Text;
 use wire_tokens::appending::append;
 use wire_tokens::flag_writing::write_flags;
 use wire_tokens::names::NameList;
-use wire_tokens::text::Text;
 use wire_tokens::uid_set::UidSet;
 
 /// Writes what stands behind the word of this request, with the line end.

@@ -16,9 +16,9 @@ use wire_reader::keyword::{either, keyed};
 use wire_reader::punctuation::{byte, crlf};
 use wire_reader::side::Side;
 use wire_reader::stop::{ReadError, Stop};
+use wire_strings::text::read_text;
 use wire_tokens::flag_list::read_flags;
 use wire_tokens::names::{NameList, read_names};
-use wire_tokens::text::read_text;
 use wire_tokens::uid_set::uid_set;
 
 /// Reads what stands behind this word, up to and with the line end.

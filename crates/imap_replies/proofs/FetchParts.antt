@@ -19,10 +19,10 @@ use Rattle.wire_reader.proofs.PartItems.{items_part}
 use Rattle.wire_reader.proofs.PartWords.{IsKeyword, keys_part}
 use Rattle.wire_tokens.specs.Atoms.{is_atom_byte}
 use Rattle.wire_tokens.specs.Numbers.{NumberText, NzText}
-use Rattle.wire_tokens.specs.Strings.{NStringText}
+use Rattle.wire_strings.specs.Strings.{NStringText}
 use Rattle.wire_tokens.specs.FlagLists.{FlagsText}
 use Rattle.wire_tokens.proofs.NumberParts.{number_part, nz_part}
-use Rattle.wire_tokens.proofs.StringParts.{nstring_part}
+use Rattle.wire_strings.proofs.StringParts.{nstring_part}
 use Rattle.wire_tokens.proofs.FlagParts.{flags_part}
 use Rattle.imap_replies.specs.declared.word.ItemWord.{ItemWord}
 use Rattle.imap_replies.specs.declared.word.ItemWord.TheVariants as words
@@ -32,10 +32,7 @@ use Rattle.imap_replies.specs.Words.{item_word, later_item_words}
 use Rattle.imap_replies.specs.Fetches.{ItemText, FetchLine, uid, flags, size, body, head, item_value_at, item_word_at, item_at, item_list_at, fetch_at}
 use Rattle.imap_replies.proofs.Made.{Made, made_part}
 use Rattle.imap_replies.proofs.HeadParts.{digit_atom}
-
-pub bind_all : {A : Type 0} (o : Result (A × List ℕ) Stop) → (o >>= λ x. Ok x) ≡ o
-bind_all (Ok x) = refl
-bind_all (Err s) = refl
+use Rattle.wire_tokens.proofs.SetParts.{bind_all}
 
 -- ---- numbers that end before the first byte that is no atom's
 

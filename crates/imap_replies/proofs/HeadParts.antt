@@ -26,6 +26,7 @@ use Rattle.imap_replies.specs.Others.{IsWord}
 use Rattle.imap_replies.specs.Heads.{HeadText, head_fits, head_go, is_digits, number_read, word_head, head_of, head_at}
 use Rattle.imap_replies.proofs.WordLemmas.{finds, found, word_each, word_long, word_digits}
 use Rattle.imap_replies.proofs.Decided.{Decided, Text, completed, decided_part}
+use Rattle.wire_reader.proofs.PartFilled.{value_le}
 
 -- ---- what fits
 
@@ -178,10 +179,6 @@ pub number_again : (n : ℕ) (t z : List ℕ) → NumberText n t → stops (Open
 number_again n t z h s = number_reader.complete n t z h s
 
 -- a number of 32 bits has no more than ten digits
-value_le : (ds : List ℕ) (v : ℕ) → v ≤ value v ds
-value_le [] v = omega arith
-value_le (d ∷ ds) v = let r = value_le ds (10 * v + (d - 48)) in omega (arith, r)
-
 value_long : (v : ℕ) (ds : List ℕ) → 0 < v → 10 ≤ length ds → 10000000000 ≤ value v ds
 value_long v (a ∷ b ∷ c ∷ d ∷ e ∷ f ∷ g ∷ h ∷ i ∷ j ∷ ds) pos l =
     let r = value_le ds (10 * (10 * (10 * (10 * (10 * (10 * (10 * (10 * (10 * (10 * v + (a - 48)) + (b - 48)) + (c - 48)) + (d - 48)) + (e - 48)) + (f - 48)) + (g - 48)) + (h - 48)) + (i - 48)) + (j - 48)) in

@@ -12,13 +12,13 @@ use Rattle.wire_reader.proofs.First.{Begins}
 use Rattle.wire_reader.proofs.Follow.{after, starts_byte, starts_seq}
 use Rattle.wire_reader.proofs.Part.{Part, same_part, mapped_part, skip_part, keep_part, both_part, first_part, byte_part, crlf_part}
 use Rattle.wire_reader.proofs.PartWords.{word_part}
-use Rattle.wire_tokens.specs.declared.astring.AString.{AString}
+use Rattle.wire_strings.specs.declared.astring.AString.{AString}
 use Rattle.wire_tokens.specs.Atoms.{is_atom_byte}
-use Rattle.wire_tokens.specs.Delimiters.{DelimiterText}
-use Rattle.wire_tokens.specs.Strings.{AStringText, astring_at}
+use Rattle.wire_strings.specs.Delimiters.{DelimiterText}
+use Rattle.wire_strings.specs.Strings.{AStringText, astring_at}
 use Rattle.wire_tokens.specs.FlagLists.{attributes_at}
-use Rattle.wire_tokens.proofs.DelimiterParts.{delimiter_part}
-use Rattle.wire_tokens.proofs.StringParts.{astring_part}
+use Rattle.wire_strings.proofs.DelimiterParts.{delimiter_part}
+use Rattle.wire_strings.proofs.StringParts.{astring_part}
 use Rattle.wire_tokens.proofs.FlagParts.{attributes_part}
 use Rattle.imap_replies.specs.Listings.{MarkText, ListValue, ListLine, is_quote, some_mark, no_mark, mark_at, list_at}
 

@@ -11,6 +11,7 @@ use Rattle.wire_reader.proofs.First.{Begins}
 use Rattle.wire_reader.proofs.Follow.{Starts, NoHead, starts_byte, starts_seq, starts_mapped}
 use Rattle.wire_reader.proofs.Part.{Part, same_part, mapped_part, skip_part, first_part, byte_part}
 use Rattle.imap_replies.specs.Lines.{RestText, rest_at}
+use Rattle.wire_reader.proofs.Follow.{no_head}
 
 -- a text of a value under a function
 pub record Made {A B : Type 0} (f : A → B) (L : A → List ℕ → Type 0) (b : B) (text : List ℕ) : Type 0 where
@@ -28,14 +29,6 @@ pub first_refuses : {A : Type 0} (r s : List ℕ → Result (A × List ℕ) Stop
 first_refuses r s c d st [] h k = refl
 first_refuses {A} r s c d st (b ∷ bs) h k =
     ap (λ (t : Bool). let o : Result (A × List ℕ) Stop = cond t (r (b ∷ bs)) (s (b ∷ bs)) in o) h ∙ st.refuses (b ∷ bs) k
-
-pub no_head : (g : ℕ → Bool) (c : ℕ) → g c ≡ false → (xs : List ℕ) → stops (Open g) xs ≡ false → NoHead c xs
-no_head g c n [] h = tt
-no_head g c n (b ∷ bs) h =
-    elim (cases_Bool (eqb b c)) [
-      | inl e ↦ let same : g b ≡ false = ap g (eqb-true b c e) ∙ n in absurd (true≢false (ap not (sym same) ∙ h))
-      | inr e ↦ e
-    ]
 
 pub after_either : {A : Type 0} (r s : List ℕ → Result (A × List ℕ) Stop) (g : ℕ → Bool) (c d : ℕ) → g c ≡ false → g d ≡ false → Starts d s → (xs : List ℕ) → stops (Open g) xs ≡ false → by_first (λ b. eqb b c) r s xs ≡ stuck xs
 after_either r s g c d gc gd st xs h = first_refuses r s c d st xs (no_head g c gc xs h) (no_head g d gd xs h)

@@ -12,9 +12,9 @@ use Rattle.wire_reader.proofs.Follow.{after, starts_byte, starts_seq}
 use Rattle.wire_reader.proofs.Part.{Part, same_part, skip_part, both_part, first_part, byte_part}
 use Rattle.wire_reader.proofs.PartWords.{IsKeyword, keys_part}
 use Rattle.wire_tokens.specs.Atoms.{is_tag_byte, IsTag, TagText}
-use Rattle.wire_tokens.specs.Texts.{LastText, last_text_at}
+use Rattle.wire_strings.specs.Texts.{LastText, last_text_at}
 use Rattle.wire_tokens.proofs.AtomParts.{tag_part}
-use Rattle.wire_tokens.proofs.TextParts.{last_text_part}
+use Rattle.wire_strings.proofs.TextParts.{last_text_part}
 use Rattle.imap_replies.specs.declared.word.Status.{Status}
 use Rattle.imap_replies.specs.declared.word.Status.TheVariants as statuses
 use Rattle.imap_replies.specs.declared.response.ResponseText.{ResponseText}

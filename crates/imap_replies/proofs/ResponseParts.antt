@@ -10,10 +10,10 @@ use Rattle.wire_reader.proofs.Follow.{after, starts_byte, starts_seq, starts_map
 use Rattle.wire_reader.proofs.Part.{Part, same_part, skip_part, keep_part, both_part, seq_part, first_part, byte_part}
 use Rattle.wire_tokens.specs.Atoms.{is_atom_byte}
 use Rattle.wire_tokens.specs.Numbers.{NzText}
-use Rattle.wire_tokens.specs.Texts.{LastText, IsPlain, PlainLine, BracketText, last_text_at, code_text_at}
+use Rattle.wire_strings.specs.Texts.{LastText, IsPlain, PlainLine, BracketText, last_text_at, code_text_at}
 use Rattle.wire_tokens.specs.FlagLists.{PermanentFlagsText}
 use Rattle.wire_tokens.proofs.NumberParts.{nz_part}
-use Rattle.wire_tokens.proofs.TextParts.{last_text_part, plain_text_part, code_text_part}
+use Rattle.wire_strings.proofs.TextParts.{last_text_part, plain_text_part, code_text_part}
 use Rattle.wire_tokens.proofs.FlagParts.{permanent_flags_part}
 use Rattle.imap_replies.specs.declared.word.CodeWord.{CodeWord}
 use Rattle.imap_replies.specs.declared.word.CodeWord.TheVariants as words

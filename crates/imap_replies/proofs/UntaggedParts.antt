@@ -9,11 +9,11 @@ use Rattle.wire_reader.proofs.Follow.{after, starts_byte, starts_seq, starts_map
 use Rattle.wire_reader.proofs.Part.{Part, last_part, same_part, skip_part, keep_part, seq_part, byte_part, crlf_part}
 use Rattle.wire_tokens.specs.Atoms.{is_atom_byte}
 use Rattle.wire_tokens.specs.Numbers.{NumberText, NzText}
-use Rattle.wire_tokens.specs.Texts.{LastText, last_text_at}
+use Rattle.wire_strings.specs.Texts.{LastText, last_text_at}
 use Rattle.wire_tokens.specs.Names.{names_at}
 use Rattle.wire_tokens.specs.FlagLists.{FlagsText, flags_at, attributes_at}
-use Rattle.wire_tokens.specs.Strings.{astring_at}
-use Rattle.wire_tokens.proofs.TextParts.{last_text_part}
+use Rattle.wire_strings.specs.Strings.{astring_at}
+use Rattle.wire_strings.proofs.TextParts.{last_text_part}
 use Rattle.wire_tokens.proofs.NameParts.{names_part}
 use Rattle.wire_tokens.proofs.FlagParts.{flags_part}
 use Rattle.imap_replies.specs.declared.word.ReplyWord.{ReplyWord}

@@ -18,20 +18,11 @@ use Rattle.imap_replies.specs.Responses.{CodeIn, ResponseIn}
 use Rattle.imap_replies.specs.Fetches.{ItemIn, FetchIn}
 use Rattle.imap_replies.specs.Listings.{MarkIn}
 use Rattle.imap_replies.specs.Replies.{ReplyText, WrittenReply}
-
-on_first : {P Q R : List ℕ → Type 0} → ((t : List ℕ) → P t → R t) → (t : List ℕ) → (P ⨾ Q) t → (R ⨾ Q) t
-on_first f t h = record { front = h.front; back = h.back; parts = h.parts; first = f h.front h.first; second = h.second }
-
-on_second : {P Q S : List ℕ → Type 0} → ((t : List ℕ) → Q t → S t) → (t : List ℕ) → (P ⨾ Q) t → (P ⨾ S) t
-on_second g t h = record { front = h.front; back = h.back; parts = h.parts; first = h.first; second = g h.back h.second }
-
--- a word in upper case is one in any case
-any_case : (w : List ℕ) → map upper w ≡ w → (t : List ℕ) → Is w t → Word w t
-any_case w up t e = ap (map upper) e ∙ up
+use Rattle.wire_reader.proofs.Written.{on_first, on_second, in_any_case}
 
 -- a word that a text begins with
 begins : {Q : List ℕ → Type 0} (w : List ℕ) → map upper w ≡ w → (t : List ℕ) → (Is w ⨾ Q) t → (Word w ⨾ Q) t
-begins w up t h = on_first (any_case w up) t h
+begins w up t h = on_first (in_any_case w up) t h
 
 upper_status : (k : Status) → map upper (status_word k) ≡ status_word k
 upper_status statuses.Ok = refl
@@ -76,7 +67,7 @@ fetch_spelled : (list : List FetchItem) (t : List ℕ) → FetchIn Is list t →
 fetch_spelled list t h = on_second (on_first (items_spelled list)) t h
 
 mark_spelled : (m : Option ℕ) (t : List ℕ) → MarkIn Is m t → MarkIn Word m t
-mark_spelled None t h = any_case (codes "NIL") refl t h
+mark_spelled None t h = in_any_case (codes "NIL") refl t h
 mark_spelled (Some c) t h = h
 
 pub written_spelled : (v : Reply) (t : List ℕ) → WrittenReply v t → ReplyText v t

@@ -6,10 +6,10 @@ use Rattle.wire_reader.specs.Spelling.{◌⨾◌, Is, Word, crlf, ItemsText}
 use Rattle.wire_reader.specs.Reading.{seq, mapped, skip, keep, byte_at, crlf_at}
 use Rattle.wire_reader.specs.Listing.{items_at, ended}
 use Rattle.wire_reader.specs.Words.{keys_at}
-use Rattle.wire_tokens.specs.declared.string.WireString.{WireString}
+use Rattle.wire_strings.specs.declared.string.WireString.{WireString}
 use Rattle.wire_tokens.specs.Atoms.{is_atom_byte}
 use Rattle.wire_tokens.specs.Numbers.{NumberText, NzText, number_at, nz_at}
-use Rattle.wire_tokens.specs.Strings.{NStringText, nstring_at}
+use Rattle.wire_strings.specs.Strings.{NStringText, nstring_at}
 use Rattle.wire_tokens.specs.FlagLists.{FlagsText, flags_at}
 use Rattle.imap_replies.specs.declared.word.ItemWord.{ItemWord}
 use Rattle.imap_replies.specs.declared.word.ItemWord.TheVariants as words

@@ -5,9 +5,9 @@ use Rattle.wire_reader.specs.declared.stop.Stop.{Stop}
 use Rattle.wire_reader.specs.Spelling.{◌⨾◌, Is, Word, crlf}
 use Rattle.wire_reader.specs.Reading.{mapped, skip, keep, both, by_first, byte_at, crlf_at}
 use Rattle.wire_reader.specs.Words.{word_at}
-use Rattle.wire_tokens.specs.declared.astring.AString.{AString}
-use Rattle.wire_tokens.specs.Delimiters.{DelimiterText, delimiter_at}
-use Rattle.wire_tokens.specs.Strings.{AStringText, astring_at}
+use Rattle.wire_strings.specs.declared.astring.AString.{AString}
+use Rattle.wire_strings.specs.Delimiters.{DelimiterText, delimiter_at}
+use Rattle.wire_strings.specs.Strings.{AStringText, astring_at}
 use Rattle.wire_tokens.specs.FlagLists.{AttributesText, attributes_at}
 
 -- a quoted string of one byte, or NIL; `W` says how words stand there

@@ -5,7 +5,7 @@ use Rattle.std.specs.Prelude.{◌≡◌, ℕ, List, codes}
 use Rattle.wire_reader.specs.Spelling.{◌⨾◌, Is, Word, crlf}
 use Rattle.wire_tokens.specs.Atoms.{TagText}
 use Rattle.wire_tokens.specs.Numbers.{NumberText, NzText}
-use Rattle.wire_tokens.specs.Texts.{LastText}
+use Rattle.wire_strings.specs.Texts.{LastText}
 use Rattle.wire_tokens.specs.Names.{NamesText}
 use Rattle.wire_tokens.specs.FlagLists.{FlagsText}
 use Rattle.imap_replies.specs.declared.word.ReplyWord.TheVariants as words

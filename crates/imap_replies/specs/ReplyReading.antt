@@ -4,7 +4,7 @@ use Rattle.wire_reader.specs.declared.stop.Stop.{Stop}
 use Rattle.wire_reader.specs.Reading.{seq, mapped, skip, keep, both, by_first, byte_at, crlf_at}
 use Rattle.wire_reader.specs.Words.{keys_at}
 use Rattle.wire_tokens.specs.Atoms.{tag_at}
-use Rattle.wire_tokens.specs.Texts.{last_text_at}
+use Rattle.wire_strings.specs.Texts.{last_text_at}
 use Rattle.wire_tokens.specs.Names.{names_at}
 use Rattle.wire_tokens.specs.FlagLists.{flags_at}
 use Rattle.imap_replies.specs.declared.word.ReplyWord.{ReplyWord}

@@ -4,7 +4,7 @@ use Rattle.wire_reader.specs.declared.stop.Stop.{Stop}
 use Rattle.wire_reader.specs.Spelling.{◌⨾◌, Is, Word}
 use Rattle.wire_reader.specs.Reading.{seq, mapped, skip, keep, both, by_first, byte_at}
 use Rattle.wire_tokens.specs.Numbers.{NzText, nz_at}
-use Rattle.wire_tokens.specs.Texts.{LastText, PlainLine, BracketText, last_text_at, plain_text_at, code_text_at}
+use Rattle.wire_strings.specs.Texts.{LastText, PlainLine, BracketText, last_text_at, plain_text_at, code_text_at}
 use Rattle.wire_tokens.specs.FlagLists.{PermanentFlagsText, permanent_flags_at}
 use Rattle.imap_replies.specs.declared.word.CodeWord.TheVariants as words
 use Rattle.imap_replies.specs.declared.word.CodeWord.{CodeWord}

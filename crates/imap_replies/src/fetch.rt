@@ -16,10 +16,10 @@ use wire_reader::keyword::{either, keyed};
 use wire_reader::punctuation::{byte, crlf, separator};
 use wire_reader::side::Side;
 use wire_reader::stop::{Kind, ReadError, Stop};
+use wire_strings::string::{WireString, read_nstring};
 use wire_tokens::atom::is_atom_byte;
 use wire_tokens::flag_list::{FlagSet, read_flags};
 use wire_tokens::number::{NonZero, number, nz};
-use wire_tokens::string::{WireString, read_nstring};
 
 /// An item of a FETCH reply.
 #[derive(Debug, Drop)]

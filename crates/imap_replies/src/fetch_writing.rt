@@ -4,17 +4,17 @@ ghost use Rattle.std.specs.Prelude.{◌≡◌, ◌<◌, length, take, codes, OnO
 ghost use Rattle.wire_reader.specs.declared.side.Side.TheVariants.{Replies};
 ghost use Rattle.wire_reader.specs.Spelling.{◌⨾◌, Is, Word, ItemsText};
 ghost use Rattle.wire_tokens.specs.Writing.{Appended};
-ghost use Rattle.wire_tokens.specs.Strings.{NStringText};
+ghost use Rattle.wire_strings.specs.Strings.{NStringText};
 ghost use Rattle.imap_replies.specs.declared.fetch.FetchItem.TheVariants as items;
 ghost use Rattle.imap_replies.specs.Fetches.{ItemIn, FetchIn};
 
 use crate::fetch::{FetchItem, FetchList};
 use std::alloc::AllocError;
+use wire_strings::string::WireString;
 use wire_tokens::appending::append;
 use wire_tokens::flag_list::FlagSet;
 use wire_tokens::flag_writing::write_flags;
 use wire_tokens::number::{NonZero, write_number};
-use wire_tokens::string::WireString;
 
 /// Writes what stands behind FETCH, with the line end.
 pub(crate) fn append_fetch(list: &FetchList<'_>, out: &mut Vec<u8>) -> Result<(), AllocError>

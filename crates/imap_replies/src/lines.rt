@@ -5,7 +5,7 @@ ghost use Rattle.imap_replies.specs.ReplyReading.{rest_line_at, names_line_at};
 
 use wire_reader::punctuation::{byte, crlf};
 use wire_reader::stop::Stop;
-use wire_tokens::line_text::{LineText, read_line_text};
+use wire_strings::line_text::{LineText, read_line_text};
 use wire_tokens::names::{Names, read_names};
 
 /// Reads the line end, or a space, a text and the line end.

@@ -10,8 +10,8 @@ use wire_reader::keyword::word;
 use wire_reader::punctuation::{byte, crlf};
 use wire_reader::side::Side;
 use wire_reader::stop::Stop;
-use wire_tokens::astring::read_astring;
-use wire_tokens::delimiter::{Delimiter, read_delimiter};
+use wire_strings::astring::read_astring;
+use wire_strings::delimiter::{Delimiter, read_delimiter};
 use wire_tokens::flag_list::read_attributes;
 
 /// What stands behind LIST.

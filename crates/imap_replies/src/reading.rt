@@ -20,8 +20,8 @@ use wire_reader::answer::{Read, WireFault, answered, kept, within};
 use wire_reader::keyword::{either, keyed};
 use wire_reader::punctuation::{byte, crlf};
 use wire_reader::stop::{ReadError, Stop};
+use wire_strings::line_text::read_line_text;
 use wire_tokens::flag_list::read_flags;
-use wire_tokens::line_text::read_line_text;
 use wire_tokens::tag::read_tag;
 
 /// Reads a reply, if one stands at the front of the bytes; at most 65536 of its bytes may stand outside literals.

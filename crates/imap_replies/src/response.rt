@@ -8,11 +8,11 @@ use crate::other::OtherCode;
 use crate::word::CodeWord;
 use wire_reader::punctuation::byte;
 use wire_reader::stop::Stop;
-use wire_tokens::code_text::{CodeText, read_code_text};
+use wire_strings::code_text::{CodeText, read_code_text};
+use wire_strings::line_text::{LineText, read_line_text};
+use wire_strings::plain_text::{PlainText, read_plain_text};
 use wire_tokens::flag_list::{FlagSet, read_permanent_flags};
-use wire_tokens::line_text::{LineText, read_line_text};
 use wire_tokens::number::{NonZero, nz};
-use wire_tokens::plain_text::{PlainText, read_plain_text};
 
 /// The text of a status reply.
 #[derive(Debug, Drop)]

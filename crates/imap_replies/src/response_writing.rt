@@ -5,7 +5,7 @@ ghost use Rattle.wire_reader.specs.Spelling.{◌⨾◌, Is};
 ghost use Rattle.wire_tokens.specs.Writing.{Appended};
 ghost use Rattle.wire_tokens.specs.Numbers.{NzText};
 ghost use Rattle.wire_tokens.specs.FlagLists.{PermanentFlagsText};
-ghost use Rattle.wire_tokens.specs.Texts.{BracketText};
+ghost use Rattle.wire_strings.specs.Texts.{BracketText};
 ghost use Rattle.imap_replies.specs.declared.response.ResponseText.TheVariants as responses;
 ghost use Rattle.imap_replies.specs.declared.response.Code.TheVariants as code;
 ghost use Rattle.imap_replies.specs.Lines.{RestText};
@@ -14,11 +14,11 @@ ghost use Rattle.imap_replies.specs.Responses.{sp, CodeIn, ResponseIn};
 use crate::other::OtherCode;
 use crate::response::{Code, ResponseText};
 use std::alloc::AllocError;
+use wire_strings::code_text::CodeText;
+use wire_strings::line_text::LineText;
 use wire_tokens::appending::append;
-use wire_tokens::code_text::CodeText;
 use wire_tokens::flag_list::FlagSet;
 use wire_tokens::flag_writing::write_permanent_flags;
-use wire_tokens::line_text::LineText;
 use wire_tokens::number::NonZero;
 
 /// Writes the text of a status reply, with the line end.

@@ -15,27 +15,18 @@ pub use imap_replies::response::{Code, ResponseText};
 pub use imap_replies::word::{NoticeKind, Status};
 pub use imap_replies::writing::write_reply;
 pub use wire_reader::answer::{Read, WireFault};
-pub use wire_tokens::astring::AString;
+pub use wire_strings::astring::AString;
+pub use wire_strings::code_text::CodeText;
+pub use wire_strings::delimiter::Delimiter;
+pub use wire_strings::line_text::LineText;
+pub use wire_strings::octets::Octets;
+pub use wire_strings::plain_text::PlainText;
+pub use wire_strings::quoted::Quoted;
+pub use wire_strings::string::WireString;
+pub use wire_strings::text::Text;
 pub use wire_tokens::atom::Atom;
-pub use wire_tokens::code_text::CodeText;
-pub use wire_tokens::delimiter::Delimiter;
 pub use wire_tokens::flag_list::{Attributes, FlagSet};
-pub use wire_tokens::line_text::LineText;
 pub use wire_tokens::names::{NameList, Names};
 pub use wire_tokens::number::NonZero;
-pub use wire_tokens::octets::Octets;
-pub use wire_tokens::plain_text::PlainText;
-pub use wire_tokens::quoted::Quoted;
-pub use wire_tokens::string::WireString;
 pub use wire_tokens::tag::Tag;
-pub use wire_tokens::text::Text;
 pub use wire_tokens::uid_set::{SetEnd, SetItem, UidSet};
-
-#[cfg(test)]
-mod commands;
-#[cfg(test)]
-mod limits;
-#[cfg(test)]
-mod replies;
-#[cfg(test)]
-mod tokens;

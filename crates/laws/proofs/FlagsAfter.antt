@@ -6,14 +6,9 @@ use Rattle.mailcore.specs.FlagSet.{FLAGS}
 use Rattle.mailcore.proofs.FlagRules.{two, eight, each_flag_lt, bit_at-each_flag}
 use Rattle.rules.specs.FlagRule.{taken, taken_flag, recorded_after, recorded_flag}
 use Rattle.rules.proofs.FlagLemmas.{taken-lt, taken-at}
+use Rattle.rules.proofs.FlagLemmas.{recorded_small}
 
 -- ---- the flag of a rule
-
-recorded_small : (pull push : Bool) → (x y z : ℕ) → x < 2 → y < 2 → z < 2 → recorded_flag pull push x y z < 2
-recorded_small true true = eight (λ x y z. recorded_flag true true x y z < 2) (omega arith) (omega arith) (omega arith) (omega arith) (omega arith) (omega arith) (omega arith) (omega arith)
-recorded_small true false = eight (λ x y z. recorded_flag true false x y z < 2) (omega arith) (omega arith) (omega arith) (omega arith) (omega arith) (omega arith) (omega arith) (omega arith)
-recorded_small false true = eight (λ x y z. recorded_flag false true x y z < 2) (omega arith) (omega arith) (omega arith) (omega arith) (omega arith) (omega arith) (omega arith) (omega arith)
-recorded_small false false = eight (λ x y z. recorded_flag false false x y z < 2) (omega arith) (omega arith) (omega arith) (omega arith) (omega arith) (omega arith) (omega arith) (omega arith)
 
 recorded-lt : (pull push : Bool) (s n r : ℕ) → recorded_after pull push s n r < 2 ^ FLAGS
 unfolding recorded_after

@@ -6,3 +6,5 @@ pub mod NothingCalled
 pub mod ListedAfter
 pub mod RunAfter
 pub mod Settled
+pub mod Expunged
+pub mod Fitness

@@ -5,14 +5,15 @@ use Rattle.std.specs.Option.{option_map}
 use Rattle.std.proofs.lemmas.Bool.{cases_Bool, eqb-true, eq-eqb, ne_eqb, cond-true, cond-false}
 use Rattle.mailcore.specs.declared.side.Side.{Side}
 use Rattle.mailcore.specs.declared.side.Side.TheVariants.{Far, Near}
+use Rattle.mailcore.specs.declared.side.Direction.TheVariants.{Pull, Push}
 use Rattle.mailcore.specs.declared.listing.Item.{Item}
 use Rattle.mailcore.specs.declared.mailbox.Message.{Message}
-use Rattle.mailcore.specs.Content.{copy_text}
 use Rattle.mailcore.specs.Listed.{AreRising, item_of}
+use Rattle.mailcore.specs.Rise.{Rise}
 use Rattle.rules.specs.declared.entry.Entry.{Entry}
 use Rattle.rules.specs.Entries.{uid_of}
 use Rattle.rules.specs.Scene.{flags_at}
-use Rattle.rules.specs.World.{line_end, copies, pulled, pushed}
+use Rattle.rules.specs.Copies.{copy_of, copies_under, pair_of_copy, pairs_under}
 use Rattle.rules.proofs.Walks.{Contains-first, Contains-rest, Contains-cases, Contains-none, AllPairs-head, AllPairs-tail}
 
 -- the flags of the stored message with this UID
@@ -67,46 +68,46 @@ at_changed side g (m ∷ ms) u = elim (cases_Bool (m.uid == u)) [
 
 -- ---- copies
 
--- copies have the UIDs from next on
-pub copies_above : (side : Side) (next : ℕ) (marks : List (List ℕ)) (ms : List Message) (c : Message) → Contains (copies side next marks ms) c → next ≤ c.uid
-copies_above side next [] ms c h = absurd (Contains-none c h)
-copies_above side next (mark ∷ marks) [] c h = absurd (Contains-none c h)
-copies_above side next (mark ∷ marks) (m ∷ ms) c h = elim (Contains-cases _ c (copies side (next + 1) marks ms) h) [
-  | inl same ↦ let e : next ≡ c.uid = ap (λ (x : Message). x.uid) same in omega arith
-  | inr rest ↦ let l : next + 1 ≤ c.uid = copies_above side (next + 1) marks ms c rest in omega arith
-]
+-- copies have the UIDs from the first on
+pub copies_above : (side : Side) (least : ℕ) (uids : List ℕ) (next : ℕ) (marks : List (List ℕ)) (ms : List Message) (c : Message) → Rise least uids next → Contains (copies_under side uids marks ms) c → least ≤ c.uid
+copies_above side least [] next marks ms c r h = absurd (Contains-none c h)
+copies_above side least (u ∷ uids) next [] ms c r h = absurd (Contains-none c h)
+copies_above side least (u ∷ uids) next (mark ∷ marks) [] c r h = absurd (Contains-none c h)
+copies_above side least (u ∷ uids) next (mark ∷ marks) (m ∷ ms) c r h =
+    let up : least ≤ u = r.0 in
+    elim (Contains-cases _ c (copies_under side uids marks ms) h) [
+      | inl same ↦ let e : u ≡ c.uid = ap (λ (x : Message). x.uid) same in omega arith
+      | inr rest ↦ let l : u + 1 ≤ c.uid = copies_above side (u + 1) uids next marks ms c r.1 rest in omega arith
+    ]
 
 -- the message that an entry of a copy comes from: there is its UID in the entry, and here the copy's
-pub record IsCopied (side : Side) (next : ℕ) (marks : List (List ℕ)) (ms : List Message) (noted : ℕ) (there here : Option ℕ) : Type 0 where
+pub record IsCopied (side : Side) (least : ℕ) (uids : List ℕ) (marks : List (List ℕ)) (ms : List Message) (noted : ℕ) (there here : Option ℕ) : Type 0 where
   pub message : Message
   pub among : Contains ms message
   pub uid : ℕ
-  pub above : next ≤ uid
+  pub above : least ≤ uid
   pub from : there ≡ Some message.uid
   pub copy : here ≡ Some uid
   pub same : noted ≡ message.flags
-  pub flags : stored_at side (copies side next marks ms) uid ≡ Some message.flags
+  pub flags : stored_at side (copies_under side uids marks ms) uid ≡ Some message.flags
 
-abbrev a_copy : Side → (next : ℕ) → (mark : List ℕ) → Message → Message
-a_copy side next mark m = record { uid = next; flags = m.flags; bytes = copy_text mark m.bytes (line_end side) }
-
-first_copied : (side : Side) (next : ℕ) (mark : List ℕ) (marks : List (List ℕ)) (m : Message) (ms : List Message) (noted : ℕ) (there here : Option ℕ) →
-    there ≡ Some m.uid → here ≡ Some next → noted ≡ m.flags → IsCopied side next (mark ∷ marks) (m ∷ ms) noted there here
-first_copied side next mark marks m ms noted there here e f g = record {
+first_copied : (side : Side) (least u : ℕ) (uids : List ℕ) (mark : List ℕ) (marks : List (List ℕ)) (m : Message) (ms : List Message) (noted : ℕ) (there here : Option ℕ) →
+    least ≤ u → there ≡ Some m.uid → here ≡ Some u → noted ≡ m.flags → IsCopied side least (u ∷ uids) (mark ∷ marks) (m ∷ ms) noted there here
+first_copied side least u uids mark marks m ms noted there here l e f g = record {
   message = m;
   among = Contains-first m ms;
-  uid = next;
-  above = omega arith;
+  uid = u;
+  above = l;
   from = e;
   copy = f;
   same = g;
-  flags = first_is side (a_copy side next mark m) (copies side (next + 1) marks ms) next refl;
+  flags = first_is side (copy_of side u m.flags mark m.bytes) (copies_under side uids marks ms) u refl;
 }
 
-later_copied : (side : Side) (next : ℕ) (mark : List ℕ) (marks : List (List ℕ)) (m : Message) (ms : List Message) (noted : ℕ) (there here : Option ℕ) →
-    IsCopied side (next + 1) marks ms noted there here → IsCopied side next (mark ∷ marks) (m ∷ ms) noted there here
-later_copied side next mark marks m ms noted there here r =
-    let above : next + 1 ≤ r.uid = r.above in
+later_copied : (side : Side) (least u : ℕ) (uids : List ℕ) (mark : List ℕ) (marks : List (List ℕ)) (m : Message) (ms : List Message) (noted : ℕ) (there here : Option ℕ) →
+    least ≤ u → IsCopied side (u + 1) uids marks ms noted there here → IsCopied side least (u ∷ uids) (mark ∷ marks) (m ∷ ms) noted there here
+later_copied side least u uids mark marks m ms noted there here l r =
+    let above : u + 1 ≤ r.uid = r.above in
     record {
       message = r.message;
       among = Contains-rest m r.message ms r.among;
@@ -115,40 +116,44 @@ later_copied side next mark marks m ms noted there here r =
       from = r.from;
       copy = r.copy;
       same = r.same;
-      flags = rest_is side (a_copy side next mark m) (copies side (next + 1) marks ms) r.uid (ne_eqb next r.uid (omega arith)) ∙ r.flags;
+      flags = rest_is side (copy_of side u m.flags mark m.bytes) (copies_under side uids marks ms) r.uid (ne_eqb u r.uid (omega arith)) ∙ r.flags;
     }
 
-pub pulled_copied : (next : ℕ) (marks : List (List ℕ)) (ms : List Message) (e : Entry) → length marks ≡ length ms → Contains (pulled next ms) e → IsCopied Near next marks ms e.flags e.far e.near
-pulled_copied next [] [] e l h = absurd (Contains-none e h)
-pulled_copied next [] (m ∷ ms) e l h = absurd (omega arith)
-pulled_copied next (mark ∷ marks) [] e l h = absurd (Contains-none e h)
-pulled_copied next (mark ∷ marks) (m ∷ ms) e l h = elim (Contains-cases _ e (pulled (next + 1) ms) h) [
-  | inl same ↦ first_copied Near next mark marks m ms e.flags e.far e.near (sym (ap (λ (x : Entry). x.far) same)) (sym (ap (λ (x : Entry). x.near) same)) (sym (ap (λ (x : Entry). x.flags) same))
-  | inr rest ↦ later_copied Near next mark marks m ms e.flags e.far e.near (pulled_copied (next + 1) marks ms e (omega arith) rest)
+pub pulled_copied : (least : ℕ) (uids : List ℕ) (next : ℕ) (marks : List (List ℕ)) (ms : List Message) (e : Entry) → Rise least uids next → length marks ≡ length ms →
+    Contains (pairs_under Pull uids ms) e → IsCopied Near least uids marks ms e.flags e.far e.near
+pulled_copied least [] next marks ms e r l h = absurd (Contains-none e h)
+pulled_copied least (u ∷ uids) next marks [] e r l h = absurd (Contains-none e h)
+pulled_copied least (u ∷ uids) next [] (m ∷ ms) e r l h = absurd (omega arith)
+pulled_copied least (u ∷ uids) next (mark ∷ marks) (m ∷ ms) e r l h = elim (Contains-cases _ e (pairs_under Pull uids ms) h) [
+  | inl same ↦ first_copied Near least u uids mark marks m ms e.flags e.far e.near r.0 (sym (ap (λ (x : Entry). x.far) same)) (sym (ap (λ (x : Entry). x.near) same)) (sym (ap (λ (x : Entry). x.flags) same))
+  | inr rest ↦ later_copied Near least u uids mark marks m ms e.flags e.far e.near r.0 (pulled_copied (u + 1) uids next marks ms e r.1 (omega arith) rest)
 ]
 
-pub pushed_copied : (next : ℕ) (marks : List (List ℕ)) (ms : List Message) (e : Entry) → length marks ≡ length ms → Contains (pushed next ms) e → IsCopied Far next marks ms e.flags e.near e.far
-pushed_copied next [] [] e l h = absurd (Contains-none e h)
-pushed_copied next [] (m ∷ ms) e l h = absurd (omega arith)
-pushed_copied next (mark ∷ marks) [] e l h = absurd (Contains-none e h)
-pushed_copied next (mark ∷ marks) (m ∷ ms) e l h = elim (Contains-cases _ e (pushed (next + 1) ms) h) [
-  | inl same ↦ first_copied Far next mark marks m ms e.flags e.near e.far (sym (ap (λ (x : Entry). x.near) same)) (sym (ap (λ (x : Entry). x.far) same)) (sym (ap (λ (x : Entry). x.flags) same))
-  | inr rest ↦ later_copied Far next mark marks m ms e.flags e.near e.far (pushed_copied (next + 1) marks ms e (omega arith) rest)
+pub pushed_copied : (least : ℕ) (uids : List ℕ) (next : ℕ) (marks : List (List ℕ)) (ms : List Message) (e : Entry) → Rise least uids next → length marks ≡ length ms →
+    Contains (pairs_under Push uids ms) e → IsCopied Far least uids marks ms e.flags e.near e.far
+pushed_copied least [] next marks ms e r l h = absurd (Contains-none e h)
+pushed_copied least (u ∷ uids) next marks [] e r l h = absurd (Contains-none e h)
+pushed_copied least (u ∷ uids) next [] (m ∷ ms) e r l h = absurd (omega arith)
+pushed_copied least (u ∷ uids) next (mark ∷ marks) (m ∷ ms) e r l h = elim (Contains-cases _ e (pairs_under Push uids ms) h) [
+  | inl same ↦ first_copied Far least u uids mark marks m ms e.flags e.near e.far r.0 (sym (ap (λ (x : Entry). x.near) same)) (sym (ap (λ (x : Entry). x.far) same)) (sym (ap (λ (x : Entry). x.flags) same))
+  | inr rest ↦ later_copied Far least u uids mark marks m ms e.flags e.near e.far r.0 (pushed_copied (u + 1) uids next marks ms e r.1 (omega arith) rest)
 ]
 
 -- a copy is named by an entry
-pub near_copy_named : (next : ℕ) (marks : List (List ℕ)) (ms : List Message) (c : Message) → Contains (copies Near next marks ms) c → (e : Entry) × Contains (pulled next ms) e × (uid_of Near e ≡ c.uid)
-near_copy_named next [] ms c h = absurd (Contains-none c h)
-near_copy_named next (mark ∷ marks) [] c h = absurd (Contains-none c h)
-near_copy_named next (mark ∷ marks) (m ∷ ms) c h = elim (Contains-cases _ c (copies Near (next + 1) marks ms) h) [
-  | inl same ↦ (record { far = Some m.uid; near = Some next; flags = m.flags }, Contains-first _ (pulled (next + 1) ms), ap (λ (x : Message). x.uid) same)
-  | inr rest ↦ let r = near_copy_named (next + 1) marks ms c rest in (r.0, Contains-rest _ r.0 (pulled (next + 1) ms) r.1, r.2)
+pub near_copy_named : (uids : List ℕ) (marks : List (List ℕ)) (ms : List Message) (c : Message) → Contains (copies_under Near uids marks ms) c → (e : Entry) × Contains (pairs_under Pull uids ms) e × (uid_of Near e ≡ c.uid)
+near_copy_named [] marks ms c h = absurd (Contains-none c h)
+near_copy_named (u ∷ uids) [] ms c h = absurd (Contains-none c h)
+near_copy_named (u ∷ uids) (mark ∷ marks) [] c h = absurd (Contains-none c h)
+near_copy_named (u ∷ uids) (mark ∷ marks) (m ∷ ms) c h = elim (Contains-cases _ c (copies_under Near uids marks ms) h) [
+  | inl same ↦ (pair_of_copy Pull u m, Contains-first _ (pairs_under Pull uids ms), ap (λ (x : Message). x.uid) same)
+  | inr rest ↦ let r = near_copy_named uids marks ms c rest in (r.0, Contains-rest _ r.0 (pairs_under Pull uids ms) r.1, r.2)
 ]
 
-pub far_copy_named : (next : ℕ) (marks : List (List ℕ)) (ms : List Message) (c : Message) → Contains (copies Far next marks ms) c → (e : Entry) × Contains (pushed next ms) e × (uid_of Far e ≡ c.uid)
-far_copy_named next [] ms c h = absurd (Contains-none c h)
-far_copy_named next (mark ∷ marks) [] c h = absurd (Contains-none c h)
-far_copy_named next (mark ∷ marks) (m ∷ ms) c h = elim (Contains-cases _ c (copies Far (next + 1) marks ms) h) [
-  | inl same ↦ (record { far = Some next; near = Some m.uid; flags = m.flags }, Contains-first _ (pushed (next + 1) ms), ap (λ (x : Message). x.uid) same)
-  | inr rest ↦ let r = far_copy_named (next + 1) marks ms c rest in (r.0, Contains-rest _ r.0 (pushed (next + 1) ms) r.1, r.2)
+pub far_copy_named : (uids : List ℕ) (marks : List (List ℕ)) (ms : List Message) (c : Message) → Contains (copies_under Far uids marks ms) c → (e : Entry) × Contains (pairs_under Push uids ms) e × (uid_of Far e ≡ c.uid)
+far_copy_named [] marks ms c h = absurd (Contains-none c h)
+far_copy_named (u ∷ uids) [] ms c h = absurd (Contains-none c h)
+far_copy_named (u ∷ uids) (mark ∷ marks) [] c h = absurd (Contains-none c h)
+far_copy_named (u ∷ uids) (mark ∷ marks) (m ∷ ms) c h = elim (Contains-cases _ c (copies_under Far uids marks ms) h) [
+  | inl same ↦ (pair_of_copy Push u m, Contains-first _ (pairs_under Push uids ms), ap (λ (x : Message). x.uid) same)
+  | inr rest ↦ let r = far_copy_named uids marks ms c rest in (r.0, Contains-rest _ r.0 (pairs_under Push uids ms) r.1, r.2)
 ]

@@ -1,18 +1,28 @@
 -- What the definitions of a run come to, in laws that the functions of `src/lib.rt` show.
-use Rattle.std.specs.Prelude.{ℕ, ◌<◌, ◌^◌, ◌≡◌, ◌⊎◌, ◌↔◌, true, false, List, All, Contains, length}
+use Rattle.std.specs.Prelude.{ℕ, ◌≤◌, ◌≡◌, ◌⊎◌, ◌↔◌, true, false, List, Contains, length, map}
+use Rattle.mailcore.specs.declared.side.Side.{Side}
+use Rattle.mailcore.specs.declared.side.Side.TheVariants.{Near}
 use Rattle.mailcore.specs.declared.side.Direction.{Direction}
-use Rattle.mailcore.specs.declared.side.Direction.TheVariants.{Pull, Push}
+use Rattle.mailcore.specs.declared.side.Direction.TheVariants.{Push}
 use Rattle.mailcore.specs.declared.listing.Item.{Item}
-use Rattle.mailcore.specs.FlagSet.{FLAGS}
-use Rattle.mailcore.specs.Sides.{source}
+use Rattle.mailcore.specs.declared.mailbox.Message.{Message}
+use Rattle.mailcore.specs.FlagSet.{DELETED, has}
+use Rattle.mailcore.specs.Listed.{item_of}
+use Rattle.mailcore.specs.Operations.{item_above}
+use Rattle.mailcore.specs.Rise.{Rise}
+use Rattle.mailcore.specs.Sides.{source, towards}
 use Rattle.rules.specs.declared.entry.Entry.{Entry}
 use Rattle.rules.specs.declared.options.Options.{Options}
-use Rattle.rules.specs.Propagation.{Propagation, New}
+use Rattle.rules.specs.Propagation.{Propagation, New, Expunge}
+use Rattle.rules.specs.Options.{covers}
 use Rattle.rules.specs.Entries.{ArePairs}
-use Rattle.rules.specs.Scene.{Scene, is_paired}
+use Rattle.rules.specs.Scene.{Scene, highest, is_paired}
 use Rattle.rules.specs.Called.{is_new, called}
 use Rattle.rules.specs.Order.{place, Before}
-use Rattle.rules.specs.World.{World, IsWorld, NamesBelow, scene_of, new_messages, state_after, outcome}
+use Rattle.rules.specs.Outcome.{count_new}
+use Rattle.rules.specs.World.{World, IsInOrder, IsWorld, NamesBelow, store, scene_of}
+use Rattle.rules.specs.Copies.{copies_under}
+use Rattle.rules.specs.WorldAfter.{new_messages, staying, marks_to, entries_under, state_after, outcome_under, outcome}
 
 -- ---- new messages
 
@@ -21,6 +31,14 @@ NewItemIsUnpaired = (s : Scene) (d : Direction) (i : Item) → is_new s d i ≡ 
 
 abbrev pub NewIsUnpaired : Type 0
 NewIsUnpaired = (s : Scene) (d : Direction) (u : ℕ) → called s (New d u) ≡ true → is_paired s (source d) u ≡ false
+
+-- ---- fitness
+
+-- a near listing that says fit of every message up to a UID that was taken over calls for the same as the whole listing
+abbrev pub FitnessMattersAbove : Type 0
+FitnessMattersAbove =
+    (s : Scene) (from : ℕ) (messages : List Message) (q : Propagation) → from ≤ highest Push s →
+    called (record s { near = map (item_above Near from) messages }) q ≡ called (record s { near = map (item_of Near) messages }) q
 
 -- ---- one place, one propagation
 
@@ -40,27 +58,54 @@ OrderIsTotal = (s : Scene) (p q : Propagation) → ArePairs s.entries → called
 
 -- ---- a run, and then a plan
 
--- the flags of each message are a set of the flags that there are
-pub record HasFlagSets (w : World) : Type 0 where
-  pub far : All (λ m. m.flags < 2 ^ FLAGS) w.far.messages
-  pub near : All (λ m. m.flags < 2 ^ FLAGS) w.near.messages
-
+-- nothing more is called for on the outcome
 abbrev pub RunSettles : Type 0
 RunSettles =
-    (w : World) (options : Options) (far_marks near_marks : List (List ℕ)) →
-    IsWorld w → NamesBelow w → HasFlagSets w →
+    (w : World) (options : Options) (marks : List (List ℕ)) →
+    IsWorld w → NamesBelow w →
     options.expunge.far ≡ false → options.expunge.near ≡ false →
-    length far_marks ≡ length (new_messages w options Push) →
-    length near_marks ≡ length (new_messages w options Pull) →
-    (q : Propagation) → called (scene_of (outcome w options far_marks near_marks) options) q ≡ false
+    length marks ≡ count_new (scene_of w options) →
+    (q : Propagation) → called (scene_of (outcome w options marks) options) q ≡ false
 
 -- the same for a state that holds the entries in another order
 abbrev pub RunSettlesInAnyOrder : Type 0
 RunSettlesInAnyOrder =
-    (w : World) (options : Options) (far_marks near_marks : List (List ℕ)) (entries : List Entry) →
-    IsWorld w → NamesBelow w → HasFlagSets w →
+    (w : World) (options : Options) (marks : List (List ℕ)) (entries : List Entry) →
+    IsWorld w → NamesBelow w →
     options.expunge.far ≡ false → options.expunge.near ≡ false →
-    length far_marks ≡ length (new_messages w options Push) →
-    length near_marks ≡ length (new_messages w options Pull) →
+    length marks ≡ count_new (scene_of w options) →
     ((e : Entry) → Contains entries e ↔ Contains (state_after w options).entries e) →
-    (q : Propagation) → called (record (scene_of (outcome w options far_marks near_marks) options) { entries = entries }) q ≡ false
+    (q : Propagation) → called (record (scene_of (outcome w options marks) options) { entries = entries }) q ≡ false
+
+-- and whatever UIDs the copies got, where they rise
+abbrev pub RunSettlesUnderAnyUids : Type 0
+RunSettlesUnderAnyUids =
+    (w : World) (options : Options) (uids : Side → List ℕ) (marks : List (List ℕ)) (next : Side → ℕ) (entries : List Entry) →
+    IsWorld w → NamesBelow w →
+    options.expunge.far ≡ false → options.expunge.near ≡ false →
+    length marks ≡ count_new (scene_of w options) →
+    ((side : Side) → Rise (store w side).next (uids side) (next side)) →
+    ((e : Entry) → Contains entries e ↔ Contains (entries_under w options uids) e) →
+    (q : Propagation) → called (record (scene_of (outcome_under w options uids marks next) options) { entries = entries }) q ≡ false
+
+-- ---- what Expunge reaches
+
+-- where it covers a side, no message that stays is deleted
+abbrev pub NoneDeletedStays : Type 0
+NoneDeletedStays =
+    (w : World) (options : Options) (side : Side) (m : Message) → IsInOrder w →
+    covers options.expunge side ≡ true → Contains (staying w options side) m → has m.flags DELETED ≡ false
+
+-- an expunge that is called names a message that was there before
+abbrev pub ExpungedWasThere : Type 0
+ExpungedWasThere =
+    (w : World) (options : Options) (side : Side) (u : ℕ) →
+    called (scene_of w options) (Expunge side u) ≡ true → (m : Message) × Contains (store w side).messages m × (m.uid ≡ u)
+
+-- so none names a copy that the run made
+abbrev pub CopyIsNotExpunged : Type 0
+CopyIsNotExpunged =
+    (w : World) (options : Options) (side : Side) (uids : List ℕ) (marks : List (List ℕ)) (next : ℕ) (c : Message) → IsInOrder w →
+    Rise (store w side).next uids next →
+    Contains (copies_under side uids (marks_to w options side marks) (new_messages w options (towards side))) c →
+    called (scene_of w options) (Expunge side c.uid) ≡ false

@@ -13,7 +13,9 @@ use Rattle.rules.specs.declared.options.Directions.{Directions}
 use Rattle.rules.specs.FlagRule.{taken, recorded_after, with_deleted}
 use Rattle.rules.specs.Propagation.{Propagation, New, Gone, Flags, Expunge, Record, Drop}
 use Rattle.rules.specs.Called.{called}
-use Rattle.rules.specs.World.{Store, World, admitted, scene_of, store_after, state_after, outcome}
+use Rattle.rules.specs.World.{Store, World, scene_of}
+use Rattle.rules.specs.Admission.{admitted}
+use Rattle.rules.specs.WorldAfter.{store_after, state_after, outcome}
 
 -- ---- words for the examples
 
@@ -125,7 +127,7 @@ both_flags_are_recorded : is_called set_on_both (sync both no_side) (Record 5 7 
 unfolding computed
 both_flags_are_recorded = refl
 
-both_messages_get_both_flags : outcome set_on_both (sync both no_side) [] []
+both_messages_get_both_flags : outcome set_on_both (sync both no_side) []
     ≡ world (store 6 (far_message 5 (flagged + seen) (codes "a") ∷ [])) (store 8 (near_message 7 (flagged + seen) (codes "a") ∷ [])) (state 4 5 7 (entry 5 7 (flagged + seen) ∷ []))
 unfolding computed
 both_messages_get_both_flags = refl
@@ -152,7 +154,7 @@ it_is_not_pushed = refl
 abbrev set_near : World
 set_near = world (store 6 (far_message 5 no_flag (codes "a") ∷ [])) (store 8 (near_message 7 seen (codes "a") ∷ [])) (state 3 5 7 (entry 5 7 no_flag ∷ []))
 
-pull_leaves_it : outcome set_near (sync pull no_side) [] [] ≡ world set_near.far set_near.near (state 4 5 7 (entry 5 7 no_flag ∷ []))
+pull_leaves_it : outcome set_near (sync pull no_side) [] ≡ world set_near.far set_near.near (state 4 5 7 (entry 5 7 no_flag ∷ []))
 unfolding computed
 pull_leaves_it = refl
 
@@ -179,15 +181,15 @@ survivor = record { far = None; near = Some 7; flags = seen }
 it_is_gone : is_called far_gone (sync both no_side) (Gone Pull 5 7) ≡ true
 it_is_gone = refl
 
-the_near_one_is_marked : outcome far_gone (sync both no_side) [] [] ≡ world (store 6 []) (store 8 (near_message 7 (seen + deleted) (codes "a") ∷ [])) (state 4 5 7 (survivor ∷ []))
+the_near_one_is_marked : outcome far_gone (sync both no_side) [] ≡ world (store 6 []) (store 8 (near_message 7 (seen + deleted) (codes "a") ∷ [])) (state 4 5 7 (survivor ∷ []))
 unfolding computed
 the_near_one_is_marked = refl
 
-it_is_gone_once : is_called (outcome far_gone (sync both no_side) [] []) (sync both no_side) (Gone Pull 0 7) ≡ false
+it_is_gone_once : is_called (outcome far_gone (sync both no_side) []) (sync both no_side) (Gone Pull 0 7) ≡ false
 unfolding computed
 it_is_gone_once = refl
 
-the_half_entry_stays : is_called (outcome far_gone (sync both no_side) [] []) (sync both no_side) (Drop 0 7) ≡ false
+the_half_entry_stays : is_called (outcome far_gone (sync both no_side) []) (sync both no_side) (Drop 0 7) ≡ false
 unfolding computed
 the_half_entry_stays = refl
 
@@ -208,7 +210,7 @@ the_entry_is_dropped : is_called far_gone (sync both near_side) (Drop 5 7) ≡ t
 unfolding computed
 the_entry_is_dropped = refl
 
-nothing_is_left : outcome far_gone (sync both near_side) [] [] ≡ world (store 6 []) (store 8 []) (state 4 5 7 [])
+nothing_is_left : outcome far_gone (sync both near_side) [] ≡ world (store 6 []) (store 8 []) (state 4 5 7 [])
 unfolding computed
 nothing_is_left = refl
 
@@ -225,11 +227,11 @@ a_listed_side_keeps_the_entry : is_called deleted_near (sync neither near_side) 
 unfolding computed
 a_listed_side_keeps_the_entry = refl
 
-the_far_one_stays : outcome deleted_near (sync neither near_side) [] [] ≡ world deleted_near.far (store 8 []) (state 4 5 7 (entry 5 7 no_flag ∷ []))
+the_far_one_stays : outcome deleted_near (sync neither near_side) [] ≡ world deleted_near.far (store 8 []) (state 4 5 7 (entry 5 7 no_flag ∷ []))
 unfolding computed
 the_far_one_stays = refl
 
-the_next_run_owes_a_gone : is_called (outcome deleted_near (sync neither near_side) [] []) (sync both near_side) (Gone Push 5 7) ≡ true
+the_next_run_owes_a_gone : is_called (outcome deleted_near (sync neither near_side) []) (sync both near_side) (Gone Push 5 7) ≡ true
 unfolding computed
 the_next_run_owes_a_gone = refl
 
@@ -265,5 +267,5 @@ it_is_expunged = refl
 it_is_not_copied : is_called deleted_far (sync both far_side) (New Pull 1) ≡ false
 it_is_not_copied = refl
 
-its_uid_counts : outcome deleted_far (sync both far_side) [] [] ≡ world (store 2 []) (store 1 []) (state 1 1 0 [])
+its_uid_counts : outcome deleted_far (sync both far_side) [] ≡ world (store 2 []) (store 1 []) (state 1 1 0 [])
 its_uid_counts = refl

@@ -10,6 +10,12 @@ pub fn new_is_unpaired()
     ensures called { law.NewIsUnpaired }
 {}
 
+/// Whether a near message is fit matters above the highest UID that was pushed alone: a listing that asks no message up to
+/// it calls for the same.
+pub fn fitness_matters_above()
+    ensures { law.FitnessMattersAbove }
+{}
+
 /// A step of one kind is called for once at most: two propagations that are called for and have one place are equal.
 /// So the UIDs determine the flags of a Flags step and of a record.
 pub fn one_of_a_kind()
@@ -24,8 +30,17 @@ pub fn order_is_total()
 {}
 
 /// Where Expunge covers no side, nothing is called for after a run under the same options, in whatever order the state
-/// holds its entries.
+/// holds its entries, and whatever UIDs the copies got.
 pub fn run_settles()
     ensures settles { law.RunSettles }
     ensures in_any_order { law.RunSettlesInAnyOrder }
+    ensures under_any_uids { law.RunSettlesUnderAnyUids }
+{}
+
+/// Where Expunge covers a side, no message that stays there is deleted. It reaches no message but those that were there
+/// before, so never a copy that the same run made, even one that is deleted.
+pub fn expunge_reaches_old_messages()
+    ensures none_is_left { law.NoneDeletedStays }
+    ensures was_there { law.ExpungedWasThere }
+    ensures no_copy { law.CopyIsNotExpunged }
 {}

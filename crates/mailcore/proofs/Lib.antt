@@ -5,5 +5,7 @@ pub mod FlagLetters
 pub mod FlagRules
 pub mod LineLemmas
 pub mod MarkText
+pub mod OperationLemmas
 pub mod PairLemmas
+pub mod RiseLemmas
 pub mod Rising

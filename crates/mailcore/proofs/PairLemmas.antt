@@ -36,10 +36,6 @@ pub firsts-new : (s : Stream) (k : ℕ) → is_repeat s k ≡ false → firsts s
 unfolding firsts
 firsts-new s k new = cond-false (is_repeat s k) _ _ new
 
-pub marks_before-suc : (s : Stream) (k : ℕ) → marks_before s (suc k) ≡ marks_before s k ++ mark_at s k ∷ []
-unfolding marks_before
-marks_before-suc s k = refl
-
 -- a mark that is among the listed ones adds none
 listed_again : (marks : List (List ℕ)) (mark new : List ℕ) → is_listed marks new ≡ true → is_listed (marks ++ new ∷ []) mark ≡ is_listed marks mark
 listed_again marks mark new listed = elim (cases_Bool (bytes_eq new mark)) [
@@ -85,12 +81,6 @@ repeats-listed s k (suc n) listed j below = elim (cases_lt j n) [
       let kept : firsts s (k + n) ≡ firsts s k = firsts-repeats s k n earlier in
       rw e (is_repeat-firsts s (k + n) ∙ rw (kept, mark_at-add s k n) (listed n (omega arith)))
 ]
-
--- the same, for the pair after them
-pub is_repeat-after : (s : Stream) (k n : ℕ) → ((j : ℕ) → j < n → is_repeat s (k + j) ≡ true) → is_repeat s (k + n) ≡ is_listed (firsts s k) (mark_at (after_pairs s k) n)
-is_repeat-after s k n repeats =
-    let kept : firsts s (k + n) ≡ firsts s k = firsts-repeats s k n repeats in
-    is_repeat-firsts s (k + n) ∙ rw (kept, mark_at-add s k n) refl
 
 -- more pairs keep no fewer marks
 pub length-firsts-suc : (s : Stream) (k : ℕ) → length (firsts s k) ≤ length (firsts s (suc k))

@@ -7,5 +7,8 @@ pub mod FlagSet
 pub mod Laws
 pub mod Listed
 pub mod Mark
+pub mod Rise
+pub mod Operations
+pub mod Ranges
 pub mod Sides
 pub mod Stores

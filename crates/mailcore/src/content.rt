@@ -78,34 +78,3 @@ pub fn fit(side: Side, message: &[u8]) -> bool
         }
     }
 }
-
-#[cfg(test)]
-mod tests {
-    use super::*;
-    use std::test::Fail;
-
-    const MARKED: &[u8; 52] = b"x-tuid: q\r\nA: b\nX-TUID:z\r\r\n\nX-TUID: keep\r\n no end\r\r\r";
-
-    #[test]
-    fn content_has_no_marks(rt: HostRuntime) -> Result<(), Fail> {
-        let content = content(rt.alloc(), MARKED)?;
-        assert_eq!(rt;
-            content.as_slice(),
-            b"A: b\n\nX-TUID: keep\n no end\r\r\r".as_slice()
-        );
-        Ok(())
-    }
-
-    #[test]
-    fn lengths_are_those_of_the_content(rt: HostRuntime) {
-        assert_eq!(rt; content_len(MARKED, LineEnd::Lf), 29);
-        assert_eq!(rt; content_len(MARKED, LineEnd::CrLf), 32);
-    }
-
-    #[test]
-    fn nul_is_unfit_near_alone(rt: HostRuntime) {
-        assert!(rt; fit(Side::Far, b"a\0\r\n"));
-        assert!(rt; !fit(Side::Near, b"a\0\n"));
-        assert!(rt; fit(Side::Near, b"a\n"));
-    }
-}

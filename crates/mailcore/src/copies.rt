@@ -51,33 +51,3 @@ fn ends_line(rest: &[u8]) -> bool
 {
     rest.starts_with(b"\n") || rest.starts_with(b"\r\n")
 }
-
-#[cfg(test)]
-mod tests {
-    use super::*;
-    use std::test::Fail;
-
-    #[test]
-    fn copies_are_found_by_their_marks(rt: HostRuntime) -> Result<(), Fail> {
-        let mark = Tuid::read(b"AQAAAAAAAAAC").ok_or("not a mark")?;
-        let far = copy_text(rt.alloc(), mark, b"\r\nbody", LineEnd::CrLf)?;
-        assert_eq!(rt;
-            far.as_slice(),
-            b"X-TUID: AQAAAAAAAAAC\r\n\r\nbody".as_slice()
-        );
-        assert_eq!(rt; mark_of(&far), Some(mark));
-        let near = copy_text(rt.alloc(), mark, b"", LineEnd::Lf)?;
-        assert_eq!(rt; near.as_slice(), b"X-TUID: AQAAAAAAAAAC\n".as_slice());
-        assert_eq!(rt; mark_of(&near), Some(mark));
-        Ok(())
-    }
-
-    #[test]
-    fn other_first_lines_bear_no_mark(rt: HostRuntime) {
-        assert_eq!(rt; mark_of(b""), None);
-        assert_eq!(rt; mark_of(b"X-TUID: AQAAAAAAAAAC"), None, "no line end");
-        assert_eq!(rt; mark_of(b"x-tuid: AQAAAAAAAAAC\n"), None, "lower case");
-        assert_eq!(rt; mark_of(b"X-TUID: AQAAAAAAAAAC\r\r\n"), None, "two CRs");
-        assert_eq!(rt; mark_of(b"\nX-TUID: AQAAAAAAAAAC\n"), None, "a later line");
-    }
-}

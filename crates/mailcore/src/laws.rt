@@ -20,3 +20,11 @@ pub fn content_of_copy()
 pub fn mark_of_copy()
     ensures { law.MarkOfCopy }
 {}
+
+/// An operation on a mailbox keeps that its UIDs rise and are below the next one.
+pub fn operations_keep_stores()
+    ensures added { law.AddedKeepsStores }
+    ensures set_aside { law.SetAsideKeepsStores }
+    ensures flagged { law.FlaggedKeepsStores }
+    ensures expunged { law.ExpungedKeepsStores }
+{}

@@ -63,6 +63,14 @@ impl Messages {
         &self.list
     }
 
+    /// Gives the messages back, without taking memory.
+    pub fn into_vec(self) -> Vec<Message>
+        ensures list { result.items ≡ self }
+        ensures rising { AreRising result.items }
+    {
+        self.list
+    }
+
     /// Adds a message behind the others. `OutOfOrder`: its UID is not above theirs.
     pub fn push(&mut self, message: Message) -> Result<(), PushFault>
         ensures ok { OnOk result (self.new ≡ self.old ++ message ∷ []) }

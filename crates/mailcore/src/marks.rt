@@ -69,6 +69,3 @@ fn draw<R: Rng>(rng: &mut R) -> Tuid
     let [b8, ..] = rng.next_u64().to_le_bytes();
     Tuid::from_bytes(&[b0, b1, b2, b3, b4, b5, b6, b7, b8])
 }
-
-#[cfg(test)]
-mod tests;

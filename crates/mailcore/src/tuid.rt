@@ -71,24 +71,3 @@ fn is_base64url(text: &[u8; TUID_LENGTH]) -> bool
 {
     text.iter().all(|&byte| byte.is_ascii_alphanumeric() || byte == b'-' || byte == b'_')
 }
-
-#[cfg(test)]
-mod tests {
-    use super::*;
-
-    #[test]
-    fn twelve_characters_of_base64url_are_a_mark(rt: HostRuntime) {
-        for text in [b"AQAAAAAAAAAC", b"azAZ09-_az-_"] {
-            assert_eq!(rt; Tuid::read(text).map(|mark| mark.text()), Some(*text));
-        }
-    }
-
-    #[test]
-    fn other_texts_are_no_mark(rt: HostRuntime) {
-        assert_eq!(rt; Tuid::read(b""), None);
-        assert_eq!(rt; Tuid::read(b"AQAAAAAAAAA"), None, "eleven characters");
-        assert_eq!(rt; Tuid::read(b"AQAAAAAAAAACA"), None, "thirteen characters");
-        assert_eq!(rt; Tuid::read(b"AQAAAAAAA+AC"), None, "a plus");
-        assert_eq!(rt; Tuid::read(b"AQAAAAAAAAA="), None, "padding");
-    }
-}

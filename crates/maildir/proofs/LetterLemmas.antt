@@ -9,7 +9,7 @@ use Rattle.mailcore.specs.FlagSet.{FLAGS, has, each_flag, union}
 use Rattle.mailcore.specs.FlagNames.{letter, place, all_flags}
 use Rattle.maildir.specs.Letters.{LETTERS, has_letter, stays, letters_with, flags_in}
 use Rattle.maildir.specs.Names.{NameParts, name_of, is_letter, is_below, are_letters, uid_in}
-use Rattle.maildir.specs.NearEffects.{letters_in, flags_by_name, flagged}
+use Rattle.maildir.specs.FlaggedNames.{letters_in, flags_by_name, flagged}
 use Rattle.maildir.proofs.NameLemmas.{name_is_spelled, spelled_is_read}
 
 -- ---- some of the letters

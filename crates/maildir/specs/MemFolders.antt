@@ -1,6 +1,7 @@
 -- What a folder in memory stores.
-use Rattle.std.specs.Prelude.{true, false, [], ◌∷◌, ◌++◌, length, None}
+use Rattle.std.specs.Prelude.{true, false, [], ◌∷◌, ◌++◌, None}
 use Rattle.device.specs.Calls.{Seen}
+use Rattle.device.specs.Conditions.{seen_in}
 use Rattle.maildir.specs.declared.folder.File.{File}
 use Rattle.maildir.specs.Folders.{Stored, without}
 use Rattle.maildir.specs.declared.mem_folder.MemFolder.{MemFolder}
@@ -21,4 +22,4 @@ abbrev pub hidden : Stored → Stored
 hidden s = record s { is_there = false }
 
 abbrev pub seen_of : MemFolder → Seen Stored
-seen_of m = record { stored = stored_in m; is_broken = m.is_broken; stops = length m.stops.items }
+seen_of m = seen_in (stored_in m) m.stopping

@@ -1,12 +1,16 @@
 //! A Maildir folder on a disk.
 
-ghost use Rattle.std.specs.Prelude.{◌≡◌, ◌<◌, ◌≤◌, [], true, false, length, string_bytes, OnOk, OnErr, IfOk, IfErr};
+ghost use Rattle.std.specs.Prelude.{◌≡◌, IfOk};
+ghost use Rattle.device.specs.Conditions.{disk_at};
 
 use crate::folder::{FileName, Folder, Location, Origin, Place, Source};
 use device::DeviceFault;
+use device::disk::Disk;
 use mailcore::octets::Octets;
-use std::alloc::Global;
-use std::io::{ErrorKind, Write};
+use std::alloc::AllocError;
+use std::io::ErrorKind;
+use std::marker::Model;
+use std::path::Path;
 use std::rt::Files;
 use std::{fs, io};
 
@@ -21,191 +25,143 @@ const COPY: &str = "tmp/mbsync.copy";
 
 /// A Maildir folder on a disk. A call stops where the system fails, and at a name outside UTF-8.
 ///
-/// A copy and a meta file are synced to the disk before they get their names; a renaming is whole or not at all, and is
-/// not synced itself. Whether a disk gives back what was written no proof can say: so no contract promises what a real
-/// folder stores.
+/// Messages are files and symlinks to files; what else stands in `new` and `cur` is left alone. A copy and a meta file are
+/// written anew and synced before they get their names; the names themselves are synced by `sync` alone. Whether a disk gives
+/// back what was written no proof can say: so no contract promises what a real folder stores.
 #[derive(Drop)]
 pub struct DiskFolder<R: Files + AllocGlobal + Clone + Drop> {
-    rt: R,
-    path: String,
-    is_broken: bool,
-    stops: Vec<u8>,
+    disk: Disk<R>,
+}
+
+impl<R: Files + AllocGlobal + Clone + Drop> Model for DiskFolder<R> {
+    ghost use Rattle.device.specs.Conditions.{DiskParts};
+
+    ghost Value = { DiskParts };
+
+    ghost view = { λ folder. folder.disk };
 }
 
 impl<R: Files + AllocGlobal + Clone + Drop> DiskFolder<R> {
     /// The folder at this path, which is looked at by the first call.
-    pub fn new(rt: R, path: &str) -> Result<DiskFolder<R>, DeviceFault>
-        ensures path { IfOk result (λ folder. string_bytes folder.path ≡ path.now) }
-        ensures whole { IfOk result (λ folder. (folder.is_broken ≡ false) × (folder.stops.items ≡ [])) }
-        ensures no_memory { IfErr result (λ fault. fault ≡ DeviceFault.NoMemory) }
+    pub fn new(rt: R, path: &str) -> Result<Self, AllocError>
+        ensures { IfOk result (λ folder. folder ≡ disk_at path.now) }
     {
-        let path = String::from_str(rt.alloc(), path)?;
-        let stops = Vec::new(rt.alloc());
         Ok(DiskFolder {
-            rt,
-            path,
-            is_broken: false,
-            stops,
+            disk: Disk::new(rt, path)?,
         })
     }
 
     /// Makes the folder at this path with `cur`, `new` and `tmp`, as far as they are not there.
     ///
     /// `Stopped`: the system fails.
-    pub fn create(rt: R, path: &str) -> Result<DiskFolder<R>, DeviceFault>
-        ensures path { IfOk result (λ folder. string_bytes folder.path ≡ path.now) }
-        ensures whole { IfOk result (λ folder. (folder.is_broken ≡ false) × (folder.stops.items ≡ [])) }
+    pub fn create(rt: R, path: &str) -> Result<Self, DeviceFault>
+        ensures { IfOk result (λ folder. folder ≡ disk_at path.now) }
     {
-        let folder = DiskFolder::new(rt, path)?;
-        match folder.make() {
-            Ok(()) => Ok(folder),
-            Err(error) => Err(fault_of(&error)),
-        }
+        let mut folder = DiskFolder::new(rt, path)?;
+        let answer = folder.make();
+        folder.disk.tell(answer)?;
+        Ok(folder)
+    }
+
+    /// How many calls have stopped.
+    pub fn stops(&self) -> usize
+        ensures { result ≡ self.now.condition.stops }
+    {
+        self.disk.stops()
     }
 
     fn make(&self) -> io::Result<()> {
         for part in ["cur", "new", "tmp"] {
-            let path = self.at(part)?;
-            fs::create_dir_all(&self.rt, path.as_str())?;
+            self.disk.make_folder(part)?;
         }
         Ok(())
     }
 
-    // The path of a part of the folder.
-    fn at(&self, part: &str) -> io::Result<String> {
-        let path = self.path.as_str();
-        Ok(format!(in self.rt.alloc(); "{path}/{part}")?)
-    }
-
-    // The path of a file of `new` or `cur`.
-    fn at_name(&self, file: Location<'_>) -> io::Result<String> {
-        let folder = folder_name(file.place);
-        match str::from_utf8(file.name) {
-            Ok(name) => {
-                let path = self.path.as_str();
-                Ok(format!(in self.rt.alloc(); "{path}/{folder}/{name}")?)
-            }
-            Err(_) => Err(io::Error::from(ErrorKind::InvalidFilename)),
-        }
-    }
-
     fn is_there(&self) -> io::Result<bool> {
         for part in ["cur", "new", "tmp"] {
-            let path = self.at(part)?;
-            match fs::metadata(&self.rt, path.as_str()) {
-                Ok(found) => {
-                    if !found.is_dir() {
-                        return Ok(false);
-                    }
-                }
-                Err(error) => {
-                    return if error.kind() == ErrorKind::NotFound {
-                        Ok(false)
-                    } else {
-                        Err(error)
-                    };
-                }
+            if !self.disk.has_folder(part)? {
+                return Ok(false);
             }
         }
         Ok(true)
+    }
+
+    // The part of the folder that a file of `new` or `cur` is.
+    fn part_of(&self, file: Location<'_>) -> io::Result<String> {
+        let folder = folder_name(file.place);
+        match str::from_utf8(file.name) {
+            Ok(name) => Ok(format!(in self.disk.rt().alloc(); "{folder}/{name}")?),
+            Err(_) => Err(io::Error::from(ErrorKind::InvalidFilename)),
+        }
     }
 
     fn listed(&self) -> io::Result<Option<Vec<FileName>>> {
         if !self.is_there()? {
             return Ok(None);
         }
-        let mut names = Vec::new(self.rt.alloc());
+        let mut names = Vec::new(self.disk.rt().alloc());
         self.add_names(Place::New, &mut names)?;
         self.add_names(Place::Cur, &mut names)?;
         Ok(Some(names))
     }
 
     fn add_names(&self, place: Place, names: &mut Vec<FileName>) -> io::Result<()> {
-        let path = self.at(folder_name(place))?;
-        for entry in fs::read_dir(&self.rt, path.as_str())? {
+        let rt = self.disk.rt();
+        let path = self.disk.at(folder_name(place))?;
+        for entry in fs::read_dir(rt, path.as_str())? {
             let entry = entry?;
-            let name = Vec::from_slice(self.rt.alloc(), entry.file_name().as_bytes())?;
-            names.push(FileName {
-                place,
-                name: Octets::from_vec(name),
-            })?;
+            if is_file(rt, entry.path())? {
+                let name = Vec::from_slice(rt.alloc(), entry.file_name().as_bytes())?;
+                names.push(FileName {
+                    place,
+                    name: Octets::from_vec(name),
+                })?;
+            }
         }
         Ok(())
     }
 
     fn bytes_of(&self, file: Source<'_>) -> io::Result<Option<Vec<u8>>> {
-        let path = match file {
-            Source::Meta => self.at(META)?,
-            Source::Mail(file) => self.at_name(file)?,
-        };
-        match fs::read(&self.rt, path.as_str()) {
-            Ok(bytes) => Ok(Some(bytes)),
-            Err(error) => {
-                if error.kind() == ErrorKind::NotFound {
-                    Ok(None)
-                } else {
-                    Err(error)
-                }
-            }
+        match file {
+            Source::Meta => self.disk.read(META),
+            Source::Mail(file) => self.disk.read(self.part_of(file)?.as_str()),
         }
-    }
-
-    // Writes a whole file and syncs it to the disk.
-    fn write(&self, part: &str, bytes: &[u8]) -> io::Result<()> {
-        let path = self.at(part)?;
-        let mut file = fs::create(&self.rt, path.as_str())?;
-        file.write_all(bytes)?;
-        fs::OpenFile::sync_all(&file)
     }
 
     fn give_name(&self, from: Origin<'_>, to: Location<'_>) -> io::Result<()> {
-        let old = match from {
-            Origin::Tmp => self.at(COPY)?,
-            Origin::Delivered(file) => self.at_name(file)?,
-        };
-        let new = self.at_name(to)?;
-        fs::rename(&self.rt, old.as_str(), new.as_str())
-    }
-
-    fn take_out(&self, file: Location<'_>) -> io::Result<()> {
-        let path = self.at_name(file)?;
-        fs::remove_file(&self.rt, path.as_str())
-    }
-
-    fn write_meta(&self, text: &[u8]) -> io::Result<()> {
-        self.write(NEXT_META, text)?;
-        let (old, new) = (self.at(NEXT_META)?, self.at(META)?);
-        fs::rename(&self.rt, old.as_str(), new.as_str())
-    }
-
-    // What a call of the system answered; after an error each later call stops.
-    fn told<T>(&mut self, answer: io::Result<T>) -> Result<T, DeviceFault>
-        ensures ok { OnOk result (self.new.is_broken ≡ self.old.is_broken) }
-        ensures ok_stops { OnOk result (self.new.stops ≡ self.old.stops) }
-        ensures broken { OnErr result (self.new.is_broken ≡ true) }
-        ensures counted { IfErr result (λ fault. fault ≡ DeviceFault.Stopped → length self.old.stops.items < length self.new.stops.items) }
-        ensures no_less { length self.old.stops.items ≤ length self.new.stops.items }
-    {
-        match answer {
-            Ok(value) => Ok(value),
-            Err(error) => {
-                self.is_broken = true;
-                let fault = fault_of(&error);
-                if fault == DeviceFault::Stopped && self.stops.push(0).is_err() {
-                    return Err(DeviceFault::NoMemory);
-                }
-                Err(fault)
+        let to = self.part_of(to)?;
+        match from {
+            Origin::Tmp => self.disk.rename(COPY, to.as_str()),
+            Origin::Delivered(file) => {
+                let from = self.part_of(file)?;
+                self.disk.rename(from.as_str(), to.as_str())
             }
         }
     }
+
+    fn take_out(&self, file: Location<'_>) -> io::Result<()> {
+        self.disk.remove(self.part_of(file)?.as_str())
+    }
+
+    // Syncs the names of messages and of the meta file.
+    fn sync_names(&self) -> io::Result<()> {
+        self.disk.sync_names_in(folder_name(Place::Cur))?;
+        self.disk.sync_names_in(folder_name(Place::New))?;
+        self.disk.sync_names()
+    }
 }
 
-// A stop, or want of memory.
-fn fault_of(error: &io::Error) -> DeviceFault {
-    if error.kind() == ErrorKind::OutOfMemory {
-        DeviceFault::NoMemory
-    } else {
-        DeviceFault::Stopped
+// Whether a file or a symlink to a file stands there. Where the name is gone since it was read the names are not all there: an
+// error. A symlink that leads nowhere is no file.
+fn is_file(rt: &impl Files, path: Path<'_>) -> io::Result<bool> {
+    match fs::metadata(rt, path) {
+        Ok(found) => Ok(found.is_file()),
+        Err(error)
+            if error.kind() == ErrorKind::NotFound || error.kind() == ErrorKind::FilesystemLoop => {
+            fs::symlink_metadata(rt, path)?;
+            Ok(false)
+        }
+        Err(error) => Err(error),
     }
 }
 
@@ -222,57 +178,51 @@ impl<R: Files + AllocGlobal + Clone + Drop> Folder for DiskFolder<R> {
 
     ghost is_honest = { false };
 
-    ghost seen = { λ folder. seen_on_disk folder.is_broken folder.stops };
+    ghost seen = { seen_on_disk };
 
     fn names(&mut self) -> Result<Option<Vec<FileName>>, DeviceFault> {
-        if self.is_broken {
-            return Err(DeviceFault::Stopped);
-        }
+        self.disk.check()?;
         let answer = self.listed();
-        self.told(answer)
+        self.disk.tell(answer)
     }
 
     fn read(&mut self, file: Source<'_>) -> Result<Option<Vec<u8>>, DeviceFault> {
-        if self.is_broken {
-            return Err(DeviceFault::Stopped);
-        }
+        self.disk.check()?;
         let answer = self.bytes_of(file);
-        self.told(answer)
+        self.disk.tell(answer)
     }
 
     fn write_tmp(&mut self, bytes: &[u8]) -> Result<(), DeviceFault> {
-        if self.is_broken {
-            return Err(DeviceFault::Stopped);
-        }
-        let answer = self.write(COPY, bytes);
-        self.told(answer)
+        self.disk.check()?;
+        let answer = self.disk.write_new(COPY, bytes);
+        self.disk.tell(answer)
     }
 
     fn rename(&mut self, from: Origin<'_>, to: Location<'_>) -> Result<(), DeviceFault> {
-        if self.is_broken {
-            return Err(DeviceFault::Stopped);
-        }
+        self.disk.check()?;
         let answer = self.give_name(from, to);
-        self.told(answer)
+        self.disk.tell(answer)
     }
 
     fn remove(&mut self, file: Location<'_>) -> Result<(), DeviceFault> {
-        if self.is_broken {
-            return Err(DeviceFault::Stopped);
-        }
+        self.disk.check()?;
         let answer = self.take_out(file);
-        self.told(answer)
+        self.disk.tell(answer)
     }
 
     fn replace_meta(&mut self, text: &[u8]) -> Result<(), DeviceFault> {
-        if self.is_broken {
-            return Err(DeviceFault::Stopped);
-        }
-        let answer = self.write_meta(text);
-        self.told(answer)
+        self.disk.check()?;
+        let answer = self.disk.replace(META, NEXT_META, text);
+        self.disk.tell(answer)
+    }
+
+    fn sync(&mut self) -> Result<(), DeviceFault> {
+        self.disk.check()?;
+        let answer = self.sync_names();
+        self.disk.tell(answer)
     }
 
     fn reopen(&mut self) {
-        self.is_broken = false;
+        self.disk.reopen();
     }
 }

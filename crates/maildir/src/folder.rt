@@ -67,7 +67,7 @@ pub enum Origin<'a> {
 /// of its bytes. After a fault each call answers `Stopped` and changes nothing, until `reopen`, which keeps what is
 /// stored.
 pub trait Folder {
-    ghost use Rattle.device.specs.Calls.{Seen, Call, Read, Nothing};
+    ghost use Rattle.device.specs.Calls.{Seen, Call, Read, Rest, Nothing, Reopens};
     ghost use Rattle.maildir.specs.Folders.{Stored, Lists, Begins, Renames, bytes_of, with_copy, with_meta, removed, listed, text_of};
 
     /// Whether the folder gives back what was written, and nobody else writes to it.
@@ -76,7 +76,7 @@ pub trait Folder {
     /// What is stored, whether a call has stopped since the folder was opened, and how many calls have stopped.
     ghost seen: { Self → Seen Stored };
 
-    /// The names in `new` and `cur`, in any order, or none where `new`, `cur` or `tmp` is missing.
+    /// The names of files in `new` and `cur`, in any order, or none where `new`, `cur` or `tmp` is missing.
     fn names(&mut self) -> Result<Option<Vec<FileName>>, DeviceFault>
         ensures { Read is_honest (λ names. Lists (listed names)) (seen self.old) (seen self.new) result };
 
@@ -100,7 +100,11 @@ pub trait Folder {
     fn replace_meta(&mut self, text: &[u8]) -> Result<(), DeviceFault>
         ensures { Call is_honest (λ s s'. s' ≡ with_meta text.now s) Nothing (seen self.old) (seen self.new) result };
 
+    /// Makes what was renamed, removed and replaced so far outlive a loss of power.
+    fn sync(&mut self) -> Result<(), DeviceFault>
+        ensures { Rest is_honest (seen self.old) (seen self.new) result };
+
     /// Opens the folder again, so that calls are answered again.
     fn reopen(&mut self)
-        ensures { seen self.new ≡ record (seen self.old) { is_broken = false } };
+        ensures { Reopens (seen self.old) (seen self.new) };
 }

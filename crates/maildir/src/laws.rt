@@ -7,7 +7,7 @@ ghost use Rattle.maildir.specs.declared.meta.Meta.{Meta};
 ghost use Rattle.maildir.specs.Letters.{flags_in, has_letter, letters_with};
 ghost use Rattle.maildir.specs.Metas.{MetaText, meta_of};
 ghost use Rattle.maildir.specs.Names.{NameParts, NameText, name_of, is_letter, are_letters, uid_in};
-ghost use Rattle.maildir.specs.NearEffects.{flags_by_name, flagged, letters_in};
+ghost use Rattle.maildir.specs.FlaggedNames.{flags_by_name, flagged, letters_in};
 
 /// A name is read from exactly the bytes that are its spelling, and so each text spells one name at most.
 pub fn names_by_their_spelling()

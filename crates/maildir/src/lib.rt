@@ -1,4 +1,4 @@
-//! The near mailbox, a Maildir folder: its names, its folders and the mailbox that stands in them.
+//! A Maildir folder: the names of its files, its meta file, and folders in memory and on a disk.
 #![tactic(auto)]
 
 mod cut;
@@ -9,8 +9,4 @@ pub mod letters;
 pub mod mem_folder;
 pub mod meta;
 pub mod name;
-pub mod near_box;
-mod near_calls;
-pub mod near_fault;
 mod number;
-mod survey;

@@ -1,16 +1,17 @@
 //! A folder in memory, whose calls stop where a schedule says so.
 
-ghost use Rattle.std.specs.Prelude.{◌≡◌, ◌<◌, ◌≤◌, ◌&&◌, ◌++◌, ◌∷◌, [], true, length, map, find, IfOk, OnOk, OnErr, Some, None, false, vec_capacity, vec_len, position};
+ghost use Rattle.std.specs.Prelude.{◌≡◌, ◌≤◌, ◌&&◌, ◌++◌, ◌∷◌, [], true, map, find, IfOk, OnOk, OnErr, Some, None, false, is_some, vec_capacity, vec_len, position};
 ghost use Rattle.std.specs.Option.{option_map};
 ghost use Rattle.std.specs.List.{list_any};
 ghost use Rattle.maildir.specs.Folders.{is_at, without, left, is_left, moved, name_of_file, name_at, is_there, renamed, AreApart, bytes_of, text_of};
 
 use crate::folder::{File, FileName, Folder, Location, Origin, Place, Source};
 use device::DeviceFault;
+use device::schedule::{Moment, Scheduled, Stop};
 use mailcore::octets::Octets;
 use std::alloc::{AllocError, Global};
 
-/// A call of a folder that a schedule can stop.
+/// A call of a folder that a schedule can stop. Of `write_tmp` alone there are parts.
 #[derive(Clone, Copy, Debug, PartialEq, Eq)]
 pub enum FolderCall {
     /// `names`
@@ -25,31 +26,11 @@ pub enum FolderCall {
     Remove,
     /// `replace_meta`
     ReplaceMeta,
+    /// `sync`
+    Sync,
 }
 
-/// Where a call stops.
-#[derive(Clone, Copy, Debug, PartialEq, Eq)]
-pub enum Cut {
-    /// Without its effect.
-    Before,
-    /// With this many bytes of it; a call other than `write_tmp` has no part, and stops without its effect.
-    Part(usize),
-    /// With its effect.
-    After,
-}
-
-/// One stop of a schedule.
-#[derive(Clone, Copy, Debug, PartialEq, Eq)]
-pub struct Stop {
-    /// The call that stops.
-    pub call: FolderCall,
-    /// Which of the calls of this name, counted from 1 over the folder's life.
-    pub number: u64,
-    /// Where it stops.
-    pub cut: Cut,
-}
-
-/// A folder in memory. Each stop of its schedule meets one call; of two for one call the first acts.
+/// A folder in memory.
 #[derive(Debug, Drop)]
 pub struct MemFolder {
     alloc: Global,
@@ -57,10 +38,7 @@ pub struct MemFolder {
     files: Vec<File>,
     copy: Option<Octets>,
     meta: Option<Octets>,
-    is_broken: bool,
-    stops: Vec<u8>,
-    schedule: Vec<Stop>,
-    calls: [u64; 6],
+    stopping: Scheduled<FolderCall>,
     ghost apart: { AreApart files.items },
 }
 
@@ -69,7 +47,7 @@ impl MemFolder {
     ghost use Rattle.maildir.specs.MemFolders.{empty, hidden, seen_of, stored_in, with_file};
 
     /// A folder that is there, without a file and without a meta file, whose calls stop as the schedule says.
-    pub fn new(alloc: Global, schedule: Vec<Stop>) -> Self
+    pub fn new(alloc: Global, schedule: Vec<Stop<FolderCall>>) -> Self
         ensures { seen_of result ≡ record { stored = empty; is_broken = false; stops = 0 } }
     {
         MemFolder {
@@ -78,10 +56,7 @@ impl MemFolder {
             files: Vec::new(alloc),
             copy: None,
             meta: None,
-            is_broken: false,
-            stops: Vec::new(alloc),
-            schedule,
-            calls: [0; 6],
+            stopping: Scheduled::new(alloc, schedule),
         }
     }
 
@@ -125,50 +100,9 @@ impl MemFolder {
 
     /// How many calls have stopped.
     pub fn stops(&self) -> usize
-        ensures { result ≡ length self.now.stops.items }
+        ensures { result ≡ (seen_of self.now).stops }
     {
-        self.stops.len()
-    }
-
-    // The call stops, and each later one too.
-    fn halt(&mut self) -> DeviceFault
-        ensures stored { stored_in self.new ≡ stored_in self.old }
-        ensures broken { self.new.is_broken ≡ true }
-        ensures stopped { result ≡ DeviceFault.Stopped → length self.old.stops.items < length self.new.stops.items }
-        ensures no_less { length self.old.stops.items ≤ length self.new.stops.items }
-    {
-        self.is_broken = true;
-        match self.stops.push(0) {
-            Ok(()) => DeviceFault::Stopped,
-            Err(_) => DeviceFault::NoMemory,
-        }
-    }
-
-    // The call finds no memory, and each later one stops.
-    fn lack(&mut self) -> DeviceFault
-        ensures fault { result ≡ DeviceFault.NoMemory }
-        ensures stored { stored_in self.new ≡ stored_in self.old }
-        ensures broken { self.new.is_broken ≡ true }
-        ensures stops { self.new.stops ≡ self.old.stops }
-    {
-        self.is_broken = true;
-        DeviceFault::NoMemory
-    }
-
-    // Counts a call, and says where it stops.
-    fn next_cut(&mut self, call: FolderCall) -> Option<Cut>
-        ensures stored { stored_in self.new ≡ stored_in self.old }
-        ensures stops { self.new.stops ≡ self.old.stops }
-        ensures broken { self.new.is_broken ≡ self.old.is_broken }
-    {
-        let place = call as usize;
-        let number = self.calls[place].saturating_add(1);
-        self.calls[place] = number;
-        let stop = self
-            .schedule
-            .iter()
-            .find(|stop| stop.call == call && stop.number == number)?;
-        Some(stop.cut)
+        self.stopping.stop_count()
     }
 
     // The bytes of a file, or none where it is missing.
@@ -195,12 +129,12 @@ impl MemFolder {
         }
     }
 
-    // Gives the file its new name; memory is taken first.
+    // Gives a file that is there its new name; memory is taken first.
     fn move_file(&mut self, from: Origin<'_>, to: Location<'_>) -> Result<(), AllocError>
+        requires { is_there from (stored_in self.old) ≡ true }
         ensures ok { OnOk result (stored_in self.new ≡ renamed from.entry to.entry (stored_in self.old)) }
         ensures err { OnErr result (stored_in self.new ≡ stored_in self.old) }
-        ensures stops { self.new.stops ≡ self.old.stops }
-        ensures broken { self.new.is_broken ≡ self.old.is_broken }
+        ensures stopping { self.new.stopping ≡ self.old.stopping }
     {
         match from {
             Origin::Tmp => self.place_copy(to),
@@ -218,15 +152,15 @@ impl MemFolder {
 
     // Puts the copy in `tmp` into `new` or `cur`.
     fn place_copy(&mut self, to: Location<'_>) -> Result<(), AllocError>
+        requires { is_some self.old.copy ≡ true }
         ensures ok { OnOk result (stored_in self.new ≡ renamed Origin.Tmp to.entry (stored_in self.old)) }
         ensures err { OnErr result (stored_in self.new ≡ stored_in self.old) }
-        ensures stops { self.new.stops ≡ self.old.stops }
-        ensures broken { self.new.is_broken ≡ self.old.is_broken }
+        ensures stopping { self.new.stopping ≡ self.old.stopping }
     {
         let name = copy_of(self.alloc, to.name)?;
         self.files.reserve(1)?;
         let Some(bytes) = self.copy.take() else {
-            return Ok(());
+            unreachable!()
         };
         drop_file(&mut self.files, to.place, to.name);
         let file = File {
@@ -250,114 +184,103 @@ impl Folder for MemFolder {
     ghost seen = { seen_of };
 
     fn names(&mut self) -> Result<Option<Vec<FileName>>, DeviceFault> {
-        if self.is_broken {
-            return Err(DeviceFault::Stopped);
-        }
-        if self.next_cut(FolderCall::Names).is_some() {
-            return Err(self.halt());
+        if self.stopping.begin(FolderCall::Names)?.is_some() {
+            return Err(self.stopping.stop());
         }
         if !self.is_there {
             return Ok(None);
         }
         match names_of(self.alloc, &self.files) {
             Ok(names) => Ok(Some(names)),
-            Err(_) => Err(self.lack()),
+            Err(_) => Err(self.stopping.lack()),
         }
     }
 
     fn read(&mut self, file: Source<'_>) -> Result<Option<Vec<u8>>, DeviceFault> {
-        if self.is_broken {
-            return Err(DeviceFault::Stopped);
-        }
-        if self.next_cut(FolderCall::Read).is_some() {
-            return Err(self.halt());
+        if self.stopping.begin(FolderCall::Read)?.is_some() {
+            return Err(self.stopping.stop());
         }
         match self.bytes_of(file) {
             Ok(bytes) => Ok(bytes),
-            Err(_) => Err(self.lack()),
+            Err(_) => Err(self.stopping.lack()),
         }
     }
 
     fn write_tmp(&mut self, bytes: &[u8]) -> Result<(), DeviceFault> {
-        if self.is_broken {
-            return Err(DeviceFault::Stopped);
-        }
-        let cut = self.next_cut(FolderCall::WriteTmp);
-        let written = match cut {
-            None | Some(Cut::After) => bytes,
-            Some(Cut::Before) => return Err(self.halt()),
-            Some(Cut::Part(count)) => &bytes[..count.min(bytes.len())],
+        let moment = self.stopping.begin(FolderCall::WriteTmp)?;
+        let written = match moment {
+            None | Some(Moment::After) => bytes,
+            Some(Moment::Before) => return Err(self.stopping.stop()),
+            Some(Moment::Part(count)) => &bytes[..count.min(bytes.len())],
         };
         let Ok(copy) = copy_of(self.alloc, written) else {
-            return Err(self.lack());
+            return Err(self.stopping.lack());
         };
         self.copy = Some(copy);
-        if cut.is_some() {
-            return Err(self.halt());
+        if moment.is_some() {
+            return Err(self.stopping.stop());
         }
         Ok(())
     }
 
     fn rename(&mut self, from: Origin<'_>, to: Location<'_>) -> Result<(), DeviceFault> {
-        if self.is_broken {
-            return Err(DeviceFault::Stopped);
-        }
-        let cut = self.next_cut(FolderCall::Rename);
-        if stops_before(cut) || !self.has(from) {
-            return Err(self.halt());
+        let moment = self.stopping.begin(FolderCall::Rename)?;
+        if stops_before(moment) || !self.has(from) {
+            return Err(self.stopping.stop());
         }
         if self.move_file(from, to).is_err() {
-            return Err(self.lack());
+            return Err(self.stopping.lack());
         }
-        if cut.is_some() {
-            return Err(self.halt());
+        if moment.is_some() {
+            return Err(self.stopping.stop());
         }
         Ok(())
     }
 
     fn remove(&mut self, file: Location<'_>) -> Result<(), DeviceFault> {
-        if self.is_broken {
-            return Err(DeviceFault::Stopped);
-        }
-        let cut = self.next_cut(FolderCall::Remove);
-        if stops_before(cut) || !has_file(&self.files, file.place, file.name) {
-            return Err(self.halt());
+        let moment = self.stopping.begin(FolderCall::Remove)?;
+        if stops_before(moment) || !has_file(&self.files, file.place, file.name) {
+            return Err(self.stopping.stop());
         }
         drop_file(&mut self.files, file.place, file.name);
-        if cut.is_some() {
-            return Err(self.halt());
+        if moment.is_some() {
+            return Err(self.stopping.stop());
         }
         Ok(())
     }
 
     fn replace_meta(&mut self, text: &[u8]) -> Result<(), DeviceFault> {
-        if self.is_broken {
-            return Err(DeviceFault::Stopped);
-        }
-        let cut = self.next_cut(FolderCall::ReplaceMeta);
-        if stops_before(cut) {
-            return Err(self.halt());
+        let moment = self.stopping.begin(FolderCall::ReplaceMeta)?;
+        if stops_before(moment) {
+            return Err(self.stopping.stop());
         }
         let Ok(copy) = copy_of(self.alloc, text) else {
-            return Err(self.lack());
+            return Err(self.stopping.lack());
         };
         self.meta = Some(copy);
-        if cut.is_some() {
-            return Err(self.halt());
+        if moment.is_some() {
+            return Err(self.stopping.stop());
+        }
+        Ok(())
+    }
+
+    fn sync(&mut self) -> Result<(), DeviceFault> {
+        if self.stopping.begin(FolderCall::Sync)?.is_some() {
+            return Err(self.stopping.stop());
         }
         Ok(())
     }
 
     fn reopen(&mut self) {
-        self.is_broken = false;
+        self.stopping.reopen();
     }
 }
 
 // Whether a call that is whole or not at all has no effect.
-fn stops_before(cut: Option<Cut>) -> bool
-    ensures none { cut ≡ None → result ≡ false }
+fn stops_before(moment: Option<Moment>) -> bool
+    ensures none { moment ≡ None → result ≡ false }
 {
-    matches!(cut, Some(Cut::Before | Cut::Part(_)))
+    matches!(moment, Some(Moment::Before | Moment::Part(_)))
 }
 
 // Whether a file stands at this place under this name.

@@ -40,8 +40,10 @@ pub fn write_name(alloc: Global, name: &Name<'_>) -> Result<Vec<u8>, AllocError>
     spell(alloc, name.base, name.uid, name.letters)
 }
 
-/// The text of the name with these parts.
-pub(crate) fn spell(
+/// The text of the name with these parts, as `write_name` gives it.
+///
+/// `AllocError`: memory ran out.
+pub fn spell(
     alloc: Global,
     base: &[u8],
     uid: Option<Uid>,

@@ -5,3 +5,5 @@ pub mod Ordered
 pub mod Carried
 pub mod Unique
 pub mod Theorem
+pub mod Spelled
+pub mod Agreeing

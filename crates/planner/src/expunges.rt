@@ -1,15 +1,17 @@
 //! Messages that are removed: on a side that Expunge covers, those that are marked as deleted once the other steps are
 //! done.
 
-ghost use Rattle.std.specs.Prelude.{◌≡◌, ◌++◌, OnOk};
+ghost use Rattle.std.specs.Prelude.{◌≡◌, ◌++◌, All, OnOk};
 ghost use Rattle.mailcore.specs.Sides.{other};
 ghost use Rattle.rules.specs.Entries.{uid_of};
 ghost use Rattle.rules.specs.Scene.{items, flags_at};
 ghost use Rattle.rules.specs.Called.{flags_with, flags_after, is_expunged};
+ghost use Rattle.rules.specs.Plans.{IsStep};
 ghost use Rattle.planner.specs.Seen.{seen};
 ghost use Rattle.planner.specs.Written.{expunge_step, expunge_steps};
 
 use crate::lists::Lists;
+use crate::pushes::push_step;
 use mailcore::flags::{Flag, Flags};
 use mailcore::listing::Item;
 use mailcore::side::Side;
@@ -81,11 +83,12 @@ impl Lists<'_> {
 
     /// Adds the steps of this kind, in the order of the UIDs.
     pub fn push_expunges(&self, side: Side, steps: &mut Vec<Step>) -> Result<(), AllocError>
-        ensures { OnOk result (steps.new.items ≡ steps.old.items ++ expunge_steps (seen self.now) side) }
+        ensures written { OnOk result (steps.new.items ≡ steps.old.items ++ expunge_steps (seen self.now) side) }
+        ensures fit { OnOk result (All IsStep steps.old.items → All IsStep steps.new.items) }
     {
         for item in self.items(side) {
             if let Some(step) = self.expunge_step(side, item) {
-                steps.push(step)?;
+                push_step(steps, step)?;
             }
         }
         Ok(())

@@ -1,11 +1,13 @@
 //! Flags that a message takes over from its counterpart.
 
-ghost use Rattle.std.specs.Prelude.{◌≡◌, ◌++◌, OnOk};
+ghost use Rattle.std.specs.Prelude.{◌≡◌, ◌++◌, All, OnOk};
 ghost use Rattle.rules.specs.Called.{before, after};
+ghost use Rattle.rules.specs.Plans.{IsStep};
 ghost use Rattle.planner.specs.Seen.{seen};
 ghost use Rattle.planner.specs.Written.{flags_step, flags_steps};
 
 use crate::lists::Lists;
+use crate::pushes::push_step;
 use mailcore::flags::Flags;
 use mailcore::side::Direction;
 use rules::entry::{Entry, ListedPair};
@@ -37,11 +39,12 @@ impl Lists<'_> {
 
     /// Adds the steps of this kind, in the order of the far UIDs.
     pub fn push_flags(&self, direction: Direction, steps: &mut Vec<Step>) -> Result<(), AllocError>
-        ensures { OnOk result (steps.new.items ≡ steps.old.items ++ flags_steps (seen self.now) direction) }
+        ensures written { OnOk result (steps.new.items ≡ steps.old.items ++ flags_steps (seen self.now) direction) }
+        ensures fit { OnOk result (All IsStep steps.old.items → All IsStep steps.new.items) }
     {
         for entry in self.entries() {
             if let Some(step) = self.flags_step(direction, entry) {
-                steps.push(step)?;
+                push_step(steps, step)?;
             }
         }
         Ok(())

@@ -1,11 +1,13 @@
 //! Messages whose counterpart has gone: they are marked as deleted.
 
-ghost use Rattle.std.specs.Prelude.{◌≡◌, ◌++◌, OnOk};
+ghost use Rattle.std.specs.Prelude.{◌≡◌, ◌++◌, All, OnOk};
 ghost use Rattle.rules.specs.Called.{is_gone};
+ghost use Rattle.rules.specs.Plans.{IsStep};
 ghost use Rattle.planner.specs.Seen.{seen};
 ghost use Rattle.planner.specs.Written.{gone_step, gone_steps};
 
 use crate::lists::Lists;
+use crate::pushes::push_step;
 use mailcore::listing::Item;
 use mailcore::side::Direction;
 use rules::entry::Entry;
@@ -41,11 +43,12 @@ impl Lists<'_> {
 
     /// Adds the steps of this kind, in the order of the target's UIDs.
     pub fn push_gones(&self, direction: Direction, steps: &mut Vec<Step>) -> Result<(), AllocError>
-        ensures { OnOk result (steps.new.items ≡ steps.old.items ++ gone_steps (seen self.now) direction) }
+        ensures written { OnOk result (steps.new.items ≡ steps.old.items ++ gone_steps (seen self.now) direction) }
+        ensures fit { OnOk result (All IsStep steps.old.items → All IsStep steps.new.items) }
     {
         for item in self.items(direction.target()) {
             if let Some(step) = self.gone_step(direction, item) {
-                steps.push(step)?;
+                push_step(steps, step)?;
             }
         }
         Ok(())

@@ -10,5 +10,6 @@ pub mod news;
 mod notes;
 pub mod order;
 pub mod plan;
+mod pushes;
 pub mod state;
 pub mod unfit;

@@ -1,14 +1,16 @@
 //! New messages: those that a run copies to the other side.
 
-ghost use Rattle.std.specs.Prelude.{◌≡◌, ◌<◌, ◌≤◌, ◌^◌, ◌++◌, length, count_by, OnOk, IfOk};
+ghost use Rattle.std.specs.Prelude.{◌≡◌, ◌<◌, ◌≤◌, ◌^◌, ◌++◌, length, count_by, All, OnOk, IfOk};
 ghost use Rattle.mailcore.specs.Sides.{source};
 ghost use Rattle.rules.specs.Scene.{scene, items};
 ghost use Rattle.rules.specs.Called.{would_be_new, is_new};
 ghost use Rattle.rules.specs.Outcome.{count_new, news};
+ghost use Rattle.rules.specs.Plans.{IsStep};
 ghost use Rattle.planner.specs.Seen.{seen};
 ghost use Rattle.planner.specs.Written.{new_steps};
 
 use crate::lists::Lists;
+use crate::pushes::push_step;
 use mailcore::flags::Flag;
 use mailcore::listing::{Item, Listing};
 use mailcore::side::Direction;
@@ -78,15 +80,17 @@ pub fn push_new(
     steps: &mut Vec<Step>,
 ) -> Result<(), AllocError>
     requires { length items.now ≤ length marks.now }
-    ensures { OnOk result (steps.new.items ≡ steps.old.items ++ new_steps direction items.now marks.now) }
+    ensures written { OnOk result (steps.new.items ≡ steps.old.items ++ new_steps direction items.now marks.now) }
+    ensures fit { OnOk result (All IsStep steps.old.items → All IsStep steps.new.items) }
 {
     for (i, item) in items.iter().enumerate() {
-        steps.push(Step::New {
+        let step = Step::New {
             direction,
             uid: item.uid,
             flags: item.flags,
             mark: marks[i],
-        })?;
+        };
+        push_step(steps, step)?;
     }
     Ok(())
 }

@@ -1,7 +1,8 @@
 //! What is done to the entries.
 
-ghost use Rattle.std.specs.Prelude.{◌≡◌, ◌++◌, OnOk, IfOk};
+ghost use Rattle.std.specs.Prelude.{◌≡◌, ◌++◌, All, OnOk, IfOk};
 ghost use Rattle.rules.specs.Called.{recorded, vanishes};
+ghost use Rattle.rules.specs.Plans.{IsNote};
 ghost use Rattle.planner.specs.Seen.{seen};
 ghost use Rattle.planner.specs.Written.{record_note, record_notes, drop_note, drop_notes, all_notes};
 
@@ -16,7 +17,8 @@ use std::alloc::{AllocError, Global};
 impl Lists<'_> {
     /// All notes, in order.
     pub fn notes(&self, alloc: Global) -> Result<Vec<Note>, AllocError>
-        ensures { IfOk result (λ v. v.items ≡ all_notes (seen self.now)) }
+        ensures written { IfOk result (λ v. v.items ≡ all_notes (seen self.now)) }
+        ensures fit { IfOk result (λ v. All IsNote v.items) }
     {
         let mut notes = Vec::new(alloc);
         self.push_records(&mut notes)?;
@@ -49,10 +51,12 @@ impl Lists<'_> {
     }
 
     fn push_records(&self, notes: &mut Vec<Note>) -> Result<(), AllocError>
-        ensures { OnOk result (notes.new.items ≡ notes.old.items ++ record_notes (seen self.now)) }
+        ensures written { OnOk result (notes.new.items ≡ notes.old.items ++ record_notes (seen self.now)) }
+        ensures fit { OnOk result (All IsNote notes.old.items → All IsNote notes.new.items) }
     {
         for entry in self.entries() {
             if let Some(note) = self.record_note(entry) {
+                note_fits(&note);
                 notes.push(note)?;
             }
         }
@@ -81,13 +85,26 @@ impl Lists<'_> {
     }
 
     fn push_drops(&self, notes: &mut Vec<Note>) -> Result<(), AllocError>
-        ensures { OnOk result (notes.new.items ≡ notes.old.items ++ drop_notes (seen self.now)) }
+        ensures written { OnOk result (notes.new.items ≡ notes.old.items ++ drop_notes (seen self.now)) }
+        ensures fit { OnOk result (All IsNote notes.old.items → All IsNote notes.new.items) }
     {
         for entry in self.entries() {
             if let Some(note) = self.drop_note(entry) {
+                note_fits(&note);
                 notes.push(note)?;
             }
         }
         Ok(())
     }
 }
+
+/// What the types of a note's parts say.
+fn note_fits(note: &Note)
+    ensures { IsNote note.now }
+{
+    value_fits(*note);
+}
+
+fn value_fits(note: Note)
+    ensures { IsNote note }
+{}

@@ -9,6 +9,7 @@ ghost use Rattle.std.specs.Prelude.{
   ◌-◌,
   ◌+◌,
   ◌↔◌,
+  ◌<◌,
   min,
   length,
   All,
@@ -18,10 +19,12 @@ ghost use Rattle.std.specs.Prelude.{
   IsErrOf,
 };
 ghost use Rattle.rules.specs.Propagation.{Propagation};
-ghost use Rattle.rules.specs.Scene.{scene};
 ghost use Rattle.rules.specs.Called.{called};
 ghost use Rattle.rules.specs.Order.{Before};
 ghost use Rattle.rules.specs.Outcome.{changed_side, count_new, greatest, highest_after, news};
+ghost use Rattle.rules.specs.PlanEntries.{PlanAgrees};
+ghost use Rattle.rules.specs.Plans.{AreInRange, IsHighest, IsPlan, IsPlanSide, IsStep};
+ghost use Rattle.rules.specs.Scene.{highest, scene};
 ghost use Rattle.planner.specs.Seen.{seen};
 ghost use Rattle.planner.specs.Written.{
   listed,
@@ -82,6 +85,10 @@ pub fn plan(
         × (p.near ≡ side_with near.now
         (highest_after (scene far.now near.now state.now options.now) Direction.Push))) }
 
+    // It has a text, and it agrees with the entries: it can be written down, and its run begun.
+    ensures has_text { IfOk result (λ p. AreInRange far.now near.now state.now → IsPlan p) }
+    ensures agrees { IfOk result (PlanAgrees state.now.entries) }
+
     ensures changed { (side : Side) → IsErrOf result (PlanFault.ValidityChanged side) ↔
         (changed_side far.now near.now state.now ≡ Some side) }
 {
@@ -93,19 +100,27 @@ pub fn plan(
     let notes = lists.notes(alloc)?;
     Ok(Plan {
         run: state.run.saturating_add(1),
-        far: PlanSide {
-            validity: far.validity,
-            highest: lists.highest_after(Direction::Pull),
-            next: far.next,
-        },
-        near: PlanSide {
-            validity: near.validity,
-            highest: lists.highest_after(Direction::Push),
-            next: near.next,
-        },
+        far: side_of(far.validity, lists.highest_after(Direction::Pull), far.next),
+        near: side_of(
+            near.validity,
+            lists.highest_after(Direction::Push),
+            near.next,
+        ),
         steps: Steps::from_vec(steps),
         notes: Notes::from_vec(notes),
     })
+}
+
+/// What a plan says of a side, whose numbers fit 32 bits by their types.
+fn side_of(validity: u32, highest: u32, next: u32) -> PlanSide
+    ensures side { result ≡ record { validity = validity; highest = highest; next = next } }
+    ensures in_range { 0 < validity → 0 < next → IsHighest highest → IsPlanSide result }
+{
+    PlanSide {
+        validity,
+        highest,
+        next,
+    }
 }
 
 fn side_changed(far: &Listing, near: &Listing, state: &SyncState) -> Option<Side>
@@ -126,7 +141,8 @@ impl Lists<'_> {
     fn steps(&self, alloc: Global, marks: &[Tuid]) -> Result<Vec<Step>, AllocError>
         requires { length marks.now ≡ length (news (seen self.now) Direction.Pull)
             + length (news (seen self.now) Direction.Push) }
-        ensures { IfOk result (λ v. v.items ≡ all_steps (seen self.now) marks.now) }
+        ensures written { IfOk result (λ v. v.items ≡ all_steps (seen self.now) marks.now) }
+        ensures fit { IfOk result (λ v. All IsStep v.items) }
     {
         let pulled = self.new_items(alloc, Direction::Pull)?;
         let pushed = self.new_items(alloc, Direction::Push)?;
@@ -145,7 +161,8 @@ impl Lists<'_> {
 
     // MaxPulledUid or MaxPushedUid after the run.
     fn highest_after(&self, direction: Direction) -> u32
-        ensures { result ≡ highest_after (seen self.now) direction }
+        ensures highest { result ≡ highest_after (seen self.now) direction }
+        ensures in_range { IsHighest (highest direction (seen self.now)) → IsHighest result }
     {
         let highest = self.highest(direction);
         if self.options().cells.new.goes(direction) {
@@ -157,7 +174,8 @@ impl Lists<'_> {
 }
 
 fn greatest_uid(items: &[Item]) -> u32
-    ensures { result ≡ greatest items.now }
+    ensures greatest { result ≡ greatest items.now }
+    ensures in_range { IsHighest result }
 {
     let mut best = 0;
     for item in items {

@@ -30,7 +30,7 @@ pub taken-at : (s t r i : ℕ) → i < FLAGS → bit_at (taken s t r) i ≡ take
 unfolding taken
 taken-at s t r i h = bit_at-each_flag taken_flag taken_small FLAGS s t r i h
 
-recorded_small : (pull push : Bool) → (x y z : ℕ) → x < 2 → y < 2 → z < 2 → recorded_flag pull push x y z < 2
+pub recorded_small : (pull push : Bool) → (x y z : ℕ) → x < 2 → y < 2 → z < 2 → recorded_flag pull push x y z < 2
 recorded_small true true = eight (λ x y z. recorded_flag true true x y z < 2) (omega arith) (omega arith) (omega arith) (omega arith) (omega arith) (omega arith) (omega arith) (omega arith)
 recorded_small true false = eight (λ x y z. recorded_flag true false x y z < 2) (omega arith) (omega arith) (omega arith) (omega arith) (omega arith) (omega arith) (omega arith) (omega arith)
 recorded_small false true = eight (λ x y z. recorded_flag false true x y z < 2) (omega arith) (omega arith) (omega arith) (omega arith) (omega arith) (omega arith) (omega arith) (omega arith)

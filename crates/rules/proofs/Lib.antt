@@ -3,3 +3,4 @@ pub mod EntryLemmas
 pub mod EntryEnds
 pub mod Walks
 pub mod LookUps
+pub mod WorldLemmas

@@ -8,6 +8,16 @@ pub mod Propagation
 pub mod Scene
 pub mod Called
 pub mod Order
+pub mod Plans
+pub mod PlanEntries
 pub mod Outcome
 pub mod SyncWords
 pub mod World
+pub mod Opening
+pub mod Admission
+pub mod Copies
+pub mod WorldAfter
+pub mod AlikeBy
+pub mod Renaming
+pub mod Alike
+pub mod AlikeExamples

@@ -1,4 +1,4 @@
--- What a run makes of the listings and the state, named at once.
+-- What a run makes of the state, and what it copies, named at once from the listings.
 use Rattle.std.specs.Prelude.{ℕ, ◌+◌, max, not, ◌==◌, List, [], ◌∷◌, Option, Some, None, map, filter, count_by, if◌then◌else◌}
 use Rattle.mailcore.specs.declared.side.Side.{Side}
 use Rattle.mailcore.specs.declared.side.Side.TheVariants.{Far, Near}
@@ -14,19 +14,19 @@ use Rattle.rules.specs.Propagation.{Drop}
 use Rattle.rules.specs.Options.{goes}
 use Rattle.rules.specs.Entries.{uid_of}
 use Rattle.rules.specs.Scene.{Scene, items, highest}
-use Rattle.rules.specs.Called.{is_new, is_gone, is_expunged, pair_of, recorded, flags_after, called}
+use Rattle.rules.specs.Called.{is_new, is_gone, pair_of, recorded, called}
 
--- the messages that are copied in a direction
+-- those of a list that are new in a direction: `shows` is what a listing shows of each
+abbrev pub new_among : {X : Type 0} → (shows : X → Item) → Scene → Direction → List X → List X
+new_among shows s d xs = filter (λ x. is_new s d (shows x)) xs
+
+-- the listed messages that are copied in a direction
 abbrev pub news : Scene → Direction → List Item
-news s d = filter (is_new s d) (items s (source d))
+news s d = new_among (λ i. i) s d (items s (source d))
 
 -- how many messages are copied
 abbrev pub count_new : Scene → ℕ
 count_new s = count_by (is_new s Pull) s.far + count_by (is_new s Push) s.near
-
--- the messages of a side that stay, with their flags after
-abbrev pub remaining : Scene → Side → List Item
-remaining s side = map (λ i. record { uid = i.uid; flags = flags_after s side i.uid i.flags; fit = i.fit }) (filter (λ i. not (is_expunged s side i.uid)) (items s side))
 
 abbrev pub recorded_or : Scene → (flags : ℕ) → Option ListedPair → ℕ
 recorded_or s flags None = flags

@@ -126,6 +126,15 @@ impl Entries {
         &self.list
     }
 
+    /// Gives the entries back, without taking memory.
+    pub fn into_vec(self) -> Vec<Entry>
+        ensures list { result.items ≡ self }
+        ensures pairs { ArePairs result.items }
+    {
+        let Entries { list, near: _ } = self;
+        list
+    }
+
     /// Adds an entry behind the others. `OutOfOrder`: it may not stand there, since it has no side, is not above
     /// the others, or names a UID that another names.
     pub fn push(&mut self, entry: Entry) -> Result<(), PushFault>

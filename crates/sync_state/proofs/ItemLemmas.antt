@@ -62,22 +62,6 @@ pub last_item : {A : Type 0} (place : A → ℕ × ℕ × ℕ) (items : List A) 
 last_item place items item =
     sym (ap (λ (x : List (ℕ × ℕ × ℕ)). last_of bottom x) (map-append place items (item ∷ [])) ∙ last_of-push bottom (map place items) (place item))
 
-pub bad_item : {A : Type 0} (fits : A → Type 0) (line : A → List ℕ) (place : A → ℕ × ℕ × ℕ) (taken : ℕ) (items : List A) (item : A) (text between rest : List ℕ) (number : ℕ)
-    → AreItems fits line place items text between → HasLine [] fits line item between rest → is_below (last_of bottom (map place items)) (place item) ≡ false
-    → number ≡ taken + length items + 1 → IsBadItem fits line place taken text number
-bad_item fits line place taken items item text between rest number a l stops number_is = record {
-  before = items;
-  item = item;
-  rest = between;
-  behind = rest;
-  are = a;
-  fitting = l.fitting;
-  one_line = l.one_line;
-  parts = l.parts;
-  stops = stops;
-  number_is = number_is;
-}
-
 -- ---- items of other lines that begin alike
 
 -- items whose lines are known by their places, and lines behind them that are none of theirs

@@ -1,4 +1,4 @@
--- Where the lines of a text stop beginning a journal's.
+-- The first line of a text after which no valid journal is possible.
 use Rattle.std.proofs.Common.{◌≡◌, ℕ, ◌<◌, ◌^◌, List, [], ◌∷◌, ◌++◌, refl, arith}
 use Rattle.std.specs.Prelude.{codes, decimal}
 use Rattle.std.proofs.lemmas.List.Elements.{All-nil}

@@ -31,7 +31,7 @@ entry_is_one_line e is =
     (spaced (decimal (uid_of Far e)) (decimal (uid_of Near e) ++ 32 ∷ flags_word e.flags) (uid_or_none e.far is.far)
     (spaced (decimal (uid_of Near e)) (flags_word e.flags) (uid_or_none e.near is.near) (flags e.flags)))
 
-state_is_lines : (s : SyncState) → HasText s → All OneLine (state_lines s)
+pub state_is_lines : (s : SyncState) → HasText s → All OneLine (state_lines s)
 state_is_lines s fits =
     let run : OneLine (run_line s.run) = behind (codes "run ") (decimal s.run) (lacks_lf (codes "run ") refl) (number s.run fits.run.fits) in
     let far : OneLine (far_line s.far_validity s.max_pulled) = behind (codes "far ") (decimal s.far_validity ++ 32 ∷ decimal s.max_pulled) (lacks_lf (codes "far ") refl)

@@ -17,15 +17,6 @@ rises_past {A} place items i x last next within is at below =
     ∙ ap (λ (p : ℕ × ℕ × ℕ). is_below last p && rises p (map place (drop (i + 1) items))) (sym at)
     ∙ ap (λ (b : Bool). b && rises next (map place (drop (i + 1) items))) below
 
--- an item that does not
-pub falls_at : {A : Type 0} (place : A → ℕ × ℕ × ℕ) (items : List A) (i : ℕ) (x : A) (last next : ℕ × ℕ × ℕ)
-    → i < length items → x ≡ get_or items i x → next ≡ place x → is_below last next ≡ false
-    → rises last (map place (drop i items)) ≡ false
-falls_at {A} place items i x last next within is at below =
-    first_left (λ ys. rises last (map place ys)) items i x within is
-    ∙ ap (λ (p : ℕ × ℕ × ℕ). is_below last p && rises p (map place (drop (i + 1) items))) (sym at)
-    ∙ ap (λ (b : Bool). b && rises next (map place (drop (i + 1) items))) below
-
 pub fit_with : {A : Type 0} (fits : A → Type 0) (items : List A) (i : ℕ) (x : A)
     → i < length items → x ≡ get_or items i x → fits x → All fits (drop (i + 1) items) → All fits (drop i items)
 fit_with {A} fits items i x within is fit rest =

@@ -1,4 +1,4 @@
--- Where the lines of a text stop beginning a state's.
+-- The first line of a text after which no valid state is possible.
 use Rattle.std.proofs.Common.{◌≡◌, ◌≢◌, ℕ, ◌+◌, ◌<◌, ◌^◌, true, false, List, [], ◌∷◌, ◌++◌, length, get_or, drop, map, Option, Some, None, refl, sym, ap, ◌∙◌, subst, inl, inr, ◌⊎◌, arith, append_assoc, length-append}
 use Rattle.std.specs.Prelude.{All, IfNone, codes, decimal, unwrap_or, not, ◌==◌}
 use Rattle.std.specs.List.{list_all}
@@ -218,9 +218,6 @@ pub no_entry : {X : Type 0} (r : Option X) (text : List ℕ)
 no_entry None text none = λ line behind one e v f. none line behind one e (v.far, (v.near, v.flags)) (f.far, (f.near, f.flags))
 no_entry (Some x) text none = tt
 
-pub no_entries : (text : List ℕ) → AreEntries [] text text
-no_entries text = record { fits = All-nil IsEntry; pairs = no_pairs; lines = no_lines text }
-
 pub entry_more : (es : List Entry) (e : Entry) (text between rest : List ℕ) → AreEntries es text between → HasLine [] IsEntry entry_line e between rest
     → ArePairs (es ++ e ∷ []) → AreEntries (es ++ e ∷ []) text rest
 entry_more es e text between rest a l p = record {
@@ -228,21 +225,6 @@ entry_more es e text between rest a l p = record {
   pairs = p;
   lines = let P : List (List ℕ) → Type 0 = λ x. AreLines x text rest in
       subst P (sym (map-append entry_line es (e ∷ []))) (line_more (map entry_line es) (entry_line e) text between rest a.lines l.one_line l.parts);
-}
-
-pub bad_entry : (taken : ℕ) (es : List Entry) (e : Entry) (text between rest : List ℕ) (number : ℕ) → AreEntries es text between
-    → HasLine [] IsEntry entry_line e between rest → may_end e es ≡ false → number ≡ taken + length es + 1 → IsBadEntry taken text number
-bad_entry taken es e text between rest number a l stops number_is = record {
-  before = es;
-  entry = e;
-  rest = between;
-  behind = rest;
-  are = a;
-  fits = l.fitting;
-  one_line = l.one_line;
-  parts = l.parts;
-  stops = stops;
-  number_is = number_is;
 }
 
 -- ---- the whole

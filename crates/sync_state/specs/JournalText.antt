@@ -1,22 +1,19 @@
 -- The text of a journal: a plan, and the lines that log its steps.
-use Rattle.std.specs.Prelude.{ℕ, ◌+◌, ◌<◌, ◌^◌, ◌≡◌, Bool, true, ◌&&◌, ◌||◌, ◌==◌, nat_lt, if◌then◌else◌, List, [], ◌∷◌, ◌++◌, All, map, length, unwrap_or, codes, decimal}
-use Rattle.mailcore.specs.FlagSet.{FLAGS}
+use Rattle.std.specs.Prelude.{ℕ, ◌+◌, ◌≡◌, ◌==◌, if◌then◌else◌, List, [], ◌∷◌, ◌++◌, map, length, unwrap_or, codes, decimal}
 use Rattle.mailcore.specs.FlagNames.{letters_of}
-use Rattle.mailcore.specs.Mark.{IsMark}
 use Rattle.rules.specs.declared.plan.Step.{Step}
 use Rattle.rules.specs.declared.plan.Step.TheVariants as step
 use Rattle.rules.specs.declared.plan.Note.{Note}
 use Rattle.rules.specs.declared.plan.Note.TheVariants as note
 use Rattle.rules.specs.declared.plan.PlanSide.{PlanSide}
 use Rattle.rules.specs.declared.plan.Plan.{Plan}
-use Rattle.rules.specs.Propagation.{New, Gone, Flags, Expunge, Record, Drop}
-use Rattle.rules.specs.Order.{place}
+pub use Rattle.rules.specs.Plans.{IsPlanSide, IsStep, IsNote, step_place, note_place, is_below, rises, bottom, IsPlan}
 use Rattle.sync_state.specs.declared.journal.Logged.{Logged}
 use Rattle.sync_state.specs.declared.journal.Logged.TheVariants.{Copied, Done, Void}
 use Rattle.sync_state.specs.declared.journal.Journal.{Journal}
-use Rattle.sync_state.specs.Words.{IsUid, IsPositive, IsUidOrNone, flags_word, direction_word, side_word}
+use Rattle.sync_state.specs.Words.{IsUid, flags_word, direction_word, side_word}
 use Rattle.sync_state.specs.Lines.{OneLine, AreLines, Begins}
-use Rattle.sync_state.specs.StateText.{run_line, IsHighest}
+use Rattle.sync_state.specs.StateText.{run_line}
 
 abbrev pub journal_title : List ℕ
 journal_title = codes "journal 1"
@@ -66,54 +63,6 @@ abbrev pub plan_lines : Plan → List (List ℕ)
 plan_lines p = plan_head_lines p ++ ((map step_line p.steps ++ map note_line p.notes) ++ go_line ∷ [])
 
 -- ---- which journals have a text
-
-pub record IsPlanSide (side : PlanSide) : Type 0 where
-  pub validity : IsPositive side.validity
-  pub highest : IsHighest side.highest
-  pub next : IsPositive side.next
-
-abbrev pub IsStep : Step → Type 0
-IsStep (step.New direction uid flags mark) = IsUid uid × (flags < 2 ^ FLAGS) × IsMark mark
-IsStep (step.Gone direction far near) = IsUid far × IsUid near
-IsStep (step.Flags direction far near set cleared) = IsUid far × IsUid near × (set < 2 ^ FLAGS) × (cleared < 2 ^ FLAGS)
-IsStep (step.Expunge side uid) = IsUid uid
-
-abbrev pub IsNote : Note → Type 0
-IsNote (note.Record far near flags) = IsUid far × IsUid near × (flags < 2 ^ FLAGS)
-IsNote (note.Drop far near) = IsUidOrNone far × IsUidOrNone near
-
--- the place of a step or a note in the order of a plan
-abbrev pub step_place : Step → ℕ × ℕ × ℕ
-step_place (step.New direction uid flags mark) = place (New direction uid)
-step_place (step.Gone direction far near) = place (Gone direction far near)
-step_place (step.Flags direction far near set cleared) = place (Flags direction far near set cleared)
-step_place (step.Expunge side uid) = place (Expunge side uid)
-
-abbrev pub note_place : Note → ℕ × ℕ × ℕ
-note_place (note.Record far near flags) = place (Record far near flags)
-note_place (note.Drop far near) = place (Drop (unwrap_or far 0) (unwrap_or near 0))
-
--- as IsBelow
-abbrev pub is_below : (a b : ℕ × ℕ × ℕ) → Bool
-is_below a b = nat_lt a.0 b.0 || (a.0 == b.0 && (nat_lt a.1 b.1 || (a.1 == b.1 && nat_lt a.2 b.2)))
-
--- each place is below the next one, from this one on
-abbrev pub rises : ℕ × ℕ × ℕ → List (ℕ × ℕ × ℕ) → Bool
-rises last [] = true
-rises last (p ∷ ps) = is_below last p && rises p ps
-
--- no step has this place, and each has one above it
-abbrev pub bottom : ℕ × ℕ × ℕ
-bottom = (0, 0, 0)
-
-pub record IsPlan (p : Plan) : Type 0 where
-  pub run : p.run < 2 ^ 64
-  pub far : IsPlanSide p.far
-  pub near : IsPlanSide p.near
-  pub steps : All IsStep p.steps
-  pub notes : All IsNote p.notes
-  pub steps_rise : rises bottom (map step_place p.steps) ≡ true
-  pub notes_rise : rises bottom (map note_place p.notes) ≡ true
 
 -- how a new message may be logged
 abbrev pub LogsNew : Logged → Type 0

@@ -1,4 +1,4 @@
--- Texts of lines, and the first line with which a text stops beginning what it should spell.
+-- Texts of lines, and the first line of a text after which no valid text is possible.
 use Rattle.std.specs.Prelude.{ℕ, ◌+◌, ◌≡◌, ◌≢◌, List, [], ◌∷◌, ◌++◌, All, length}
 use Rattle.sync_state.specs.Cuts.{Lacks}
 

@@ -1,10 +1,11 @@
 -- The text of a state.
-use Rattle.std.specs.Prelude.{ℕ, ◌+◌, ◌<◌, ◌^◌, ◌≡◌, List, [], ◌∷◌, ◌++◌, All, map, codes, decimal}
+use Rattle.std.specs.Prelude.{ℕ, ◌<◌, ◌^◌, ◌≡◌, List, [], ◌∷◌, ◌++◌, All, map, codes, decimal}
 use Rattle.mailcore.specs.declared.side.Side.TheVariants.{Far, Near}
 use Rattle.mailcore.specs.FlagSet.{FLAGS}
 use Rattle.rules.specs.declared.entry.Entry.{Entry}
 use Rattle.rules.specs.declared.state.SyncState.{SyncState}
 use Rattle.rules.specs.Entries.{ArePairs, uid_of}
+pub use Rattle.rules.specs.Plans.{IsHighest}
 use Rattle.sync_state.specs.Words.{IsPositive, IsRun, IsUidOrNone, flags_word}
 use Rattle.sync_state.specs.Lines.{lines_text}
 
@@ -31,10 +32,6 @@ abbrev pub state_lines : SyncState → List (List ℕ)
 state_lines s =
     state_title ∷ run_line s.run ∷ far_line s.far_validity s.max_pulled ∷ near_line s.near_validity s.max_pushed
     ∷ (map entry_line s.entries ++ end_line ∷ [])
-
--- MaxPulledUid or MaxPushedUid
-abbrev pub IsHighest : ℕ → Type 0
-IsHighest n = n + 1 < 2 ^ 32
 
 pub record IsEntry (e : Entry) : Type 0 where
   pub far : IsUidOrNone e.far

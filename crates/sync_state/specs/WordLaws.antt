@@ -73,11 +73,6 @@ flags-word-lacks flags fits = flags-lack flags
 pub mark-injective : (a b : List ℕ) → IsMark a → IsMark b → a ≡ b → a ≡ b
 mark-injective a b fa fb e = e
 
-pub mark-lacks : (mark : List ℕ) → IsMark mark → Lacks 32 mark
-mark-lacks mark is =
-    let chars : list_all is_mark_char mark ≡ true = (and_parts (length mark == MARK_LENGTH) (list_all is_mark_char mark) is).1 in
-    All-weaker (λ b. is_mark_char b ≡ true) (λ b. b ≢ 32) (λ b t e. let none : is_mark_char 32 ≡ true = subst (λ (x : ℕ). is_mark_char x ≡ true) e t in false≢true none) mark (AllPass-from_list_all is_mark_char mark chars)
-
 -- ---- UIDs that may be missing
 
 pub side-injective : (a b : Option ℕ) → IsUidOrNone a → IsUidOrNone b → decimal (unwrap_or a 0) ≡ decimal (unwrap_or b 0) → a ≡ b

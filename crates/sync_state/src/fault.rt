@@ -1,5 +1,6 @@
 //! The faults of this crate's calls.
 
+use device::DeviceFault;
 use std::alloc::{AllocError, AllocFailed};
 use thiserror::Error;
 
@@ -9,11 +10,12 @@ pub enum BookFault {
     /// A call of the shelf was stopped, now or earlier.
     #[error("stopped")]
     Stopped,
-    /// The state is not spelled as a state: with this line, counted from 1, its text stops beginning a spelling, or it
-    /// begins one and ends too early, and this is the line after its last whole one. Line 0: a UID is named already.
+    /// The text is of no state, and this is its first bad line, counted from 1: the first line after which no valid state
+    /// is possible, or, where a valid one ends too early, the line behind its last. Line 0: a UID is named already.
     #[error("bad state {0}")]
     BadState(usize),
-    /// The journal is bad from this line on, counted from 1.
+    /// The journal is bad, and this is its first bad line, counted from 1: the first line after which no valid journal of
+    /// the next run is possible.
     #[error("bad journal {0}")]
     BadJournal(usize),
     /// A growth was refused.
@@ -40,5 +42,19 @@ impl<T: Drop> From<AllocFailed<T>> for BookFault {
 
     fn from(_: AllocFailed<T>) -> BookFault {
         BookFault::NoMemory
+    }
+}
+
+impl From<DeviceFault> for BookFault {
+    ghost use Rattle.std.specs.Prelude.{◌≡◌};
+    ghost use Rattle.sync_state.specs.BookFaults.{of_shelf};
+
+    ghost from_gives = { λ fault told. told ≡ of_shelf fault };
+
+    fn from(fault: DeviceFault) -> BookFault {
+        match fault {
+            DeviceFault::Stopped => BookFault::Stopped,
+            DeviceFault::NoMemory => BookFault::NoMemory,
+        }
     }
 }

@@ -80,7 +80,7 @@ fn push_notes(text: &mut Vec<u8>, notes: &[Note]) -> Result<(), AllocError>
 }
 
 /// The plan with this text and how its steps are logged, or none if no whole line is `go`: only whole lines count.
-/// `BadJournal`: a whole line is `go`, and with this line they stop beginning a journal.
+/// `BadJournal`: a whole line is `go`, and this is the first line after which no valid journal is possible.
 pub fn read_journal(alloc: Global, text: &[u8]) -> Result<Option<WrittenJournal>, BookFault>
     ensures read { IfOk result (λ read. MatchOption read (¬ HasGo text.now) (λ written. IsWritten written text.now)) }
     ensures refused { IfErr result (TellsJournal text.now) }

@@ -2,15 +2,30 @@
 
 ghost use Rattle.std.specs.Prelude.{◌≡◌};
 ghost use Rattle.sync_state.specs.JournalText.{step_place, note_place, is_below};
-ghost use Rattle.sync_state.specs.Places.{place_at};
+ghost use Rattle.sync_state.specs.Places.{place_at, rank};
 
 use mailcore::side::{Direction, Side};
 use rules::plan::{Note, Step};
 
+/// The kinds of steps and notes, in the order of a plan.
+#[derive(Clone, Copy, Debug, PartialEq, Eq, PartialOrd, Ord)]
+enum Kind {
+    NewPull,
+    NewPush,
+    GonePull,
+    GonePush,
+    FlagsPull,
+    FlagsPush,
+    ExpungeFar,
+    ExpungeNear,
+    RecordFlags,
+    DropEntry,
+}
+
 /// The kind of a step or a note, and the UIDs by which those of its kind rise.
 #[derive(Clone, Copy, Debug)]
 pub struct Place {
-    kind: u32,
+    kind: Kind,
     first: u32,
     second: u32,
 }
@@ -18,7 +33,7 @@ pub struct Place {
 impl Place {
     /// Below each step and each note.
     pub const BOTTOM: Place = Place {
-        kind: 0,
+        kind: Kind::NewPull,
         first: 0,
         second: 0,
     };
@@ -29,24 +44,24 @@ impl Place {
     {
         match *step {
             Step::New { direction, uid, .. } => match direction {
-                Direction::Pull => Place::at(0, uid.get(), 0),
-                Direction::Push => Place::at(1, uid.get(), 0),
+                Direction::Pull => Place::at(Kind::NewPull, uid.get(), 0),
+                Direction::Push => Place::at(Kind::NewPush, uid.get(), 0),
             },
             Step::Gone {
                 direction,
                 far,
                 near,
             } => match direction {
-                Direction::Pull => Place::at(2, near.get(), 0),
-                Direction::Push => Place::at(3, far.get(), 0),
+                Direction::Pull => Place::at(Kind::GonePull, near.get(), 0),
+                Direction::Push => Place::at(Kind::GonePush, far.get(), 0),
             },
             Step::Flags { direction, far, .. } => match direction {
-                Direction::Pull => Place::at(4, far.get(), 0),
-                Direction::Push => Place::at(5, far.get(), 0),
+                Direction::Pull => Place::at(Kind::FlagsPull, far.get(), 0),
+                Direction::Push => Place::at(Kind::FlagsPush, far.get(), 0),
             },
             Step::Expunge { side, uid } => match side {
-                Side::Far => Place::at(6, uid.get(), 0),
-                Side::Near => Place::at(7, uid.get(), 0),
+                Side::Far => Place::at(Kind::ExpungeFar, uid.get(), 0),
+                Side::Near => Place::at(Kind::ExpungeNear, uid.get(), 0),
             },
         }
     }
@@ -56,17 +71,17 @@ impl Place {
         ensures { place_at result ≡ note_place note.now }
     {
         match *note {
-            Note::Record { far, near, .. } => Place::at(8, far.get(), near.get()),
+            Note::Record { far, near, .. } => Place::at(Kind::RecordFlags, far.get(), near.get()),
             Note::Drop { far, near } => Place::at(
-                9,
+                Kind::DropEntry,
                 far.map_or(0, |uid| uid.get()),
                 near.map_or(0, |uid| uid.get()),
             ),
         }
     }
 
-    fn at(kind: u32, first: u32, second: u32) -> Place
-        ensures { place_at result ≡ (kind, first, second) }
+    fn at(kind: Kind, first: u32, second: u32) -> Place
+        ensures { place_at result ≡ (rank kind, first, second) }
     {
         Place {
             kind,

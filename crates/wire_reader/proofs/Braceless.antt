@@ -34,10 +34,6 @@ lacks_brace class n b h =
       | inr e ↦ ap not e
     ]
 
-pub class_braceless : (class : ℕ → Bool) → class 123 ≡ false → (t : List ℕ) → list_all class t ≡ true → braceless t ≡ true
-class_braceless class n [] h = refl
-class_braceless class n (b ∷ t) h = let p = and_parts _ _ h in and_from _ _ (lacks_brace class n b p.0) (class_braceless class n t p.1)
-
 -- a byte whose upper case is no `{`
 pub upper_braceless : (b c : ℕ) → upper b ≡ c → no_brace c ≡ true → no_brace b ≡ true
 upper_braceless b c e h =

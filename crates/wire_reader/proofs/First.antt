@@ -90,12 +90,3 @@ module _ {A : Type 0} {e : Ender} {L M : A → List ℕ → Type 0} {r s : List 
 
   pub first_reader : Reader e (λ a t. L a t ⊎ M a t) (by_first test r s)
   first_reader = record { start = (None, refl); sound = first_sound; complete = first_complete; open_end = first_open; more = first_more; bad = first_bad }
-
--- what follows either
-pub first_seq : {A B : Type 0} (test : ℕ → Bool) (r s : List ℕ → Result (A × List ℕ) Stop) (f : A → List ℕ → Result (B × List ℕ) Stop) (xs : List ℕ) → seq (by_first test r s) f xs ≡ by_first test (seq r f) (seq s f) xs
-first_seq test r s f [] = refl
-first_seq test r s f (b ∷ bs) =
-    elim (cases_Bool (test b)) [
-      | inl g ↦ ap (λ (t : Bool). cond t (r (b ∷ bs)) (s (b ∷ bs)) >>= λ x. f x.0 x.1) g ∙ sym (ap (λ (t : Bool). cond t (seq r f (b ∷ bs)) (seq s f (b ∷ bs))) g)
-      | inr g ↦ ap (λ (t : Bool). cond t (r (b ∷ bs)) (s (b ∷ bs)) >>= λ x. f x.0 x.1) g ∙ sym (ap (λ (t : Bool). cond t (seq r f (b ∷ bs)) (seq s f (b ∷ bs))) g)
-    ]

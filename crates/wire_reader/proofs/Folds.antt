@@ -45,10 +45,6 @@ module _ {A B : Type 0} (sep : ℕ) (r : List ℕ → Result (A × List ℕ) Sto
   pub folded_is : (xs : List ℕ) → folded sep r f b xs ≡ mapped (fold f b) (items_at sep r) xs
   folded_is xs = fold_is (suc (length xs)) [] xs
 
-pub folded_part : {A B : Type 0} {side : Side} {e : Ender} {L : A → List ℕ → Type 0} {r : List ℕ → Result (A × List ℕ) Stop} (sep : ℕ) → stops e (sep ∷ []) ≡ true → eqb sep 123 ≡ false → (f : B → A → B) (b : B) → Part side true e L r → Part side true (with_sep e sep) (FoldedText sep L f b) (folded sep r f b)
-folded_part {r} sep apart plain f b p = as_part (folded_is sep r f b)
-    (mapped_part (fold f b) (λ items t h. record { items = items; value_is = refl; spelled = h }) (λ v t h. (h.items, h.value_is, h.spelled)) (items_part _ sep apart plain p))
-
 -- ---- the steps of a loop that folds
 
 module _ {A B : Type 0} (sep : ℕ) (r : List ℕ → Result (A × List ℕ) Stop) (f : B → A → B) (n i : ℕ) (v : B) (xs : List ℕ) (total : Result (B × List ℕ) Stop) (lt : i < n) (so_far : fold_by sep r f (n - i) v xs ≡ total) where

@@ -28,7 +28,7 @@ starts_seq {r} f s = record { refuses = λ xs h. stuck_bind (r xs) xs (λ x. f x
 pub starts_mapped : {A B : Type 0} {c : ℕ} {r : List ℕ → Result (A × List ℕ) Stop} (f : A → B) → Starts c r → Starts c (mapped f r)
 starts_mapped {r} f s = record { refuses = λ xs h. stuck_bind (r xs) xs (λ x. Ok (f x.0, x.1)) (s.refuses xs h) }
 
-no_head : (g : ℕ → Bool) (c : ℕ) → g c ≡ false → (xs : List ℕ) → stops (Open g) xs ≡ false → NoHead c xs
+pub no_head : (g : ℕ → Bool) (c : ℕ) → g c ≡ false → (xs : List ℕ) → stops (Open g) xs ≡ false → NoHead c xs
 no_head g c n [] h = tt
 no_head g c n (b ∷ bs) h =
     elim (cases_Bool (eqb b c)) [

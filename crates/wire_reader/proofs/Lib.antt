@@ -32,3 +32,4 @@ pub mod PartFilled
 pub mod Folds
 pub mod Fronts
 pub mod Decisive
+pub mod Written

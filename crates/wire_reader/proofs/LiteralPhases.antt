@@ -24,6 +24,7 @@ use Rattle.wire_reader.proofs.PartTokens.{scan_lexed, scan_leads}
 use Rattle.wire_reader.proofs.Lexed.{Lexed, Leads, kind_at, asks-step, kind-first, kind-step}
 use Rattle.wire_reader.proofs.LexedSeq.{two-phases, seq_lexed}
 use Rattle.wire_reader.proofs.Part.{Part, byte_lexed}
+use Rattle.wire_reader.proofs.Octets.{octet_case}
 
 -- ---- the length
 
@@ -138,9 +139,6 @@ module _ (side : Side) where
 in-step : (n b : ℕ) → next (In (suc (suc n))) b ≡ In (suc n)
 in-step n b = ap (λ (t : Bool). cond t Plain (In (suc (suc n) - 1))) (lt-leb (suc (suc n)) 1 (omega arith)) ∙ ap (λ (k : ℕ). In k) (let e : suc (suc n) - 1 ≡ suc n = omega arith in e)
 
-in-last : (b : ℕ) → next (In 1) b ≡ Plain
-in-last b = refl
-
 -- among the octets nobody waits
 in-asks : (side : Side) (n : ℕ) (xs : List ℕ) → length xs ≤ suc n → asks_from side (In (suc n)) xs ≡ None
 in-asks side n [] le = refl
@@ -153,9 +151,6 @@ in-phase n [] h = absurd (omega (arith, h))
 in-phase zero (b ∷ []) h = refl
 in-phase zero (b ∷ c ∷ bs) h = absurd (omega (arith, h))
 in-phase (suc n) (b ∷ bs) h = ap (λ (p : Phase). phase p bs) (in-step n b) ∙ in-phase n bs (omega (arith, h))
-
-abbrev octet_case : ℕ → ℕ → List ℕ → Bool → Result (List ℕ × List ℕ) Stop
-octet_case n b bs t = cond t (stuck (b ∷ bs)) (with_byte b (octets_at n bs))
 
 octets_short : (n : ℕ) (xs : List ℕ) (w : Option ℕ) → octets_at n xs ≡ Err (Ends w) → (length xs < n) × (None ≡ w)
 octets_short zero xs w h = absurd cc

@@ -84,9 +84,5 @@ module _ {A B : Type 0} (sep : ℕ) (r : List ℕ → Result (A × List ℕ) Sto
   turn_fails errors.Memory h = tt
   turn_fails (errors.At s) h = turn_err s h
 
--- what a failing end of the list gives
-pub end_fails : {A B : Type 0} (s : Stop) (o : Result (A × List ℕ) Stop) (f : A × List ℕ → Result (B × List ℕ) Stop) (total : Result (B × List ℕ) Stop) → total ≡ (o >>= f) → o ≡ Err s → total ≡ Err s
-end_fails {A} s o f total e h = e ∙ ap (λ (x : Result (A × List ℕ) Stop). x >>= f) h
-
 pub end_ok : {A B : Type 0} (x : A × List ℕ) (o : Result (A × List ℕ) Stop) (f : A × List ℕ → Result (B × List ℕ) Stop) (total : Result (B × List ℕ) Stop) → total ≡ (o >>= f) → o ≡ Ok x → total ≡ f x
 end_ok {A} x o f total e h = e ∙ ap (λ (y : Result (A × List ℕ) Stop). y >>= f) h

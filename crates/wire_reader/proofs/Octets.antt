@@ -23,7 +23,7 @@ with_err b (Err t) s h = cc
 
 -- ---- octets
 
-abbrev octet_case : ℕ → ℕ → List ℕ → Bool → Result (List ℕ × List ℕ) Stop
+abbrev pub octet_case : ℕ → ℕ → List ℕ → Bool → Result (List ℕ × List ℕ) Stop
 octet_case n b bs t = cond t (stuck (b ∷ bs)) (with_byte b (octets_at n bs))
 
 pub octets_sound : (n : ℕ) (xs a rest : List ℕ) → octets_at n xs ≡ Ok (a, rest) → (xs ≡ a ++ rest) × IsOctets n a

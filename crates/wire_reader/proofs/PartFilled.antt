@@ -130,7 +130,7 @@ module _ {A : Type 0} {L : A → List ℕ → Type 0} {r : List ℕ → Result (
 
 -- ---- the length of a literal that has octets
 
-value_le : (ds : List ℕ) (v : ℕ) → v ≤ value v ds
+pub value_le : (ds : List ℕ) (v : ℕ) → v ≤ value v ds
 value_le [] v = omega arith
 value_le (d ∷ ds) v = let r = value_le ds (10 * v + (d - 48)) in omega (arith, r)
 

@@ -4,9 +4,6 @@ use Rattle.std.proofs.lemmas.List.{take_at, take-append-drop}
 use Rattle.std.specs.Prelude.{OnOk}
 use Rattle.std.specs.declared.alloc.AllocError.{AllocError}
 use Rattle.wire_reader.specs.Spelling.{◌⨾◌}
-use Rattle.wire_reader.specs.declared.side.Side.{Side}
-use Rattle.wire_reader.specs.declared.side.Side.TheVariants.{Replies}
-use Rattle.wire_tokens.specs.Strings.{OnEitherSide}
 use Rattle.wire_tokens.specs.Writing.{Appended, Extended}
 
 -- a text behind a text
@@ -36,7 +33,3 @@ extended_kept old new e = ap (take (length old)) e.parts ∙ take_at old e.text 
 
 pub kept_extends : (old new : List ℕ) → take (length old) new ≡ old → Extended old new
 kept_extends old new h = record { text = drop (length old) new; parts = sym (take-append-drop (length old) new) ∙ ap (λ (x : List ℕ). x ++ drop (length old) new) h; spelled = tt }
-
--- a spelling for both sides is one in replies
-pub in_replies : {L : Side → List ℕ → Type 0} {old new : List ℕ} → Appended (OnEitherSide L) old new → Appended (L Replies) old new
-in_replies a = record { text = a.text; parts = a.parts; spelled = a.spelled Replies }

@@ -8,11 +8,4 @@ pub mod FlagParts
 pub mod NameParts
 pub mod SpacedNames
 pub mod WrittenFlags
-pub mod QuoteSteps
-pub mod QuoteParts
-pub mod PartUnless
-pub mod TextParts
-pub mod DelimiterParts
-pub mod StringParts
-pub mod StringWriting
 pub mod AppendLemmas

@@ -13,11 +13,7 @@ use Rattle.wire_reader.proofs.LengthSteps.{digit_is}
 use Rattle.wire_reader.proofs.Part.{Part, same_part}
 use Rattle.wire_reader.proofs.PartTokens.{run_part}
 use Rattle.wire_tokens.specs.Numbers.{greatest, NumberText, NzText, with_digit, or_syntax, number_go, read_so_far, digits_at, number_at, nz_at}
-
--- digits behind a number do not make it smaller
-value_le : (ds : List ℕ) (v : ℕ) → v ≤ value v ds
-value_le [] v = omega arith
-value_le (d ∷ ds) v = omega (arith, value_le ds (10 * v + (d - 48)))
+use Rattle.wire_reader.proofs.PartFilled.{value_le}
 
 or_syntax-err : (o : Option ℕ) (k : Kind) → or_syntax o ≡ Err k → k ≡ Syntax
 or_syntax-err None k h = cc
@@ -32,9 +28,6 @@ cons_not b bs h = cc
 
 some_is : (m n : ℕ) → (let o : Option ℕ = Some m in o ≡ Some n) → m ≡ n
 some_is m n h = cc
-
-none_not : (o : Option ℕ) (n : ℕ) → o ≡ None → o ≡ Some n → ⊥
-none_not o n e h = let f : None ≡ Some n = sym e ∙ h in cc
 
 module _ (least most : ℕ) (low : least ≤ 1) (high : 9 ≤ most) where
   abbrev Text : Option ℕ → ℕ → List ℕ → Type 0

@@ -5,8 +5,3 @@ pub mod Atoms
 pub mod FlagLists
 pub mod FlagWriting
 pub mod Names
-pub mod Texts
-pub mod Quotes
-pub mod Delimiters
-pub mod Literals
-pub mod Strings

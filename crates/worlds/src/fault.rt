@@ -6,7 +6,7 @@ use thiserror::Error;
 /// Why a text was not read as a world.
 #[derive(Clone, Copy, Debug, PartialEq, Eq, Error)]
 pub enum WorldFault {
-    /// With this line, counted from 1, the text stops beginning a world; or it begins one and ends too early, and
+    /// After this line, counted from 1, no valid world is possible; or one is, and the text ends too early, and
     /// this is the line after its last whole one.
     #[error("line {0}")]
     Line(usize),

@@ -5,7 +5,7 @@ use Rattle.wire_reader.specs.declared.stop.Stop.{Stop}
 use Rattle.wire_reader.proofs.Loops.{turn_err, turn_ends, turn_goes, turn_ends_list}
 use Rattle.imap_replies.specs.declared.fetch.FetchItem.{FetchItem}
 use Rattle.imap_replies.specs.Fetches.{item_at, item_list_at}
-use Rattle.imap_replies.proofs.FetchParts.{bind_all}
+use Rattle.wire_tokens.proofs.SetParts.{bind_all}
 use Rattle.imap_replies.proofs.fetch.read_items.Goals as goal
 
 pub loop-init : goal.loop-init

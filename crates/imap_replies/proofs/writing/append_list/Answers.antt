@@ -1,4 +1,5 @@
-use Rattle.wire_tokens.proofs.AppendLemmas.{then_written, in_replies}
+use Rattle.wire_tokens.proofs.AppendLemmas.{then_written}
+use Rattle.wire_strings.proofs.StringWriting.{in_replies}
 use Rattle.imap_replies.proofs.writing.append_list.Goals as goal
 
 pub returns-clause-ok : goal.returns-clause-ok

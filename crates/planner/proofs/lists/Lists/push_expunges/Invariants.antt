@@ -1,10 +1,13 @@
 use Rattle.std.proofs.Common.{◌≡◌, ◌++◌, drop}
+use Rattle.std.specs.Prelude.{All}
 use Rattle.std.specs.List.{filter_map}
+use Rattle.rules.specs.Plans.{IsStep}
 use Rattle.planner.specs.Seen.{seen}
 use Rattle.planner.specs.Written.{expunge_step, expunge_steps}
 use Rattle.planner.proofs.lists.Lists.push_expunges.Given as goal
 
 abbrev pub invariant-loop-item : goal.invariant-loop-item
 invariant-loop-item l =
-    l.steps.items ++ filter_map (expunge_step (seen l.self) l.side) (drop l.item-index l.item-items)
-    ≡ l.fn.steps.items ++ expunge_steps (seen l.self) l.side
+    (l.steps.items ++ filter_map (expunge_step (seen l.self) l.side) (drop l.item-index l.item-items)
+    ≡ l.fn.steps.items ++ expunge_steps (seen l.self) l.side)
+    × (All IsStep l.fn.steps.items → All IsStep l.steps.items)

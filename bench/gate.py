@@ -1,0 +1,124 @@
+#!/usr/bin/env python3
+"""Runs the gate on a clean clone of HEAD and prints what it cost, crate by crate, as the table of docs/GATE.md.
+
+usage: bench/gate.py [LOG]
+
+The gate is `rt ci`. What it prints goes to LOG (gate.log in the folder for temporary files where none is given). Minutes
+are processor minutes, asked of the system twice a second while the checks run: a check's last half second may be missing,
+and what no check used (compilers, linkers, the programs) is told in the line `all else`. Run it with nothing beside it.
+"""
+import collections
+import os
+import resource
+import subprocess
+import sys
+import tempfile
+import time
+
+TOP = os.path.dirname(os.path.dirname(os.path.realpath(__file__)))
+KINDS = ("proof", "tests", "wrong bodies")
+TICKS = os.sysconf("SC_CLK_TCK")
+
+
+def words_of(pid):
+    with open(f"/proc/{pid}/cmdline", "rb") as text:
+        return text.read().decode(errors="replace").split("\0")
+
+
+def kind_of(pid, words):
+    """A wrong body is checked in a scratch folder, tests with a flag of their own."""
+    if "rt-edit-" in os.readlink(f"/proc/{pid}/cwd"):
+        return "wrong bodies"
+    return "tests" if "--test" in words else "proof"
+
+
+class Check:
+    """A process of the prover: whose crate, what for, and its processor seconds so far."""
+
+    def __init__(self, pid):
+        words = words_of(pid)
+        self.crate = words[words.index("--crate-name") + 1]
+        self.kind = kind_of(pid, words)
+        self.seconds = 0.0
+
+
+def stats():
+    """Of each process its parent, when it began, and the processor seconds that it has used."""
+    found = {}
+    for pid in filter(str.isdigit, os.listdir("/proc")):
+        try:
+            with open(f"/proc/{pid}/stat", encoding="ascii", errors="replace") as text:
+                fields = text.read().rpartition(")")[2].split()
+        except OSError:
+            continue
+        found[pid] = fields[1], fields[19], (int(fields[11]) + int(fields[12])) / TICKS
+    return found
+
+
+def is_below(pid, gate, found):
+    """Whether a process was started by the gate, or by one that was."""
+    while pid in found and pid != gate:
+        pid = found[pid][0]
+    return pid == gate
+
+
+def sample(gate, checks):
+    """Notes the time that each check of the gate has used."""
+    found = stats()
+    for pid, (_, began, seconds) in found.items():
+        try:
+            if (pid, began) not in checks and is_below(pid, gate, found):
+                checks[pid, began] = Check(pid)
+            if (pid, began) in checks:
+                checks[pid, began].seconds = seconds
+        except (OSError, ValueError, IndexError):
+            # no check, or it has just ended
+            continue
+
+
+def run_gate(clone, log):
+    """The exit status, the minutes on the clock and of the processors, and the checks."""
+    before = resource.getrusage(resource.RUSAGE_CHILDREN)
+    began, checks = time.monotonic(), {}
+    with open(log, "wb") as out:
+        gate = subprocess.Popen(["rt", "ci"], cwd=clone, stdout=out, stderr=subprocess.STDOUT)
+        while gate.poll() is None:
+            sample(str(gate.pid), checks)
+            time.sleep(0.5)
+    after = resource.getrusage(resource.RUSAGE_CHILDREN)
+    used = after.ru_utime + after.ru_stime - before.ru_utime - before.ru_stime
+    return gate.returncode, (time.monotonic() - began) / 60, used / 60, checks.values()
+
+
+def in_order(clone):
+    with open(f"{clone}/crates.txt", encoding="utf-8") as text:
+        return [line.split(":")[0].split()[0] for line in text if line.strip() and not line.startswith("#")]
+
+
+def print_table(clone, used, checks):
+    minutes = collections.Counter()
+    for check in checks:
+        minutes[check.crate, check.kind] += check.seconds / 60
+    print("| Crate | Proof | Tests | Wrong bodies | Together |\n|---|---|---|---|---|")
+    for crate in in_order(clone):
+        parts = [minutes[crate, kind] for kind in KINDS]
+        print(f"| `{crate}` | " + " | ".join(f"{part:.1f}" if part else "" for part in parts) + f" | {sum(parts):.1f} |")
+    sums = [sum(it for (_, kind), it in minutes.items() if kind == wanted) for wanted in KINDS]
+    print(f"| all else | | | | {max(used - sum(sums), 0):.1f} |")
+    print("| together | " + " | ".join(f"{part:.1f}" for part in sums) + f" | {used:.1f} |")
+
+
+def main():
+    log = os.path.abspath(sys.argv[1]) if len(sys.argv) > 1 else os.path.join(tempfile.gettempdir(), "gate.log")
+    with tempfile.TemporaryDirectory(prefix="gate-") as room:
+        clone = f"{room}/clone"
+        subprocess.run(["git", "clone", "-q", TOP, clone], check=True)
+        status, clock, used, checks = run_gate(clone, log)
+        print_table(clone, used, checks)
+    with open(log, encoding="utf-8", errors="replace") as text:
+        last = text.read().rstrip().rpartition("\n")[2]
+    print(f"\n{last}: {clock:.1f} minutes on {len(os.sched_getaffinity(0))} cores, {used:.1f} processor minutes")
+    sys.exit(status)
+
+
+main()

@@ -1,0 +1,47 @@
+use Rattle.std.proofs.Common.{◌≡◌, ◌∙◌, ◌+◌, List, length, Some, None, ap, rules}
+use Rattle.rules.specs.declared.plan.Step.{Step}
+use Rattle.rules.specs.declared.plan.Note.{Note}
+use Rattle.book.proofs.AgreementLemmas.{in_step, in_note, in_copy, nowhere, bad_step, bad_note, bad_copy}
+use Rattle.book.proofs.AgreedLemmas.{agreed_if_none}
+use Rattle.book.proofs.agreement.disagreement.Goals as goal
+
+pub returns-in-Some-clause-first : goal.returns-in-Some-clause-first
+returns-in-Some-clause-first c =
+    let entries = c.args.entries.now in
+    let j = c.args.journal.now in
+    let step : bad_step entries j ≡ Some c.in-Some.i = search rules in
+    in_step entries j c.in-Some.i step
+
+pub returns-in-Some-bad_note-clause-first : goal.returns-in-Some-bad_note-clause-first
+returns-in-Some-bad_note-clause-first c =
+    let entries = c.args.entries.now in
+    let j = c.args.journal.now in
+    let i = c.in-Some-bad_note.i in
+    let step : bad_step entries j ≡ None = search rules in
+    let note : bad_note entries j ≡ Some i = search rules in
+    ap (λ (s : List Step). Some (length s + i + 5)) c.as_slice-steps.ensures ∙ in_note entries j i step note
+
+pub returns-in_err-i-clause-first : goal.returns-in_err-i-clause-first
+returns-in_err-i-clause-first c =
+    let entries = c.args.entries.now in
+    let j = c.args.journal.now in
+    let step : bad_step entries j ≡ None = search rules in
+    let note : bad_note entries j ≡ None = search rules in
+    let copy : bad_copy entries j ≡ None = search rules in
+    let none : c.from_residual.result ≡ None = search rules in
+    none ∙ nowhere entries j step note copy
+
+pub returns-clause-first : goal.returns-clause-first
+returns-clause-first c =
+    let entries = c.args.entries.now in
+    let j = c.args.journal.now in
+    let i = c.in_ok-i.i in
+    let step : bad_step entries j ≡ None = search rules in
+    let note : bad_note entries j ≡ None = search rules in
+    let copy : bad_copy entries j ≡ Some i = search rules in
+    ap (λ (s : List Step). Some (length s + length c.as_slice-notes.result.now + i + 6)) c.as_slice-steps.ensures
+    ∙ ap (λ (n : List Note). Some (length j.plan.steps + length n + i + 6)) c.as_slice-notes.ensures
+    ∙ in_copy entries j i step note copy
+
+pub returns-in_err-i-clause-agreed : goal.returns-in_err-i-clause-agreed
+returns-in_err-i-clause-agreed c = agreed_if_none c.args.entries.now c.args.journal.now c.from_residual.result (returns-in_err-i-clause-first c)

@@ -1,0 +1,13 @@
+pub use Rattle.device.specs.Calls
+pub use Rattle.sync_state.specs.JournalText
+pub use Rattle.sync_state.specs.StateText
+pub mod Agreement
+pub mod BookLaws
+pub mod BookLogs
+pub mod Books
+pub mod Commits
+pub mod Committed
+pub mod DiskShelves
+pub mod EntryOrders
+pub mod MemShelves
+pub mod Shelves

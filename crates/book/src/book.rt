@@ -1,0 +1,239 @@
+//! A book: the state of the last run and the journal of the run that is under way, kept on a shelf.
+
+ghost use Rattle.std.specs.Prelude.{◌≡◌, false, true, Some, Ok, IfOk, IfErr, OnOk, OnErr, MatchOption};
+ghost use Rattle.sync_state.specs.declared.journal.WrittenJournal.{WrittenJournal};
+ghost use Rattle.book.specs.Books.{Holds, HoldsState, HoldsJournal, IsPlanned, IsSound, IsUnstopped, Fits, Ends, Leaves, mended, TellsOpen, TellsStateFile, TellsJournalFile, TellsPending, StopsTold};
+ghost use Rattle.book.specs.BookLaws.{Fits-prop, IsSound-prop};
+
+use crate::agreement::disagreement;
+use crate::shelf::{File, Shelf};
+use rules::state::SyncState;
+use std::alloc::Global;
+use sync_state::fault::BookFault;
+use sync_state::journal::{Journal, WrittenJournal};
+use sync_state::journal_text::{read_journal, write_journal};
+use sync_state::state_text::read_state_text;
+
+/// What stands in the journal's file.
+#[derive(Debug, Drop)]
+pub enum Pending {
+    /// There is no journal.
+    Missing,
+    /// There is one, without a plan or with the plan of a run that was made.
+    Useless,
+    /// The plan of the next run, and which of its steps are logged.
+    Planned(WrittenJournal),
+}
+
+/// The state that the state's file holds. No file: no run was made.
+fn read_state_file<S: Shelf>(alloc: Global, shelf: &mut S) -> Result<SyncState, BookFault>
+    ensures holds { IfOk result (λ state. S.is_honest ≡ true → HoldsState (S.seen shelf.new).stored.state state) }
+    ensures sound { IfOk result IsSound }
+    ensures files { S.is_honest ≡ true → (S.seen shelf.new).stored ≡ (S.seen shelf.old).stored }
+    ensures unstopped { OnOk result (IsUnstopped (S.seen shelf.old) (S.seen shelf.new)) }
+    ensures refused { IfErr result (λ fault. S.is_honest ≡ true → TellsStateFile (S.seen shelf.new).stored.state fault) }
+    ensures told { IfErr result (λ fault. StopsTold fault (S.seen shelf.old) (S.seen shelf.new)) }
+{
+    match shelf.read(File::State)? {
+        Some(text) => read_state_text(alloc, &text),
+        None => Ok(SyncState::none(alloc)),
+    }
+}
+
+/// What the journal's file holds, behind this state.
+fn read_journal_file<S: Shelf>(
+    alloc: Global,
+    shelf: &mut S,
+    state: &SyncState,
+) -> Result<Pending, BookFault>
+    ensures holds { IfOk result (λ pending. S.is_honest ≡ true → HoldsJournal state.now (S.seen shelf.new).stored.journal pending) }
+    ensures fits { IfOk result (Fits state.now) }
+    ensures files { S.is_honest ≡ true → (S.seen shelf.new).stored ≡ (S.seen shelf.old).stored }
+    ensures unstopped { OnOk result (IsUnstopped (S.seen shelf.old) (S.seen shelf.new)) }
+    ensures refused { IfErr result (λ fault. S.is_honest ≡ true → TellsJournalFile state.now (S.seen shelf.new).stored.journal fault) }
+    ensures told { IfErr result (λ fault. StopsTold fault (S.seen shelf.old) (S.seen shelf.new)) }
+{
+    match shelf.read(File::Journal)? {
+        Some(text) => read_pending(alloc, &text, state),
+        None => Ok(Pending::Missing),
+    }
+}
+
+/// What a journal's file with this text holds, behind this state.
+fn read_pending(alloc: Global, text: &[u8], state: &SyncState) -> Result<Pending, BookFault>
+    ensures holds { IfOk result (λ pending. HoldsJournal state.now (Some text.now) pending) }
+    ensures fits { IfOk result (Fits state.now) }
+    ensures refused { IfErr result (TellsPending state.now text.now) }
+{
+    let Some(written) = read_journal(alloc, text)? else {
+        return Ok(Pending::Useless);
+    };
+    if written.journal.plan.run <= state.run {
+        return Ok(Pending::Useless);
+    }
+    if written.journal.plan.run - 1 > state.run {
+        return Err(BookFault::BadJournal(2));
+    }
+    match disagreement(state.entries.as_slice(), &written.journal) {
+        Some(line) => Err(BookFault::BadJournal(line)),
+        None => Ok(Pending::Planned(written)),
+    }
+}
+
+/// What both files hold.
+fn read_files<S: Shelf>(alloc: Global, shelf: &mut S) -> Result<(SyncState, Pending), BookFault>
+    ensures holds { IfOk result (λ held. S.is_honest ≡ true → Holds (S.seen shelf.new).stored held.0 held.1) }
+    ensures fits { IfOk result (λ held. Fits held.0 held.1) }
+    ensures sound { IfOk result (λ held. IsSound held.0) }
+    ensures unstopped { OnOk result (IsUnstopped (S.seen shelf.old) (S.seen shelf.new)) }
+    ensures files { S.is_honest ≡ true → (S.seen shelf.new).stored ≡ (S.seen shelf.old).stored }
+    ensures refused { IfErr result (λ fault. S.is_honest ≡ true → TellsOpen (S.seen shelf.new).stored fault) }
+    ensures told { IfErr result (λ fault. StopsTold fault (S.seen shelf.old) (S.seen shelf.new)) }
+{
+    let state = read_state_file(alloc, shelf)?;
+    let pending = read_journal_file(alloc, shelf, &state)?;
+    Ok((state, pending))
+}
+
+/// Why a book was not opened, and the shelf.
+#[derive(Debug, Drop)]
+pub struct OpenFault<S> {
+    /// The shelf, whose files are as before.
+    pub shelf: S,
+    /// Why it was not opened.
+    pub fault: BookFault,
+}
+
+/// The state of the last run and the journal of the next one.
+///
+/// After `Stopped` and `NoMemory` each call answers `Stopped`: the shelf is to be reopened, and a new book opened.
+#[derive(Debug, Drop)]
+pub struct Book<S: Shelf> {
+    pub(crate) alloc: Global,
+    pub(crate) shelf: S,
+    pub(crate) state: SyncState,
+    pub(crate) pending: Pending,
+    pub(crate) is_ready: bool,
+    pub ghost is_whole: { is_ready ≡ true → (S.seen shelf).is_broken ≡ false },
+    pub ghost holds: { is_ready ≡ true → S.is_honest ≡ true → Holds (S.seen shelf).stored state pending },
+    pub ghost fits: { Fits state pending } by { Fits-prop state pending },
+    pub ghost sound: { IsSound state } by { IsSound-prop state },
+}
+
+impl<S: Shelf> Book<S> {
+    /// Reads both files and changes nothing. `BadState`: the state is not spelled so. `BadJournal`: a journal with `go`
+    /// is not spelled so, or it is of a run above the next one, which is line 2, or it is of the next one and disagrees
+    /// with the state.
+    pub fn open(alloc: Global, shelf: S) -> Result<Book<S>, OpenFault<S>>
+        ensures files { IfOk result (λ book. S.is_honest ≡ true → (S.seen book.shelf).stored ≡ (S.seen shelf).stored) }
+        ensures ready { IfOk result (λ book. book.is_ready ≡ true) }
+        ensures held { IfOk result (λ book. S.is_honest ≡ true → Holds (S.seen book.shelf).stored book.state book.pending) }
+        ensures unstopped { IfOk result (λ book. IsUnstopped (S.seen shelf) (S.seen book.shelf)) }
+        ensures handed_back { IfErr result (λ f. S.is_honest ≡ true → (S.seen f.shelf).stored ≡ (S.seen shelf).stored) }
+        ensures refused { IfErr result (λ f. S.is_honest ≡ true → TellsOpen (S.seen f.shelf).stored f.fault) }
+        ensures told { IfErr result (λ f. StopsTold f.fault (S.seen shelf) (S.seen f.shelf)) }
+    {
+        let mut shelf = shelf;
+        match read_files(alloc, &mut shelf) {
+            Ok((state, pending)) => Ok(Book {
+                alloc,
+                shelf,
+                state,
+                pending,
+                is_ready: true,
+            }),
+            Err(fault) => Err(OpenFault { shelf, fault }),
+        }
+    }
+
+    /// The state of the last run.
+    pub fn state(&self) -> &SyncState
+        ensures state { result.now ≡ self.now.state }
+        ensures sound { IsSound result.now }
+    {
+        &self.state
+    }
+
+    /// The plan of the next run and which of its steps are logged, if it is pending.
+    pub fn pending(&self) -> Option<&Journal>
+        ensures { MatchOption result (¬ IsPlanned self.now.pending) (λ journal. (written : WrittenJournal) × (self.now.pending ≡ Pending.Planned written) × (journal.now ≡ written.journal)) }
+    {
+        match &self.pending {
+            Pending::Planned(written) => Some(&written.journal),
+            _ => None,
+        }
+    }
+
+    /// The shelf, with what the book says unless a call of it has failed.
+    pub fn into_shelf(self) -> S
+        ensures shelf { result ≡ self.shelf }
+        ensures whole { self.is_ready ≡ true → (S.seen result).is_broken ≡ false }
+        ensures holds { S.is_honest ≡ true → self.is_ready ≡ true → Holds (S.seen result).stored self.state self.pending }
+    {
+        let Book {
+            alloc: _,
+            shelf,
+            state: _,
+            pending: _,
+            is_ready: _,
+        } = self;
+        shelf
+    }
+
+    /// Removes the journal, if there is one: one `remove`, or no call of the shelf.
+    pub fn discard(&mut self) -> Result<(), BookFault>
+        ensures state { self.new.state ≡ self.old.state }
+        ensures removed { OnOk result (self.new.pending ≡ Pending.Missing) }
+        ensures kept { OnErr result (self.new.pending ≡ self.old.pending) }
+        ensures untouched { self.old.is_ready ≡ true → self.old.pending ≡ Pending.Missing → (result ≡ Ok tt) × (self.new.shelf ≡ self.old.shelf) }
+        ensures leaves { S.is_honest ≡ true → Leaves self.old.pending Pending.Missing Pending.Missing (S.seen self.old.shelf).stored (S.seen self.new.shelf).stored result }
+        ensures ends { Ends false (record { is_ready = self.old.is_ready; shelf = S.seen self.old.shelf }) (record { is_ready = self.new.is_ready; shelf = S.seen self.new.shelf }) result }
+    {
+        if !self.is_ready {
+            return Err(BookFault::Stopped);
+        }
+        if matches!(self.pending, Pending::Missing) {
+            return Ok(());
+        }
+        self.is_ready = false;
+        self.shelf.remove(File::Journal)?;
+        self.pending = Pending::Missing;
+        self.is_ready = true;
+        Ok(())
+    }
+
+    /// Takes a torn last line off a journal whose plan is pending, if there is one: one `replace`, or no call of the shelf.
+    pub fn mend(&mut self) -> Result<(), BookFault>
+        ensures state { self.new.state ≡ self.old.state }
+        ensures mended { OnOk result (self.new.pending ≡ mended self.old.pending) }
+        ensures kept { OnErr result (self.new.pending ≡ self.old.pending) }
+        ensures untouched { self.old.is_ready ≡ true → mended self.old.pending ≡ self.old.pending → (result ≡ Ok tt) × (self.new.shelf ≡ self.old.shelf) }
+        ensures leaves { S.is_honest ≡ true → Leaves self.old.pending (mended self.old.pending) self.old.pending (S.seen self.old.shelf).stored (S.seen self.new.shelf).stored result }
+        ensures ends { Ends false (record { is_ready = self.old.is_ready; shelf = S.seen self.old.shelf }) (record { is_ready = self.new.is_ready; shelf = S.seen self.new.shelf }) result }
+    {
+        if !self.is_ready {
+            return Err(BookFault::Stopped);
+        }
+        let Pending::Planned(written) = &self.pending else {
+            return Ok(());
+        };
+        if !written.is_torn {
+            return Ok(());
+        }
+        self.is_ready = false;
+        let text = write_journal(self.alloc, &written.journal)?;
+        self.shelf.replace(File::Journal, &text)?;
+        mend_pending(&mut self.pending);
+        self.is_ready = true;
+        Ok(())
+    }
+}
+
+fn mend_pending(pending: &mut Pending)
+    ensures { pending.new ≡ mended pending.old }
+{
+    match pending {
+        Pending::Planned(written) => written.is_torn = false,
+        Pending::Missing | Pending::Useless => {}
+    }
+}

@@ -1,0 +1,42 @@
+//! How a run is committed.
+
+ghost use Rattle.std.specs.Prelude.{◌≡◌, false, true, OnOk, OnErr};
+ghost use Rattle.book.specs.Books.{Holds, Ends};
+ghost use Rattle.book.specs.Commits.{IsFinished, Makes, LeavesMade};
+
+use crate::book::{Book, Pending};
+use crate::committed::committed;
+use crate::shelf::{File, Shelf};
+use sync_state::fault::BookFault;
+use sync_state::state_text::write_state_text;
+
+impl<S: Shelf> Book<S> {
+    /// Puts the state that the finished journal makes in place of the old one, and then removes the journal: one
+    /// `replace` and one `remove`. A fault leaves the old state and the journal, the new state and the journal, which is
+    /// useless then, or the new state alone.
+    pub fn commit(&mut self) -> Result<(), BookFault>
+        requires finished { IsFinished self.old.pending }
+        ensures committed { OnOk result (Makes self.old.pending self.old.state self.new.state) }
+        ensures removed { OnOk result (self.new.pending ≡ Pending.Missing) }
+        ensures kept { OnErr result ((self.new.state ≡ self.old.state) × (self.new.pending ≡ self.old.pending)) }
+        ensures held { OnOk result (S.is_honest ≡ true → Holds (S.seen self.new.shelf).stored self.new.state Pending.Missing) }
+        ensures leaves { S.is_honest ≡ true → LeavesMade self.old.pending (S.seen self.old.shelf).stored (S.seen self.new.shelf).stored result }
+        ensures ends { Ends false (record { is_ready = self.old.is_ready; shelf = S.seen self.old.shelf }) (record { is_ready = self.new.is_ready; shelf = S.seen self.new.shelf }) result }
+    {
+        if !self.is_ready {
+            return Err(BookFault::Stopped);
+        }
+        let Pending::Planned(written) = &self.pending else {
+            return Ok(());
+        };
+        self.is_ready = false;
+        let state = committed(self.alloc, &self.state, &written.journal)?;
+        let text = write_state_text(self.alloc, &state)?;
+        self.shelf.replace(File::State, &text)?;
+        self.shelf.remove(File::Journal)?;
+        self.state = state;
+        self.pending = Pending::Missing;
+        self.is_ready = true;
+        Ok(())
+    }
+}

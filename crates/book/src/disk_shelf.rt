@@ -1,0 +1,120 @@
+//! A shelf on a disk.
+
+ghost use Rattle.std.specs.Prelude.{◌≡◌, IfOk};
+ghost use Rattle.device.specs.Conditions.{disk_at};
+
+use crate::shelf::{File, Shelf};
+use device::DeviceFault;
+use device::disk::Disk;
+use std::alloc::AllocError;
+use std::io;
+use std::marker::Model;
+use std::rt::Files;
+
+/// The file that keeps the state.
+const STATE: &str = ".mbsyncstate";
+
+/// The file that keeps the journal.
+const JOURNAL: &str = ".mbsyncstate.journal";
+
+/// What a file is written as before it takes the place of the state or the journal.
+const NEXT: &str = ".mbsyncstate.new";
+
+/// The files `.mbsyncstate` and `.mbsyncstate.journal` of a folder. A call stops where the system fails.
+///
+/// What has to outlive a loss of power is synced to the disk, and no more: the first bytes of a file with its name, since a plan
+/// has to stand before its first step; a file that is replaced before it is renamed, and its name behind that; and the journal with
+/// its name where one is read, since the call that wrote it may have stopped before it was synced. Further bytes of a journal
+/// and the removal of a file may be lost: docs/DECISIONS.md says what follows. A file that is replaced is written anew as
+/// `.mbsyncstate.new` and renamed over the old one, so that it is whole or as before. Whether a disk gives back what was synced
+/// no proof can say: so no contract promises what a real shelf stores.
+#[derive(Drop)]
+pub struct DiskShelf<R: Files + AllocGlobal + Clone + Drop> {
+    disk: Disk<R>,
+}
+
+impl<R: Files + AllocGlobal + Clone + Drop> Model for DiskShelf<R> {
+    ghost use Rattle.device.specs.Conditions.{DiskParts};
+
+    ghost Value = { DiskParts };
+
+    ghost view = { λ shelf. shelf.disk };
+}
+
+impl<R: Files + AllocGlobal + Clone + Drop> DiskShelf<R> {
+    /// The shelf in the folder at this path, which is there; it is looked at by the first call.
+    pub fn new(rt: R, path: &str) -> Result<Self, AllocError>
+        ensures { IfOk result (λ shelf. shelf ≡ disk_at path.now) }
+    {
+        Ok(DiskShelf {
+            disk: Disk::new(rt, path)?,
+        })
+    }
+
+    /// How many calls have stopped.
+    pub fn stops(&self) -> usize
+        ensures { result ≡ self.now.condition.stops }
+    {
+        self.disk.stops()
+    }
+
+    // The bytes of a file. A journal is synced before it is relied on, and with its name that of the state.
+    fn bytes_of(&self, file: File) -> io::Result<Option<Vec<u8>>> {
+        let bytes = self.disk.read(name_of(file))?;
+        if file == File::Journal && bytes.is_some() {
+            self.disk.sync_file(JOURNAL)?;
+            self.disk.sync_names()?;
+        }
+        Ok(bytes)
+    }
+
+    // Puts a file with these bytes in place of the one that is there.
+    fn exchange(&self, file: File, bytes: &[u8]) -> io::Result<()> {
+        self.disk.replace(name_of(file), NEXT, bytes)?;
+        self.disk.sync_names()
+    }
+}
+
+fn name_of(file: File) -> &'static str {
+    match file {
+        File::State => STATE,
+        File::Journal => JOURNAL,
+    }
+}
+
+impl<R: Files + AllocGlobal + Clone + Drop> Shelf for DiskShelf<R> {
+    ghost use Rattle.std.specs.Prelude.{false};
+    ghost use Rattle.book.specs.DiskShelves.{seen_on_disk};
+
+    ghost is_honest = { false };
+
+    ghost seen = { seen_on_disk };
+
+    fn read(&mut self, file: File) -> Result<Option<Vec<u8>>, DeviceFault> {
+        self.disk.check()?;
+        let answer = self.bytes_of(file);
+        self.disk.tell(answer)
+    }
+
+    fn append(&mut self, file: File, bytes: &[u8]) -> Result<(), DeviceFault> {
+        self.disk.check()?;
+        let answer = self.disk.append(name_of(file), bytes);
+        self.disk.tell(answer)
+    }
+
+    fn replace(&mut self, file: File, bytes: &[u8]) -> Result<(), DeviceFault> {
+        self.disk.check()?;
+        let answer = self.exchange(file, bytes);
+        self.disk.tell(answer)
+    }
+
+    fn remove(&mut self, file: File) -> Result<(), DeviceFault> {
+        self.disk.check()?;
+        let answer = self.disk.remove_if_there(name_of(file));
+        self.disk.tell(answer)
+    }
+
+    fn reopen(&mut self) {
+        self.disk.reopen();
+    }
+}

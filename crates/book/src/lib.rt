@@ -1,0 +1,13 @@
+//! A book: the state of the last run and the journal of a run, kept on a shelf so that they survive any stop.
+#![tactic(auto)]
+
+pub mod agreement;
+pub mod allowed;
+pub mod book;
+pub mod book_log;
+pub mod commit;
+pub mod committed;
+pub mod disk_shelf;
+pub mod laws;
+pub mod mem_shelf;
+pub mod shelf;

@@ -1,0 +1,49 @@
+//! Where the state and the journal are kept: two files as a device whose calls may stop.
+
+ghost use Rattle.std.specs.Prelude.{◌≡◌, None, Some, Bool, false};
+
+use device::DeviceFault;
+
+/// A file of a shelf.
+#[derive(Clone, Copy, Debug, PartialEq, Eq)]
+pub enum File {
+    /// The state of the last run.
+    State,
+    /// The journal of the run that is under way.
+    Journal,
+}
+
+/// Two files. Each call answers Ok with its effect, or a fault with its effect, without it, or (`append` alone) with a
+/// beginning of its bytes. After a fault each call answers `Stopped` and changes nothing, until `reopen`, which keeps
+/// the files.
+pub trait Shelf {
+    ghost use Rattle.device.specs.Calls.{Seen, Call, Read, Nothing, Reopens};
+    ghost use Rattle.book.specs.Shelves.{Files, Gives, Puts, Appends, AppendsPart};
+
+    /// Whether the shelf gives back what was written, and nobody else writes to it.
+    ghost is_honest: { Bool };
+
+    /// The files, whether a call has stopped since the shelf was opened, and how many calls have stopped.
+    ghost seen: { Self → Seen Files };
+
+    /// The bytes of a file, or none if it is missing.
+    fn read(&mut self, file: File) -> Result<Option<Vec<u8>>, DeviceFault>
+        ensures { Read is_honest (Gives file) (seen self.old) (seen self.new) result };
+
+    /// Adds bytes behind those of a file, which is made if it is missing. A stopped call may leave any beginning of them. A disk
+    /// keeps the bytes that a file is made with where the power fails; it may lose those that are added later.
+    fn append(&mut self, file: File, bytes: &[u8]) -> Result<(), DeviceFault>
+        ensures { Call is_honest (Appends file bytes.now) (AppendsPart file bytes.now) (seen self.old) (seen self.new) result };
+
+    /// Gives a file these bytes in place of its own, all of them or none.
+    fn replace(&mut self, file: File, bytes: &[u8]) -> Result<(), DeviceFault>
+        ensures { Call is_honest (Puts file (Some bytes.now)) Nothing (seen self.old) (seen self.new) result };
+
+    /// Removes a file, if it is there. A disk may bring it back where the power fails.
+    fn remove(&mut self, file: File) -> Result<(), DeviceFault>
+        ensures { Call is_honest (Puts file None) Nothing (seen self.old) (seen self.new) result };
+
+    /// Opens the shelf again, so that calls are answered again.
+    fn reopen(&mut self)
+        ensures { Reopens (seen self.old) (seen self.new) };
+}

@@ -1,0 +1,228 @@
+//! A folder of a disk as a device: its files, and what the system's faults are to it.
+
+ghost use Rattle.std.specs.Prelude.{◌≡◌, ◌+◌, ◌≤◌, true, false, OnOk, OnErr, IfOk, IfErr};
+ghost use Rattle.device.specs.Conditions.{disk_at};
+
+use crate::DeviceFault;
+use crate::condition::Condition;
+use std::alloc::AllocError;
+use std::fs::{DirBuilder, OpenFile, OpenOptions};
+use std::io::{ErrorKind, Write};
+use std::marker::Model;
+use std::os::unix::fs::{DirBuilderExt, OpenOptionsExt};
+use std::rt::Files;
+use std::{fs, io};
+
+/// Who may read and write a new file: its owner.
+const FILE_MODE: u32 = 0o600;
+
+/// Who may use a new folder: its owner.
+const FOLDER_MODE: u32 = 0o700;
+
+/// A folder of a disk. Its parts are named by their paths from it.
+///
+/// New files and folders are for their owner alone. What a call of it does to the disk no contract says: nobody can promise that a
+/// disk gives back what was written.
+#[derive(Drop)]
+pub struct Disk<R: Files + AllocGlobal + Clone + Drop> {
+    rt: R,
+    path: String,
+    condition: Condition,
+}
+
+impl<R: Files + AllocGlobal + Clone + Drop> Model for Disk<R> {
+    ghost use Rattle.std.specs.Prelude.{string_bytes};
+    ghost use Rattle.device.specs.Conditions.{DiskParts};
+
+    ghost Value = { DiskParts };
+
+    ghost view = { λ disk. record { path = string_bytes disk.path; condition = disk.condition } };
+}
+
+impl<R: Files + AllocGlobal + Clone + Drop> Disk<R> {
+    /// The folder at this path, which is looked at by the first call.
+    pub fn new(rt: R, path: &str) -> Result<Self, AllocError>
+        ensures { IfOk result (λ disk. disk ≡ disk_at path.now) }
+    {
+        let path = String::from_str(rt.alloc(), path)?;
+        let condition = Condition::new(rt.alloc());
+        Ok(Disk {
+            rt,
+            path,
+            condition,
+        })
+    }
+
+    /// How many calls have stopped.
+    pub fn stops(&self) -> usize
+        ensures { result ≡ self.now.condition.stops }
+    {
+        self.condition.stops()
+    }
+
+    /// Whether a call may be made. `Stopped`: one has stopped since the device was opened.
+    pub fn check(&self) -> Result<(), DeviceFault>
+        ensures whole { OnOk result (self.now.condition.is_broken ≡ false) }
+        ensures stopped { IfErr result (λ fault. (fault ≡ DeviceFault.Stopped) × (self.now.condition.is_broken ≡ true)) }
+    {
+        self.condition.check()
+    }
+
+    /// What a call answers to whom the system answered this. After an error each later call stops.
+    pub fn tell<T>(&mut self, answer: io::Result<T>) -> Result<T, DeviceFault>
+        ensures ok { OnOk result (self.new ≡ self.old) }
+        ensures path { self.new.path ≡ self.old.path }
+        ensures broken { OnErr result (self.new.condition.is_broken ≡ true) }
+        ensures counted { IfErr result (λ fault. fault ≡ DeviceFault.Stopped → self.new.condition.stops ≡ self.old.condition.stops + 1) }
+        ensures uncounted { IfErr result (λ fault. fault ≡ DeviceFault.NoMemory → self.new.condition.stops ≡ self.old.condition.stops) }
+        ensures no_less { self.old.condition.stops ≤ self.new.condition.stops }
+    {
+        match answer {
+            Ok(value) => Ok(value),
+            Err(error) if error.kind() == ErrorKind::OutOfMemory => Err(self.condition.lack()),
+            Err(_) => Err(self.condition.stop()),
+        }
+    }
+
+    /// Calls are answered again.
+    pub fn reopen(&mut self)
+        ensures path { self.new.path ≡ self.old.path }
+        ensures whole { self.new.condition ≡ record self.old.condition { is_broken = false } }
+    {
+        self.condition.reopen();
+    }
+
+    /// The system, for what stands here in no function.
+    pub fn rt(&self) -> &R {
+        &self.rt
+    }
+
+    /// The path of a part.
+    pub fn at(&self, part: &str) -> io::Result<String> {
+        let path = self.path.as_str();
+        Ok(format!(in self.rt.alloc(); "{path}/{part}")?)
+    }
+
+    /// Whether a folder stands there.
+    pub fn has_folder(&self, part: &str) -> io::Result<bool> {
+        let path = self.at(part)?;
+        match fs::metadata(&self.rt, path.as_str()) {
+            Ok(found) => Ok(found.is_dir()),
+            Err(error) if error.kind() == ErrorKind::NotFound => Ok(false),
+            Err(error) => Err(error),
+        }
+    }
+
+    /// Makes a folder, and those above it, as far as they are not there.
+    pub fn make_folder(&self, part: &str) -> io::Result<()> {
+        let path = self.at(part)?;
+        let mut builder = DirBuilder::new();
+        builder.recursive(true).mode(FOLDER_MODE);
+        builder.create(&self.rt, path.as_str())
+    }
+
+    /// The bytes of a file, or none where it is missing.
+    pub fn read(&self, part: &str) -> io::Result<Option<Vec<u8>>> {
+        let path = self.at(part)?;
+        found(fs::read(&self.rt, path.as_str()))
+    }
+
+    /// Writes a new file and syncs its bytes. What stood under this name is removed before: a link is never followed.
+    pub fn write_new(&self, part: &str, bytes: &[u8]) -> io::Result<()> {
+        self.remove_if_there(part)?;
+        let path = self.at(part)?;
+        let mut options = OpenOptions::new();
+        options.write(true).create_new(true).mode(FILE_MODE);
+        let mut file = options.open(&self.rt, path.as_str())?;
+        file.write_all(bytes)?;
+        OpenFile::sync_all(&file)
+    }
+
+    /// Puts a file with these bytes in place of the one that is there, all of them or none: it is written under the other name,
+    /// synced, and renamed. The new name is not synced.
+    pub fn replace(&self, part: &str, other: &str, bytes: &[u8]) -> io::Result<()> {
+        self.write_new(other, bytes)?;
+        self.rename(other, part)
+    }
+
+    /// Adds bytes behind those of a file. Where the file is made for them, they and its name are synced.
+    pub fn append(&self, part: &str, bytes: &[u8]) -> io::Result<()> {
+        let path = self.at(part)?;
+        let mut options = OpenOptions::new();
+        options.append(true).create_new(true).mode(FILE_MODE);
+        match options.open(&self.rt, path.as_str()) {
+            Ok(mut made) => {
+                made.write_all(bytes)?;
+                OpenFile::sync_all(&made)?;
+                self.sync_names()
+            }
+            Err(error) if error.kind() == ErrorKind::AlreadyExists => {
+                let mut options = OpenOptions::new();
+                options.append(true);
+                options.open(&self.rt, path.as_str())?.write_all(bytes)
+            }
+            Err(error) => Err(error),
+        }
+    }
+
+    /// Gives a file another name. It is whole or not at all, and is not synced.
+    pub fn rename(&self, from: &str, to: &str) -> io::Result<()> {
+        let (from, to) = (self.at(from)?, self.at(to)?);
+        fs::rename(&self.rt, from.as_str(), to.as_str())
+    }
+
+    /// Removes a file, which is not synced.
+    pub fn remove(&self, part: &str) -> io::Result<()> {
+        let path = self.at(part)?;
+        fs::remove_file(&self.rt, path.as_str())
+    }
+
+    /// The same, where it is there.
+    pub fn remove_if_there(&self, part: &str) -> io::Result<()> {
+        found(self.remove(part))?;
+        Ok(())
+    }
+
+    /// Syncs a file that is there.
+    pub fn sync_file(&self, part: &str) -> io::Result<()> {
+        let path = self.at(part)?;
+        let file = fs::open(&self.rt, path.as_str())?;
+        OpenFile::sync_all(&file)
+    }
+
+    /// Syncs the names that stand in a part that is a folder.
+    pub fn sync_names_in(&self, part: &str) -> io::Result<()> {
+        self.sync_folder(self.at(part)?.as_str())
+    }
+
+    /// Syncs the names that stand in the folder itself.
+    pub fn sync_names(&self) -> io::Result<()> {
+        self.sync_folder(self.path.as_str())
+    }
+
+    /// Syncs a folder. That a file system cannot do so is no fault.
+    fn sync_folder(&self, path: &str) -> io::Result<()> {
+        let folder = fs::open(&self.rt, path)?;
+        match OpenFile::sync_all(&folder) {
+            Err(error) if !is_unable(&error) => Err(error),
+            _ => Ok(()),
+        }
+    }
+}
+
+/// None in place of the error that nothing is there.
+fn found<T: Drop>(answer: io::Result<T>) -> io::Result<Option<T>> {
+    match answer {
+        Ok(value) => Ok(Some(value)),
+        Err(error) if error.kind() == ErrorKind::NotFound => Ok(None),
+        Err(error) => Err(error),
+    }
+}
+
+/// Whether a file system says so that it cannot do what is asked.
+fn is_unable(error: &io::Error) -> bool {
+    matches!(
+        error.kind(),
+        ErrorKind::InvalidInput | ErrorKind::Unsupported
+    )
+}

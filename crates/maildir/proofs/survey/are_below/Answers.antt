@@ -1,6 +1,0 @@
-use Rattle.std.proofs.Common.{sym}
-use Rattle.maildir.proofs.SurveyLemmas.{last_below}
-use Rattle.maildir.proofs.survey.are_below.Goals as goal
-
-pub returns-in-Some : goal.returns-in-Some
-returns-in-Some c = rw (c.get.ensures.number) (last_below c.args.entries.now c.in-Some.last.now c.args.next c.requires (sym c.in-Some.ensures.value))

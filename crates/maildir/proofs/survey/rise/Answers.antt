@@ -1,7 +1,0 @@
-use Rattle.std.proofs.Common.{rules, ltb}
-use Rattle.std.proofs.lemmas.List.Sorted.{answers_always}
-use Rattle.maildir.proofs.OpenLemmas.{rise_or_not}
-use Rattle.maildir.proofs.survey.rise.Goals as goal
-
-pub returns : goal.returns
-returns c = rise_or_not c.args.entries.now c.is_sorted_by.result (c.is_sorted_by.ensures.cases (λ a b. ltb a.uid b.uid) (answers_always _ _ _ (λ f a r q k. search rules)))

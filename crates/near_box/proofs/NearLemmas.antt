@@ -1,0 +1,157 @@
+-- What a survey says of the mailbox that stands in the folder.
+use Rattle.std.proofs.Common.{◌≡◌, ℕ, suc, get_or, Bool, true, false, ltb, List, [], ◌∷◌, map, Option, None, Some, All, refl, sym, ap, subst, ◌∙◌, arith}
+use Rattle.std.specs.Prelude.{find, unwrap_or, Result, Ok, Err, IfOk}
+use Rattle.std.specs.List.{filter_map, cons_option}
+use Rattle.std.specs.Option.{option_map}
+use Rattle.std.proofs.lemmas.List.Elements.{All-nil, All-cons, All-head, All-tail, All-weaker}
+use Rattle.std.proofs.lemmas.List.Sorted.{All-permutation}
+use Rattle.mailcore.specs.declared.mailbox.Message.{Message}
+use Rattle.mailcore.specs.declared.listing.Item.{Item}
+use Rattle.mailcore.specs.declared.side.Side.TheVariants.{Near as NearSide}
+use Rattle.mailcore.specs.Listed.{item_of}
+use Rattle.mailcore.specs.declared.listing.Listing.{Listing}
+use Rattle.near_box.specs.declared.near_fault.NearFault.{NearFault}
+use Rattle.maildir.specs.declared.folder.File.{File}
+use Rattle.maildir.specs.declared.meta.Meta.{Meta}
+use Rattle.near_box.specs.declared.survey.Entry.{Entry}
+use Rattle.near_box.specs.declared.survey.Survey.{Survey}
+use Rattle.maildir.specs.Folders.{Stored, AreApart, is_at, bytes_at, name_of_file}
+use Rattle.maildir.specs.Names.{uid_in}
+use Rattle.maildir.specs.FlaggedNames.{flags_by_name}
+use Rattle.near_box.specs.Mailboxes.{message_of, messages_in, by_uid, near_of, first_meta}
+use Rattle.mailcore.specs.Operations.{Shows, ShowsAbove, bytes_among, bytes_of, item_above, marked_among, marked_from}
+use Rattle.near_box.specs.Surveys.{Surveys, entry_of}
+use Rattle.near_box.specs.Entries.{message_at, item_at, AreThere, AreRising}
+use Rattle.near_box.specs.Sorting.{sorted}
+use Rattle.maildir.proofs.FileLemmas.{at_itself, at_true}
+use Rattle.near_box.proofs.SortingLemmas.{sorted_map, sorted_permutes}
+
+-- ---- a file is found where it stands
+
+other_place : (x z : File) → (name_of_file x ≡ name_of_file z → ⊥) → is_at z.place z.name x ≡ false
+other_place x z apart = by_test (is_at z.place z.name x) refl
+  where
+    by_test : (b : Bool) → is_at z.place z.name x ≡ b → b ≡ false
+    by_test true e = absurd (apart (at_true (name_of_file z) x e))
+    by_test false e = refl
+
+pub found_itself : (files : List File) → AreApart files → All (λ z. find (is_at z.place z.name) files ≡ Some z) files
+found_itself [] apart = All-nil (λ z. find (is_at z.place z.name) [] ≡ Some z)
+found_itself (x ∷ xs) apart =
+    let others = found_itself xs (λ i j d less below. apart (suc i) (suc j) d (omega arith) (omega arith)) in
+    All-cons (λ z. find (is_at z.place z.name) (x ∷ xs) ≡ Some z) x xs (rw (at_itself x) refl)
+    (λ k d below. rw (other_place x (get_or xs k d) (apart 0 (suc k) d (omega arith) (omega arith))) (others k d below))
+
+-- a file's bytes are the ones at its place under its name
+abbrev pub IsThere : Stored → File → Type 0
+IsThere s file = bytes_at file.place file.name s ≡ Some file.bytes
+
+pub files_are_there : (s : Stored) → AreApart s.files → All (IsThere s) s.files
+files_are_there s apart =
+    All-weaker (λ z. find (is_at z.place z.name) s.files ≡ Some z) (IsThere s) (λ z found. ap (λ o. option_map (λ file. file.bytes) o) found) s.files (found_itself s.files apart)
+
+-- ---- messages
+
+message_of_entry : (s : Stored) (file : File) → IsThere s file → message_of file ≡ option_map (message_at s) (entry_of file)
+message_of_entry s file there = by_uid_of (uid_in file.name)
+  where
+    by_uid_of : (uid : Option ℕ) → option_map (λ uid. let m : Message = record { uid = uid; flags = flags_by_name file.name; bytes = file.bytes } in m) uid
+        ≡ option_map (message_at s) (option_map (λ uid. let e : Entry = record { uid = uid; place = file.place; name = file.name } in e) uid)
+    by_uid_of None = refl
+    by_uid_of (Some uid) = rw there refl
+
+messages_of_entries : (s : Stored) (files : List File) → All (IsThere s) files → messages_in files ≡ map (message_at s) (filter_map entry_of files)
+messages_of_entries s [] there = refl
+messages_of_entries s (file ∷ files) there =
+    rw (message_of_entry s file (All-head (IsThere s) file files there))
+    (by_entry (entry_of file) (messages_of_entries s files (All-tail (IsThere s) file files there)))
+  where
+    by_entry : (e : Option Entry) → messages_in files ≡ map (message_at s) (filter_map entry_of files)
+        → cons_option (option_map (message_at s) e) (messages_in files) ≡ map (message_at s) (cons_option e (filter_map entry_of files))
+    by_entry None more = more
+    by_entry (Some entry) more = ap (λ (l : List Message). message_at s entry ∷ l) more
+
+pub near_messages : (survey : Survey) (fresh : ℕ) (s : Stored) → Surveys survey fresh s
+    → (near_of fresh s).store.messages ≡ map (message_at s) survey.entries.items
+near_messages survey fresh s surveys =
+    ap by_uid (messages_of_entries s s.files (files_are_there s surveys.apart))
+    ∙ sorted_map (λ e. e.uid) (λ m. m.uid) (message_at s) (λ e. refl) (filter_map entry_of s.files)
+    ∙ ap (λ (l : List Entry). map (message_at s) l) (sym surveys.entries)
+
+entries_there : (s : Stored) (files : List File) → All (IsThere s) files → AreThere (filter_map entry_of files) s
+entries_there s [] there = All-nil (λ e. bytes_at e.place e.name s ≡ Some (message_at s e).bytes)
+entries_there s (file ∷ files) there =
+    by_uid_of (uid_in file.name) (All-head (IsThere s) file files there) (entries_there s files (All-tail (IsThere s) file files there))
+  where
+    by_uid_of : (uid : Option ℕ) → IsThere s file → AreThere (filter_map entry_of files) s
+        → AreThere (cons_option (option_map (λ uid. let e : Entry = record { uid = uid; place = file.place; name = file.name } in e) uid) (filter_map entry_of files)) s
+    by_uid_of None here more = more
+    by_uid_of (Some uid) here more =
+        let entry : Entry = record { uid = uid; place = file.place; name = file.name } in
+        All-cons (λ e. bytes_at e.place e.name s ≡ Some (message_at s e).bytes) entry (filter_map entry_of files) (rw here refl) more
+
+-- the file of each entry stands in the folder
+pub near_files : (survey : Survey) (fresh : ℕ) (s : Stored) → Surveys survey fresh s → AreThere survey.entries.items s
+near_files survey fresh s surveys =
+    let es = filter_map entry_of s.files in
+    subst (λ (l : List Entry). AreThere l s) (sym surveys.entries)
+    (All-permutation (λ e. bytes_at e.place e.name s ≡ Some (message_at s e).bytes) es (sorted (λ a b. ltb a.uid b.uid) es)
+    (sorted_permutes (λ a b. ltb a.uid b.uid) es) (entries_there s s.files (files_are_there s surveys.apart)))
+
+-- ---- the meta file
+
+pub near_validity : (survey : Survey) (fresh : ℕ) (s : Stored) → Surveys survey fresh s → (near_of fresh s).store.validity ≡ survey.meta.validity
+near_validity survey fresh s surveys = ap (λ (o : Option Meta). (unwrap_or o (first_meta fresh)).validity) surveys.meta
+
+pub near_next : (survey : Survey) (fresh : ℕ) (s : Stored) → Surveys survey fresh s → (near_of fresh s).store.next ≡ survey.meta.next
+near_next survey fresh s surveys = ap (λ (o : Option Meta). (unwrap_or o (first_meta fresh)).next) surveys.meta
+
+-- ---- what calls answer, told of the mailbox
+
+-- the survey, its entries and what is stored, as a call has them at hand
+pub record AtHand (survey : Survey) (fresh : ℕ) (s : Stored) (es : List Entry) (t : Stored) : Type 0 where
+  pub rising : AreRising es
+  pub there : AreThere es t
+  pub messages : map (message_at t) es ≡ (near_of fresh s).store.messages
+
+pub at_hand : (survey now : Survey) (fresh : ℕ) (s t : Stored) (es : List Entry) → Surveys survey fresh s → now ≡ survey → es ≡ now.entries.items → t ≡ s
+    → AtHand survey fresh s es t
+at_hand survey now fresh s t es surveys same is unchanged =
+    let entries : es ≡ survey.entries.items = is ∙ ap (λ (v : Survey). v.entries.items) same in
+    record {
+      rising = subst AreRising (sym entries) surveys.rising;
+      there = subst (λ (l : List Entry). AreThere l t) (sym entries) (subst (AreThere survey.entries.items) (sym unchanged) (near_files survey fresh s surveys));
+      messages = ap (λ (u : Stored). map (message_at u) es) unchanged ∙ ap (λ (l : List Entry). map (message_at s) l) entries ∙ sym (near_messages survey fresh s surveys);
+    }
+
+items_of_messages : (from : ℕ) (t : Stored) (es : List Entry) → map (item_at from t) es ≡ map (item_above NearSide from) (map (message_at t) es)
+items_of_messages from t [] = refl
+items_of_messages from t (e ∷ es) = ap (λ (l : List Item). item_at from t e ∷ l) (items_of_messages from t es)
+
+pub near_shown : (from : ℕ) (survey now : Survey) (fresh : ℕ) (s t : Stored) (es : List Entry) (items : List Item) → Surveys survey fresh s → now ≡ survey → es ≡ now.entries.items → t ≡ s
+    → (AreRising es → AreThere es t → items ≡ map (item_at from t) es)
+    → (items ≡ map (item_above NearSide from) (near_of fresh s).store.messages) × (now.meta.validity ≡ (near_of fresh s).store.validity) × (now.meta.next ≡ (near_of fresh s).store.next)
+near_shown from survey now fresh s t es items surveys same is unchanged shown =
+    let hand = at_hand survey now fresh s t es surveys same is unchanged in (
+      shown hand.rising hand.there ∙ items_of_messages from t es ∙ ap (λ (l : List Message). map (item_above NearSide from) l) hand.messages,
+      ap (λ (v : Survey). v.meta.validity) same ∙ sym (near_validity survey fresh s surveys),
+      ap (λ (v : Survey). v.meta.next) same ∙ sym (near_next survey fresh s surveys),
+    )
+
+pub near_marked : (survey now : Survey) (fresh : ℕ) (s t : Stored) (es : List Entry) (mark : List ℕ) (from : ℕ) (found : Option ℕ) → Surveys survey fresh s → now ≡ survey → es ≡ now.entries.items → t ≡ s
+    → (AreThere es t → found ≡ marked_among mark from (map (message_at t) es)) → found ≡ marked_from mark from (near_of fresh s).store
+near_marked survey now fresh s t es mark from found surveys same is unchanged says =
+    let hand = at_hand survey now fresh s t es surveys same is unchanged in
+    says hand.there ∙ ap (λ (l : List Message). marked_among mark from l) hand.messages
+
+pub near_bytes : (survey now : Survey) (fresh : ℕ) (s t : Stored) (es : List Entry) (uid : ℕ) (read found : Option (List ℕ)) → read ≡ found → Surveys survey fresh s → now ≡ survey → es ≡ now.entries.items → t ≡ s
+    → (AreRising es → AreThere es t → read ≡ bytes_among uid (map (message_at t) es)) → bytes_of uid (near_of fresh s).store ≡ found
+near_bytes survey now fresh s t es uid read found is_found surveys same is unchanged says =
+    let hand = at_hand survey now fresh s t es surveys same is unchanged in
+    sym (says hand.rising hand.there ∙ ap (λ (l : List Message). bytes_among uid l) hand.messages) ∙ is_found
+
+-- a listing above 0 shows all
+pub shows_all : (fresh : ℕ) (s : Stored) (r : Result Listing NearFault) → map (item_above NearSide 0) (near_of fresh s).store.messages ≡ map (item_of NearSide) (near_of fresh s).store.messages
+    → IfOk r (λ listing. ShowsAbove NearSide 0 (near_of fresh s).store listing) → IfOk r (λ listing. Shows NearSide (near_of fresh s).store listing)
+shows_all fresh s (Ok listing) same shows = record { validity = shows.validity; next = shows.next; items = shows.items ∙ same }
+shows_all fresh s (Err fault) same shows = tt

@@ -1,0 +1,117 @@
+-- What files are named after is in its range: UIDs, flags, and the numbers of the meta file.
+use Rattle.std.proofs.Common.{◌≡◌, ℕ, ◌+◌, ◌<◌, ◌^◌, Bool, true, false, cond, ltb, leb, List, [], ◌∷◌, map, Option, None, Some, All, refl, ap, sym, subst, ◌∙◌, arith}
+use Rattle.std.specs.Prelude.{fold, unwrap_or}
+use Rattle.std.specs.List.{cons_option}
+use Rattle.std.specs.Option.{option_map, option_and_then}
+use Rattle.std.proofs.lemmas.Bool.Decides.{nat_tests}
+use Rattle.std.proofs.lemmas.List.Elements.{All-nil, All-cons, All-head, All-tail}
+use Rattle.mailcore.specs.declared.flags.Flag.{Flag}
+use Rattle.mailcore.specs.declared.mailbox.Message.{Message}
+use Rattle.mailcore.specs.declared.side.Side.{Side}
+use Rattle.mailcore.specs.FlagNames.{all_flags, letter, place}
+use Rattle.mailcore.specs.FlagSet.{FLAGS, union}
+use Rattle.mailcore.specs.Listed.{item_of}
+use Rattle.mailcore.specs.Operations.{item_above}
+use Rattle.mailcore.specs.Ranges.{IsNumber, IsInRange, AreFlagSets}
+use Rattle.mailcore.proofs.FlagRules.{union-lt}
+use Rattle.maildir.specs.declared.folder.File.{File}
+use Rattle.maildir.specs.declared.meta.Meta.{Meta}
+use Rattle.maildir.specs.Folders.{Stored}
+use Rattle.maildir.specs.FlaggedNames.{flags_by_name, letters_in}
+use Rattle.maildir.specs.Letters.{flags_in, has_letter, with_flag}
+use Rattle.maildir.specs.Metas.{is_meta}
+use Rattle.maildir.specs.Names.{NameParts, name_of, uid_in, is_uid}
+use Rattle.maildir.proofs.NameLemmas.{name_is_spelled}
+use Rattle.near_box.specs.Mailboxes.{IsMailbox, messages_in, waiting_of, first_meta, near_of}
+use Rattle.near_box.proofs.NewUidLemmas.{meta_fits}
+use Rattle.near_box.proofs.PutLemmas.{All-sorted}
+
+-- ---- flags
+
+found_lt : (letters : List ℕ) (flags : List Flag) (found : ℕ) → found < 2 ^ FLAGS → fold (with_flag letters) found flags < 2 ^ FLAGS
+found_lt letters [] found small = small
+found_lt letters (flag ∷ flags) found small = found_lt letters flags (with_flag letters found flag) (by_test (has_letter letters (letter flag)))
+  where
+    by_test : (b : Bool) → cond b (union found (2 ^ place flag)) found < 2 ^ FLAGS
+    by_test true = union-lt found (2 ^ place flag)
+    by_test false = small
+
+flags_in-lt : (letters : List ℕ) → flags_in letters < 2 ^ FLAGS
+unfolding flags_in
+flags_in-lt letters = found_lt letters all_flags 0 (omega arith)
+
+pub flags_by_name-lt : (name : List ℕ) → flags_by_name name < 2 ^ FLAGS
+flags_by_name-lt name = by_case (name_of name)
+  where
+    by_case : (o : Option NameParts) → unwrap_or (option_map (λ parts. flags_in (letters_in parts)) o) (flags_in []) < 2 ^ FLAGS
+    by_case None = flags_in-lt []
+    by_case (Some parts) = flags_in-lt (letters_in parts)
+
+pub waiting_flags : (files : List File) → AreFlagSets (map waiting_of files)
+waiting_flags [] = All-nil (λ w. w.flags < 2 ^ FLAGS)
+waiting_flags (file ∷ files) = All-cons (λ w. w.flags < 2 ^ FLAGS) (waiting_of file) (map waiting_of files) (flags_by_name-lt file.name) (waiting_flags files)
+
+-- ---- UIDs
+
+uid_is : (name : List ℕ) (uid : ℕ) → uid_in name ≡ Some uid → is_uid uid ≡ true
+uid_is name uid has = by_case (name_of name) refl has
+  where
+    by_uid : (parts : NameParts) → name_of name ≡ Some parts → (u : Option ℕ) → parts.uid ≡ u → u ≡ Some uid → is_uid uid ≡ true
+    by_uid parts read None e f = cc
+    by_uid parts read (Some n) e f =
+        let same : parts.uid ≡ Some uid = e ∙ f in
+        let whole : parts ≡ record { base = parts.base; uid = Some uid; letters = parts.letters } =
+        ap (λ (o : Option ℕ). let p : NameParts = record { base = parts.base; uid = o; letters = parts.letters } in p) same in
+        (name_is_spelled (record { base = parts.base; uid = Some uid; letters = parts.letters }) name (read ∙ ap (λ (p : NameParts). Some p) whole)).uid
+
+    by_case : (o : Option NameParts) → name_of name ≡ o → option_and_then (λ parts. parts.uid) o ≡ Some uid → is_uid uid ≡ true
+    by_case None e f = cc
+    by_case (Some parts) e f = by_uid parts e parts.uid refl f
+
+-- a message whose UID and flags are in their ranges
+pub record IsGood (m : Message) : Type 0 where
+  pub positive : 0 < m.uid
+  pub last : m.uid + 1 < 2 ^ 32
+  pub flags : m.flags < 2 ^ FLAGS
+
+good_messages : (files : List File) → All IsGood (messages_in files)
+good_messages [] = All-nil IsGood
+good_messages (file ∷ files) = by_case (uid_in file.name) refl (good_messages files)
+  where
+    by_case : (u : Option ℕ) → uid_in file.name ≡ u → All IsGood (messages_in files)
+        → All IsGood (cons_option (option_map (λ uid. let m : Message = record { uid = uid; flags = flags_by_name file.name; bytes = file.bytes } in m) u) (messages_in files))
+    by_case None e more = more
+    by_case (Some uid) e more =
+        let is : is_uid uid ≡ true = uid_is file.name uid e in
+        All-cons IsGood (record { uid = uid; flags = flags_by_name file.name; bytes = file.bytes }) (messages_in files)
+        (record { positive = grind (arith, nat_tests); last = grind (arith, nat_tests); flags = flags_by_name-lt file.name }) more
+
+pub messages_good : (fresh : ℕ) (s : Stored) → All IsGood (near_of fresh s).store.messages
+messages_good fresh s = All-sorted (λ a b. ltb a.uid b.uid) IsGood (messages_in s.files) (good_messages s.files)
+
+-- ---- the mailbox
+
+pub near_in_range : (fresh : ℕ) (s : Stored) → 0 < fresh → fresh < 2 ^ 32 → IsMailbox fresh s → IsInRange (near_of fresh s).store
+near_in_range fresh s positive small is =
+    let fits : is_meta is.meta.meta ≡ true = meta_fits fresh s.meta is.meta.meta positive small is.meta.is in
+    let same = ap (λ (o : Option Meta). unwrap_or o (first_meta fresh)) is.meta.is in
+    let good = messages_good fresh s in
+    record {
+      validity = subst (λ (m : Meta). IsNumber m.validity) (sym same) (record { positive = grind (arith, nat_tests); below = grind (arith, nat_tests) });
+      next = subst (λ (m : Meta). IsNumber m.next) (sym same) (record { positive = grind (arith, nat_tests); below = grind (arith, nat_tests) });
+      messages = record {
+        uids = λ k d within. (good k d within).positive;
+        last = λ k d within. (good k d within).last;
+        flags = λ k d within. (good k d within).flags;
+      };
+    }
+
+-- ---- a listing above 0 is the whole listing
+
+pub items_above_none : (side : Side) (messages : List Message) → All IsGood messages → map (item_above side 0) messages ≡ map (item_of side) messages
+items_above_none side [] good = refl
+items_above_none side (m ∷ messages) good =
+    let first = All-head IsGood m messages good in
+    let positive : 0 < m.uid = first.positive in
+    let above : leb m.uid 0 ≡ false = grind (arith, nat_tests) in
+    rw (above, items_above_none side messages (All-tail IsGood m messages good)) refl

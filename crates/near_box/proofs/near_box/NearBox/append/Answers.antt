@@ -1,0 +1,87 @@
+use Rattle.std.proofs.Common.{rules, ◌≡◌, ℕ, ◌<◌, ◌+◌, ◌^◌, ◌⊎◌, ap, ◌∙◌, arith, subst, sym}
+use Rattle.std.specs.Prelude.{Result, Ok, Err}
+use Rattle.std.proofs.lemmas.Result.{err_from_is_err_and}
+use Rattle.mailcore.specs.FlagSet.{FLAGS}
+use Rattle.near_box.specs.declared.survey.Survey.{Survey}
+use Rattle.near_box.specs.Mailboxes.{near_of}
+use Rattle.near_box.specs.NearEffects.{AppendsPart, appended}
+use Rattle.near_box.specs.Surveys.{Surveys}
+use Rattle.near_box.specs.declared.near_fault.NearFault.{NearFault}
+use Rattle.near_box.proofs.KeptMailboxes.{append_mailbox}
+use Rattle.near_box.proofs.AppendLemmas.{appended_near, appended_surveys, append_stopped, delivery}
+use Rattle.near_box.proofs.near_box.NearBox.append.Goals as goal
+
+pub returns-clause-effect : goal.returns-clause-effect
+returns-clause-effect g c = λ honest.
+    let box = c.args.self.now in
+    let s = (g.F.Folder.seen box.folder).stored in
+    let surveys : Surveys box.survey box.fresh s = box.surveys c.in_ok-begin.ensures.ready honest in
+    let room : box.survey.meta.next + 1 < 2 ^ 32 = grind (arith, c.in-Some.ensures) in
+    let are_flags : c.args.flags < 2 ^ FLAGS = search rules in
+    let done : (g.F.Folder.seen c.deliver.new.self.folder).stored ≡ appended box.survey.meta c.args.bytes.now c.args.flags s =
+    c.in_ok-deliver.ensures.effect honest
+    ∙ ap (λ v. appended v.meta c.args.bytes.now c.args.flags (g.F.Folder.seen c.begin.new.self.folder).stored) c.begin.ensures.same.0
+    ∙ ap (λ f. appended box.survey.meta c.args.bytes.now c.args.flags (g.F.Folder.seen f).stored) c.begin.ensures.folder in
+    ap (near_of box.fresh) done ∙ appended_near box.survey box.fresh s surveys box.has_fresh.0 box.has_fresh.1 room c.args.bytes.now c.args.flags are_flags
+
+pub returns-in_err-deliver-clause-effect : goal.returns-in_err-deliver-clause-effect
+returns-in_err-deliver-clause-effect g c = λ honest.
+    let e = err_from_is_err_and c.from_residual-in_err-deliver.result c.from_residual-in_err-deliver.ensures.1 in
+    let box = c.args.self.now in
+    let s = (g.F.Folder.seen box.folder).stored in
+    let after = (g.F.Folder.seen c.deliver.new.self.folder).stored in
+    let surveys : Surveys box.survey box.fresh s = box.surveys c.in_ok-begin.ensures.ready honest in
+    let room : box.survey.meta.next + 1 < 2 ^ 32 = grind (arith, c.in-Some.ensures) in
+    let are_flags : c.args.flags < 2 ^ FLAGS = search rules in
+    let left = subst (λ f. (after ≡ (g.F.Folder.seen f).stored) ⊎ ((after ≡ appended box.survey.meta c.args.bytes.now c.args.flags (g.F.Folder.seen f).stored) ⊎ AppendsPart box.survey.meta c.args.bytes.now (g.F.Folder.seen f).stored after)) c.begin.ensures.folder
+    (subst (λ (v : Survey). (after ≡ (g.F.Folder.seen c.begin.new.self.folder).stored) ⊎ ((after ≡ appended v.meta c.args.bytes.now c.args.flags (g.F.Folder.seen c.begin.new.self.folder).stored) ⊎ AppendsPart v.meta c.args.bytes.now (g.F.Folder.seen c.begin.new.self.folder).stored after)) c.begin.ensures.same.0
+    (c.in_err-deliver.ensures.effect honest)) in
+    rw (e.1) (append_stopped box.survey box.fresh s surveys box.has_fresh.0 box.has_fresh.1 room c.args.bytes.now c.args.flags are_flags after left)
+
+pub invariant_of-self-2-clause-surveys : goal.invariant_of-self-2-clause-surveys
+invariant_of-self-2-clause-surveys g c = λ ready honest.
+    let box = c.args.self.now in
+    let s = (g.F.Folder.seen box.folder).stored in
+    let new = c.deliver.new.self in
+    let surveys : Surveys box.survey box.fresh s = box.surveys c.in_ok-begin.ensures.ready honest in
+    let room : box.survey.meta.next + 1 < 2 ^ 32 = grind (arith, c.in-Some.ensures) in
+    let are_flags : c.args.flags < 2 ^ FLAGS = search rules in
+    let number : c.in-Some.uid ≡ box.survey.meta.next = grind (arith, c.in-Some.ensures) in
+    let done : (g.F.Folder.seen new.folder).stored ≡ appended box.survey.meta c.args.bytes.now c.args.flags s =
+    c.in_ok-deliver.ensures.effect honest
+    ∙ ap (λ v. appended v.meta c.args.bytes.now c.args.flags (g.F.Folder.seen c.begin.new.self.folder).stored) c.begin.ensures.same.0
+    ∙ ap (λ f. appended box.survey.meta c.args.bytes.now c.args.flags (g.F.Folder.seen f).stored) c.begin.ensures.folder in
+    let extends = delivery box.survey c.begin.new.self.survey new.survey c.in-Some.uid c.args.flags c.begin.ensures.same.0 number c.in_ok-deliver.ensures.survey in
+    let same : new.fresh ≡ box.fresh = c.deliver.ensures.failed.1 ∙ c.begin.ensures.same.1 in
+    subst (λ t. Surveys new.survey new.fresh t) (sym done)
+    (subst (λ n. Surveys new.survey n (appended box.survey.meta c.args.bytes.now c.args.flags s)) (sym same)
+    (appended_surveys box.survey box.fresh s surveys box.has_fresh.0 box.has_fresh.1 room c.args.bytes.now c.args.flags are_flags new.survey extends))
+
+pub returns-in_err-deliver-clause-mailbox : goal.returns-in_err-deliver-clause-mailbox
+returns-in_err-deliver-clause-mailbox g c = λ honest is.
+    let box = c.args.self.now in
+    let s = (g.F.Folder.seen box.folder).stored in
+    let after = (g.F.Folder.seen c.deliver.new.self.folder).stored in
+    let surveys : Surveys box.survey box.fresh s = box.surveys c.in_ok-begin.ensures.ready honest in
+    let room : box.survey.meta.next + 1 < 2 ^ 32 = grind (arith, c.in-Some.ensures) in
+    let are_flags : c.args.flags < 2 ^ FLAGS = search rules in
+    let left = subst (λ f. (after ≡ (g.F.Folder.seen f).stored) ⊎ ((after ≡ appended box.survey.meta c.args.bytes.now c.args.flags (g.F.Folder.seen f).stored) ⊎ AppendsPart box.survey.meta c.args.bytes.now (g.F.Folder.seen f).stored after)) c.begin.ensures.folder
+    (subst (λ (v : Survey). (after ≡ (g.F.Folder.seen c.begin.new.self.folder).stored) ⊎ ((after ≡ appended v.meta c.args.bytes.now c.args.flags (g.F.Folder.seen c.begin.new.self.folder).stored) ⊎ AppendsPart v.meta c.args.bytes.now (g.F.Folder.seen c.begin.new.self.folder).stored after)) c.begin.ensures.same.0
+    (c.in_err-deliver.ensures.effect honest)) in
+    let answer : Result ℕ NearFault = Err c.in_err-deliver.field-0.0 in
+    append_mailbox box.survey box.fresh s surveys box.has_fresh.0 box.has_fresh.1 is room c.args.bytes.now c.args.flags are_flags after answer left
+
+pub returns-clause-mailbox : goal.returns-clause-mailbox
+returns-clause-mailbox g c = λ honest is.
+    let box = c.args.self.now in
+    let s = (g.F.Folder.seen box.folder).stored in
+    let after = (g.F.Folder.seen c.deliver.new.self.folder).stored in
+    let surveys : Surveys box.survey box.fresh s = box.surveys c.in_ok-begin.ensures.ready honest in
+    let room : box.survey.meta.next + 1 < 2 ^ 32 = grind (arith, c.in-Some.ensures) in
+    let are_flags : c.args.flags < 2 ^ FLAGS = search rules in
+    let done : after ≡ appended box.survey.meta c.args.bytes.now c.args.flags s =
+    c.in_ok-deliver.ensures.effect honest
+    ∙ ap (λ v. appended v.meta c.args.bytes.now c.args.flags (g.F.Folder.seen c.begin.new.self.folder).stored) c.begin.ensures.same.0
+    ∙ ap (λ f. appended box.survey.meta c.args.bytes.now c.args.flags (g.F.Folder.seen f).stored) c.begin.ensures.folder in
+    let answer : Result ℕ NearFault = Ok c.in-Some.uid in
+    append_mailbox box.survey box.fresh s surveys box.has_fresh.0 box.has_fresh.1 is room c.args.bytes.now c.args.flags are_flags after answer done

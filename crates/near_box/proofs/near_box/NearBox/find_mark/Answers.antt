@@ -1,0 +1,25 @@
+use Rattle.std.proofs.Common.{◌∙◌, ap}
+use Rattle.std.specs.Prelude.{Err, vec_len}
+use Rattle.near_box.specs.declared.read_fault.ReadFault.{ReadFault}
+use Rattle.near_box.proofs.CallLemmas.{none_missed}
+use Rattle.near_box.proofs.NearLemmas.{at_hand, near_marked}
+use Rattle.near_box.proofs.near_box.NearBox.find_mark.Goals as goal
+
+pub returns-in-Err-clause-keeps : goal.returns-in-Err-clause-keeps
+returns-in-Err-clause-keeps g c = λ honest.
+    let old = c.args.self.now in
+    let now = c.begin.new.self in
+    let folder = ap (λ f. (g.F.Folder.seen f).stored) c.in_ok-begin.ensures.folder in
+    let hand = at_hand old.survey now.survey old.fresh (g.F.Folder.seen old.folder).stored (g.F.Folder.seen now.folder).stored c.deref.result.now (old.surveys c.in_ok-begin.ensures.ready honest) c.in_ok-begin.ensures.same.0 c.deref.ensures.value folder in (
+      ap (λ f. (g.F.Folder.seen f).stored) c.failed.ensures.folder ∙ c.find_mark.ensures.keeps honest ∙ folder,
+      none_missed c.in-Err.fault c.failed.result (vec_len now.missed) (vec_len c.failed.new.self.missed) c.failed.ensures.told (λ e. c.in-Err.ensures.there honest hand.there (ap (λ (f : ReadFault). Err f) e))
+          ∙ ap (λ v. vec_len v) c.in_ok-begin.ensures.same.2,
+    )
+
+pub returns-clause-found : goal.returns-clause-found
+returns-clause-found g c = λ honest.
+    let old = c.args.self.now in
+    let now = c.begin.new.self in
+    near_marked old.survey now.survey old.fresh (g.F.Folder.seen old.folder).stored (g.F.Folder.seen now.folder).stored c.deref.result.now c.args.mark c.args.from c.in-Ok.found
+    (old.surveys c.in_ok-begin.ensures.ready honest) c.in_ok-begin.ensures.same.0 c.deref.ensures.value (ap (λ f. (g.F.Folder.seen f).stored) c.in_ok-begin.ensures.folder)
+    (c.in-Ok.ensures.found honest)

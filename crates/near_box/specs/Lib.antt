@@ -1,0 +1,14 @@
+pub use Rattle.maildir.specs.FlaggedNames
+pub use Rattle.maildir.specs.Folders
+pub use Rattle.maildir.specs.Metas
+pub use Rattle.maildir.specs.Names
+pub mod Entries
+pub mod FlagChanges
+pub mod Mailboxes
+pub mod NearCalls
+pub mod NearContracts
+pub mod NearEffects
+pub mod NearFaults
+pub mod Sorting
+pub mod SurveyParts
+pub mod Surveys

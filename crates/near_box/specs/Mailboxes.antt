@@ -1,0 +1,130 @@
+-- The mailbox that stands in a folder.
+use Rattle.std.specs.Prelude.{◌≡◌, ◌<◌, ℕ, ◌+◌, Bool, true, nat_lt, List, ◌++◌, map, filter, length, take, drop, Option, None, Some, unwrap_or, All, AllPairs}
+use Rattle.std.specs.List.{filter_map}
+use Rattle.std.specs.Option.{option_map}
+use Rattle.std.specs.Ordering.{nat_cmp, is_lt, ordering_then}
+use Rattle.std.specs.Cmp.Lexicographic.{slice_cmp}
+use Rattle.std.specs.declared.cmp.Ordering.{Ordering}
+use Rattle.std.specs.declared.cmp.Ordering.TheVariants.{Less, Equal, Greater}
+use Rattle.mailcore.specs.declared.mailbox.Message.{Message}
+use Rattle.mailcore.specs.Operations.{added}
+use Rattle.mailcore.specs.Stores.{Store, Waiting, numbered}
+use Rattle.maildir.specs.declared.folder.Place.{Place}
+use Rattle.maildir.specs.declared.folder.Place.TheVariants.{New, Cur}
+use Rattle.maildir.specs.declared.folder.File.{File}
+use Rattle.maildir.specs.declared.folder.FileName.{FileName}
+use Rattle.maildir.specs.declared.meta.Meta.{Meta}
+use Rattle.maildir.specs.Folders.{Stored, AreApart, name_of_file}
+use Rattle.maildir.specs.Metas.{meta_of}
+use Rattle.maildir.specs.Names.{uid_in, is_waiting}
+use Rattle.maildir.specs.FlaggedNames.{flags_by_name}
+use Rattle.near_box.specs.Sorting.{sorted}
+
+-- ---- messages: the files with a UID, in the order of their UIDs
+
+abbrev pub message_of : File → Option Message
+message_of file = option_map (λ uid. record { uid = uid; flags = flags_by_name file.name; bytes = file.bytes }) (uid_in file.name)
+
+abbrev pub messages_in : List File → List Message
+messages_in files = filter_map message_of files
+
+abbrev pub by_uid : List Message → List Message
+by_uid messages = sorted (λ a b. nat_lt a.uid b.uid) messages
+
+-- no two have one UID
+abbrev pub AreDistinct : List Message → Type 0
+AreDistinct messages = AllPairs (λ a b. a.uid ≡ b.uid → ⊥) messages
+
+-- ---- waiting files: in the byte order of their names, `new` before `cur`
+
+abbrev pub place_cmp : Place → Place → Ordering
+place_cmp New New = Equal
+place_cmp New Cur = Less
+place_cmp Cur New = Greater
+place_cmp Cur Cur = Equal
+
+abbrev pub name_cmp : (a b : List ℕ) → Ordering
+name_cmp = slice_cmp nat_cmp
+
+abbrev pub is_before : File → File → Bool
+is_before a b = is_lt (ordering_then (name_cmp a.name b.name) (place_cmp a.place b.place))
+
+abbrev pub waiting_files : List File → List File
+waiting_files files = sorted is_before (filter (λ file. is_waiting file.name) files)
+
+abbrev pub waiting_of : File → Waiting
+waiting_of file = record { flags = flags_by_name file.name; bytes = file.bytes }
+
+-- ---- the meta file
+
+abbrev pub first_meta : (fresh : ℕ) → Meta
+first_meta fresh = record { validity = fresh; next = 1 }
+
+-- what the meta file says, if it is spelled as one; a mailbox without one begins with UID 1 under a fresh validity
+abbrev pub meta_in : (fresh : ℕ) → Option (List ℕ) → Option Meta
+meta_in fresh None = Some (first_meta fresh)
+meta_in fresh (Some text) = meta_of text
+
+-- ---- the mailbox
+
+-- what its meta file says
+abbrev pub meta_at : (fresh : ℕ) → Stored → Meta
+meta_at fresh s = unwrap_or (meta_in fresh s.meta) (first_meta fresh)
+
+-- the names of the files that wait, in their order
+abbrev pub waiting_names : Stored → List FileName
+waiting_names s = map name_of_file (waiting_files s.files)
+
+pub record Near : Type 0 where
+  pub store : Store
+  pub waiting : List Waiting
+
+abbrev pub store_of : Meta → List File → Store
+store_of meta files = record { validity = meta.validity; next = meta.next; messages = by_uid (messages_in files) }
+
+abbrev pub near_of : (fresh : ℕ) → Stored → Near
+near_of fresh s = record {
+  store = store_of (meta_at fresh s) s.files;
+  waiting = map waiting_of (waiting_files s.files);
+}
+
+-- a validity and a next UID are the mailbox's
+abbrev pub IsMetaOf : Store → Meta → Type 0
+IsMetaOf store meta = (meta.validity ≡ store.validity) × (meta.next ≡ store.next)
+
+-- the meta file is spelled as one, or missing, and each UID is below the next one
+pub record HasMeta (fresh : ℕ) (s : Stored) : Type 0 where
+  pub meta : Meta
+  pub is : meta_in fresh s.meta ≡ Some meta
+  pub below : All (λ m. m.uid < meta.next) (messages_in s.files)
+
+-- the folder holds a mailbox
+pub record IsMailbox (fresh : ℕ) (s : Stored) : Type 0 where
+  pub is_there : s.is_there ≡ true
+  pub apart : AreApart s.files
+  pub once : AreDistinct (messages_in s.files)
+  pub meta : HasMeta fresh s
+
+-- ---- what calls do to the mailbox
+
+-- an operation on its messages (`Operations` of mailcore); the waiting files stay
+abbrev pub on_store : (Store → Store) → Near → Near
+on_store change n = record n { store = change n.store }
+
+-- a message is added under the next UID
+abbrev pub delivered : (bytes : List ℕ) (flags : ℕ) → Near → Near
+delivered bytes flags n = on_store (added n.store.next flags bytes) n
+
+-- the UIDs of all waiting files are set aside, and the first of them have theirs
+abbrev pub numbered_near : (count : ℕ) → Near → Near
+numbered_near count n = record {
+  store = record n.store {
+    next = n.store.next + length n.waiting;
+    messages = n.store.messages ++ numbered n.store.next (take count n.waiting);
+  };
+  waiting = drop count n.waiting;
+}
+
+-- all waiting files have their UIDs
+abbrev pub admitted_near : Near → Near
+admitted_near n = numbered_near (length n.waiting) n

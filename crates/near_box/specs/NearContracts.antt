@@ -1,0 +1,45 @@
+-- What the calls of the near mailbox answer, and what they do to the mailbox that stands in its folder.
+use Rattle.std.specs.Prelude.{◌≡◌, ◌⊎◌, ℕ, true, false, List, take, Result, Ok, Err}
+use Rattle.mailcore.specs.Operations.{expunged, set_aside}
+use Rattle.device.specs.Calls.{Effect}
+use Rattle.near_box.specs.declared.near_fault.NearFault.{NearFault}
+use Rattle.near_box.specs.declared.near_fault.NearFault.TheVariants.{Stopped, Absent, TwoWithOneUid, BadMeta, UidsExhausted, NoMemory}
+use Rattle.maildir.specs.Folders.{Stored}
+use Rattle.near_box.specs.Mailboxes.{Near, AreDistinct, messages_in, HasMeta, IsMailbox, on_store, numbered_near}
+
+-- ---- open
+
+-- why the folder holds no mailbox: the first that holds of three
+abbrev pub TellsWhy : (fresh : ℕ) → Stored → NearFault → Type 0
+TellsWhy fresh s Stopped = Unit {0}
+TellsWhy fresh s Absent = s.is_there ≡ false
+TellsWhy fresh s TwoWithOneUid = (s.is_there ≡ true) × ¬ AreDistinct (messages_in s.files)
+TellsWhy fresh s BadMeta = (s.is_there ≡ true) × AreDistinct (messages_in s.files) × ¬ HasMeta fresh s
+TellsWhy fresh s UidsExhausted = ⊥
+TellsWhy fresh s NoMemory = Unit {0}
+
+-- what opening a box tells of the folder, which comes back beside a fault
+abbrev pub Tells : {B F : Type 0} → (fresh : ℕ) → Stored → Result B (NearFault × F) → Type 0
+Tells fresh s (Ok box) = IsMailbox fresh s
+Tells fresh s (Err fault) = TellsWhy fresh s fault.0
+
+-- ---- calls that write
+
+-- with the effect where the answer is Ok, else without it, or with it, or with a part of it
+abbrev pub Changes : {T : Type 0} → (Near → Near) → (part : Effect Near) → Near → Near → Result T NearFault → Type 0
+Changes effect part n n' (Ok answer) = n' ≡ effect n
+Changes effect part n n' (Err fault) = (n' ≡ n) ⊎ ((n' ≡ effect n) ⊎ part n n')
+
+-- some of the messages are removed, in the order in which they are named
+pub record ExpungesSome (uids : List ℕ) (n n' : Near) : Type 0 where
+  pub count : ℕ
+  pub now : n' ≡ on_store (expunged (take count uids)) n
+
+-- the next UID is set aside, and no message has it
+abbrev pub SetsAside : Near → Near → Type 0
+SetsAside n n' = n' ≡ on_store (set_aside 1) n
+
+-- the UIDs are set aside, and some of the waiting files have theirs
+pub record AdmitsSome (n n' : Near) : Type 0 where
+  pub count : ℕ
+  pub now : n' ≡ numbered_near count n

@@ -1,0 +1,14 @@
+//! The near mailbox: the mailbox that stands in a Maildir folder.
+#![tactic(auto)]
+
+mod flag_change;
+pub mod laws;
+mod near_box;
+mod near_calls;
+mod near_fault;
+mod read_fault;
+mod reading;
+mod survey;
+
+pub use crate::near_box::NearBox;
+pub use crate::near_fault::NearFault;

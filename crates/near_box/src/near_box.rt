@@ -1,0 +1,468 @@
+//! The near mailbox over a folder.
+
+ghost use Rattle.std.specs.Prelude.{◌≡◌, ◌≢◌, ◌↔◌, ◌<◌, ◌≤◌, ◌+◌, ◌^◌, ◌++◌, ◌∷◌, [], true, false, length, vec_len, slice_get, is_some, IsTrue, All, Some, None, IsErrOf, if◌then◌else◌, IfErr, IfOk, OnOk};
+ghost use Rattle.near_box.specs.declared.survey.Entry.{Entry};
+ghost use Rattle.device.specs.Calls.{Nothing};
+ghost use Rattle.std.specs.Int.NonZero.{non_zero_u32_get};
+ghost use Rattle.std.specs.Option.{option_map};
+ghost use Rattle.mailcore.specs.FlagSet.{union, minus};
+ghost use Rattle.mailcore.specs.Operations.{Shows, ShowsAbove, bytes_of, expunged, flagged, flags_added, flags_removed, marked_from};
+ghost use Rattle.near_box.specs.FlagChanges.{changed_flags};
+ghost use Rattle.near_box.specs.Mailboxes.{IsMailbox, IsMetaOf, near_of, on_store, delivered, admitted_near, meta_at, waiting_names};
+ghost use Rattle.near_box.specs.NearContracts.{Tells, Changes, ExpungesSome, SetsAside, AdmitsSome};
+ghost use Rattle.maildir.specs.Folders.{renamed_file, with_meta};
+ghost use Rattle.maildir.specs.Metas.{meta_text};
+ghost use Rattle.near_box.specs.NearEffects.{flagged_files, without_uids, RemovesSome, Admits, AdmitsIf, AppendsPart, Does, admitted, appended, copy_name as copy_name_of, file_of, name_flagged, raised, set_name};
+ghost use Rattle.near_box.specs.NearCalls.{Part, Told, Ends, Opens, Keeps};
+ghost use Rattle.near_box.specs.Surveys.{Surveys, Extends, entries_from, entry_at};
+ghost use Rattle.std.proofs.Props.{props};
+
+use crate::flag_change::FlagChange;
+use crate::near_calls::{admit_file, copy_name, flags_of, location, place_of, room_for, set_name};
+use crate::near_fault::NearFault;
+use crate::read_fault::ReadFault;
+use crate::reading::{find_mark, find_message, listed};
+use crate::survey::{Entry, Survey, survey_of};
+use mailcore::flags::Flags;
+use mailcore::listing::Listing;
+use mailcore::octets::Octets;
+use mailcore::side::Side;
+use mailcore::tuid::Tuid;
+use mailcore::uid::Uid;
+use maildir::folder::{FileName, Folder, Location, Origin, Place};
+use maildir::meta::Meta;
+use std::alloc::Global;
+use std::num::NonZeroU32;
+
+/// The mailbox that stands in a folder.
+///
+/// After `Stopped` and `NoMemory` every call answers `Stopped`, until the folder's `reopen` and a new `open`; after the
+/// other faults it goes on.
+#[derive(Drop)]
+pub struct NearBox<F: Folder> {
+    alloc: Global,
+    folder: F,
+    fresh: u32,
+    survey: Survey,
+    body: Vec<u8>,
+    // One for each file that stood in the folder and was gone when it was to be read.
+    missed: Vec<()>,
+    is_ready: bool,
+    pub ghost is_whole: { is_ready ≡ true → (F.seen folder).is_broken ≡ false },
+    pub ghost has_numbers: { (0 < survey.meta.validity) × (0 < survey.meta.next) },
+    pub ghost has_fresh: { (0 < fresh) × (fresh < 2 ^ 32) },
+    pub ghost surveys: { is_ready ≡ true → F.is_honest ≡ true → Surveys survey fresh (F.seen folder).stored } by { Prim.hlevel props },
+}
+
+impl<F: Folder> NearBox<F> {
+    ghost use Rattle.std.specs.Prelude.{⊤};
+    ghost use mathlib.Core.Option.{none};
+    ghost use Rattle.std.specs.Borrow.{sem, follows_so};
+    ghost use Rattle.near_box.specs.contracts.near_box.NearBox.{the_row};
+
+    /// The mailbox of a folder, whose validity is `fresh` where it has no meta file. It reads the folder and
+    /// changes nothing; beside a fault the folder comes back.
+    ///
+    /// Faults: `Stopped` and `NoMemory`, and the first that holds of `Absent`, `TwoWithOneUid` and `BadMeta`.
+    pub fn open(alloc: Global, folder: F, fresh: NonZeroU32) -> Result<NearBox<F>, (NearFault, F)>
+        ensures opens { Opens (λ near. F.seen near.folder) F.seen (F.seen folder) result }
+        ensures keeps { F.is_honest ≡ true → Keeps (λ near. F.seen near.folder) F.seen (F.seen folder) result }
+        ensures ready { IfOk result (λ near. (near.is_ready ≡ true) × (near.fresh ≡ non_zero_u32_get fresh) × (vec_len near.missed ≡ 0)) }
+        ensures mailbox { F.is_honest ≡ true → Tells (non_zero_u32_get fresh) (F.seen folder).stored result }
+    {
+        let mut folder = folder;
+        match survey_of(alloc, &mut folder, fresh) {
+            Ok(survey) => Ok(NearBox {
+                alloc,
+                folder,
+                fresh: fresh.get(),
+                survey,
+                body: Vec::new(alloc),
+                missed: Vec::new(alloc),
+                is_ready: true,
+            }),
+            Err(fault) => Err((fault, folder)),
+        }
+    }
+
+    /// Gives the folder back, without taking memory.
+    pub fn into_folder(self) -> F
+        ensures { result ≡ self.folder }
+    {
+        self.folder
+    }
+
+    /// The validity of the mailbox and its next UID.
+    pub fn meta(&self) -> Meta
+        ensures mailbox { F.is_honest ≡ true → self.now.is_ready ≡ true → IsMetaOf (near_of self.now.fresh (F.seen self.now.folder).stored).store result }
+        ensures positive { (0 < result.validity) × (0 < result.next) }
+    {
+        self.survey.meta
+    }
+
+    /// What the mailbox lists: one `read` for each message.
+    ///
+    /// `Stopped`: the file of a message is gone, too.
+    pub fn list(&mut self) -> Result<Listing, NearFault>
+        ensures shows { F.is_honest ≡ true → IfOk result (λ listing. Shows Side.Near (near_of self.old.fresh (F.seen self.old.folder).stored).store listing) }
+        ensures numbers { IfOk result (λ listing. (0 < listing.validity) × (0 < listing.next)) }
+        ensures keeps { F.is_honest ≡ true → ((F.seen self.new.folder).stored ≡ (F.seen self.old.folder).stored) × (vec_len self.new.missed ≡ vec_len self.old.missed) }
+        ensures ends { Ends false (record { is_ready = self.old.is_ready; fresh = self.old.fresh; missed = vec_len self.old.missed; folder = F.seen self.old.folder }) (record { is_ready = self.new.is_ready; fresh = self.new.fresh; missed = vec_len self.new.missed; folder = F.seen self.new.folder }) result }
+    {
+        self.list_above(0)
+    }
+
+    /// The same, where those up to this UID are said to be fit, and their files are not read.
+    pub fn list_above(&mut self, from: u32) -> Result<Listing, NearFault>
+        ensures shows { F.is_honest ≡ true → IfOk result (λ listing. ShowsAbove Side.Near from (near_of self.old.fresh (F.seen self.old.folder).stored).store listing) }
+        ensures numbers { IfOk result (λ listing. (0 < listing.validity) × (0 < listing.next)) }
+        ensures keeps { F.is_honest ≡ true → ((F.seen self.new.folder).stored ≡ (F.seen self.old.folder).stored) × (vec_len self.new.missed ≡ vec_len self.old.missed) }
+        ensures ends { Ends false (record { is_ready = self.old.is_ready; fresh = self.old.fresh; missed = vec_len self.old.missed; folder = F.seen self.old.folder }) (record { is_ready = self.new.is_ready; fresh = self.new.fresh; missed = vec_len self.new.missed; folder = F.seen self.new.folder }) result }
+    {
+        self.begin()?;
+        let items = match listed(self.alloc, &mut self.folder, &self.survey.entries, from) {
+            Ok(items) => items,
+            Err(fault) => return Err(self.failed(fault)),
+        };
+        self.is_ready = true;
+        Ok(Listing {
+            validity: self.survey.meta.validity,
+            next: self.survey.meta.next,
+            items,
+        })
+    }
+
+    /// The bytes of a message, or none where it is not there. They are lent until the next call.
+    pub fn fetch(&mut self, uid: Uid) -> Result<Option<&[u8]>, NearFault>
+        ensures bytes { F.is_honest ≡ true → IfOk result (λ found. option_map (λ b. b.now) found ≡ bytes_of uid (near_of self.old.fresh (F.seen self.old.folder).stored).store) }
+        ensures* behind { sem 𝓛 (follows_so (the_row F.row F.Folder) (the_row F.row F.Folder) self.entry.ghost_name none (λ _ _. ⊤)
+            (λ after. (F.is_honest ≡ true → ((F.seen after.folder).stored ≡ (F.seen self.old.folder).stored) × (vec_len after.missed ≡ vec_len self.old.missed))
+            × Ends false (record { is_ready = self.old.is_ready; fresh = self.old.fresh; missed = vec_len self.old.missed; folder = F.seen self.old.folder }) (record { is_ready = after.is_ready; fresh = after.fresh; missed = vec_len after.missed; folder = F.seen after.folder }) result)) }
+    {
+        if self.load(uid)? {
+            Ok(Some(self.body()))
+        } else {
+            Ok(None)
+        }
+    }
+
+    /// Reads the bytes of a message, which `body` then lends, and says whether it is there.
+    pub fn load(&mut self, uid: Uid) -> Result<bool, NearFault>
+        ensures bytes { F.is_honest ≡ true → IfOk result (λ is_there. bytes_of uid (near_of self.old.fresh (F.seen self.old.folder).stored).store ≡ (if is_there then Some self.new.body.items else None)) }
+        ensures keeps { F.is_honest ≡ true → ((F.seen self.new.folder).stored ≡ (F.seen self.old.folder).stored) × (vec_len self.new.missed ≡ vec_len self.old.missed) }
+        ensures ends { Ends false (record { is_ready = self.old.is_ready; fresh = self.old.fresh; missed = vec_len self.old.missed; folder = F.seen self.old.folder }) (record { is_ready = self.new.is_ready; fresh = self.new.fresh; missed = vec_len self.new.missed; folder = F.seen self.new.folder }) result }
+    {
+        self.begin()?;
+        let found = match find_message(&mut self.folder, &self.survey.entries, uid) {
+            Ok(found) => found,
+            Err(fault) => return Err(self.failed(fault)),
+        };
+        self.is_ready = true;
+        match found {
+            Some(bytes) => {
+                self.body = bytes;
+                Ok(true)
+            }
+            None => Ok(false),
+        }
+    }
+
+    /// The bytes that `load` read last.
+    pub fn body(&self) -> &[u8]
+        ensures { result.now ≡ self.now.body.items }
+    {
+        self.body.as_slice()
+    }
+
+    /// The least UID of at least `from` whose message has the mark: one `read` for each message from there on.
+    pub fn find_mark(&mut self, mark: Tuid, from: u32) -> Result<Option<Uid>, NearFault>
+        ensures found { F.is_honest ≡ true → IfOk result (λ found. found ≡ marked_from mark from (near_of self.old.fresh (F.seen self.old.folder).stored).store) }
+        ensures keeps { F.is_honest ≡ true → ((F.seen self.new.folder).stored ≡ (F.seen self.old.folder).stored) × (vec_len self.new.missed ≡ vec_len self.old.missed) }
+        ensures ends { Ends false (record { is_ready = self.old.is_ready; fresh = self.old.fresh; missed = vec_len self.old.missed; folder = F.seen self.old.folder }) (record { is_ready = self.new.is_ready; fresh = self.new.fresh; missed = vec_len self.new.missed; folder = F.seen self.new.folder }) result }
+    {
+        self.begin()?;
+        let found = match find_mark(&mut self.folder, &self.survey.entries, mark, from) {
+            Ok(found) => found,
+            Err(fault) => return Err(self.failed(fault)),
+        };
+        self.is_ready = true;
+        Ok(found)
+    }
+
+    /// Sets these flags of a message: one `rename`, or none where the name stays or the message is not there.
+    pub fn add_flags(&mut self, uid: Uid, flags: Flags) -> Result<(), NearFault>
+        ensures files { F.is_honest ≡ true → Does (flagged_files (λ f. union f flags) uid) Nothing (F.seen self.old.folder).stored (F.seen self.new.folder).stored result }
+        ensures effect { F.is_honest ≡ true → Changes (on_store (flags_added uid flags)) Nothing (near_of self.old.fresh (F.seen self.old.folder).stored) (near_of self.old.fresh (F.seen self.new.folder).stored) result }
+        ensures mailbox { F.is_honest ≡ true → IsMailbox self.old.fresh (F.seen self.old.folder).stored → IsMailbox self.old.fresh (F.seen self.new.folder).stored }
+        ensures untouched { F.is_honest ≡ true → flagged_files (λ f. union f flags) uid (F.seen self.old.folder).stored ≡ (F.seen self.old.folder).stored → F.seen self.new.folder ≡ F.seen self.old.folder }
+        ensures ends { Ends false (record { is_ready = self.old.is_ready; fresh = self.old.fresh; missed = vec_len self.old.missed; folder = F.seen self.old.folder }) (record { is_ready = self.new.is_ready; fresh = self.new.fresh; missed = vec_len self.new.missed; folder = F.seen self.new.folder }) result }
+    {
+        self.change_flags(uid, FlagChange::Add(flags))
+    }
+
+    /// Clears these flags of a message, as `add_flags` sets them.
+    pub fn remove_flags(&mut self, uid: Uid, flags: Flags) -> Result<(), NearFault>
+        ensures files { F.is_honest ≡ true → Does (flagged_files (λ f. minus f flags) uid) Nothing (F.seen self.old.folder).stored (F.seen self.new.folder).stored result }
+        ensures effect { F.is_honest ≡ true → Changes (on_store (flags_removed uid flags)) Nothing (near_of self.old.fresh (F.seen self.old.folder).stored) (near_of self.old.fresh (F.seen self.new.folder).stored) result }
+        ensures mailbox { F.is_honest ≡ true → IsMailbox self.old.fresh (F.seen self.old.folder).stored → IsMailbox self.old.fresh (F.seen self.new.folder).stored }
+        ensures untouched { F.is_honest ≡ true → flagged_files (λ f. minus f flags) uid (F.seen self.old.folder).stored ≡ (F.seen self.old.folder).stored → F.seen self.new.folder ≡ F.seen self.old.folder }
+        ensures ends { Ends false (record { is_ready = self.old.is_ready; fresh = self.old.fresh; missed = vec_len self.old.missed; folder = F.seen self.old.folder }) (record { is_ready = self.new.is_ready; fresh = self.new.fresh; missed = vec_len self.new.missed; folder = F.seen self.new.folder }) result }
+    {
+        self.change_flags(uid, FlagChange::Remove(flags))
+    }
+
+    // Changes the flags of a message.
+    fn change_flags(&mut self, uid: Uid, change: FlagChange) -> Result<(), NearFault>
+        ensures files { F.is_honest ≡ true → Does (flagged_files (changed_flags change) uid) Nothing (F.seen self.old.folder).stored (F.seen self.new.folder).stored result }
+        ensures effect { F.is_honest ≡ true → Changes (on_store (flagged (changed_flags change) uid)) Nothing (near_of self.old.fresh (F.seen self.old.folder).stored) (near_of self.old.fresh (F.seen self.new.folder).stored) result }
+        ensures mailbox { F.is_honest ≡ true → IsMailbox self.old.fresh (F.seen self.old.folder).stored → IsMailbox self.old.fresh (F.seen self.new.folder).stored }
+        ensures untouched { F.is_honest ≡ true → flagged_files (changed_flags change) uid (F.seen self.old.folder).stored ≡ (F.seen self.old.folder).stored → F.seen self.new.folder ≡ F.seen self.old.folder }
+        ensures ends { Ends false (record { is_ready = self.old.is_ready; fresh = self.old.fresh; missed = vec_len self.old.missed; folder = F.seen self.old.folder }) (record { is_ready = self.new.is_ready; fresh = self.new.fresh; missed = vec_len self.new.missed; folder = F.seen self.new.folder }) result }
+    {
+        self.begin()?;
+        let Some(i) = place_of(&self.survey.entries, uid) else {
+            self.is_ready = true;
+            return Ok(());
+        };
+        let flags = change.of(flags_of(&self.survey.entries[i]));
+        self.set_flags(i, flags)?;
+        self.is_ready = true;
+        Ok(())
+    }
+
+    /// Removes messages: one `remove` for each that is there.
+    pub fn expunge(&mut self, uids: &[Uid]) -> Result<(), NearFault>
+        ensures files { F.is_honest ≡ true → Does (without_uids uids.now) (RemovesSome uids.now) (F.seen self.old.folder).stored (F.seen self.new.folder).stored result }
+        ensures effect { F.is_honest ≡ true → Changes (on_store (expunged uids.now)) (ExpungesSome uids.now) (near_of self.old.fresh (F.seen self.old.folder).stored) (near_of self.old.fresh (F.seen self.new.folder).stored) result }
+        ensures mailbox { F.is_honest ≡ true → IsMailbox self.old.fresh (F.seen self.old.folder).stored → IsMailbox self.old.fresh (F.seen self.new.folder).stored }
+        ensures untouched { F.is_honest ≡ true → without_uids uids.now (F.seen self.old.folder).stored ≡ (F.seen self.old.folder).stored → F.seen self.new.folder ≡ F.seen self.old.folder }
+        ensures ends { Ends false (record { is_ready = self.old.is_ready; fresh = self.old.fresh; missed = vec_len self.old.missed; folder = F.seen self.old.folder }) (record { is_ready = self.new.is_ready; fresh = self.new.fresh; missed = vec_len self.new.missed; folder = F.seen self.new.folder }) result }
+    {
+        self.begin()?;
+        for uid in uids {
+            self.expunge_one(*uid)?;
+        }
+        self.is_ready = true;
+        Ok(())
+    }
+
+    /// Adds a message with these bytes and flags, and tells its UID: `write_tmp`, `replace_meta` with the next UID one
+    /// higher, and `rename` into `cur`.
+    ///
+    /// `UidsExhausted`: there is no UID left.
+    pub fn append(&mut self, bytes: &[u8], flags: Flags) -> Result<Uid, NearFault>
+        ensures uid { F.is_honest ≡ true → IfOk result (λ uid. uid ≡ (near_of self.old.fresh (F.seen self.old.folder).stored).store.next) }
+        ensures exhausted { F.is_honest ≡ true → IsErrOf result NearFault.UidsExhausted ↔ ((self.old.is_ready ≡ true) × ((near_of self.old.fresh (F.seen self.old.folder).stored).store.next + 1 ≡ 2 ^ 32)) }
+        ensures effect { F.is_honest ≡ true → Changes (delivered bytes.now flags) SetsAside (near_of self.old.fresh (F.seen self.old.folder).stored) (near_of self.old.fresh (F.seen self.new.folder).stored) result }
+        ensures files { F.is_honest ≡ true → Does (appended (meta_at self.old.fresh (F.seen self.old.folder).stored) bytes.now flags) (AppendsPart (meta_at self.old.fresh (F.seen self.old.folder).stored) bytes.now) (F.seen self.old.folder).stored (F.seen self.new.folder).stored result }
+        ensures mailbox { F.is_honest ≡ true → IsMailbox self.old.fresh (F.seen self.old.folder).stored → IsMailbox self.old.fresh (F.seen self.new.folder).stored }
+        ensures ends { Ends true (record { is_ready = self.old.is_ready; fresh = self.old.fresh; missed = vec_len self.old.missed; folder = F.seen self.old.folder }) (record { is_ready = self.new.is_ready; fresh = self.new.fresh; missed = vec_len self.new.missed; folder = F.seen self.new.folder }) result }
+    {
+        self.begin()?;
+        let next = self.survey.meta.next;
+        let Some(uid) = Uid::new(next) else {
+            self.is_ready = true;
+            return Err(NearFault::UidsExhausted);
+        };
+        self.deliver(uid, bytes, flags)?;
+        self.is_ready = true;
+        Ok(uid)
+    }
+
+    /// Gives the waiting files their UIDs, in their order: if any waits or the meta file is missing, one `replace_meta`, and
+    /// then one `rename` for each.
+    ///
+    /// `UidsExhausted`: there are fewer UIDs left than files wait.
+    pub fn admit(&mut self) -> Result<(), NearFault>
+        ensures exhausted { F.is_honest ≡ true → IsErrOf result NearFault.UidsExhausted ↔ ((self.old.is_ready ≡ true) × (let n = near_of self.old.fresh (F.seen self.old.folder).stored in 2 ^ 32 ≤ n.store.next + length n.waiting)) }
+        ensures effect { F.is_honest ≡ true → Changes admitted_near AdmitsSome (near_of self.old.fresh (F.seen self.old.folder).stored) (near_of self.old.fresh (F.seen self.new.folder).stored) result }
+        ensures files { F.is_honest ≡ true → AdmitsIf (is_some (F.seen self.old.folder).stored.meta) (waiting_names (F.seen self.old.folder).stored) (meta_at self.old.fresh (F.seen self.old.folder).stored) (F.seen self.old.folder).stored (F.seen self.new.folder).stored result }
+        ensures mailbox { F.is_honest ≡ true → IsMailbox self.old.fresh (F.seen self.old.folder).stored → IsMailbox self.old.fresh (F.seen self.new.folder).stored }
+        ensures untouched { F.is_honest ≡ true → (near_of self.old.fresh (F.seen self.old.folder).stored).waiting ≡ [] → IsTrue (is_some (F.seen self.old.folder).stored.meta) → F.seen self.new.folder ≡ F.seen self.old.folder }
+        ensures ends { Ends true (record { is_ready = self.old.is_ready; fresh = self.old.fresh; missed = vec_len self.old.missed; folder = F.seen self.old.folder }) (record { is_ready = self.new.is_ready; fresh = self.new.fresh; missed = vec_len self.new.missed; folder = F.seen self.new.folder }) result }
+    {
+        self.begin()?;
+        let Some(count) = room_for(self.survey.waiting.len(), self.survey.meta.next) else {
+            self.is_ready = true;
+            return Err(NearFault::UidsExhausted);
+        };
+        if count > 0 || !self.survey.has_meta {
+            self.give_uids(count)?;
+        }
+        self.is_ready = true;
+        Ok(())
+    }
+
+    /// Makes what was renamed, removed and replaced so far outlive a loss of power: one `sync` of the folder.
+    pub fn sync(&mut self) -> Result<(), NearFault>
+        ensures keeps { F.is_honest ≡ true → ((F.seen self.new.folder).stored ≡ (F.seen self.old.folder).stored) × (vec_len self.new.missed ≡ vec_len self.old.missed) }
+        ensures ends { Ends false (record { is_ready = self.old.is_ready; fresh = self.old.fresh; missed = vec_len self.old.missed; folder = F.seen self.old.folder }) (record { is_ready = self.new.is_ready; fresh = self.new.fresh; missed = vec_len self.new.missed; folder = F.seen self.new.folder }) result }
+    {
+        self.begin()?;
+        self.folder.sync()?;
+        self.is_ready = true;
+        Ok(())
+    }
+
+    // A call begins: the box counts as failed until it has ended well.
+    fn begin(&mut self) -> Result<(), NearFault>
+        ensures folder { self.new.folder ≡ self.old.folder }
+        ensures ready { OnOk result (self.old.is_ready ≡ true) }
+        ensures failed { IfErr result (λ fault. (fault ≡ NearFault.Stopped) × (self.old.is_ready ≡ false)) }
+        ensures begun { self.new.is_ready ≡ false }
+        ensures same { (self.new.survey ≡ self.old.survey) × (self.new.fresh ≡ self.old.fresh) × (self.new.missed ≡ self.old.missed) }
+        ensures surveys { F.is_honest ≡ true → OnOk result (Surveys self.new.survey self.new.fresh (F.seen self.new.folder).stored) }
+    {
+        if !self.is_ready {
+            return Err(NearFault::Stopped);
+        }
+        self.is_ready = false;
+        Ok(())
+    }
+
+    // What a fault in reading is to the caller: a file that is gone is a stop, which the box counts.
+    fn failed(&mut self, fault: ReadFault) -> NearFault
+        ensures folder { self.new.folder ≡ self.old.folder }
+        ensures same { (self.new.is_ready ≡ self.old.is_ready) × (self.new.fresh ≡ self.old.fresh) }
+        ensures told { Told fault (vec_len self.old.missed) (vec_len self.new.missed) result }
+    {
+        match fault {
+            ReadFault::Gone => match self.missed.push(()) {
+                Ok(()) => NearFault::Stopped,
+                Err(_) => NearFault::NoMemory,
+            },
+            ReadFault::Device(fault) => NearFault::from(fault),
+        }
+    }
+
+    // Gives the message at this place of the list these flags.
+    fn set_flags(&mut self, i: usize, flags: Flags) -> Result<(), NearFault>
+        requires within { i < vec_len self.old.survey.entries }
+        requires begun { self.old.is_ready ≡ false }
+        requires surveyed { F.is_honest ≡ true → Surveys self.old.survey self.old.fresh (F.seen self.old.folder).stored }
+        ensures effect { F.is_honest ≡ true → (entry : Entry) → slice_get self.old.survey.entries.items i ≡ Some entry
+            → Does (set_name (file_of entry) (name_flagged entry.name flags)) Nothing (F.seen self.old.folder).stored (F.seen self.new.folder).stored result }
+        ensures untouched { (entry : Entry) → slice_get self.old.survey.entries.items i ≡ Some entry → name_flagged entry.name flags ≡ None → F.seen self.new.folder ≡ F.seen self.old.folder }
+        ensures surveys { F.is_honest ≡ true → OnOk result (Surveys self.new.survey self.new.fresh (F.seen self.new.folder).stored) }
+        ensures part { Part (F.seen self.old.folder) (F.seen self.new.folder) result }
+        ensures failed { (self.new.is_ready ≡ self.old.is_ready) × (self.new.fresh ≡ self.old.fresh) × (self.new.missed ≡ self.old.missed) }
+    {
+        let Some(name) = set_name(self.alloc, &mut self.folder, &self.survey.entries[i], flags)?
+        else {
+            return Ok(());
+        };
+        let entry = &mut self.survey.entries[i];
+        entry.place = Place::Cur;
+        entry.name = Octets::from_vec(name);
+        Ok(())
+    }
+
+    // Removes the message with this UID, if it is there.
+    fn expunge_one(&mut self, uid: Uid) -> Result<(), NearFault>
+        requires begun { self.old.is_ready ≡ false }
+        requires surveyed { F.is_honest ≡ true → Surveys self.old.survey self.old.fresh (F.seen self.old.folder).stored }
+        ensures untouched { All (λ entry. entry.uid ≢ uid) self.old.survey.entries.items → F.seen self.new.folder ≡ F.seen self.old.folder }
+        ensures effect { F.is_honest ≡ true → Does (without_uids (uid ∷ [])) Nothing (F.seen self.old.folder).stored (F.seen self.new.folder).stored result }
+        ensures surveys { F.is_honest ≡ true → OnOk result (Surveys self.new.survey self.new.fresh (F.seen self.new.folder).stored) }
+        ensures part { Part (F.seen self.old.folder) (F.seen self.new.folder) result }
+        ensures failed { (self.new.is_ready ≡ self.old.is_ready) × (self.new.fresh ≡ self.old.fresh) × (self.new.missed ≡ self.old.missed) }
+    {
+        let Some(i) = place_of(&self.survey.entries, uid) else {
+            return Ok(());
+        };
+        self.folder.remove(location(&self.survey.entries[i]))?;
+        let _ = self.survey.entries.remove(i);
+        Ok(())
+    }
+
+    // Writes a copy and gives it the name of this UID, which is the next one.
+    fn deliver(&mut self, uid: Uid, bytes: &[u8], flags: Flags) -> Result<(), NearFault>
+        requires begun { self.old.is_ready ≡ false }
+        requires next { uid ≡ self.old.survey.meta.next }
+        ensures effect { F.is_honest ≡ true → Does (appended self.old.survey.meta bytes.now flags) (AppendsPart self.old.survey.meta bytes.now) (F.seen self.old.folder).stored (F.seen self.new.folder).stored result }
+        ensures survey { OnOk result (Extends (entry_at uid (record { place = Place.Cur; name = copy_name_of self.old.survey.meta.validity uid flags }) ∷ []) self.old.survey.waiting.items (raised self.old.survey.meta 1) self.old.survey self.new.survey) }
+        ensures part { Part (F.seen self.old.folder) (F.seen self.new.folder) result }
+        ensures failed { (self.new.is_ready ≡ self.old.is_ready) × (self.new.fresh ≡ self.old.fresh) × (self.new.missed ≡ self.old.missed) }
+    {
+        let name = copy_name(self.alloc, self.survey.meta.validity, uid, flags)?;
+        self.survey.entries.reserve(1)?;
+        self.folder.write_tmp(bytes)?;
+        self.raise_next(1)?;
+        let to = Location {
+            place: Place::Cur,
+            name: &name,
+        };
+        self.folder.rename(Origin::Tmp, to)?;
+        self.survey.entries.push(Entry {
+            uid,
+            place: Place::Cur,
+            name: Octets::from_vec(name),
+        })?;
+        Ok(())
+    }
+
+    // Replaces the meta file by one whose next UID is so much higher.
+    fn raise_next(&mut self, count: u32) -> Result<(), NearFault>
+        requires begun { self.old.is_ready ≡ false }
+        requires fits { self.old.survey.meta.next + count < 2 ^ 32 }
+        ensures effect { F.is_honest ≡ true → Does (with_meta (meta_text (raised self.old.survey.meta count))) Nothing (F.seen self.old.folder).stored (F.seen self.new.folder).stored result }
+        ensures meta { OnOk result ((self.new.survey.meta ≡ raised self.old.survey.meta count) × (self.new.survey.has_meta ≡ true)) }
+        ensures waiting { self.new.survey.waiting ≡ self.old.survey.waiting }
+        ensures entries { self.new.survey.entries ≡ self.old.survey.entries }
+        ensures part { Part (F.seen self.old.folder) (F.seen self.new.folder) result }
+        ensures failed { (self.new.is_ready ≡ self.old.is_ready) × (self.new.fresh ≡ self.old.fresh) × (self.new.missed ≡ self.old.missed) }
+    {
+        let meta = Meta {
+            validity: self.survey.meta.validity,
+            next: self.survey.meta.next + count,
+        };
+        let text = meta.text(self.alloc)?;
+        self.folder.replace_meta(&text)?;
+        self.survey.meta = meta;
+        self.survey.has_meta = true;
+        Ok(())
+    }
+
+    // Gives the waiting files, of which there are so many, the next UIDs.
+    fn give_uids(&mut self, count: u32) -> Result<(), NearFault>
+        requires begun { self.old.is_ready ≡ false }
+        requires count { count ≡ vec_len self.old.survey.waiting }
+        requires fits { self.old.survey.meta.next + count < 2 ^ 32 }
+        requires positive { 0 < self.old.survey.meta.next }
+        ensures part { Part (F.seen self.old.folder) (F.seen self.new.folder) result }
+        ensures failed { (self.new.is_ready ≡ self.old.is_ready) × (self.new.fresh ≡ self.old.fresh) × (self.new.missed ≡ self.old.missed) }
+        ensures survey { OnOk result (Extends (entries_from self.old.survey.meta.next self.old.survey.waiting.items) [] (raised self.old.survey.meta count) self.old.survey self.new.survey) }
+        ensures effect { F.is_honest ≡ true → Admits self.old.survey.waiting.items self.old.survey.meta (F.seen self.old.folder).stored (F.seen self.new.folder).stored result }
+    {
+        let mut number = self.survey.meta.next;
+        self.raise_next(count)?;
+        let waiting = std::mem::replace(&mut self.survey.waiting, Vec::new(self.alloc));
+        for file in &waiting {
+            self.give_uid(number, file)?;
+            number += 1;
+        }
+        Ok(())
+    }
+
+    // Gives a waiting file the UID with this number.
+    fn give_uid(&mut self, number: u32, file: &FileName) -> Result<(), NearFault>
+        requires begun { self.old.is_ready ≡ false }
+        requires uid { (0 < number) × (number + 1 < 2 ^ 32) }
+        ensures part { Part (F.seen self.old.folder) (F.seen self.new.folder) result }
+        ensures failed { (self.new.is_ready ≡ self.old.is_ready) × (self.new.fresh ≡ self.old.fresh) × (self.new.missed ≡ self.old.missed) }
+        ensures meta { (self.new.survey.meta ≡ self.old.survey.meta) × (self.new.survey.has_meta ≡ self.old.survey.has_meta) }
+        ensures waiting { self.new.survey.waiting ≡ self.old.survey.waiting }
+        ensures entries { OnOk result (self.new.survey.entries.items ≡ self.old.survey.entries.items ++ entry_at number (admitted file.now number) ∷ []) }
+        ensures effect { F.is_honest ≡ true → Does (renamed_file file.now (admitted file.now number)) Nothing (F.seen self.old.folder).stored (F.seen self.new.folder).stored result }
+    {
+        // A UID, by what the caller owes.
+        let uid = Uid::new(number).unwrap();
+        let name = admit_file(self.alloc, &mut self.folder, file, uid)?;
+        self.survey.entries.push(Entry {
+            uid,
+            place: file.place,
+            name: Octets::from_vec(name),
+        })?;
+        Ok(())
+    }
+}

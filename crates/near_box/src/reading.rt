@@ -1,0 +1,144 @@
+//! What calls of the near mailbox read of the files of its messages. A file that stood there when the mailbox was opened
+//! and is gone is a fault, so that nothing is taken for removed that was renamed.
+
+ghost use Rattle.std.specs.Prelude.{◌≡◌, ◌≢◌, true, false, [], ◌∷◌, ◌++◌, ◌⊎◌, map, nat_lt, IfOk, IfErr, OnOk};
+ghost use Rattle.std.specs.List.{list_all};
+ghost use Rattle.mailcore.specs.Content.{mark_of};
+ghost use Rattle.mailcore.specs.Operations.{bytes_among, is_mark, marked_among};
+ghost use Rattle.maildir.specs.Folders.{text_of};
+ghost use Rattle.near_box.specs.Entries.{AreRising, AreThere, IsThere, message_at, item_at};
+ghost use Rattle.near_box.specs.NearCalls.{Reads};
+
+use crate::near_calls::{flags_of, location, place_of};
+use crate::read_fault::ReadFault;
+use crate::survey::Entry;
+use device::DeviceFault;
+use mailcore::content::fit;
+use mailcore::copies::mark_of;
+use mailcore::fault::PushFault;
+use mailcore::listing::{Item, Items};
+use mailcore::side::Side;
+use mailcore::tuid::Tuid;
+use mailcore::uid::Uid;
+use maildir::folder::{Folder, Source};
+use std::alloc::Global;
+
+/// The bytes of a message.
+pub fn read_message<F: Folder>(folder: &mut F, entry: &Entry) -> Result<Vec<u8>, ReadFault>
+    ensures reads { Reads (F.seen folder.old) (F.seen folder.new) result }
+    ensures keeps { F.is_honest ≡ true → (F.seen folder.new).stored ≡ (F.seen folder.old).stored }
+    ensures bytes { F.is_honest ≡ true → IsThere (F.seen folder.old).stored entry.now → IfOk result (λ bytes. bytes.items ≡ (message_at (F.seen folder.old).stored entry.now).bytes) }
+    ensures there { F.is_honest ≡ true → IsThere (F.seen folder.old).stored entry.now → result ≢ Err ReadFault.Gone }
+{
+    match folder.read(Source::Mail(location(entry)))? {
+        Some(bytes) => Ok(bytes),
+        None => Err(ReadFault::Gone),
+    }
+}
+
+/// The bytes of the message with this UID, or none where it is not there.
+pub fn find_message<F: Folder>(
+    folder: &mut F,
+    entries: &[Entry],
+    uid: Uid,
+) -> Result<Option<Vec<u8>>, ReadFault>
+    ensures reads { Reads (F.seen folder.old) (F.seen folder.new) result }
+    ensures keeps { F.is_honest ≡ true → (F.seen folder.new).stored ≡ (F.seen folder.old).stored }
+    ensures bytes { F.is_honest ≡ true → AreRising entries.now → AreThere entries.now (F.seen folder.old).stored
+        → IfOk result (λ bytes. text_of bytes ≡ bytes_among uid (map (message_at (F.seen folder.old).stored) entries.now)) }
+    ensures there { F.is_honest ≡ true → AreThere entries.now (F.seen folder.old).stored → result ≢ Err ReadFault.Gone }
+{
+    match place_of(entries, uid) {
+        Some(i) => Ok(Some(read_message(folder, &entries[i])?)),
+        None => Ok(None),
+    }
+}
+
+/// What the messages list. Those up to this UID are said to be fit, and their files are not read.
+pub fn listed<F: Folder>(
+    alloc: Global,
+    folder: &mut F,
+    entries: &[Entry],
+    from: u32,
+) -> Result<Items, ReadFault>
+    ensures reads { Reads (F.seen folder.old) (F.seen folder.new) result }
+    ensures keeps { F.is_honest ≡ true → (F.seen folder.new).stored ≡ (F.seen folder.old).stored }
+    ensures shows { F.is_honest ≡ true → AreRising entries.now → AreThere entries.now (F.seen folder.old).stored
+        → IfOk result (λ items. items ≡ map (item_at from (F.seen folder.old).stored) entries.now) }
+    ensures there { F.is_honest ≡ true → AreRising entries.now → AreThere entries.now (F.seen folder.old).stored → result ≢ Err ReadFault.Gone }
+{
+    let mut items = Items::new(alloc);
+    for entry in entries {
+        let item = Item {
+            uid: entry.uid,
+            flags: flags_of(entry),
+            fit: is_fit(folder, entry, from)?,
+        };
+        push_item(&mut items, item)?;
+    }
+    Ok(items)
+}
+
+/// Whether a message is fit to be copied, asked of those above this UID alone.
+fn is_fit<F: Folder>(folder: &mut F, entry: &Entry, from: u32) -> Result<bool, ReadFault>
+    ensures reads { Reads (F.seen folder.old) (F.seen folder.new) result }
+    ensures keeps { F.is_honest ≡ true → (F.seen folder.new).stored ≡ (F.seen folder.old).stored }
+    ensures fit { F.is_honest ≡ true → IsThere (F.seen folder.old).stored entry.now → IfOk result (λ is. is ≡ (item_at from (F.seen folder.old).stored entry.now).fit) }
+    ensures there { F.is_honest ≡ true → IsThere (F.seen folder.old).stored entry.now → result ≢ Err ReadFault.Gone }
+{
+    if entry.uid.get() <= from {
+        return Ok(true);
+    }
+    let bytes = read_message(folder, entry)?;
+    Ok(fit(Side::Near, &bytes))
+}
+
+/// Adds an item behind those that stand below it, which each is: the entries rise.
+fn push_item(items: &mut Items, item: Item) -> Result<(), ReadFault>
+    ensures pushed { OnOk result (items.new ≡ items.old ++ item ∷ []) }
+    ensures fault { IfErr result (λ fault. (fault ≡ ReadFault.Device DeviceFault.NoMemory) ⊎ ((fault ≡ ReadFault.Gone) × (list_all (λ i. nat_lt i.uid item.uid) items.old ≡ false))) }
+{
+    match items.push(item) {
+        Ok(()) => Ok(()),
+        Err(PushFault::OutOfOrder) => Err(ReadFault::Gone),
+        Err(PushFault::NoMemory) => Err(ReadFault::Device(DeviceFault::NoMemory)),
+    }
+}
+
+/// The least UID of at least `from` whose message has the mark.
+pub fn find_mark<F: Folder>(
+    folder: &mut F,
+    entries: &[Entry],
+    mark: Tuid,
+    from: u32,
+) -> Result<Option<Uid>, ReadFault>
+    ensures reads { Reads (F.seen folder.old) (F.seen folder.new) result }
+    ensures keeps { F.is_honest ≡ true → (F.seen folder.new).stored ≡ (F.seen folder.old).stored }
+    ensures found { F.is_honest ≡ true → AreThere entries.now (F.seen folder.old).stored
+        → IfOk result (λ found. found ≡ marked_among mark from (map (message_at (F.seen folder.old).stored) entries.now)) }
+    ensures there { F.is_honest ≡ true → AreThere entries.now (F.seen folder.old).stored → result ≢ Err ReadFault.Gone }
+{
+    for entry in entries {
+        if entry.uid.get() >= from && has_mark(folder, entry, mark)? {
+            return Ok(Some(entry.uid));
+        }
+    }
+    Ok(None)
+}
+
+/// Whether a message has the mark.
+fn has_mark<F: Folder>(folder: &mut F, entry: &Entry, mark: Tuid) -> Result<bool, ReadFault>
+    ensures reads { Reads (F.seen folder.old) (F.seen folder.new) result }
+    ensures keeps { F.is_honest ≡ true → (F.seen folder.new).stored ≡ (F.seen folder.old).stored }
+    ensures mark { F.is_honest ≡ true → IsThere (F.seen folder.old).stored entry.now → IfOk result (λ is. is ≡ is_mark (mark_of (message_at (F.seen folder.old).stored entry.now).bytes) mark) }
+    ensures there { F.is_honest ≡ true → IsThere (F.seen folder.old).stored entry.now → result ≢ Err ReadFault.Gone }
+{
+    Ok(bears(&read_message(folder, entry)?, mark))
+}
+
+/// Whether these bytes are those of a copy under this mark.
+fn bears(bytes: &[u8], mark: Tuid) -> bool
+    ensures { result ≡ is_mark (mark_of bytes.now) mark }
+{
+    mark_of(bytes) == Some(mark)
+}

@@ -1,0 +1,4 @@
+pub mod CommitLaws
+pub mod OtherUids
+pub mod AlikeLaws
+pub mod Examples

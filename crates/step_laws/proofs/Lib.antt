@@ -1,0 +1,12 @@
+pub mod Fold
+pub mod Changes
+pub mod Idle
+pub mod Fates
+pub mod Copying
+pub mod PlanParts
+pub mod Whole
+pub mod Among
+pub mod Again
+pub mod Given
+pub mod Own
+pub mod OwnPlan

@@ -1,8 +1,0 @@
-use Rattle.std.proofs.Common.{◌≡◌, [], not}
-use Rattle.std.specs.List.{position_from}
-use Rattle.sync_state.specs.Agreement.{log_agrees}
-use Rattle.sync_state.proofs.AgreementLemmas.{left}
-use Rattle.sync_state.proofs.agreement.bad_copy.Given as goal
-
-abbrev pub invariant-loop-i : goal.invariant-loop-i
-invariant-loop-i l = position_from not 0 (log_agrees l.entries l.steps [] l.steps l.log) ≡ position_from not l.i (left l.entries l.steps l.log l.i)

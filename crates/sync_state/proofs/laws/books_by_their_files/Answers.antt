@@ -1,5 +1,0 @@
-use Rattle.sync_state.proofs.KnownBooks.{book_known}
-use Rattle.sync_state.proofs.laws.books_by_their_files.Goals as goal
-
-pub returns : goal.returns
-returns c = book_known

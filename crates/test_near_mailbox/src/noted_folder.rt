@@ -1,0 +1,100 @@
+//! A folder whose calls are noted.
+
+ghost use Rattle.std.specs.Prelude.{◌≡◌};
+
+use crate::failure::LineFault;
+use device::DeviceFault;
+use maildir::folder::{FileName, Folder, Location, Origin, Source};
+use maildir::mem_folder::FolderCall;
+use std::alloc::Global;
+
+/// A folder that notes which calls are made of it.
+#[derive(Drop)]
+pub struct NotedFolder<F: Folder> {
+    folder: F,
+    calls: Vec<FolderCall>,
+    // Whether memory was wanting for a note.
+    is_short: bool,
+}
+
+impl<F: Folder> NotedFolder<F> {
+    /// This folder, of which nothing is noted yet.
+    pub fn new(alloc: Global, folder: F) -> Self {
+        NotedFolder {
+            folder,
+            calls: Vec::new(alloc),
+            is_short: false,
+        }
+    }
+
+    /// The folder itself.
+    pub fn inner(&self) -> &F {
+        &self.folder
+    }
+
+    /// The calls so far. `NoMemory`: they were not all noted.
+    pub fn calls(&self) -> Result<&[FolderCall], LineFault> {
+        if self.is_short {
+            return Err(LineFault::NoMemory);
+        }
+        Ok(&self.calls)
+    }
+
+    /// Forgets the calls so far.
+    pub fn forget(&mut self) {
+        self.calls.clear();
+    }
+
+    fn note(&mut self, call: FolderCall)
+        ensures { self.new.folder ≡ self.old.folder }
+    {
+        if self.calls.push(call).is_err() {
+            self.is_short = true;
+        }
+    }
+}
+
+impl<F: Folder> Folder for NotedFolder<F> {
+    ghost is_honest = { F.is_honest };
+
+    ghost seen = { λ noted. F.seen noted.folder };
+
+    fn names(&mut self) -> Result<Option<Vec<FileName>>, DeviceFault> {
+        self.note(FolderCall::Names);
+        self.folder.names()
+    }
+
+    fn read(&mut self, file: Source<'_>) -> Result<Option<Vec<u8>>, DeviceFault> {
+        self.note(FolderCall::Read);
+        self.folder.read(file)
+    }
+
+    fn write_tmp(&mut self, bytes: &[u8]) -> Result<(), DeviceFault> {
+        self.note(FolderCall::WriteTmp);
+        self.folder.write_tmp(bytes)
+    }
+
+    fn rename(&mut self, from: Origin<'_>, to: Location<'_>) -> Result<(), DeviceFault> {
+        self.note(FolderCall::Rename);
+        self.folder.rename(from, to)
+    }
+
+    fn remove(&mut self, file: Location<'_>) -> Result<(), DeviceFault> {
+        self.note(FolderCall::Remove);
+        self.folder.remove(file)
+    }
+
+    fn replace_meta(&mut self, text: &[u8]) -> Result<(), DeviceFault> {
+        self.note(FolderCall::ReplaceMeta);
+        self.folder.replace_meta(text)
+    }
+
+    fn sync(&mut self) -> Result<(), DeviceFault> {
+        self.note(FolderCall::Sync);
+        self.folder.sync()
+    }
+
+    fn reopen(&mut self) {
+        self.folder.reopen();
+    }
+}

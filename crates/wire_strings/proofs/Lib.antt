@@ -1,0 +1,7 @@
+pub mod QuoteSteps
+pub mod QuoteParts
+pub mod PartUnless
+pub mod TextParts
+pub mod DelimiterParts
+pub mod StringParts
+pub mod StringWriting

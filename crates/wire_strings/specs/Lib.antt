@@ -1,0 +1,5 @@
+pub mod Texts
+pub mod Quotes
+pub mod Delimiters
+pub mod Literals
+pub mod Strings

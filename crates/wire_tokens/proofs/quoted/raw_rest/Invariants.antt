@@ -1,7 +1,0 @@
-use Rattle.std.proofs.Common.{◌≡◌, take, drop}
-use Rattle.wire_reader.specs.Machine.{scan}
-use Rattle.wire_tokens.specs.Quotes.{raw_step, raw_rest}
-use Rattle.wire_tokens.proofs.quoted.raw_rest.Given as goal
-
-abbrev pub invariant-loop-i : goal.invariant-loop-i
-invariant-loop-i l = scan raw_step (take l.i l.bytes, l.behind_slash) (drop l.i l.bytes) ≡ raw_rest l.bytes

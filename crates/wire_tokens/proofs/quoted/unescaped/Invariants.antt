@@ -1,6 +1,0 @@
-use Rattle.std.proofs.Common.{◌≡◌, ◌++◌, drop}
-use Rattle.wire_tokens.specs.Quotes.{unescaped_from, unescaped}
-use Rattle.wire_tokens.proofs.quoted.unescaped.Given as goal
-
-abbrev pub invariant-loop-b : goal.invariant-loop-b
-invariant-loop-b l = l.value.items ++ unescaped_from l.behind_slash (drop l.b-index l.raw) ≡ unescaped l.raw
