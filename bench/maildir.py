@@ -6,11 +6,12 @@
 The mailboxes have 10,000 and 100,000 small messages, in folders that are made for the run: a third of the messages stand
 in `new`. Each message is read once, so ten times the messages take about ten times as long. Seconds are the least of three
 runs; system calls are counted by strace where it is there. A listing that asks no message whether it is fit, as that of a
-run with nothing to do, has to make at most 20 system calls, one for each 50 names, and one for each name, which tells what kind
-of file it is. Before that a folder is made with a name outside UTF-8, at which the listing has to stop, one with a fifo under the
-name of a message, which is left alone, and one without `tmp`, which is absent. At the end 1,000 messages are appended, and the
-calls that sync are counted: two a message, for the copy and for the meta file, and three at the end, for the names in `cur`, in
-`new` and in the folder."""
+run with nothing to do, has to make at most 20 system calls and one for each 50 names. Before that a folder is made with a name
+outside UTF-8, at which the listing has to stop; one with a fifo under a name without a UID, which is left alone; one with a fifo
+under the name of a message, which is listed, and stops the listing where it is read; and one without `tmp`, which is absent. Then
+1,000 messages are appended, and the calls that sync are counted: two a message, for the copy and for the meta file, and three at
+the end, for the names in `cur`, in `new` and in the folder. At the end 10,000 copies are sought by their marks, one after
+another, as a pull that was stopped seeks them: each file has to be opened once."""
 import os
 import re
 import shutil
@@ -33,26 +34,26 @@ def build():
     subprocess.run([launch, "bench_maildir", *CRATES, "--"], stdout=subprocess.DEVNULL, check=True)
 
 
-def make(folder, count):
+def make(folder, count, first_line=b"Subject: %d\n"):
     for part in (b"cur", b"new", b"tmp"):
         os.makedirs(os.path.join(folder, part))
     for n in range(1, count + 1):
         part, letters = (b"new", b"") if n % 3 == 0 else (b"cur", b":2,S" if n % 3 == 1 else b":2,")
         name = b"1700000000.M%dP7.host,U=%d%s" % (n, n, letters)
         with open(os.path.join(folder, part, name), "wb") as file:
-            file.write(b"Subject: %d\n\ntext\n" % n)
+            file.write(first_line % n + b"\ntext\n")
     with open(os.path.join(folder, b".uidvalidity"), "wb") as file:
         file.write(b"1\n%d\n" % count)
 
 
-def answer(folder):
+def answer(folder, *words):
     """Status, output and told faults of a run on this folder."""
-    done = subprocess.run([PROGRAM, os.fsdecode(folder)], capture_output=True, check=False)
+    done = subprocess.run([PROGRAM, os.fsdecode(folder), *words], capture_output=True, check=False, timeout=600)
     return done.returncode, done.stdout, done.stderr
 
 
-def expect(folder, wanted):
-    found = answer(folder)
+def expect(folder, wanted, *words):
+    found = answer(folder, *words)
     if found != wanted:
         sys.exit(f"{os.fsdecode(folder)}: {found} in place of {wanted}")
 
@@ -65,11 +66,16 @@ def check_bad_folders(top):
         pass
     expect(strange, (1, b"", b"bench_maildir: stopped\n"))
     os.remove(os.path.join(strange, b"cur", b"caf\xe9:2,"))
-    os.mkfifo(os.path.join(strange, b"cur", b"fifo,U=9:2,"))
+    os.mkfifo(os.path.join(strange, b"cur", b"fifo:2,"))
     expect(strange, (0, b"2 messages\n", b""))
+    os.rename(os.path.join(strange, b"cur", b"fifo:2,"), os.path.join(strange, b"cur", b"fifo,U=3:2,"))
+    with open(os.path.join(strange, b".uidvalidity"), "wb") as file:
+        file.write(b"1\n3\n")
+    expect(strange, (0, b"3 messages\n", b""), "above=3")
+    expect(strange, (1, b"", b"bench_maildir: stopped\n"))
     os.rmdir(os.path.join(strange, b"tmp"))
     expect(strange, (1, b"", b"bench_maildir: absent\n"))
-    print("a name outside UTF-8 stops the listing, a fifo is left alone, and a folder without tmp is absent")
+    print("a name outside UTF-8 stops the listing, a fifo is left alone or stops it, and a folder without tmp is absent")
 
 
 def run(folder, count):
@@ -113,7 +119,7 @@ def calls_at_rest(folder, count):
     if all_calls is None or start is None:
         return "not counted, strace cannot be used"
     more = sum(all_calls.values()) - sum(start.values())
-    if more > 20 + count / 50 + count:
+    if more > 20 + count / 50:
         sys.exit(f"{count} messages: {more} system calls more than for none, with no message asked")
     return "%d, and %d more for the messages" % (sum(start.values()), more)
 
@@ -150,6 +156,22 @@ def measure_syncs(top, count):
         sys.exit(f"{traced.stdout} with {syncs} syncs in place of {wanted}")
 
 
+def measure_marks(top, count):
+    """Seeks the marks of so many copies, one after another."""
+    folder = os.path.join(top, b"marked")
+    make(folder, count, b"X-TUID: %012d\n")
+    start = time.monotonic()
+    told = answer(folder, f"find={count}")
+    seconds = time.monotonic() - start
+    if told != (0, b"%d messages\n" % count, b""):
+        sys.exit(f"{count} marks: {told}")
+    counts = traced(os.fsdecode(folder), f"find={count}")
+    opened = "not counted, strace cannot be used" if counts is None else counts["openat"]
+    print("%7d marks sought   %7.3f s  files opened: %s" % (count, seconds, opened))
+    if counts is not None and opened > count + 20:
+        sys.exit(f"{opened} files opened for {count} copies")
+
+
 def main():
     build()
     with tempfile.TemporaryDirectory() as top:
@@ -157,6 +179,7 @@ def main():
         check_bad_folders(top)
         few, many = (measure(top, count) for count in SIZES)
         measure_syncs(top, 1000)
+        measure_marks(top, 10000)
     print("ten times the messages take %.1f times as long and %.1f times the memory"
           % (many[0] / few[0], many[1] / few[1]))
 

@@ -1,9 +1,11 @@
 //! A Maildir folder on a disk.
 
-ghost use Rattle.std.specs.Prelude.{◌≡◌, IfOk};
+ghost use Rattle.std.specs.Prelude.{◌≡◌, IfOk, is_some};
 ghost use Rattle.device.specs.Conditions.{disk_at};
+ghost use Rattle.maildir.specs.Names.{uid_in};
 
 use crate::folder::{FileName, Folder, Location, Origin, Place, Source};
+use crate::name::read_name;
 use device::DeviceFault;
 use device::disk::Disk;
 use mailcore::octets::Octets;
@@ -25,9 +27,11 @@ const COPY: &str = "tmp/mbsync.copy";
 
 /// A Maildir folder on a disk. A call stops where the system fails, and at a name outside UTF-8.
 ///
-/// Messages are files and symlinks to files; what else stands in `new` and `cur` is left alone. A copy and a meta file are
-/// written anew and synced before they get their names; the names themselves are synced by `sync` alone. Whether a disk gives
-/// back what was written no proof can say: so no contract promises what a real folder stores.
+/// Messages are files and symlinks to files; what else stands in `new` and `cur` under a name without a UID is left alone.
+/// Names with a UID are listed as they stand, since synchronisers alone give them, and to files; if something else has such a
+/// name, it reads as a file that is gone. A copy and a meta file are written anew and synced before they get their names; the
+/// names themselves are synced by `sync` alone. Whether a disk gives back what was written no proof can say: so no contract
+/// promises what a real folder stores.
 #[derive(Drop)]
 pub struct DiskFolder<R: Files + AllocGlobal + Clone + Drop> {
     disk: Disk<R>,
@@ -110,8 +114,9 @@ impl<R: Files + AllocGlobal + Clone + Drop> DiskFolder<R> {
         let path = self.disk.at(folder_name(place))?;
         for entry in fs::read_dir(rt, path.as_str())? {
             let entry = entry?;
-            if is_file(rt, entry.path())? {
-                let name = Vec::from_slice(rt.alloc(), entry.file_name().as_bytes())?;
+            let name = entry.file_name();
+            if has_uid(name.as_bytes()) || is_file_still(rt, entry.path())? {
+                let name = Vec::from_slice(rt.alloc(), name.as_bytes())?;
                 names.push(FileName {
                     place,
                     name: Octets::from_vec(name),
@@ -124,7 +129,17 @@ impl<R: Files + AllocGlobal + Clone + Drop> DiskFolder<R> {
     fn bytes_of(&self, file: Source<'_>) -> io::Result<Option<Vec<u8>>> {
         match file {
             Source::Meta => self.disk.read(META),
-            Source::Mail(file) => self.disk.read(self.part_of(file)?.as_str()),
+            Source::Mail(file) => self.mail_bytes(self.part_of(file)?.as_str()),
+        }
+    }
+
+    // The bytes of a file, or none where no file stands. It is asked before it is opened, since a fifo would not answer.
+    fn mail_bytes(&self, part: &str) -> io::Result<Option<Vec<u8>>> {
+        let path = self.disk.at(part)?;
+        if is_file(self.disk.rt(), Path::new(path.as_str()))? {
+            self.disk.read(part)
+        } else {
+            Ok(None)
         }
     }
 
@@ -151,18 +166,35 @@ impl<R: Files + AllocGlobal + Clone + Drop> DiskFolder<R> {
     }
 }
 
-// Whether a file or a symlink to a file stands there. Where the name is gone since it was read the names are not all there: an
-// error. A symlink that leads nowhere is no file.
+// Whether a name carries a UID, so that its kind is not asked when it is listed: that would be a call of the system a message.
+fn has_uid(name: &[u8]) -> bool
+    ensures { result ≡ is_some (uid_in name.now) }
+{
+    match read_name(name) {
+        Some(name) => name.uid.is_some(),
+        None => false,
+    }
+}
+
+// Whether a file or a symlink to a file stands there. A symlink that leads nowhere is no file.
 fn is_file(rt: &impl Files, path: Path<'_>) -> io::Result<bool> {
     match fs::metadata(rt, path) {
         Ok(found) => Ok(found.is_file()),
         Err(error)
             if error.kind() == ErrorKind::NotFound || error.kind() == ErrorKind::FilesystemLoop => {
-            fs::symlink_metadata(rt, path)?;
             Ok(false)
         }
         Err(error) => Err(error),
     }
+}
+
+// The same of a name that was read just before. Where it is gone the names are not all there: an error.
+fn is_file_still(rt: &impl Files, path: Path<'_>) -> io::Result<bool> {
+    let is_file = is_file(rt, path)?;
+    if !is_file {
+        fs::symlink_metadata(rt, path)?;
+    }
+    Ok(is_file)
 }
 
 fn folder_name(place: Place) -> &'static str {

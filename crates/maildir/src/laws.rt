@@ -25,13 +25,16 @@ pub fn metas_by_their_spelling()
 /// and strictly rise.
 pub fn letters_by_their_flags()
     ensures flags { (before : List ℕ) (flags : ℕ) → flags < 2 ^ FLAGS → flags_in (letters_with before flags) ≡ flags }
-    ensures others { (before : List ℕ) (flags b : ℕ) → IsTrue (is_letter b) → find (λ flag. letter flag == b) all_flags ≡ None → has_letter (letters_with before flags) b ≡ has_letter before b }
+    ensures others { (before : List ℕ) (flags b : ℕ) → IsTrue (is_letter b) → find (λ flag. letter flag == b) all_flags ≡ None
+        → has_letter (letters_with before flags) b ≡ has_letter before b }
     ensures rise { (before : List ℕ) (flags : ℕ) → IsTrue (are_letters (letters_with before flags)) }
 {}
 
 /// A name whose flags are changed bears the new ones, and keeps its base and its UID.
 pub fn names_by_their_flags()
-    ensures flags { (text : List ℕ) (name : NameParts) (flags : ℕ) → name_of text ≡ Some name → flags < 2 ^ FLAGS → flags_by_name (flagged name flags) ≡ flags }
-    ensures parts { (text : List ℕ) (name : NameParts) (flags : ℕ) → name_of text ≡ Some name → name_of (flagged name flags) ≡ Some (record name { letters = Some (letters_with (letters_in name) flags) }) }
+    ensures flags { (text : List ℕ) (name : NameParts) (flags : ℕ) → name_of text ≡ Some name → flags < 2 ^ FLAGS
+        → flags_by_name (flagged name flags) ≡ flags }
+    ensures parts { (text : List ℕ) (name : NameParts) (flags : ℕ) → name_of text ≡ Some name
+        → name_of (flagged name flags) ≡ Some (record name { letters = Some (letters_with (letters_in name) flags) }) }
     ensures uid { (text : List ℕ) (name : NameParts) (flags : ℕ) → name_of text ≡ Some name → uid_in (flagged name flags) ≡ uid_in text }
 {}

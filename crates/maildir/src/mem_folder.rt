@@ -1,6 +1,7 @@
 //! A folder in memory, whose calls stop where a schedule says so.
 
-ghost use Rattle.std.specs.Prelude.{◌≡◌, ◌≤◌, ◌&&◌, ◌++◌, ◌∷◌, [], true, map, find, IfOk, OnOk, OnErr, Some, None, false, is_some, vec_capacity, vec_len, position};
+ghost use Rattle.std.specs.Prelude.{◌≡◌, ◌≤◌, ◌&&◌, ◌++◌, ◌∷◌, [], true, map, find, IfOk, OnOk, OnErr, Some, None, false, is_some, vec_capacity};
+ghost use Rattle.std.specs.Prelude.{vec_len, position};
 ghost use Rattle.std.specs.Option.{option_map};
 ghost use Rattle.std.specs.List.{list_any};
 ghost use Rattle.maildir.specs.Folders.{is_at, without, left, is_left, moved, name_of_file, name_at, is_there, renamed, AreApart, bytes_of, text_of};

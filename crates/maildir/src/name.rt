@@ -3,7 +3,8 @@
 ghost use Rattle.std.specs.Prelude.{◌≡◌, ◌++◌, IfOk, Some, None, decimal, codes, drop, nat_eq, if◌then◌else◌, ◌&&◌};
 ghost use Rattle.std.specs.List.{starts_with, list_all};
 ghost use Rattle.std.specs.Option.{option_map, option_copied};
-ghost use Rattle.maildir.specs.Names.{name_of, name_text, parts_of, uid_of, uid_at_end, letters_at_end, name_before, if_base, is_base, is_base_byte, is_below, are_letters};
+ghost use Rattle.maildir.specs.Names.{name_of, name_text, parts_of, uid_of, uid_at_end, letters_at_end, name_before, if_base, is_base};
+ghost use Rattle.maildir.specs.Names.{is_base_byte, is_below, are_letters};
 
 use crate::cut::{cut, cut_at_last};
 use crate::number::{push_number, read_u32};
@@ -125,7 +126,8 @@ fn read_uid(digits: &[u8]) -> Option<Uid>
 
 /// The letters behind `2,`.
 fn read_letters(text: &[u8]) -> Option<&[u8]>
-    ensures { option_copied result ≡ (if starts_with nat_eq text.now (codes "2,") && are_letters (drop 2 text.now) then Some (drop 2 text.now) else None) }
+    ensures { option_copied result
+        ≡ (if starts_with nat_eq text.now (codes "2,") && are_letters (drop 2 text.now) then Some (drop 2 text.now) else None) }
 {
     let letters = text.strip_prefix(b"2,")?;
     if are_letters(letters) {

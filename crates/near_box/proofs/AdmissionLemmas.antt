@@ -25,6 +25,7 @@ use Rattle.maildir.proofs.FileLemmas.{apart_moved, at_itself, at_true, moved_non
 use Rattle.near_box.proofs.NewNameLemmas.{admitted_is_numbered, waiting_has_no_uid}
 use Rattle.near_box.proofs.NewUidLemmas.{All-parts, Gains, gains, Holds, HasUidBelow, holds_from_survey, survey_from_holds, left_all, none_there, meta_fits, meta_is_positive, near_is, near_with, raised_is_read, waits_not, message_in, entry_in, unnumbered_made}
 use Rattle.near_box.proofs.PutLemmas.{first_stands, sorted_rest}
+use Rattle.near_box.proofs.KnownMarkLemmas.{marks_after, marks_numbered}
 
 -- ---- one file gets its UID
 
@@ -229,7 +230,9 @@ module _ (survey : Survey) (fresh : ℕ) (s : Stored) (surveys : Surveys survey 
       ∙ ap (λ (names : List FileName). entries_in s.files ++ entries_from survey.meta.next names) (sym all ∙ ap (take (length survey.waiting.items)) surveys.waiting) ∙ sym first.entries)
       (extends.waiting ∙ ap (map name_of_file) (sym (first.waiting ∙ none_left)))
       (ap (meta_in fresh) first.meta ∙ raised_is_read survey.meta (length survey.waiting.items) fits room ∙ ap Some (sym extends.meta))
-      (ap is_some first.meta ∙ sym extends.has_meta))
+      (ap is_some first.meta ∙ sym extends.has_meta)
+      (marks_after (numbered_near (length survey.waiting.items) (near_of fresh s)) (near_of fresh now) survey.marks.items new.marks.items (admitted_some (length survey.waiting.items) (omega arith)) extends.marks
+      (marks_numbered (length survey.waiting.items) (near_of fresh s) survey.marks.items surveys.marks)))
     where
       now : Stored
       now = admitted_all (take (length survey.waiting.items) survey.waiting.items) survey.meta.next begun

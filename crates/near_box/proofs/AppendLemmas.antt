@@ -22,6 +22,7 @@ use Rattle.near_box.specs.Mailboxes.{is_before}
 use Rattle.maildir.proofs.FileLemmas.{apart_added}
 use Rattle.near_box.proofs.NewNameLemmas.{IsNumbered, copy_is_numbered}
 use Rattle.near_box.proofs.NewUidLemmas.{Gains, gains, Holds, HasUidBelow, holds_from_survey, survey_from_holds, left_all, none_there, meta_fits, meta_is_positive, near_is, near_with, raised_is_read, waits_not, message_in}
+use Rattle.near_box.proofs.KnownMarkLemmas.{marks_after, marks_delivered}
 
 abbrev copy_at : Survey → (flags : ℕ) → FileName
 copy_at survey flags = record { place = Cur; name = copy_name survey.meta.validity survey.meta.next flags }
@@ -91,6 +92,8 @@ module _ (survey : Survey) (fresh : ℕ) (s : Stored) (surveys : Surveys survey 
         (extends.entries ∙ ap (λ (es : List Entry). es ++ entry_at survey.meta.next (copy_at survey flags) ∷ []) surveys.entries ∙ sym is_added.entries)
         (extends.waiting ∙ surveys.waiting ∙ ap (map name_of_file) (sym same_wait))
         (raised_is_read survey.meta 1 fits room ∙ ap Some (sym extends.meta)) (sym extends.has_meta)
+        (marks_after (delivered bytes flags (near_of fresh s)) (near_of fresh (appended survey.meta bytes flags s)) survey.marks.items new.marks.items appended_near extends.marks
+        (marks_delivered bytes flags (near_of fresh s) survey.marks.items surveys.marks))
 
     -- a fault leaves the mailbox as it was, or with the message, or with its UID set aside
     pub append_stopped : (s' : Stored) → (s' ≡ s) ⊎ ((s' ≡ appended survey.meta bytes flags s) ⊎ AppendsPart survey.meta bytes s s')

@@ -30,6 +30,7 @@ use Rattle.near_box.proofs.KeptLemmas.{filters_agree, filter_all, filter_map-fil
 use Rattle.near_box.proofs.FlagChangeLemmas.{has_uid}
 use Rattle.near_box.proofs.SortingLemmas.{sorted_filter, sorted_permutes}
 use Rattle.near_box.proofs.UidLemmas.{IsItsFile, entry_within, entry_stands}
+use Rattle.near_box.proofs.KnownMarkLemmas.{marks_after, marks_expunged}
 
 -- ---- the mailbox
 
@@ -177,8 +178,8 @@ module _ (survey : Survey) (fresh : ℕ) (s : Stored) (surveys : Surveys survey 
   -- the survey after the removal
   pub surveys_removed : (new : Survey) (s' : Stored) → s' ≡ removed_file (file_of entry) s
       → new.entries.items ≡ remove survey.entries.items i
-      → new.waiting.items ≡ survey.waiting.items → new.meta ≡ survey.meta → new.has_meta ≡ survey.has_meta → Surveys new fresh s'
-  surveys_removed new s' now items waiting meta has_meta =
+      → new.waiting.items ≡ survey.waiting.items → new.meta ≡ survey.meta → new.has_meta ≡ survey.has_meta → new.marks.items ≡ survey.marks.items → Surveys new fresh s'
+  surveys_removed new s' now items waiting meta has_meta marks =
       let after : Stored = without_uids (entry.uid ∷ []) s in
       let is : s' ≡ after = now ∙ removal_is_expunge in
       let kept : new.entries.items ≡ filter stays_entry survey.entries.items =
@@ -198,6 +199,8 @@ module _ (survey : Survey) (fresh : ℕ) (s : Stored) (surveys : Surveys survey 
         waiting = waiting ∙ surveys.waiting ∙ ap (map name_of_file) (sym (waiting-without (entry.uid ∷ []) s.files));
         meta = surveys.meta ∙ ap Some (sym meta);
         has_meta = surveys.has_meta ∙ sym has_meta;
+        marks = marks_after (on_store (expunged (entry.uid ∷ [])) (near_of fresh s)) (near_of fresh after) survey.marks.items new.marks.items (near-expunged (entry.uid ∷ []) fresh s) marks
+            (marks_expunged (entry.uid ∷ []) (near_of fresh s).store survey.marks.items surveys.marks);
       })
 
 -- ---- nothing is removed

@@ -6,6 +6,7 @@ pub mod ExpungeLemmas
 pub mod FlagChangeLemmas
 pub mod KeptLemmas
 pub mod KeptMailboxes
+pub mod KnownMarkLemmas
 pub mod MailboxLemmas
 pub mod NearLemmas
 pub mod NewNameLemmas

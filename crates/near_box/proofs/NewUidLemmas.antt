@@ -25,6 +25,7 @@ use Rattle.maildir.proofs.FileLemmas.{at_true}
 use Rattle.maildir.proofs.MetaLemmas.{meta_is_spelled, spelled_meta_is_read}
 use Rattle.near_box.proofs.KeptLemmas.{filter_all}
 use Rattle.near_box.proofs.PutLemmas.{All-sorted, All-from_sorted, sorted_last}
+use Rattle.near_box.specs.KnownMarks.{AreMarksOf}
 
 -- every UID is below this one
 abbrev pub HasUidBelow : ℕ → File → Type 0
@@ -171,8 +172,9 @@ holds_from_survey survey fresh s surveys = record {
 }
 
 pub survey_from_holds : (survey : Survey) (fresh : ℕ) (s : Stored) → Holds s.files survey.meta.next → s.is_there ≡ true → survey.entries.items ≡ entries_in s.files
-    → survey.waiting.items ≡ map name_of_file (waiting_files s.files) → meta_in fresh s.meta ≡ Some survey.meta → is_some s.meta ≡ survey.has_meta → Surveys survey fresh s
-survey_from_holds survey fresh s holds is_there entries waiting meta has_meta = record {
+    → survey.waiting.items ≡ map name_of_file (waiting_files s.files) → meta_in fresh s.meta ≡ Some survey.meta → is_some s.meta ≡ survey.has_meta
+    → AreMarksOf (near_of fresh s).store survey.marks.items → Surveys survey fresh s
+survey_from_holds survey fresh s holds is_there entries waiting meta has_meta marks = record {
   is_there = is_there;
   apart = holds.apart;
   entries = entries;
@@ -183,6 +185,7 @@ survey_from_holds survey fresh s holds is_there entries waiting meta has_meta = 
   waiting = waiting;
   meta = meta;
   has_meta = has_meta;
+  marks = marks;
 }
 
 pub surveys_same : (v v' : Survey) (n n' : ℕ) (s s' : Stored) → v ≡ v' → n ≡ n' → s ≡ s' → Surveys v' n' s' → Surveys v n s

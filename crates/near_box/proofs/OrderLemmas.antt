@@ -1,15 +1,25 @@
--- The order in which waiting files get their UIDs.
-use Rattle.std.proofs.Common.{◌≡◌, refl}
+-- The order of numbers, and the order in which waiting files get their UIDs.
+use Rattle.std.proofs.Common.{◌≡◌, ℕ, Bool, true, false, cond, ltb, eqb, refl}
+use Rattle.std.proofs.lemmas.Bool.{eqb-true}
+use Rattle.std.specs.Ordering.{nat_cmp}
 use Rattle.std.specs.Cmp.{IsTotalOrder, IsStrictWeakOrder, then_total, on_total}
 use Rattle.std.specs.Cmp.Lexicographic.{on_texts}
 use Rattle.std.specs.Ordering.{ordering_reverse}
-use Rattle.std.specs.declared.cmp.Ordering.TheVariants.{Less, Equal}
+use Rattle.std.specs.declared.cmp.Ordering.TheVariants.{Less, Equal, Greater}
 use Rattle.std.proofs.lemmas.List.Sorted.{ranks_by}
 use Rattle.maildir.specs.declared.folder.FileName.{FileName}
 use Rattle.maildir.specs.declared.folder.Place.{Place}
 use Rattle.maildir.specs.declared.folder.Place.TheVariants.{New, Cur}
 use Rattle.near_box.specs.Mailboxes.{place_cmp}
 use Rattle.near_box.specs.SurveyParts.{file_cmp, is_before}
+
+pub equal_numbers : (x y : ℕ) → nat_cmp x y ≡ Equal → x ≡ y
+equal_numbers x y e = by_tests (ltb x y) (eqb x y) refl e
+  where
+    by_tests : (a b : Bool) → eqb x y ≡ b → cond a Less (cond b Equal Greater) ≡ Equal → x ≡ y
+    by_tests true b t f = cc
+    by_tests false true t f = eqb-true x y t
+    by_tests false false t f = cc
 
 places_antisymm : (x y : Place) → place_cmp x y ≡ ordering_reverse (place_cmp y x)
 places_antisymm New New = refl

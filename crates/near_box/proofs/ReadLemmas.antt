@@ -1,5 +1,5 @@
 -- Messages are read one after another.
-use Rattle.std.proofs.Common.{◌≡◌, ℕ, zero, suc, ◌+◌, ◌<◌, Bool, true, false, ltb, leb, eqb, eq-eqb, ◌&&◌, List, [], ◌∷◌, ◌++◌, length, get_or, take, drop, map, add-one, Option, None, Some, All, refl, sym, ap, subst, ◌∙◌, ◌⊎◌, inl, inr, arith}
+use Rattle.std.proofs.Common.{◌≡◌, ℕ, zero, suc, ◌+◌, ◌<◌, ◌≤◌, Bool, true, false, ltb, leb, eqb, eq-eqb, ◌&&◌, List, [], ◌∷◌, ◌++◌, length, get_or, take, drop, map, add-one, Option, None, Some, All, refl, sym, ap, subst, ◌∙◌, ◌⊎◌, inl, inr, arith}
 use Rattle.std.specs.Prelude.{find}
 use Rattle.std.specs.List.{list_all}
 use Rattle.mailcore.specs.declared.mailbox.Message.{Message}
@@ -7,7 +7,7 @@ use Rattle.std.proofs.lemmas.Bool.{true≢false}
 use Rattle.std.proofs.lemmas.Bool.Decides.{nat_tests}
 use Rattle.std.specs.Option.{option_map}
 use Rattle.std.proofs.Math.Seq.{drop-cons}
-use Rattle.std.proofs.lemmas.List.{get_or_default, length-take, take_more, map-append, get_or-take}
+use Rattle.std.proofs.lemmas.List.{drop_all, get_or_default, length-take, take_more, map-append, get_or-take}
 use Rattle.std.proofs.lemmas.List.Elements.{All-map, All-head, All-tail}
 use Rattle.std.proofs.lemmas.List.Sums.{list_all-from_AllPass}
 use Rattle.mailcore.specs.Content.{mark_of}
@@ -122,6 +122,18 @@ pub marked_passed : (mark : List ℕ) (from : ℕ) (s : Stored) (es : List Entry
     → (leb from entry.uid && is_mark (mark_of (message_at s entry).bytes) mark) ≡ false
     → marked_among mark from (map (message_at s) (drop (i + 1) es)) ≡ marked_among mark from (map (message_at s) (drop i es))
 marked_passed mark from s es i entry below is other = sym (marked_first mark from s es i entry below is ∙ rw other refl)
+
+reached_test : (m n : ℕ) → m ≤ n → leb m n ≡ true
+reached_test m n up = grind (arith, nat_tests)
+
+-- one that is sought
+pub marked_here : (mark : List ℕ) (from : ℕ) (s : Stored) (es : List Entry) (i : ℕ) (entry : Entry) → i < length es → entry ≡ get_or es i entry
+    → from ≤ entry.uid → is_mark (mark_of (message_at s entry).bytes) mark ≡ true → Some entry.uid ≡ marked_among mark from (map (message_at s) (drop i es))
+marked_here mark from s es i entry below is up holds = sym (marked_first mark from s es i entry below is ∙ rw (reached_test from entry.uid up, holds) refl)
+
+-- none is left
+pub marked_nowhere : (mark : List ℕ) (from : ℕ) (s : Stored) (es : List Entry) (i : ℕ) → length es ≤ i → None ≡ marked_among mark from (map (message_at s) (drop i es))
+marked_nowhere mark from s es i past = sym (ap (λ (l : List Entry). marked_among mark from (map (message_at s) l)) (drop_all i es past))
 
 -- what is read of a message says whether it has the mark
 pub mark_there : (mark : List ℕ) (s t : Stored) (entry : Entry) (is_it : Bool) → t ≡ s

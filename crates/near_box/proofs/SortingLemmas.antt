@@ -1,5 +1,5 @@
 -- Lists in an order.
-use Rattle.std.proofs.Common.{◌≡◌, ℕ, zero, suc, ◌<◌, ◌⊎◌, inl, inr, Bool, true, false, cond, ltb, eqb, List, [], ◌∷◌, ◌++◌, length, get_or, map, filter, All, refl, sym, ap, subst, ◌∙◌, eq-eqb, ⊎_elim, arith}
+use Rattle.std.proofs.Common.{◌≡◌, ℕ, zero, suc, ◌<◌, ◌⊎◌, inl, inr, Bool, true, false, cond, ltb, eqb, List, [], ◌∷◌, length, get_or, map, filter, All, refl, sym, ap, subst, ◌∙◌, eq-eqb, ⊎_elim, arith}
 use Rattle.std.specs.Prelude.{AllPairs, Contains, swap}
 use Rattle.std.specs.List.Sorted.{IsPermutation}
 use Rattle.std.specs.Cmp.{IsStrictWeakOrder}

@@ -2,8 +2,10 @@ pub use Rattle.maildir.specs.FlaggedNames
 pub use Rattle.maildir.specs.Folders
 pub use Rattle.maildir.specs.Metas
 pub use Rattle.maildir.specs.Names
+pub mod Boxes
 pub mod Entries
 pub mod FlagChanges
+pub mod KnownMarks
 pub mod Mailboxes
 pub mod NearCalls
 pub mod NearContracts

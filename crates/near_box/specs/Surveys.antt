@@ -8,7 +8,8 @@ use Rattle.maildir.specs.declared.meta.Meta.{Meta}
 use Rattle.near_box.specs.declared.survey.Entry.{Entry}
 use Rattle.near_box.specs.declared.survey.Survey.{Survey}
 use Rattle.maildir.specs.Folders.{Stored, AreApart, name_of_file}
-use Rattle.near_box.specs.Mailboxes.{meta_in, waiting_files}
+use Rattle.near_box.specs.KnownMarks.{AreMarksOf}
+use Rattle.near_box.specs.Mailboxes.{meta_in, near_of, waiting_files}
 use Rattle.maildir.specs.Names.{uid_in}
 use Rattle.near_box.specs.NearEffects.{admitted}
 use Rattle.near_box.specs.Sorting.{sorted}
@@ -31,6 +32,7 @@ pub record Surveys (survey : Survey) (fresh : ℕ) (s : Stored) : Type 0 where
   pub waiting : survey.waiting.items ≡ map name_of_file (waiting_files s.files)
   pub meta : meta_in fresh s.meta ≡ Some survey.meta
   pub has_meta : is_some s.meta ≡ survey.has_meta
+  pub marks : AreMarksOf (near_of fresh s).store survey.marks.items
 
 -- ---- what it remembers more once UIDs are given
 
@@ -43,9 +45,10 @@ abbrev pub entries_from : (uid : ℕ) → List FileName → List Entry
 entries_from uid [] = []
 entries_from uid (file ∷ files) = entry_at uid (admitted file uid) ∷ entries_from (uid + 1) files
 
--- there are more messages behind the others, these files wait, and the meta file says this
+-- there are more messages behind the others, these files wait, the meta file says this, and the same marks are known
 pub record Extends (more : List Entry) (wait : List FileName) (says : Meta) (old new : Survey) : Type 0 where
   pub entries : new.entries.items ≡ old.entries.items ++ more
   pub waiting : new.waiting.items ≡ wait
   pub meta : new.meta ≡ says
   pub has_meta : new.has_meta ≡ true
+  pub marks : new.marks.items ≡ old.marks.items

@@ -2,6 +2,7 @@
 #![tactic(auto)]
 
 mod flag_change;
+mod known_mark;
 pub mod laws;
 mod near_box;
 mod near_calls;

@@ -1,6 +1,7 @@
 //! The near mailbox over a folder.
 
-ghost use Rattle.std.specs.Prelude.{◌≡◌, ◌≢◌, ◌↔◌, ◌<◌, ◌≤◌, ◌+◌, ◌^◌, ◌++◌, ◌∷◌, [], true, false, length, vec_len, slice_get, is_some, IsTrue, All, Some, None, IsErrOf, if◌then◌else◌, IfErr, IfOk, OnOk};
+ghost use Rattle.std.specs.Prelude.{◌≡◌, ◌≢◌, ◌↔◌, ◌<◌, ◌≤◌, ◌+◌, ◌^◌, ◌++◌, ◌∷◌, [], true, false, length, vec_len, slice_get, is_some, IsTrue};
+ghost use Rattle.std.specs.Prelude.{All, Some, None, IsErrOf, if◌then◌else◌, IfErr, IfOk, OnOk};
 ghost use Rattle.near_box.specs.declared.survey.Entry.{Entry};
 ghost use Rattle.device.specs.Calls.{Nothing};
 ghost use Rattle.std.specs.Int.NonZero.{non_zero_u32_get};
@@ -12,7 +13,8 @@ ghost use Rattle.near_box.specs.Mailboxes.{IsMailbox, IsMetaOf, near_of, on_stor
 ghost use Rattle.near_box.specs.NearContracts.{Tells, Changes, ExpungesSome, SetsAside, AdmitsSome};
 ghost use Rattle.maildir.specs.Folders.{renamed_file, with_meta};
 ghost use Rattle.maildir.specs.Metas.{meta_text};
-ghost use Rattle.near_box.specs.NearEffects.{flagged_files, without_uids, RemovesSome, Admits, AdmitsIf, AppendsPart, Does, admitted, appended, copy_name as copy_name_of, file_of, name_flagged, raised, set_name};
+ghost use Rattle.near_box.specs.NearEffects.{flagged_files, without_uids, RemovesSome, Admits, AdmitsIf, AppendsPart, admitted, appended};
+ghost use Rattle.near_box.specs.NearEffects.{copy_name as copy_name_of, file_of, name_flagged, raised, set_name};
 ghost use Rattle.near_box.specs.NearCalls.{Part, Told, Ends, Opens, Keeps};
 ghost use Rattle.near_box.specs.Surveys.{Surveys, Extends, entries_from, entry_at};
 ghost use Rattle.std.proofs.Props.{props};
@@ -58,6 +60,7 @@ impl<F: Folder> NearBox<F> {
     ghost use Rattle.std.specs.Prelude.{⊤};
     ghost use mathlib.Core.Option.{none};
     ghost use Rattle.std.specs.Borrow.{sem, follows_so};
+    ghost use Rattle.near_box.specs.Boxes.{TurnsFiles, TurnsMailbox, box_of, mailbox_of, seen_in, stored_in};
     ghost use Rattle.near_box.specs.contracts.near_box.NearBox.{the_row};
 
     /// The mailbox of a folder, whose validity is `fresh` where it has no meta file. It reads the folder and
@@ -94,7 +97,7 @@ impl<F: Folder> NearBox<F> {
 
     /// The validity of the mailbox and its next UID.
     pub fn meta(&self) -> Meta
-        ensures mailbox { F.is_honest ≡ true → self.now.is_ready ≡ true → IsMetaOf (near_of self.now.fresh (F.seen self.now.folder).stored).store result }
+        ensures mailbox { F.is_honest ≡ true → self.now.is_ready ≡ true → IsMetaOf (mailbox_of self.now).store result }
         ensures positive { (0 < result.validity) × (0 < result.next) }
     {
         self.survey.meta
@@ -104,20 +107,20 @@ impl<F: Folder> NearBox<F> {
     ///
     /// `Stopped`: the file of a message is gone, too.
     pub fn list(&mut self) -> Result<Listing, NearFault>
-        ensures shows { F.is_honest ≡ true → IfOk result (λ listing. Shows Side.Near (near_of self.old.fresh (F.seen self.old.folder).stored).store listing) }
+        ensures shows { F.is_honest ≡ true → IfOk result (λ listing. Shows Side.Near (mailbox_of self.old).store listing) }
         ensures numbers { IfOk result (λ listing. (0 < listing.validity) × (0 < listing.next)) }
-        ensures keeps { F.is_honest ≡ true → ((F.seen self.new.folder).stored ≡ (F.seen self.old.folder).stored) × (vec_len self.new.missed ≡ vec_len self.old.missed) }
-        ensures ends { Ends false (record { is_ready = self.old.is_ready; fresh = self.old.fresh; missed = vec_len self.old.missed; folder = F.seen self.old.folder }) (record { is_ready = self.new.is_ready; fresh = self.new.fresh; missed = vec_len self.new.missed; folder = F.seen self.new.folder }) result }
+        ensures keeps { F.is_honest ≡ true → (stored_in self.new ≡ stored_in self.old) × (vec_len self.new.missed ≡ vec_len self.old.missed) }
+        ensures ends { Ends false (box_of self.old) (box_of self.new) result }
     {
         self.list_above(0)
     }
 
     /// The same, where those up to this UID are said to be fit, and their files are not read.
     pub fn list_above(&mut self, from: u32) -> Result<Listing, NearFault>
-        ensures shows { F.is_honest ≡ true → IfOk result (λ listing. ShowsAbove Side.Near from (near_of self.old.fresh (F.seen self.old.folder).stored).store listing) }
+        ensures shows { F.is_honest ≡ true → IfOk result (λ listing. ShowsAbove Side.Near from (mailbox_of self.old).store listing) }
         ensures numbers { IfOk result (λ listing. (0 < listing.validity) × (0 < listing.next)) }
-        ensures keeps { F.is_honest ≡ true → ((F.seen self.new.folder).stored ≡ (F.seen self.old.folder).stored) × (vec_len self.new.missed ≡ vec_len self.old.missed) }
-        ensures ends { Ends false (record { is_ready = self.old.is_ready; fresh = self.old.fresh; missed = vec_len self.old.missed; folder = F.seen self.old.folder }) (record { is_ready = self.new.is_ready; fresh = self.new.fresh; missed = vec_len self.new.missed; folder = F.seen self.new.folder }) result }
+        ensures keeps { F.is_honest ≡ true → (stored_in self.new ≡ stored_in self.old) × (vec_len self.new.missed ≡ vec_len self.old.missed) }
+        ensures ends { Ends false (box_of self.old) (box_of self.new) result }
     {
         self.begin()?;
         let items = match listed(self.alloc, &mut self.folder, &self.survey.entries, from) {
@@ -134,10 +137,10 @@ impl<F: Folder> NearBox<F> {
 
     /// The bytes of a message, or none where it is not there. They are lent until the next call.
     pub fn fetch(&mut self, uid: Uid) -> Result<Option<&[u8]>, NearFault>
-        ensures bytes { F.is_honest ≡ true → IfOk result (λ found. option_map (λ b. b.now) found ≡ bytes_of uid (near_of self.old.fresh (F.seen self.old.folder).stored).store) }
+        ensures bytes { F.is_honest ≡ true → IfOk result (λ found. option_map (λ b. b.now) found ≡ bytes_of uid (mailbox_of self.old).store) }
         ensures* behind { sem 𝓛 (follows_so (the_row F.row F.Folder) (the_row F.row F.Folder) self.entry.ghost_name none (λ _ _. ⊤)
-            (λ after. (F.is_honest ≡ true → ((F.seen after.folder).stored ≡ (F.seen self.old.folder).stored) × (vec_len after.missed ≡ vec_len self.old.missed))
-            × Ends false (record { is_ready = self.old.is_ready; fresh = self.old.fresh; missed = vec_len self.old.missed; folder = F.seen self.old.folder }) (record { is_ready = after.is_ready; fresh = after.fresh; missed = vec_len after.missed; folder = F.seen after.folder }) result)) }
+            (λ after. (F.is_honest ≡ true → (stored_in after ≡ stored_in self.old) × (vec_len after.missed ≡ vec_len self.old.missed))
+            × Ends false (box_of self.old) (box_of after) result)) }
     {
         if self.load(uid)? {
             Ok(Some(self.body()))
@@ -148,9 +151,10 @@ impl<F: Folder> NearBox<F> {
 
     /// Reads the bytes of a message, which `body` then lends, and says whether it is there.
     pub fn load(&mut self, uid: Uid) -> Result<bool, NearFault>
-        ensures bytes { F.is_honest ≡ true → IfOk result (λ is_there. bytes_of uid (near_of self.old.fresh (F.seen self.old.folder).stored).store ≡ (if is_there then Some self.new.body.items else None)) }
-        ensures keeps { F.is_honest ≡ true → ((F.seen self.new.folder).stored ≡ (F.seen self.old.folder).stored) × (vec_len self.new.missed ≡ vec_len self.old.missed) }
-        ensures ends { Ends false (record { is_ready = self.old.is_ready; fresh = self.old.fresh; missed = vec_len self.old.missed; folder = F.seen self.old.folder }) (record { is_ready = self.new.is_ready; fresh = self.new.fresh; missed = vec_len self.new.missed; folder = F.seen self.new.folder }) result }
+        ensures bytes { F.is_honest ≡ true
+            → IfOk result (λ is_there. bytes_of uid (mailbox_of self.old).store ≡ (if is_there then Some self.new.body.items else None)) }
+        ensures keeps { F.is_honest ≡ true → (stored_in self.new ≡ stored_in self.old) × (vec_len self.new.missed ≡ vec_len self.old.missed) }
+        ensures ends { Ends false (box_of self.old) (box_of self.new) result }
     {
         self.begin()?;
         let found = match find_message(&mut self.folder, &self.survey.entries, uid) {
@@ -174,14 +178,22 @@ impl<F: Folder> NearBox<F> {
         self.body.as_slice()
     }
 
-    /// The least UID of at least `from` whose message has the mark: one `read` for each message from there on.
+    /// The least UID of at least `from` whose message has the mark: one `read` for each message from there on that was not
+    /// read for its mark before.
     pub fn find_mark(&mut self, mark: Tuid, from: u32) -> Result<Option<Uid>, NearFault>
-        ensures found { F.is_honest ≡ true → IfOk result (λ found. found ≡ marked_from mark from (near_of self.old.fresh (F.seen self.old.folder).stored).store) }
-        ensures keeps { F.is_honest ≡ true → ((F.seen self.new.folder).stored ≡ (F.seen self.old.folder).stored) × (vec_len self.new.missed ≡ vec_len self.old.missed) }
-        ensures ends { Ends false (record { is_ready = self.old.is_ready; fresh = self.old.fresh; missed = vec_len self.old.missed; folder = F.seen self.old.folder }) (record { is_ready = self.new.is_ready; fresh = self.new.fresh; missed = vec_len self.new.missed; folder = F.seen self.new.folder }) result }
+        ensures found { F.is_honest ≡ true → IfOk result (λ found. found ≡ marked_from mark from (mailbox_of self.old).store) }
+        ensures keeps { F.is_honest ≡ true → (stored_in self.new ≡ stored_in self.old) × (vec_len self.new.missed ≡ vec_len self.old.missed) }
+        ensures ends { Ends false (box_of self.old) (box_of self.new) result }
     {
         self.begin()?;
-        let found = match find_mark(&mut self.folder, &self.survey.entries, mark, from) {
+        let survey = &mut self.survey;
+        let found = match find_mark(
+            &mut self.folder,
+            &survey.entries,
+            &mut survey.marks,
+            mark,
+            from,
+        ) {
             Ok(found) => found,
             Err(fault) => return Err(self.failed(fault)),
         };
@@ -191,33 +203,36 @@ impl<F: Folder> NearBox<F> {
 
     /// Sets these flags of a message: one `rename`, or none where the name stays or the message is not there.
     pub fn add_flags(&mut self, uid: Uid, flags: Flags) -> Result<(), NearFault>
-        ensures files { F.is_honest ≡ true → Does (flagged_files (λ f. union f flags) uid) Nothing (F.seen self.old.folder).stored (F.seen self.new.folder).stored result }
-        ensures effect { F.is_honest ≡ true → Changes (on_store (flags_added uid flags)) Nothing (near_of self.old.fresh (F.seen self.old.folder).stored) (near_of self.old.fresh (F.seen self.new.folder).stored) result }
-        ensures mailbox { F.is_honest ≡ true → IsMailbox self.old.fresh (F.seen self.old.folder).stored → IsMailbox self.old.fresh (F.seen self.new.folder).stored }
-        ensures untouched { F.is_honest ≡ true → flagged_files (λ f. union f flags) uid (F.seen self.old.folder).stored ≡ (F.seen self.old.folder).stored → F.seen self.new.folder ≡ F.seen self.old.folder }
-        ensures ends { Ends false (record { is_ready = self.old.is_ready; fresh = self.old.fresh; missed = vec_len self.old.missed; folder = F.seen self.old.folder }) (record { is_ready = self.new.is_ready; fresh = self.new.fresh; missed = vec_len self.new.missed; folder = F.seen self.new.folder }) result }
+        ensures files { F.is_honest ≡ true → TurnsFiles (flagged_files (λ f. union f flags) uid) Nothing self.old self.new result }
+        ensures effect { F.is_honest ≡ true → TurnsMailbox (on_store (flags_added uid flags)) Nothing self.old self.new result }
+        ensures mailbox { F.is_honest ≡ true → IsMailbox self.old.fresh (stored_in self.old) → IsMailbox self.old.fresh (stored_in self.new) }
+        ensures untouched { F.is_honest ≡ true → flagged_files (λ f. union f flags) uid (stored_in self.old) ≡ stored_in self.old
+            → seen_in self.new ≡ seen_in self.old }
+        ensures ends { Ends false (box_of self.old) (box_of self.new) result }
     {
         self.change_flags(uid, FlagChange::Add(flags))
     }
 
     /// Clears these flags of a message, as `add_flags` sets them.
     pub fn remove_flags(&mut self, uid: Uid, flags: Flags) -> Result<(), NearFault>
-        ensures files { F.is_honest ≡ true → Does (flagged_files (λ f. minus f flags) uid) Nothing (F.seen self.old.folder).stored (F.seen self.new.folder).stored result }
-        ensures effect { F.is_honest ≡ true → Changes (on_store (flags_removed uid flags)) Nothing (near_of self.old.fresh (F.seen self.old.folder).stored) (near_of self.old.fresh (F.seen self.new.folder).stored) result }
-        ensures mailbox { F.is_honest ≡ true → IsMailbox self.old.fresh (F.seen self.old.folder).stored → IsMailbox self.old.fresh (F.seen self.new.folder).stored }
-        ensures untouched { F.is_honest ≡ true → flagged_files (λ f. minus f flags) uid (F.seen self.old.folder).stored ≡ (F.seen self.old.folder).stored → F.seen self.new.folder ≡ F.seen self.old.folder }
-        ensures ends { Ends false (record { is_ready = self.old.is_ready; fresh = self.old.fresh; missed = vec_len self.old.missed; folder = F.seen self.old.folder }) (record { is_ready = self.new.is_ready; fresh = self.new.fresh; missed = vec_len self.new.missed; folder = F.seen self.new.folder }) result }
+        ensures files { F.is_honest ≡ true → TurnsFiles (flagged_files (λ f. minus f flags) uid) Nothing self.old self.new result }
+        ensures effect { F.is_honest ≡ true → TurnsMailbox (on_store (flags_removed uid flags)) Nothing self.old self.new result }
+        ensures mailbox { F.is_honest ≡ true → IsMailbox self.old.fresh (stored_in self.old) → IsMailbox self.old.fresh (stored_in self.new) }
+        ensures untouched { F.is_honest ≡ true → flagged_files (λ f. minus f flags) uid (stored_in self.old) ≡ stored_in self.old
+            → seen_in self.new ≡ seen_in self.old }
+        ensures ends { Ends false (box_of self.old) (box_of self.new) result }
     {
         self.change_flags(uid, FlagChange::Remove(flags))
     }
 
     // Changes the flags of a message.
     fn change_flags(&mut self, uid: Uid, change: FlagChange) -> Result<(), NearFault>
-        ensures files { F.is_honest ≡ true → Does (flagged_files (changed_flags change) uid) Nothing (F.seen self.old.folder).stored (F.seen self.new.folder).stored result }
-        ensures effect { F.is_honest ≡ true → Changes (on_store (flagged (changed_flags change) uid)) Nothing (near_of self.old.fresh (F.seen self.old.folder).stored) (near_of self.old.fresh (F.seen self.new.folder).stored) result }
-        ensures mailbox { F.is_honest ≡ true → IsMailbox self.old.fresh (F.seen self.old.folder).stored → IsMailbox self.old.fresh (F.seen self.new.folder).stored }
-        ensures untouched { F.is_honest ≡ true → flagged_files (changed_flags change) uid (F.seen self.old.folder).stored ≡ (F.seen self.old.folder).stored → F.seen self.new.folder ≡ F.seen self.old.folder }
-        ensures ends { Ends false (record { is_ready = self.old.is_ready; fresh = self.old.fresh; missed = vec_len self.old.missed; folder = F.seen self.old.folder }) (record { is_ready = self.new.is_ready; fresh = self.new.fresh; missed = vec_len self.new.missed; folder = F.seen self.new.folder }) result }
+        ensures files { F.is_honest ≡ true → TurnsFiles (flagged_files (changed_flags change) uid) Nothing self.old self.new result }
+        ensures effect { F.is_honest ≡ true → TurnsMailbox (on_store (flagged (changed_flags change) uid)) Nothing self.old self.new result }
+        ensures mailbox { F.is_honest ≡ true → IsMailbox self.old.fresh (stored_in self.old) → IsMailbox self.old.fresh (stored_in self.new) }
+        ensures untouched { F.is_honest ≡ true → flagged_files (changed_flags change) uid (stored_in self.old) ≡ stored_in self.old
+            → seen_in self.new ≡ seen_in self.old }
+        ensures ends { Ends false (box_of self.old) (box_of self.new) result }
     {
         self.begin()?;
         let Some(i) = place_of(&self.survey.entries, uid) else {
@@ -232,11 +247,12 @@ impl<F: Folder> NearBox<F> {
 
     /// Removes messages: one `remove` for each that is there.
     pub fn expunge(&mut self, uids: &[Uid]) -> Result<(), NearFault>
-        ensures files { F.is_honest ≡ true → Does (without_uids uids.now) (RemovesSome uids.now) (F.seen self.old.folder).stored (F.seen self.new.folder).stored result }
-        ensures effect { F.is_honest ≡ true → Changes (on_store (expunged uids.now)) (ExpungesSome uids.now) (near_of self.old.fresh (F.seen self.old.folder).stored) (near_of self.old.fresh (F.seen self.new.folder).stored) result }
-        ensures mailbox { F.is_honest ≡ true → IsMailbox self.old.fresh (F.seen self.old.folder).stored → IsMailbox self.old.fresh (F.seen self.new.folder).stored }
-        ensures untouched { F.is_honest ≡ true → without_uids uids.now (F.seen self.old.folder).stored ≡ (F.seen self.old.folder).stored → F.seen self.new.folder ≡ F.seen self.old.folder }
-        ensures ends { Ends false (record { is_ready = self.old.is_ready; fresh = self.old.fresh; missed = vec_len self.old.missed; folder = F.seen self.old.folder }) (record { is_ready = self.new.is_ready; fresh = self.new.fresh; missed = vec_len self.new.missed; folder = F.seen self.new.folder }) result }
+        ensures files { F.is_honest ≡ true → TurnsFiles (without_uids uids.now) (RemovesSome uids.now) self.old self.new result }
+        ensures effect { F.is_honest ≡ true → TurnsMailbox (on_store (expunged uids.now)) (ExpungesSome uids.now) self.old self.new result }
+        ensures mailbox { F.is_honest ≡ true → IsMailbox self.old.fresh (stored_in self.old) → IsMailbox self.old.fresh (stored_in self.new) }
+        ensures untouched { F.is_honest ≡ true → without_uids uids.now (stored_in self.old) ≡ stored_in self.old
+            → seen_in self.new ≡ seen_in self.old }
+        ensures ends { Ends false (box_of self.old) (box_of self.new) result }
     {
         self.begin()?;
         for uid in uids {
@@ -251,12 +267,14 @@ impl<F: Folder> NearBox<F> {
     ///
     /// `UidsExhausted`: there is no UID left.
     pub fn append(&mut self, bytes: &[u8], flags: Flags) -> Result<Uid, NearFault>
-        ensures uid { F.is_honest ≡ true → IfOk result (λ uid. uid ≡ (near_of self.old.fresh (F.seen self.old.folder).stored).store.next) }
-        ensures exhausted { F.is_honest ≡ true → IsErrOf result NearFault.UidsExhausted ↔ ((self.old.is_ready ≡ true) × ((near_of self.old.fresh (F.seen self.old.folder).stored).store.next + 1 ≡ 2 ^ 32)) }
-        ensures effect { F.is_honest ≡ true → Changes (delivered bytes.now flags) SetsAside (near_of self.old.fresh (F.seen self.old.folder).stored) (near_of self.old.fresh (F.seen self.new.folder).stored) result }
-        ensures files { F.is_honest ≡ true → Does (appended (meta_at self.old.fresh (F.seen self.old.folder).stored) bytes.now flags) (AppendsPart (meta_at self.old.fresh (F.seen self.old.folder).stored) bytes.now) (F.seen self.old.folder).stored (F.seen self.new.folder).stored result }
-        ensures mailbox { F.is_honest ≡ true → IsMailbox self.old.fresh (F.seen self.old.folder).stored → IsMailbox self.old.fresh (F.seen self.new.folder).stored }
-        ensures ends { Ends true (record { is_ready = self.old.is_ready; fresh = self.old.fresh; missed = vec_len self.old.missed; folder = F.seen self.old.folder }) (record { is_ready = self.new.is_ready; fresh = self.new.fresh; missed = vec_len self.new.missed; folder = F.seen self.new.folder }) result }
+        ensures uid { F.is_honest ≡ true → IfOk result (λ uid. uid ≡ (mailbox_of self.old).store.next) }
+        ensures exhausted { F.is_honest ≡ true
+            → IsErrOf result NearFault.UidsExhausted ↔ ((self.old.is_ready ≡ true) × ((mailbox_of self.old).store.next + 1 ≡ 2 ^ 32)) }
+        ensures effect { F.is_honest ≡ true → TurnsMailbox (delivered bytes.now flags) SetsAside self.old self.new result }
+        ensures files { F.is_honest ≡ true → (let meta = meta_at self.old.fresh (stored_in self.old) in
+            TurnsFiles (appended meta bytes.now flags) (AppendsPart meta bytes.now) self.old self.new result) }
+        ensures mailbox { F.is_honest ≡ true → IsMailbox self.old.fresh (stored_in self.old) → IsMailbox self.old.fresh (stored_in self.new) }
+        ensures ends { Ends true (box_of self.old) (box_of self.new) result }
     {
         self.begin()?;
         let next = self.survey.meta.next;
@@ -274,12 +292,15 @@ impl<F: Folder> NearBox<F> {
     ///
     /// `UidsExhausted`: there are fewer UIDs left than files wait.
     pub fn admit(&mut self) -> Result<(), NearFault>
-        ensures exhausted { F.is_honest ≡ true → IsErrOf result NearFault.UidsExhausted ↔ ((self.old.is_ready ≡ true) × (let n = near_of self.old.fresh (F.seen self.old.folder).stored in 2 ^ 32 ≤ n.store.next + length n.waiting)) }
-        ensures effect { F.is_honest ≡ true → Changes admitted_near AdmitsSome (near_of self.old.fresh (F.seen self.old.folder).stored) (near_of self.old.fresh (F.seen self.new.folder).stored) result }
-        ensures files { F.is_honest ≡ true → AdmitsIf (is_some (F.seen self.old.folder).stored.meta) (waiting_names (F.seen self.old.folder).stored) (meta_at self.old.fresh (F.seen self.old.folder).stored) (F.seen self.old.folder).stored (F.seen self.new.folder).stored result }
-        ensures mailbox { F.is_honest ≡ true → IsMailbox self.old.fresh (F.seen self.old.folder).stored → IsMailbox self.old.fresh (F.seen self.new.folder).stored }
-        ensures untouched { F.is_honest ≡ true → (near_of self.old.fresh (F.seen self.old.folder).stored).waiting ≡ [] → IsTrue (is_some (F.seen self.old.folder).stored.meta) → F.seen self.new.folder ≡ F.seen self.old.folder }
-        ensures ends { Ends true (record { is_ready = self.old.is_ready; fresh = self.old.fresh; missed = vec_len self.old.missed; folder = F.seen self.old.folder }) (record { is_ready = self.new.is_ready; fresh = self.new.fresh; missed = vec_len self.new.missed; folder = F.seen self.new.folder }) result }
+        ensures exhausted { F.is_honest ≡ true → IsErrOf result NearFault.UidsExhausted
+            ↔ ((self.old.is_ready ≡ true) × (let n = mailbox_of self.old in 2 ^ 32 ≤ n.store.next + length n.waiting)) }
+        ensures effect { F.is_honest ≡ true → TurnsMailbox admitted_near AdmitsSome self.old self.new result }
+        ensures files { F.is_honest ≡ true → (let s = stored_in self.old in
+            AdmitsIf (is_some s.meta) (waiting_names s) (meta_at self.old.fresh s) s (stored_in self.new) result) }
+        ensures mailbox { F.is_honest ≡ true → IsMailbox self.old.fresh (stored_in self.old) → IsMailbox self.old.fresh (stored_in self.new) }
+        ensures untouched { F.is_honest ≡ true → (mailbox_of self.old).waiting ≡ [] → IsTrue (is_some (stored_in self.old).meta)
+            → seen_in self.new ≡ seen_in self.old }
+        ensures ends { Ends true (box_of self.old) (box_of self.new) result }
     {
         self.begin()?;
         let Some(count) = room_for(self.survey.waiting.len(), self.survey.meta.next) else {
@@ -295,8 +316,8 @@ impl<F: Folder> NearBox<F> {
 
     /// Makes what was renamed, removed and replaced so far outlive a loss of power: one `sync` of the folder.
     pub fn sync(&mut self) -> Result<(), NearFault>
-        ensures keeps { F.is_honest ≡ true → ((F.seen self.new.folder).stored ≡ (F.seen self.old.folder).stored) × (vec_len self.new.missed ≡ vec_len self.old.missed) }
-        ensures ends { Ends false (record { is_ready = self.old.is_ready; fresh = self.old.fresh; missed = vec_len self.old.missed; folder = F.seen self.old.folder }) (record { is_ready = self.new.is_ready; fresh = self.new.fresh; missed = vec_len self.new.missed; folder = F.seen self.new.folder }) result }
+        ensures keeps { F.is_honest ≡ true → (stored_in self.new ≡ stored_in self.old) × (vec_len self.new.missed ≡ vec_len self.old.missed) }
+        ensures ends { Ends false (box_of self.old) (box_of self.new) result }
     {
         self.begin()?;
         self.folder.sync()?;
@@ -311,7 +332,7 @@ impl<F: Folder> NearBox<F> {
         ensures failed { IfErr result (λ fault. (fault ≡ NearFault.Stopped) × (self.old.is_ready ≡ false)) }
         ensures begun { self.new.is_ready ≡ false }
         ensures same { (self.new.survey ≡ self.old.survey) × (self.new.fresh ≡ self.old.fresh) × (self.new.missed ≡ self.old.missed) }
-        ensures surveys { F.is_honest ≡ true → OnOk result (Surveys self.new.survey self.new.fresh (F.seen self.new.folder).stored) }
+        ensures surveys { F.is_honest ≡ true → OnOk result (Surveys self.new.survey self.new.fresh (stored_in self.new)) }
     {
         if !self.is_ready {
             return Err(NearFault::Stopped);
@@ -339,12 +360,13 @@ impl<F: Folder> NearBox<F> {
     fn set_flags(&mut self, i: usize, flags: Flags) -> Result<(), NearFault>
         requires within { i < vec_len self.old.survey.entries }
         requires begun { self.old.is_ready ≡ false }
-        requires surveyed { F.is_honest ≡ true → Surveys self.old.survey self.old.fresh (F.seen self.old.folder).stored }
+        requires surveyed { F.is_honest ≡ true → Surveys self.old.survey self.old.fresh (stored_in self.old) }
         ensures effect { F.is_honest ≡ true → (entry : Entry) → slice_get self.old.survey.entries.items i ≡ Some entry
-            → Does (set_name (file_of entry) (name_flagged entry.name flags)) Nothing (F.seen self.old.folder).stored (F.seen self.new.folder).stored result }
-        ensures untouched { (entry : Entry) → slice_get self.old.survey.entries.items i ≡ Some entry → name_flagged entry.name flags ≡ None → F.seen self.new.folder ≡ F.seen self.old.folder }
-        ensures surveys { F.is_honest ≡ true → OnOk result (Surveys self.new.survey self.new.fresh (F.seen self.new.folder).stored) }
-        ensures part { Part (F.seen self.old.folder) (F.seen self.new.folder) result }
+            → TurnsFiles (set_name (file_of entry) (name_flagged entry.name flags)) Nothing self.old self.new result }
+        ensures untouched { (entry : Entry) → slice_get self.old.survey.entries.items i ≡ Some entry → name_flagged entry.name flags ≡ None
+            → seen_in self.new ≡ seen_in self.old }
+        ensures surveys { F.is_honest ≡ true → OnOk result (Surveys self.new.survey self.new.fresh (stored_in self.new)) }
+        ensures part { Part (seen_in self.old) (seen_in self.new) result }
         ensures failed { (self.new.is_ready ≡ self.old.is_ready) × (self.new.fresh ≡ self.old.fresh) × (self.new.missed ≡ self.old.missed) }
     {
         let Some(name) = set_name(self.alloc, &mut self.folder, &self.survey.entries[i], flags)?
@@ -360,11 +382,11 @@ impl<F: Folder> NearBox<F> {
     // Removes the message with this UID, if it is there.
     fn expunge_one(&mut self, uid: Uid) -> Result<(), NearFault>
         requires begun { self.old.is_ready ≡ false }
-        requires surveyed { F.is_honest ≡ true → Surveys self.old.survey self.old.fresh (F.seen self.old.folder).stored }
-        ensures untouched { All (λ entry. entry.uid ≢ uid) self.old.survey.entries.items → F.seen self.new.folder ≡ F.seen self.old.folder }
-        ensures effect { F.is_honest ≡ true → Does (without_uids (uid ∷ [])) Nothing (F.seen self.old.folder).stored (F.seen self.new.folder).stored result }
-        ensures surveys { F.is_honest ≡ true → OnOk result (Surveys self.new.survey self.new.fresh (F.seen self.new.folder).stored) }
-        ensures part { Part (F.seen self.old.folder) (F.seen self.new.folder) result }
+        requires surveyed { F.is_honest ≡ true → Surveys self.old.survey self.old.fresh (stored_in self.old) }
+        ensures untouched { All (λ entry. entry.uid ≢ uid) self.old.survey.entries.items → seen_in self.new ≡ seen_in self.old }
+        ensures effect { F.is_honest ≡ true → TurnsFiles (without_uids (uid ∷ [])) Nothing self.old self.new result }
+        ensures surveys { F.is_honest ≡ true → OnOk result (Surveys self.new.survey self.new.fresh (stored_in self.new)) }
+        ensures part { Part (seen_in self.old) (seen_in self.new) result }
         ensures failed { (self.new.is_ready ≡ self.old.is_ready) × (self.new.fresh ≡ self.old.fresh) × (self.new.missed ≡ self.old.missed) }
     {
         let Some(i) = place_of(&self.survey.entries, uid) else {
@@ -379,9 +401,12 @@ impl<F: Folder> NearBox<F> {
     fn deliver(&mut self, uid: Uid, bytes: &[u8], flags: Flags) -> Result<(), NearFault>
         requires begun { self.old.is_ready ≡ false }
         requires next { uid ≡ self.old.survey.meta.next }
-        ensures effect { F.is_honest ≡ true → Does (appended self.old.survey.meta bytes.now flags) (AppendsPart self.old.survey.meta bytes.now) (F.seen self.old.folder).stored (F.seen self.new.folder).stored result }
-        ensures survey { OnOk result (Extends (entry_at uid (record { place = Place.Cur; name = copy_name_of self.old.survey.meta.validity uid flags }) ∷ []) self.old.survey.waiting.items (raised self.old.survey.meta 1) self.old.survey self.new.survey) }
-        ensures part { Part (F.seen self.old.folder) (F.seen self.new.folder) result }
+        ensures effect { F.is_honest ≡ true → (let meta = self.old.survey.meta in
+            TurnsFiles (appended meta bytes.now flags) (AppendsPart meta bytes.now) self.old self.new result) }
+        ensures survey { OnOk result (let old = self.old.survey in
+            Extends (entry_at uid (record { place = Place.Cur; name = copy_name_of old.meta.validity uid flags }) ∷ [])
+            old.waiting.items (raised old.meta 1) old self.new.survey) }
+        ensures part { Part (seen_in self.old) (seen_in self.new) result }
         ensures failed { (self.new.is_ready ≡ self.old.is_ready) × (self.new.fresh ≡ self.old.fresh) × (self.new.missed ≡ self.old.missed) }
     {
         let name = copy_name(self.alloc, self.survey.meta.validity, uid, flags)?;
@@ -405,11 +430,12 @@ impl<F: Folder> NearBox<F> {
     fn raise_next(&mut self, count: u32) -> Result<(), NearFault>
         requires begun { self.old.is_ready ≡ false }
         requires fits { self.old.survey.meta.next + count < 2 ^ 32 }
-        ensures effect { F.is_honest ≡ true → Does (with_meta (meta_text (raised self.old.survey.meta count))) Nothing (F.seen self.old.folder).stored (F.seen self.new.folder).stored result }
+        ensures effect { F.is_honest ≡ true → TurnsFiles (with_meta (meta_text (raised self.old.survey.meta count))) Nothing self.old self.new result }
         ensures meta { OnOk result ((self.new.survey.meta ≡ raised self.old.survey.meta count) × (self.new.survey.has_meta ≡ true)) }
         ensures waiting { self.new.survey.waiting ≡ self.old.survey.waiting }
         ensures entries { self.new.survey.entries ≡ self.old.survey.entries }
-        ensures part { Part (F.seen self.old.folder) (F.seen self.new.folder) result }
+        ensures marks { self.new.survey.marks ≡ self.old.survey.marks }
+        ensures part { Part (seen_in self.old) (seen_in self.new) result }
         ensures failed { (self.new.is_ready ≡ self.old.is_ready) × (self.new.fresh ≡ self.old.fresh) × (self.new.missed ≡ self.old.missed) }
     {
         let meta = Meta {
@@ -429,10 +455,11 @@ impl<F: Folder> NearBox<F> {
         requires count { count ≡ vec_len self.old.survey.waiting }
         requires fits { self.old.survey.meta.next + count < 2 ^ 32 }
         requires positive { 0 < self.old.survey.meta.next }
-        ensures part { Part (F.seen self.old.folder) (F.seen self.new.folder) result }
+        ensures part { Part (seen_in self.old) (seen_in self.new) result }
         ensures failed { (self.new.is_ready ≡ self.old.is_ready) × (self.new.fresh ≡ self.old.fresh) × (self.new.missed ≡ self.old.missed) }
-        ensures survey { OnOk result (Extends (entries_from self.old.survey.meta.next self.old.survey.waiting.items) [] (raised self.old.survey.meta count) self.old.survey self.new.survey) }
-        ensures effect { F.is_honest ≡ true → Admits self.old.survey.waiting.items self.old.survey.meta (F.seen self.old.folder).stored (F.seen self.new.folder).stored result }
+        ensures survey { OnOk result (let old = self.old.survey in
+            Extends (entries_from old.meta.next old.waiting.items) [] (raised old.meta count) old self.new.survey) }
+        ensures effect { F.is_honest ≡ true → Admits self.old.survey.waiting.items self.old.survey.meta (stored_in self.old) (stored_in self.new) result }
     {
         let mut number = self.survey.meta.next;
         self.raise_next(count)?;
@@ -448,12 +475,14 @@ impl<F: Folder> NearBox<F> {
     fn give_uid(&mut self, number: u32, file: &FileName) -> Result<(), NearFault>
         requires begun { self.old.is_ready ≡ false }
         requires uid { (0 < number) × (number + 1 < 2 ^ 32) }
-        ensures part { Part (F.seen self.old.folder) (F.seen self.new.folder) result }
+        ensures part { Part (seen_in self.old) (seen_in self.new) result }
         ensures failed { (self.new.is_ready ≡ self.old.is_ready) × (self.new.fresh ≡ self.old.fresh) × (self.new.missed ≡ self.old.missed) }
         ensures meta { (self.new.survey.meta ≡ self.old.survey.meta) × (self.new.survey.has_meta ≡ self.old.survey.has_meta) }
         ensures waiting { self.new.survey.waiting ≡ self.old.survey.waiting }
-        ensures entries { OnOk result (self.new.survey.entries.items ≡ self.old.survey.entries.items ++ entry_at number (admitted file.now number) ∷ []) }
-        ensures effect { F.is_honest ≡ true → Does (renamed_file file.now (admitted file.now number)) Nothing (F.seen self.old.folder).stored (F.seen self.new.folder).stored result }
+        ensures marks { self.new.survey.marks ≡ self.old.survey.marks }
+        ensures entries { OnOk result (self.new.survey.entries.items
+            ≡ self.old.survey.entries.items ++ entry_at number (admitted file.now number) ∷ []) }
+        ensures effect { F.is_honest ≡ true → TurnsFiles (renamed_file file.now (admitted file.now number)) Nothing self.old self.new result }
     {
         // A UID, by what the caller owes.
         let uid = Uid::new(number).unwrap();

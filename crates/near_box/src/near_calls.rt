@@ -74,7 +74,8 @@ pub fn set_name<F: Folder>(
     ensures part { Part (F.seen folder.old) (F.seen folder.new) result }
     ensures name { IfOk result (λ name. text_of name ≡ name_flagged entry.now.name flags) }
     ensures untouched { name_flagged entry.now.name flags ≡ None → F.seen folder.new ≡ F.seen folder.old }
-    ensures effect { F.is_honest ≡ true → Does (set_name (file_of entry.now) (name_flagged entry.now.name flags)) Nothing (F.seen folder.old).stored (F.seen folder.new).stored result }
+    ensures effect { F.is_honest ≡ true → Does (set_name (file_of entry.now) (name_flagged entry.now.name flags))
+        Nothing (F.seen folder.old).stored (F.seen folder.new).stored result }
 {
     match renamed(alloc, entry, flags)? {
         Some(name) => {
@@ -94,7 +95,8 @@ pub fn admit_file<F: Folder>(
 ) -> Result<Vec<u8>, NearFault>
     ensures part { Part (F.seen folder.old) (F.seen folder.new) result }
     ensures name { IfOk result (λ name. name.items ≡ name_admitted file.now.name uid) }
-    ensures effect { F.is_honest ≡ true → Does (renamed_file file.now (admitted file.now uid)) Nothing (F.seen folder.old).stored (F.seen folder.new).stored result }
+    ensures effect { F.is_honest ≡ true
+        → Does (renamed_file file.now (admitted file.now uid)) Nothing (F.seen folder.old).stored (F.seen folder.new).stored result }
 {
     let name = name_with_uid(alloc, file.name.as_slice(), uid)?;
     rename_to(folder, waiting_at(file), file.place, &name)?;
@@ -109,7 +111,8 @@ pub fn rename_to<F: Folder>(
     name: &[u8],
 ) -> Result<(), NearFault>
     ensures part { Part (F.seen folder.old) (F.seen folder.new) result }
-    ensures effect { F.is_honest ≡ true → Does (renamed_file (name_at from.entry) (record { place = place; name = name.now })) Nothing (F.seen folder.old).stored (F.seen folder.new).stored result }
+    ensures effect { F.is_honest ≡ true → Does (renamed_file (name_at from.entry) (record { place = place; name = name.now }))
+        Nothing (F.seen folder.old).stored (F.seen folder.new).stored result }
 {
     folder.rename(Origin::Delivered(from), Location { place, name })?;
     Ok(())

@@ -1,14 +1,17 @@
 //! What calls of the near mailbox read of the files of its messages. A file that stood there when the mailbox was opened
 //! and is gone is a fault, so that nothing is taken for removed that was renamed.
 
-ghost use Rattle.std.specs.Prelude.{◌≡◌, ◌≢◌, true, false, [], ◌∷◌, ◌++◌, ◌⊎◌, map, nat_lt, IfOk, IfErr, OnOk};
+ghost use Rattle.std.specs.Prelude.{◌≡◌, ◌≢◌, ◌<◌, ℕ, List, All, true, false, [], ◌∷◌, ◌++◌, ◌⊎◌, map, nat_lt, IfOk, IfErr, OnOk};
 ghost use Rattle.std.specs.List.{list_all};
 ghost use Rattle.mailcore.specs.Content.{mark_of};
 ghost use Rattle.mailcore.specs.Operations.{bytes_among, is_mark, marked_among};
 ghost use Rattle.maildir.specs.Folders.{text_of};
 ghost use Rattle.near_box.specs.Entries.{AreRising, AreThere, IsThere, message_at, item_at};
+ghost use Rattle.near_box.specs.KnownMarks.{AreMarksAmong, AreMarksOfFile, IsMarkAmong, mark_at};
+ghost use Rattle.mailcore.specs.declared.mailbox.Message.{Message};
 ghost use Rattle.near_box.specs.NearCalls.{Reads};
 
+use crate::known_mark::{KnownMark, keep_mark, place_of_mark};
 use crate::near_calls::{flags_of, location, place_of};
 use crate::read_fault::ReadFault;
 use crate::survey::Entry;
@@ -27,7 +30,8 @@ use std::alloc::Global;
 pub fn read_message<F: Folder>(folder: &mut F, entry: &Entry) -> Result<Vec<u8>, ReadFault>
     ensures reads { Reads (F.seen folder.old) (F.seen folder.new) result }
     ensures keeps { F.is_honest ≡ true → (F.seen folder.new).stored ≡ (F.seen folder.old).stored }
-    ensures bytes { F.is_honest ≡ true → IsThere (F.seen folder.old).stored entry.now → IfOk result (λ bytes. bytes.items ≡ (message_at (F.seen folder.old).stored entry.now).bytes) }
+    ensures bytes { F.is_honest ≡ true → IsThere (F.seen folder.old).stored entry.now
+        → IfOk result (λ bytes. bytes.items ≡ (message_at (F.seen folder.old).stored entry.now).bytes) }
     ensures there { F.is_honest ≡ true → IsThere (F.seen folder.old).stored entry.now → result ≢ Err ReadFault.Gone }
 {
     match folder.read(Source::Mail(location(entry)))? {
@@ -83,7 +87,8 @@ pub fn listed<F: Folder>(
 fn is_fit<F: Folder>(folder: &mut F, entry: &Entry, from: u32) -> Result<bool, ReadFault>
     ensures reads { Reads (F.seen folder.old) (F.seen folder.new) result }
     ensures keeps { F.is_honest ≡ true → (F.seen folder.new).stored ≡ (F.seen folder.old).stored }
-    ensures fit { F.is_honest ≡ true → IsThere (F.seen folder.old).stored entry.now → IfOk result (λ is. is ≡ (item_at from (F.seen folder.old).stored entry.now).fit) }
+    ensures fit { F.is_honest ≡ true → IsThere (F.seen folder.old).stored entry.now
+        → IfOk result (λ is. is ≡ (item_at from (F.seen folder.old).stored entry.now).fit) }
     ensures there { F.is_honest ≡ true → IsThere (F.seen folder.old).stored entry.now → result ≢ Err ReadFault.Gone }
 {
     if entry.uid.get() <= from {
@@ -96,7 +101,8 @@ fn is_fit<F: Folder>(folder: &mut F, entry: &Entry, from: u32) -> Result<bool, R
 /// Adds an item behind those that stand below it, which each is: the entries rise.
 fn push_item(items: &mut Items, item: Item) -> Result<(), ReadFault>
     ensures pushed { OnOk result (items.new ≡ items.old ++ item ∷ []) }
-    ensures fault { IfErr result (λ fault. (fault ≡ ReadFault.Device DeviceFault.NoMemory) ⊎ ((fault ≡ ReadFault.Gone) × (list_all (λ i. nat_lt i.uid item.uid) items.old ≡ false))) }
+    ensures fault { IfErr result (λ fault. (fault ≡ ReadFault.Device DeviceFault.NoMemory)
+        ⊎ ((fault ≡ ReadFault.Gone) × (list_all (λ i. nat_lt i.uid item.uid) items.old ≡ false))) }
 {
     match items.push(item) {
         Ok(()) => Ok(()),
@@ -105,21 +111,25 @@ fn push_item(items: &mut Items, item: Item) -> Result<(), ReadFault>
     }
 }
 
-/// The least UID of at least `from` whose message has the mark.
+/// The least UID of at least `from` whose message has the mark. A file is read if its mark is not known; then it is.
 pub fn find_mark<F: Folder>(
     folder: &mut F,
     entries: &[Entry],
+    known: &mut Vec<KnownMark>,
     mark: Tuid,
     from: u32,
 ) -> Result<Option<Uid>, ReadFault>
     ensures reads { Reads (F.seen folder.old) (F.seen folder.new) result }
     ensures keeps { F.is_honest ≡ true → (F.seen folder.new).stored ≡ (F.seen folder.old).stored }
-    ensures found { F.is_honest ≡ true → AreThere entries.now (F.seen folder.old).stored
-        → IfOk result (λ found. found ≡ marked_among mark from (map (message_at (F.seen folder.old).stored) entries.now)) }
+    ensures found { F.is_honest ≡ true → AreThere entries.now (F.seen folder.old).stored → (next : ℕ) → AreRising entries.now
+        → All (λ e. e.uid < next) entries.now
+        → AreMarksAmong next (map (message_at (F.seen folder.old).stored) entries.now) known.old.items
+        → IfOk result (λ found. (found ≡ marked_among mark from (map (message_at (F.seen folder.old).stored) entries.now))
+        × AreMarksAmong next (map (message_at (F.seen folder.old).stored) entries.now) known.new.items) }
     ensures there { F.is_honest ≡ true → AreThere entries.now (F.seen folder.old).stored → result ≢ Err ReadFault.Gone }
 {
     for entry in entries {
-        if entry.uid.get() >= from && has_mark(folder, entry, mark)? {
+        if entry.uid.get() >= from && has_mark(folder, entry, known, mark)? {
             return Ok(Some(entry.uid));
         }
     }
@@ -127,18 +137,49 @@ pub fn find_mark<F: Folder>(
 }
 
 /// Whether a message has the mark.
-fn has_mark<F: Folder>(folder: &mut F, entry: &Entry, mark: Tuid) -> Result<bool, ReadFault>
+fn has_mark<F: Folder>(
+    folder: &mut F,
+    entry: &Entry,
+    known: &mut Vec<KnownMark>,
+    mark: Tuid,
+) -> Result<bool, ReadFault>
     ensures reads { Reads (F.seen folder.old) (F.seen folder.new) result }
     ensures keeps { F.is_honest ≡ true → (F.seen folder.new).stored ≡ (F.seen folder.old).stored }
-    ensures mark { F.is_honest ≡ true → IsThere (F.seen folder.old).stored entry.now → IfOk result (λ is. is ≡ is_mark (mark_of (message_at (F.seen folder.old).stored entry.now).bytes) mark) }
+    ensures mark { F.is_honest ≡ true → IsThere (F.seen folder.old).stored entry.now
+        → AreMarksOfFile (F.seen folder.old).stored entry.now known.old.items
+        → IfOk result (λ is. is ≡ is_mark (mark_of (message_at (F.seen folder.old).stored entry.now).bytes) mark) }
+    ensures known { F.is_honest ≡ true → IsThere (F.seen folder.old).stored entry.now → (next : ℕ) → (messages : List Message)
+        → IsMarkAmong next messages (mark_at (F.seen folder.old).stored entry.now) → AreMarksAmong next messages known.old.items
+        → OnOk result (AreMarksAmong next messages known.new.items) }
     ensures there { F.is_honest ≡ true → IsThere (F.seen folder.old).stored entry.now → result ≢ Err ReadFault.Gone }
 {
-    Ok(bears(&read_message(folder, entry)?, mark))
+    let found = known_mark(folder, entry, known)?;
+    Ok(found == Some(mark))
 }
 
-/// Whether these bytes are those of a copy under this mark.
-fn bears(bytes: &[u8], mark: Tuid) -> bool
-    ensures { result ≡ is_mark (mark_of bytes.now) mark }
+/// The mark of a message, which is read unless it is known.
+fn known_mark<F: Folder>(
+    folder: &mut F,
+    entry: &Entry,
+    known: &mut Vec<KnownMark>,
+) -> Result<Option<Tuid>, ReadFault>
+    ensures reads { Reads (F.seen folder.old) (F.seen folder.new) result }
+    ensures keeps { F.is_honest ≡ true → (F.seen folder.new).stored ≡ (F.seen folder.old).stored }
+    ensures mark { F.is_honest ≡ true → IsThere (F.seen folder.old).stored entry.now
+        → AreMarksOfFile (F.seen folder.old).stored entry.now known.old.items
+        → IfOk result (λ mark. mark ≡ mark_of (message_at (F.seen folder.old).stored entry.now).bytes) }
+    ensures known { F.is_honest ≡ true → IsThere (F.seen folder.old).stored entry.now → (next : ℕ) → (messages : List Message)
+        → IsMarkAmong next messages (mark_at (F.seen folder.old).stored entry.now) → AreMarksAmong next messages known.old.items
+        → OnOk result (AreMarksAmong next messages known.new.items) }
+    ensures there { F.is_honest ≡ true → IsThere (F.seen folder.old).stored entry.now → result ≢ Err ReadFault.Gone }
 {
-    mark_of(bytes) == Some(mark)
+    let uid = entry.uid;
+    match place_of_mark(known, uid) {
+        Ok(i) => Ok(known[i].mark),
+        Err(i) => {
+            let mark = mark_of(&read_message(folder, entry)?);
+            keep_mark(known, i, uid, mark)?;
+            Ok(mark)
+        }
+    }
 }

@@ -9,7 +9,7 @@ use texts::fault::EscapeFault;
 use thiserror::Error;
 
 /// Why nothing is printed.
-#[derive(Clone, Copy, Debug, PartialEq, Eq, Error)]
+#[derive(Clone, Copy, Debug, Error)]
 pub enum Failure {
     /// Standard input or output fails, or a folder on a disk cannot be made or looked at.
     #[error("cannot read or write")]
@@ -48,16 +48,13 @@ impl From<AllocError> for Failure {
 }
 
 /// Why a line of the script has no answer.
-#[derive(Clone, Copy, Debug, PartialEq, Eq, Error)]
+#[derive(Clone, Copy)]
 pub enum LineFault {
     /// It is no line of a script, or not one for the folder that stands there.
-    #[error("bad line")]
     Bad,
     /// A folder on a disk cannot be made or looked at.
-    #[error("cannot read or write")]
     Device,
     /// A growth was refused.
-    #[error("no memory")]
     NoMemory,
 }
 

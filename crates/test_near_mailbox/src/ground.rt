@@ -81,7 +81,7 @@ pub fn push_changes(
     now: &[StandingFile],
 ) -> Result<(), AllocError> {
     for file in before {
-        if !now.iter().any(|other| other.path == file.path) {
+        if !has_path(now, &file.path) {
             text.push_str(" -")?;
             push_escaped(text, &file.path)?;
         }
@@ -93,6 +93,15 @@ pub fn push_changes(
         }
     }
     Ok(())
+}
+
+fn has_path(files: &[StandingFile], path: &[u8]) -> bool {
+    for file in files {
+        if file.path.as_slice() == path {
+            return true;
+        }
+    }
+    false
 }
 
 fn push_file(text: &mut String, file: &StandingFile) -> Result<(), AllocError> {

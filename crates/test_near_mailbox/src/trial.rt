@@ -37,12 +37,7 @@ impl Trial {
             None => 0,
         };
         for (place, call) in calls.iter().enumerate().skip(first) {
-            let earlier = calls
-                .iter()
-                .take(place)
-                .filter(|other| *other == call)
-                .count();
-            let number = (earlier as u64).saturating_add(1);
+            let number = number_of(*call, &calls, place);
             self.push_stops_at(alloc, ground, *call, number, told)?;
         }
         Ok(())
@@ -164,6 +159,17 @@ impl Trial {
         };
         Ok((near.into_folder(), answer))
     }
+}
+
+/// The number of the call at this place among those of its name, from 1 on.
+fn number_of(call: FolderCall, calls: &[FolderCall], place: usize) -> u64 {
+    let mut number = 1u64;
+    for other in calls.iter().take(place) {
+        if *other == call {
+            number = number.saturating_add(1);
+        }
+    }
+    number
 }
 
 /// Whether each operation is answered by `Stopped`.

@@ -65,10 +65,10 @@ pub fn read_mark(word: &[u8]) -> Result<Tuid, LineFault> {
 
 /// Escaped bytes between quotes.
 pub fn read_bytes(alloc: Global, text: &[u8]) -> Result<Vec<u8>, LineFault> {
-    match text
-        .strip_prefix(b"\"")
-        .and_then(|rest| rest.strip_suffix(b"\""))
-    {
+    let Some(rest) = text.strip_prefix(b"\"") else {
+        return Err(LineFault::Bad);
+    };
+    match rest.strip_suffix(b"\"") {
         Some(escaped) => Ok(unescape(alloc, escaped)?),
         None => Err(LineFault::Bad),
     }

@@ -37,4 +37,4 @@ returns-clause-surveys g c = λ honest.
     let there : slice_get entries c.in-Some.i ≡ Some c.index.result.now = found_entry entries c.deref.result.now c.in-Some.i c.index.result.now c.deref.ensures.value c.in-Some.ensures.within c.index.ensures in
     surveys_removed c.args.self.now.survey c.args.self.now.fresh s (c.requires.surveyed honest) c.in-Some.i c.index.result.now there _ _
     (c.in_ok-remove.ensures.effect honest ∙ ap (λ (f : FileName). removed_file f s) c.location.ensures)
-    c.remove-2.ensures.items refl refl refl
+    c.remove-2.ensures.items refl refl refl refl

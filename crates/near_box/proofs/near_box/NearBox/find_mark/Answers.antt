@@ -1,8 +1,8 @@
-use Rattle.std.proofs.Common.{◌∙◌, ap}
+use Rattle.std.proofs.Common.{◌∙◌, ap, refl}
 use Rattle.std.specs.Prelude.{Err, vec_len}
 use Rattle.near_box.specs.declared.read_fault.ReadFault.{ReadFault}
 use Rattle.near_box.proofs.CallLemmas.{none_missed}
-use Rattle.near_box.proofs.NearLemmas.{at_hand, near_marked}
+use Rattle.near_box.proofs.NearLemmas.{at_hand, near_marked, surveys_marked}
 use Rattle.near_box.proofs.near_box.NearBox.find_mark.Goals as goal
 
 pub returns-in-Err-clause-keeps : goal.returns-in-Err-clause-keeps
@@ -16,10 +16,20 @@ returns-in-Err-clause-keeps g c = λ honest.
           ∙ ap (λ v. vec_len v) c.in_ok-begin.ensures.same.2,
     )
 
+pub invariant_of-self-2-clause-surveys : goal.invariant_of-self-2-clause-surveys
+invariant_of-self-2-clause-surveys g c = λ ready honest.
+    let now = c.begin.new.self in
+    let s = (g.F.Folder.seen now.folder).stored in
+    let surveys = c.in_ok-begin.ensures.surveys honest in
+    let marked = near_marked now.survey now.survey now.fresh s s c.deref.result.now c.args.mark c.args.from c.in-Ok.found now.survey.marks.items c.find_mark.new.known.items
+    surveys refl c.deref.ensures.value refl refl (c.in-Ok.ensures.found honest) in
+    surveys_marked now.survey _ now.fresh s (g.F.Folder.seen c.find_mark.new.folder).stored surveys (c.in-Ok.ensures.keeps honest) refl refl refl refl marked.1
+
 pub returns-clause-found : goal.returns-clause-found
 returns-clause-found g c = λ honest.
     let old = c.args.self.now in
     let now = c.begin.new.self in
-    near_marked old.survey now.survey old.fresh (g.F.Folder.seen old.folder).stored (g.F.Folder.seen now.folder).stored c.deref.result.now c.args.mark c.args.from c.in-Ok.found
-    (old.surveys c.in_ok-begin.ensures.ready honest) c.in_ok-begin.ensures.same.0 c.deref.ensures.value (ap (λ f. (g.F.Folder.seen f).stored) c.in_ok-begin.ensures.folder)
-    (c.in-Ok.ensures.found honest)
+    let marked = near_marked old.survey now.survey old.fresh (g.F.Folder.seen old.folder).stored (g.F.Folder.seen now.folder).stored c.deref.result.now c.args.mark c.args.from c.in-Ok.found now.survey.marks.items c.find_mark.new.known.items
+    (old.surveys c.in_ok-begin.ensures.ready honest) c.in_ok-begin.ensures.same.0 c.deref.ensures.value refl (ap (λ f. (g.F.Folder.seen f).stored) c.in_ok-begin.ensures.folder)
+    (c.in-Ok.ensures.found honest) in
+    marked.0

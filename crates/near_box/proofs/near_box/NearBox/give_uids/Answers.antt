@@ -30,6 +30,7 @@ loop-file-preserved g c =
       number = omega (arith, so_far.number);
       meta = c.give_uid.ensures.meta.0 ∙ so_far.meta;
       has_meta = c.give_uid.ensures.meta.1 ∙ so_far.has_meta;
+      marks = c.give_uid.ensures.marks ∙ so_far.marks;
       waiting = ap (λ v. v.items) c.give_uid.ensures.waiting ∙ so_far.waiting;
       entries = entries_so_far box.survey.entries.items c.loop-file.self.survey.entries.items c.give_uid.new.self.survey.entries.items files i box.survey.meta.next n file
           (omega arith) c.file-item.is so_far.number so_far.entries c.in_ok-give_uid.ensures.entries;

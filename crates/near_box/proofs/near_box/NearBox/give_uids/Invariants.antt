@@ -13,6 +13,7 @@ invariant-loop-file g l = record {
   number : l.number ≡ l.fn.self.survey.meta.next + l.file-index;
   meta : l.self.survey.meta ≡ l.initial.self.survey.meta;
   has_meta : l.self.survey.has_meta ≡ true;
+  marks : l.self.survey.marks ≡ l.fn.self.survey.marks;
   waiting : l.self.survey.waiting.items ≡ [];
   entries : l.self.survey.entries.items ≡ l.fn.self.survey.entries.items ++ entries_from l.fn.self.survey.meta.next (take l.file-index l.file-items);
   stops : (g.F.Folder.seen l.self.folder).stops ≡ (g.F.Folder.seen l.fn.self.folder).stops;

@@ -1,4 +1,4 @@
-use Rattle.std.proofs.Common.{◌≡◌, ℕ, List, Option, Some, set, sym, ap, ◌∙◌, arith, refl}
+use Rattle.std.proofs.Common.{◌≡◌, ℕ, List, Option, Some, set, sym, ap, ◌∙◌, arith, refl, rules}
 use Rattle.std.specs.Prelude.{slice_get}
 use Rattle.std.proofs.lemmas.Grind.{common_steps}
 use Rattle.std.proofs.lemmas.Option.{gets, same_Some}
@@ -18,10 +18,10 @@ returns-clause-surveys g c = λ honest.
     let same : c.index.result.now ≡ entry = same_Some c.index.result.now entry (sym first ∙ there) in
     let name : Some c.from_vec.result ≡ name_flagged entry.name c.args.flags =
     ap (λ (n : List ℕ). Some n) c.from_vec.ensures ∙ sym (ap text_of c.in-Some.is) ∙ c.in_ok-name.ensures.name ∙ ap (λ (e : Entry). name_flagged e.name c.args.flags) same in
-    surveys_renamed c.args.self.now.survey c.args.self.now.fresh s (c.requires.surveyed honest) c.args.i entry there c.args.flags _ _
+    surveys_renamed c.args.self.now.survey c.args.self.now.fresh s (c.requires.surveyed honest) c.args.i entry there c.args.flags (search rules) _ _
     (c.in_ok-name.ensures.effect honest ∙ ap (λ (e : Entry). set_name (file_of e) (name_flagged e.name c.args.flags) s) same)
     (ap (λ (n : Option (List ℕ)). set entries c.args.i (entry_under entry n)) name)
-    refl refl refl
+    refl refl refl refl
 
 pub returns-in_default-clause-effect : goal.returns-in_default-clause-effect
 returns-in_default-clause-effect g c = λ honest entry there.

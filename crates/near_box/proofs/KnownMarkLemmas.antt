@@ -1,0 +1,106 @@
+-- Marks that are known stay known: no operation on a mailbox changes the bytes of a message, and a new message has a UID
+-- of its own.
+use Rattle.std.proofs.Common.{◌≡◌, ℕ, ◌+◌, ◌<◌, ◌≤◌, Bool, true, false, not, cond, eqb, List, [], ◌∷◌, ◌++◌, length, get_or, take, map, All, sym, ap, subst, ◌∙◌, arith}
+use Rattle.std.specs.List.{list_any}
+use Rattle.std.proofs.lemmas.List.Elements.{All-nil, All-cons, All-append, All-filter, All-map, All-weaker}
+use Rattle.std.proofs.lemmas.List.{get_or-map, get_or_default, length-map}
+use Rattle.mailcore.specs.declared.mailbox.Message.{Message}
+use Rattle.mailcore.specs.Content.{mark_of}
+use Rattle.mailcore.specs.Operations.{with_flags, flagged, expunged}
+use Rattle.mailcore.specs.Stores.{Store, Waiting, numbered}
+use Rattle.near_box.specs.declared.known_mark.KnownMark.{KnownMark}
+use Rattle.near_box.specs.declared.survey.Entry.{Entry}
+use Rattle.near_box.specs.Entries.{AreRising, message_at}
+use Rattle.near_box.specs.KnownMarks.{AreMarksAmong, AreMarksOf, AreMarksOfFile, IsMarkAmong, mark_at}
+use Rattle.near_box.specs.Mailboxes.{Near, numbered_near, delivered}
+use Rattle.maildir.specs.Folders.{Stored}
+use Rattle.near_box.proofs.KeptLemmas.{one_place}
+
+-- a message that has the UID bears the mark
+abbrev Bears : KnownMark → Message → Type 0
+Bears known m = m.uid ≡ known.uid → mark_of m.bytes ≡ known.mark
+
+-- ---- flags
+
+keeps_flagged : (change : ℕ → ℕ) (uid : ℕ) (k : KnownMark) (m : Message) → Bears k m → Bears k (with_flags change uid m)
+keeps_flagged change uid k m bears = by_test (eqb m.uid uid)
+  where
+    by_test : (b : Bool) → Bears k (cond b (record m { flags = change m.flags }) m)
+    by_test true = bears
+    by_test false = bears
+
+pub marks_flagged : (change : ℕ → ℕ) (uid : ℕ) (s : Store) (known : List KnownMark) → AreMarksOf s known → AreMarksOf (flagged change uid s) known
+marks_flagged change uid s known are =
+    All-weaker (IsMarkAmong s.next s.messages) (IsMarkAmong s.next (flagged change uid s).messages)
+    (λ k is. record {
+      below = is.below;
+      marks = All-map (Bears k) (with_flags change uid) s.messages
+          (All-weaker (Bears k) (λ m. Bears k (with_flags change uid m)) (keeps_flagged change uid k) s.messages is.marks);
+    }) known are
+
+-- ---- messages are removed
+
+pub marks_expunged : (uids : List ℕ) (s : Store) (known : List KnownMark) → AreMarksOf s known → AreMarksOf (expunged uids s) known
+marks_expunged uids s known are =
+    let stays : Message → Bool = λ m. not (list_any (λ uid. eqb m.uid uid) uids) in
+    All-weaker (IsMarkAmong s.next s.messages) (IsMarkAmong s.next (expunged uids s).messages)
+    (λ k is. record { below = is.below; marks = All-filter stays (Bears k) s.messages is.marks }) known are
+
+-- ---- messages are added
+
+bears_later : (k : KnownMark) (next uid : ℕ) (flags : ℕ) (bytes : List ℕ) → k.uid < next → next ≤ uid → Bears k (record { uid = uid; flags = flags; bytes = bytes })
+bears_later k next uid flags bytes below above same = absurd (omega (arith, below, above, same))
+
+pub marks_delivered : (bytes : List ℕ) (flags : ℕ) (n : Near) (known : List KnownMark) → AreMarksOf n.store known → AreMarksOf (delivered bytes flags n).store known
+marks_delivered bytes flags n known are =
+    let s : Store = n.store in
+    let m : Message = record { uid = s.next; flags = flags; bytes = bytes } in
+    All-weaker (IsMarkAmong s.next s.messages) (IsMarkAmong (s.next + 1) (s.messages ++ m ∷ []))
+    (λ k is. record {
+      below = omega (arith, is.below);
+      marks = All-append (Bears k) s.messages (m ∷ []) is.marks
+          (All-cons (Bears k) m [] (bears_later k s.next s.next flags bytes is.below (omega arith)) (All-nil (Bears k)));
+    }) known are
+
+bears_numbered : (k : KnownMark) (next uid : ℕ) (files : List Waiting) → k.uid < next → next ≤ uid → All (Bears k) (numbered uid files)
+bears_numbered k next uid [] below above = All-nil (Bears k)
+bears_numbered k next uid (file ∷ files) below above =
+    All-cons (Bears k) (record { uid = uid; flags = file.flags; bytes = file.bytes }) (numbered (uid + 1) files)
+    (bears_later k next uid file.flags file.bytes below above) (bears_numbered k next (uid + 1) files below (omega (arith, above)))
+
+pub marks_numbered : (count : ℕ) (n : Near) (known : List KnownMark) → AreMarksOf n.store known → AreMarksOf (numbered_near count n).store known
+marks_numbered count n known are =
+    let s : Store = n.store in
+    All-weaker (IsMarkAmong s.next s.messages) (IsMarkAmong (s.next + length n.waiting) (s.messages ++ numbered s.next (take count n.waiting)))
+    (λ k is. record {
+      below = omega (arith, is.below);
+      marks = All-append (Bears k) s.messages (numbered s.next (take count n.waiting)) is.marks
+          (bears_numbered k s.next s.next (take count n.waiting) is.below (omega arith));
+    }) known are
+
+-- ---- the same known of a mailbox that is said in another way
+
+pub marks_after : (n n' : Near) (known now : List KnownMark) → n' ≡ n → now ≡ known → AreMarksOf n.store known → AreMarksOf n'.store now
+marks_after n n' known now same kept are =
+    subst (λ (l : List KnownMark). AreMarksOf n'.store l) (sym kept) (subst (λ (m : Near). AreMarksOf m.store known) (sym same) are)
+
+-- ---- marks of files that are read
+
+pub known_of_file : (s : Stored) (es : List Entry) (i : ℕ) (entry : Entry) (next : ℕ) (known : List KnownMark) → i < length es → entry ≡ get_or es i entry
+    → AreMarksAmong next (map (message_at s) es) known → AreMarksOfFile s entry known
+known_of_file s es i entry next known below is are =
+    All-weaker (IsMarkAmong next (map (message_at s) es)) (λ k. entry.uid ≡ k.uid → mark_of (message_at s entry).bytes ≡ k.mark)
+    (λ k marks.
+    let m : Message = message_at s entry in
+    subst (Bears k) (get_or-map (message_at s) es i entry m below ∙ ap (message_at s) (sym is)) (marks.marks i m (omega (arith, below, length-map es (message_at s)))))
+    known are
+
+pub mark_of_file : (s : Stored) (es : List Entry) (i : ℕ) (entry : Entry) (next : ℕ) → i < length es → entry ≡ get_or es i entry → AreRising es → All (λ e. e.uid < next) es
+    → IsMarkAmong next (map (message_at s) es) (mark_at s entry)
+mark_of_file s es i entry next below is rising within = record {
+  below = subst (λ (e : Entry). e.uid < next) (sym is) (within i entry below);
+  marks = All-map (Bears (mark_at s entry)) (message_at s) es
+      (λ j d there same.
+      let here : i ≡ j = one_place (λ e. e.uid) es rising i j d below there (ap (λ (e : Entry). e.uid) (get_or_default es i d entry below ∙ sym is) ∙ sym same) in
+      ap (λ (e : Entry). mark_of (message_at s e).bytes) (ap (λ (k : ℕ). get_or es k d) (sym here) ∙ get_or_default es i d entry below ∙ sym is));
+}

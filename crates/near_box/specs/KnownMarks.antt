@@ -1,0 +1,29 @@
+-- What the near mailbox remembers of the marks of its messages, whose bytes never change.
+use Rattle.std.specs.Prelude.{◌≡◌, ◌<◌, ℕ, List, All}
+use Rattle.mailcore.specs.declared.mailbox.Message.{Message}
+use Rattle.mailcore.specs.Content.{mark_of}
+use Rattle.mailcore.specs.Stores.{Store}
+use Rattle.maildir.specs.Folders.{Stored}
+use Rattle.near_box.specs.declared.known_mark.KnownMark.{KnownMark}
+use Rattle.near_box.specs.declared.survey.Entry.{Entry}
+use Rattle.near_box.specs.Entries.{message_at}
+
+-- the UID is below the next one, and each of the messages that has it bears this mark, or none
+pub record IsMarkAmong (next : ℕ) (messages : List Message) (known : KnownMark) : Type 0 where
+  pub below : known.uid < next
+  pub marks : All (λ m. m.uid ≡ known.uid → mark_of m.bytes ≡ known.mark) messages
+
+abbrev pub AreMarksAmong : (next : ℕ) → List Message → List KnownMark → Type 0
+AreMarksAmong next messages known = All (IsMarkAmong next messages) known
+
+-- the mark of the message in the file of an entry
+abbrev pub mark_at : Stored → Entry → KnownMark
+mark_at s entry = record { uid = entry.uid; mark = mark_of (message_at s entry).bytes }
+
+-- what is known of its UID is its mark
+abbrev pub AreMarksOfFile : Stored → Entry → List KnownMark → Type 0
+AreMarksOfFile s entry known = All (λ k. entry.uid ≡ k.uid → mark_of (message_at s entry).bytes ≡ k.mark) known
+
+-- the marks of messages of a store
+abbrev pub AreMarksOf : Store → List KnownMark → Type 0
+AreMarksOf store known = AreMarksAmong store.next store.messages known
