@@ -1,4 +1,4 @@
-//! Calls of a book that write its journal.
+//! Calls of a book, from texts.
 
 use crate::failure::Failure;
 use book::book::Book;
@@ -7,6 +7,14 @@ use std::alloc::Global;
 use sync_state::journal::Logged;
 use sync_state::journal_read::next_logged;
 use sync_state::journal_text::read_journal;
+
+/// The book of a shelf.
+pub fn open<S: Shelf + Drop>(alloc: Global, shelf: S) -> Result<Book<S>, Failure> {
+    match Book::open(alloc, shelf) {
+        Ok(book) => Ok(book),
+        Err(refused) => Err(refused.fault)?,
+    }
+}
 
 /// Begins the plan of a journal's text. A journal that is there is discarded first.
 pub fn begin<S: Shelf>(alloc: Global, book: &mut Book<S>, text: &[u8]) -> Result<(), Failure> {

@@ -1,6 +1,6 @@
 //! A book over a shelf in memory, through all its calls.
 
-use crate::calls::{begin, commit, log};
+use crate::calls::{begin, commit, log, open};
 use crate::failure::Failure;
 use book::book::Book;
 use book::mem_shelf::MemShelf;
@@ -106,13 +106,6 @@ fn file_of(alloc: Global, text: &[u8]) -> Result<Option<Vec<u8>>, AllocError> {
     }
 }
 
-fn open(alloc: Global, shelf: MemShelf) -> Result<Book<MemShelf>, Failure> {
-    match Book::open(alloc, shelf) {
-        Ok(book) => Ok(book),
-        Err(refused) => Err(refused.fault)?,
-    }
-}
-
 /// Makes a call. A book that finds no memory is opened again, and has to say what it said before, or what it says after.
 fn make_call(
     alloc: Global,
@@ -160,12 +153,22 @@ fn calls_of(alloc: Global, text: &[u8]) -> Result<Vec<Call<'_>>, AllocError> {
 /// Opens a book and makes each call. Tells what the book says before and behind each, a line each.
 pub fn exercise(alloc: Global, text: &[u8]) -> Result<String, Failure> {
     let (state, journal) = halves(text);
-    let mut book = open(alloc, shelf_of(alloc, state, journal)?)?;
-    let mut told = format!(in alloc; "{}", held_by(&book))?;
+    let book = open(alloc, shelf_of(alloc, state, journal)?)?;
+    let mut told = String::new(alloc);
+    make_calls(alloc, book, journal, &mut told)?;
+    Ok(told)
+}
+
+fn make_calls(
+    alloc: Global,
+    mut book: Book<MemShelf>,
+    journal: &[u8],
+    told: &mut String,
+) -> Result<(), Failure> {
+    write!(told, "{}", held_by(&book))?;
     for call in calls_of(alloc, journal)? {
         book = make_call(alloc, book, call)?;
-        let line = format!(in alloc; "{}", held_by(&book))?;
-        told.push_str(line.as_str())?;
+        write!(told, "{}", held_by(&book))?;
     }
-    Ok(told)
+    Ok(())
 }

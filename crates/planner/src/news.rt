@@ -73,7 +73,7 @@ impl Lists<'_> {
 }
 
 /// Adds a step for each new message, with the next mark.
-pub fn push_new(
+pub(crate) fn push_new(
     direction: Direction,
     items: &[Item],
     marks: &[Tuid],

@@ -146,11 +146,16 @@ impl<'a> Trial<'a> {
     /// Makes the call without a stop.
     fn unbroken(&self) -> Result<Unbroken, Failure> {
         let mut desk = self.desk(Vec::new(self.alloc))?;
-        let (answer, _) = self.answers(&mut desk)?;
-        let shelf = desk.shelf()?;
-        let files = Files::of_shelf(self.alloc, shelf)?;
-        match (answer, desk.open(self.alloc)?) {
-            (Answer::Done, Opened::Held(held)) => Ok(Unbroken { files, held }),
+        self.unbroken_at(&mut desk)
+    }
+
+    fn unbroken_at(&self, desk: &mut Desk<MemShelf>) -> Result<Unbroken, Failure> {
+        let (Answer::Done, _) = self.answers(desk)? else {
+            return Err(Failure::Script);
+        };
+        let files = Files::of_shelf(self.alloc, desk.shelf()?)?;
+        match desk.open(self.alloc)? {
+            Opened::Held(held) => Ok(Unbroken { files, held }),
             _ => Err(Failure::Script),
         }
     }
@@ -207,7 +212,16 @@ impl<'a> Trial<'a> {
         let mut schedule = Vec::new(self.alloc);
         schedule.push(stop)?;
         let mut desk = self.desk(schedule)?;
-        let (answer, later) = self.answers(&mut desk)?;
+        self.outcome_at(&mut desk, unbroken, stop)
+    }
+
+    fn outcome_at(
+        &self,
+        desk: &mut Desk<MemShelf>,
+        unbroken: &Unbroken,
+        stop: Stop<ShelfCall>,
+    ) -> Result<Outcome, Failure> {
+        let (answer, later) = self.answers(desk)?;
         let shelf = desk.shelf()?;
         let is_stopped = shelf.stops() > 0;
         let left = self.left_on(shelf, unbroken, stop)?;
@@ -216,7 +230,7 @@ impl<'a> Trial<'a> {
         let again = if opened == Opened::Held(unbroken.held) {
             None
         } else {
-            Some(self.again(&mut desk, unbroken, stop)?)
+            Some(self.again(desk, unbroken, stop)?)
         };
         Ok(Outcome {
             is_stopped,

@@ -2,6 +2,7 @@
 
 use crate::failure::LineFault;
 use crate::written::world_of;
+use mailcore::listing::Listing;
 use mailcore::side::Side;
 use mailcore::tuid::Tuid;
 use planner::fault::PlanFault;
@@ -12,7 +13,7 @@ use planner::unfit::unfit;
 use std::alloc::{AllocError, Global};
 use texts::escape::push_escaped;
 use worlds::plan_lines::{FlagsWord, NoteLine, StepLine, UnfitLine};
-use worlds::world::Waiting;
+use worlds::world::{Waiting, World};
 
 /// A call of the planner.
 #[derive(Drop)]
@@ -37,23 +38,49 @@ impl PlannerCall {
         let world = world_of(alloc, text, Waiting::Admitted)?;
         let far = world.far.listing(alloc, Side::Far)?;
         let near = world.near.listing(alloc, Side::Near)?;
-        let count = news(&far, &near, &world.state, &world.options);
+        let opening = Opening {
+            far: &far,
+            near: &near,
+            world: &world,
+        };
         match self {
-            PlannerCall::News => writeln!(told, "  {count}")?,
-            PlannerCall::Unfit => {
-                for (side, uid) in unfit(alloc, &far, &near, &world.state, &world.options)? {
-                    writeln!(told, "  {}", UnfitLine(side, uid))?;
-                }
-            }
-            PlannerCall::Plan(marks) => {
-                if marks.len() != count {
-                    return Err(LineFault::Bad);
-                }
-                let plan = plan(alloc, &far, &near, &world.state, &world.options, marks);
-                push_plan(told, &plan)?;
-            }
+            PlannerCall::News => Ok(writeln!(told, "  {}", opening.count())?),
+            PlannerCall::Unfit => opening.push_unfit(alloc, told),
+            PlannerCall::Plan(marks) => opening.push_plan(alloc, told, marks),
+        }
+    }
+}
+
+/// What the planner's calls are given: what both mailboxes list, and their world.
+#[derive(Clone, Copy)]
+struct Opening<'a> {
+    far: &'a Listing,
+    near: &'a Listing,
+    world: &'a World,
+}
+
+impl Opening<'_> {
+    fn count(&self) -> usize {
+        news(self.far, self.near, &self.world.state, &self.world.options)
+    }
+
+    fn push_unfit(&self, alloc: Global, told: &mut String) -> Result<(), LineFault> {
+        let (state, options) = (&self.world.state, &self.world.options);
+        for (side, uid) in unfit(alloc, self.far, self.near, state, options)? {
+            writeln!(told, "  {}", UnfitLine(side, uid))?;
         }
         Ok(())
+    }
+
+    fn push_plan(&self, alloc: Global, told: &mut String, marks: &[Tuid]) -> Result<(), LineFault> {
+        let (state, options) = (&self.world.state, &self.world.options);
+        if marks.len() != news(self.far, self.near, state, options) {
+            return Err(LineFault::Bad);
+        }
+        push_plan(
+            told,
+            &plan(alloc, self.far, self.near, state, options, marks),
+        )
     }
 }
 

@@ -8,7 +8,8 @@ use crate::line::Lines;
 use crate::read_mailbox::{read_mailbox, read_waiting};
 use crate::read_options::read_options;
 use crate::read_state::read_state;
-use crate::world::{Waiting, World};
+use crate::world::{Waiting, WaitingFile, World};
+use mailcore::mailbox::Mailbox;
 use mailcore::side::Side;
 use std::alloc::Global;
 
@@ -35,14 +36,9 @@ pub fn take_world(
     ensures fault { IfErr result (IsUpTo (line_count lines.old + 1)) }
 {
     let options = read_options(alloc, lines)?;
-    let far = read_mailbox(alloc, Side::Far, lines)?;
-    let mut near = read_mailbox(alloc, Side::Near, lines)?;
-    let waiting = read_waiting(alloc, waiting, &mut near, lines)?;
+    let (far, near, waiting) = read_mailboxes(alloc, waiting, lines)?;
     let state = read_state(alloc, lines)?;
-    let line = lines.take(b"end")?;
-    if !line.text.is_empty() {
-        return Err(line.fault());
-    }
+    read_end(lines)?;
     Ok(World {
         options,
         far,
@@ -50,4 +46,31 @@ pub fn take_world(
         waiting,
         state,
     })
+}
+
+/// The far and the near mailbox, and the near files that stay waiting.
+fn read_mailboxes(
+    alloc: Global,
+    waiting: Waiting,
+    lines: &mut Lines<'_>,
+) -> Result<(Mailbox, Mailbox, Vec<WaitingFile>), WorldFault>
+    ensures count { line_count lines.new ≤ line_count lines.old }
+    ensures fault { IfErr result (IsUpTo (line_count lines.old + 1)) }
+{
+    let far = read_mailbox(alloc, Side::Far, lines)?;
+    let mut near = read_mailbox(alloc, Side::Near, lines)?;
+    let waiting = read_waiting(alloc, waiting, &mut near, lines)?;
+    Ok((far, near, waiting))
+}
+
+fn read_end(lines: &mut Lines<'_>) -> Result<(), WorldFault>
+    ensures count { line_count lines.new ≤ line_count lines.old }
+    ensures fault { IfErr result (IsUpTo (line_count lines.old + 1)) }
+{
+    let line = lines.take(b"end")?;
+    if line.text.is_empty() {
+        Ok(())
+    } else {
+        Err(line.fault())
+    }
 }

@@ -9,12 +9,15 @@ use crate::read::read_world;
 use crate::trial_generator::TrialGenerator;
 use crate::world::{Waiting, World};
 use mailcore::fault::CoreFault;
+use mailcore::listing::Listing;
 use mailcore::marks::draw_marks;
 use mailcore::side::Side;
+use mailcore::uid::Uid;
 use planner::fault::PlanFault;
 use planner::news::news;
 use planner::plan::plan;
 use planner::unfit::unfit;
+use rules::plan::Plan;
 use std::alloc::{AllocError, Global};
 use std::io;
 use std::io::{ErrorKind, Read, Write};
@@ -174,9 +177,24 @@ fn plan_text<I: Read>(alloc: Global, arguments: Arguments, input: &mut I) -> Res
 fn plan_lines(alloc: Global, world: &World) -> Result<String, Failure> {
     let far = world.far.listing(alloc, Side::Far)?;
     let near = world.near.listing(alloc, Side::Near)?;
-    let count = news(&far, &near, &world.state, &world.options);
+    let plan = trial_plan(alloc, &far, &near, world)?;
+    let unfit = unfit(alloc, &far, &near, &world.state, &world.options)?;
+    Ok(lines_of(alloc, &plan, &unfit)?)
+}
+
+/// The plan of a world whose mailboxes list this, with marks of the trial generator.
+fn trial_plan(
+    alloc: Global,
+    far: &Listing,
+    near: &Listing,
+    world: &World,
+) -> Result<Plan, Failure> {
+    let count = news(far, near, &world.state, &world.options);
     let marks = draw_marks(alloc, &mut TrialGenerator::new(), count)?;
-    let plan = plan(alloc, &far, &near, &world.state, &world.options, &marks)?;
+    Ok(plan(alloc, far, near, &world.state, &world.options, &marks)?)
+}
+
+fn lines_of(alloc: Global, plan: &Plan, unfit: &[(Side, Uid)]) -> Result<String, AllocError> {
     let mut text = String::new(alloc);
     for step in plan.steps.as_slice() {
         writeln!(text, "{}", StepLine(step))?;
@@ -184,8 +202,8 @@ fn plan_lines(alloc: Global, world: &World) -> Result<String, Failure> {
     for note in plan.notes.as_slice() {
         writeln!(text, "{}", NoteLine(note))?;
     }
-    for (side, uid) in unfit(alloc, &far, &near, &world.state, &world.options)? {
-        writeln!(text, "{}", UnfitLine(side, uid))?;
+    for (side, uid) in unfit {
+        writeln!(text, "{}", UnfitLine(*side, *uid))?;
     }
     Ok(text)
 }
