@@ -1,0 +1,17 @@
+pub mod Mailboxes
+pub mod NamedMessages
+pub mod Servers
+pub mod Answering
+pub mod Patterns
+pub mod NameOrder
+pub mod SessionCommands
+pub mod MailboxCommands
+pub mod AppendCommand
+pub mod MessageCommands
+pub mod Steps
+pub mod Portions
+pub mod Unread
+pub mod Serving
+pub mod Heard
+pub mod Lines
+pub mod SessionExample
