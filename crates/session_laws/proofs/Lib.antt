@@ -1,0 +1,10 @@
+pub mod Joins
+pub mod Opening
+pub mod Messages
+pub mod Continuing
+pub mod GoingOn
+pub mod Bodies
+pub mod Naming
+pub mod Refusing
+pub mod Giving
+pub mod Expunging

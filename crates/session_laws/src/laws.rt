@@ -1,0 +1,43 @@
+//! Laws of sessions, each shown by a function that does nothing.
+
+ghost use Rattle.session_laws.specs.Laws as law;
+
+/// A stream in two pieces is the stream as one: the replies to one piece and then to another are those to both joined.
+pub fn pieces_join()
+    ensures { law.PiecesJoin }
+{}
+
+/// A new connection has no unread bytes; what is unread is told by what the server keeps, but for a line that is dropped.
+pub fn new_connections_are_empty()
+    ensures empty { law.NewEndsAreEmpty }
+    ensures known { law.UnreadIsKept }
+{}
+
+/// Whatever is sent, UIDs are never given twice: a UIDVALIDITY stays, UIDNEXT never falls, and under a UID below it
+/// stands the message that stood there, or none.
+pub fn uids_are_given_once()
+    ensures kept { law.UidsAreKept }
+    // A message that is appended gets a UID that is at least UIDNEXT, and UIDNEXT is above it then.
+    ensures given { law.AppendsGiveNewUids }
+{}
+
+/// UID EXPUNGE takes no message that is not marked as deleted, and none that the set does not name.
+pub fn expunge_takes_deleted_and_named()
+    ensures { law.ExpungeTakesNamed }
+{}
+
+/// A command that is answered NO or BAD, and a line that is none, change no mailbox.
+pub fn refusals_change_nothing()
+    ensures { law.RefusalsChangeNothing }
+{}
+
+/// UID FETCH changes nothing. UID STORE changes no message but in its flags.
+pub fn bodies_stay()
+    ensures fetch { law.FetchChangesNothing }
+    ensures store { law.StoreKeepsBodies }
+{}
+
+/// A set names the UIDs that wire_tokens says, also where it is tested.
+pub fn sets_name()
+    ensures { law.SetsName }
+{}

@@ -1,0 +1,4 @@
+//! Laws that the definitions of `imap_session` mean what we want.
+#![tactic(auto)]
+
+pub mod laws;
