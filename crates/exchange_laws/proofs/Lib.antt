@@ -1,0 +1,11 @@
+pub mod Apart
+pub mod Others
+pub mod Fronts
+pub mod Gos
+pub mod Answering
+pub mod AnswersApart
+pub mod Sent
+pub mod ReadsOn
+pub mod Ended
+pub mod Asked
+pub mod Greeted

@@ -1,0 +1,32 @@
+-- What is needed of what others do.
+use Rattle.std.proofs.Common.{◌≡◌, ℕ, List, refl, sym, ◌∙◌, ap, subst}
+use Rattle.imap_session.specs.Servers.{Server, is_over, Quiet, news, told}
+use Rattle.imap_session.specs.Portions.{goes_in}
+use Rattle.imap_session.specs.Unread.{Kept, Holds}
+use Rattle.imap_session.specs.Serving.{End}
+use Rattle.imap_session.specs.Lines.{Stays}
+use Rattle.imap_session.specs.Heard.{AreUntagged}
+use Rattle.exchange_laws.specs.Ends.{HasRead}
+
+pub quiet-refl : (s : Server) → Quiet s s
+quiet-refl s = refl
+
+pub quiet-trans : (s t u : Server) → Quiet s t → Quiet t u → Quiet s u
+quiet-trans s t u h k = k ∙ h
+
+pub quiet_left : (s t : Server) → Quiet s t → is_over t.condition ≡ is_over s.condition
+quiet_left s t h = ap (λ (v : Server). is_over v.condition) h
+
+pub told_left : (s : Server) → is_over (told s).condition ≡ is_over s.condition
+told_left s = refl
+
+pub news_untagged : (s : Server) → AreUntagged (news s)
+news_untagged s = tt
+
+-- what the server has read stays
+pub read_stays : (front : List ℕ) (old new : End) → Stays old new → HasRead front old → HasRead front new
+read_stays front old new s h = record {
+  kept = s.kept ∙ h.kept;
+  unread = subst (λ (k : Kept). Holds (is_over new.server.condition) k front (goes_in front)) (sym s.kept)
+      (subst (λ (v : Server). Holds (is_over v.condition) old.kept front (goes_in front)) (sym s.quiet) h.unread);
+}
