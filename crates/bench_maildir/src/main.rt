@@ -50,13 +50,17 @@ impl Task {
     /// Does it on the mailbox in the folder at this path, and tells how many messages are counted then.
     fn perform(self, rt: &HostRuntime, path: &str) -> Result<usize, Failure> {
         let mut near = opened(rt.alloc(), DiskFolder::new(rt.clone()?, path)?)?;
+        self.perform_on(rt.alloc(), &mut near)
+    }
+
+    fn perform_on<F: Folder>(self, alloc: Global, near: &mut NearBox<F>) -> Result<usize, Failure> {
         let from = match self {
             Task::Count(from) => from,
             Task::Append(copies) => {
-                fill(&mut near, copies)?;
+                fill(near, copies)?;
                 0
             }
-            Task::Find(marks) => return found(rt.alloc(), &mut near, marks),
+            Task::Find(marks) => return found(alloc, near, marks),
         };
         let listing = near.list_above(from)?;
         Ok(listing.items.as_slice().len())

@@ -20,18 +20,21 @@ const MARKED: &[u8] = b"X-TUID: AQAAAAAAAAAC\nSubject: a copy\n\ntext\n";
 pub fn session(alloc: Global) -> Result<Vec<u8>, Failure> {
     let mut told = Vec::new(alloc);
     let mut near = opened(alloc, two_waiting(alloc)?)?;
+    make_calls(&mut told, &mut near)?;
+    tell_folder(&mut told, &near.into_folder())?;
+    Ok(told)
+}
+
+fn make_calls(told: &mut Vec<u8>, near: &mut NearBox<MemFolder>) -> Result<(), Failure> {
     near.admit()?;
     let copy = near.append(MARKED, Flags::only(Flag::Draft))?;
-    tell_found(&mut told, &mut near)?;
+    tell_found(told, near)?;
     let second = Uid::new(2).ok_or(Failure::NoUid)?;
     near.add_flags(second, Flags::only(Flag::Flagged))?;
     near.remove_flags(copy, Flags::only(Flag::Draft))?;
-    tell_listing(&mut told, &mut near)?;
-    tell_message(&mut told, &mut near, copy)?;
-    near.expunge(&[second])?;
-    let folder = near.into_folder();
-    tell_folder(&mut told, &folder)?;
-    Ok(told)
+    tell_listing(told, near)?;
+    tell_message(told, near, copy)?;
+    Ok(near.expunge(&[second])?)
 }
 
 /// A folder with `cur/a:2,S` and `new/b`, and no meta file.

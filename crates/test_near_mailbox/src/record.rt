@@ -46,28 +46,43 @@ impl Record {
 
     /// Plays a line.
     pub fn play(&mut self, line: &str) -> Result<(), LineFault> {
+        writeln!(self.told, "{line}")?;
+        let command = Command::read(self.rt.alloc(), line.as_bytes())?;
+        self.obey(command)
+    }
+
+    fn obey(&mut self, command: Command) -> Result<(), LineFault> {
         let alloc = self.rt.alloc();
-        let command = Command::read(alloc, line.as_bytes())?;
-        self.told.push_str(line)?;
-        self.told.push('\n')?;
         match command {
             Command::Nothing => Ok(()),
             Command::Memory(stop) => {
-                self.stage = Stage::Memory(Session::new(alloc, Memory::new(alloc, stop)));
+                self.set(Stage::Memory(Session::new(alloc, Memory::new(alloc, stop))));
                 Ok(())
             }
-            Command::Disk => {
-                // The last folder on a disk has to go before the next one is made.
-                self.stage = Stage::Empty;
-                self.stage = Stage::Disk(Session::new(alloc, Disk::new(&self.rt)?));
-                Ok(())
-            }
+            Command::Disk => self.set_disk(),
             Command::Name(text) => Ok(push_name(alloc, &mut self.told, &text)?),
-            Command::Folder(command) => match &mut self.stage {
-                Stage::Empty => Err(LineFault::Bad),
-                Stage::Memory(session) => play_in(alloc, session, command, &mut self.told),
-                Stage::Disk(session) => play_in(alloc, session, command, &mut self.told),
-            },
+            Command::Folder(command) => self.play_in_folder(command),
+        }
+    }
+
+    fn set(&mut self, stage: Stage) {
+        self.stage = stage;
+    }
+
+    fn set_disk(&mut self) -> Result<(), LineFault> {
+        // The last folder on a disk has to go before the next one is made.
+        self.set(Stage::Empty);
+        let disk = Disk::new(&self.rt)?;
+        self.set(Stage::Disk(Session::new(self.rt.alloc(), disk)));
+        Ok(())
+    }
+
+    fn play_in_folder(&mut self, command: FolderCommand) -> Result<(), LineFault> {
+        let alloc = self.rt.alloc();
+        match &mut self.stage {
+            Stage::Empty => Err(LineFault::Bad),
+            Stage::Memory(session) => play_in(alloc, session, command, &mut self.told),
+            Stage::Disk(session) => play_in(alloc, session, command, &mut self.told),
         }
     }
 }
