@@ -4,7 +4,7 @@ use Rattle.std.proofs.lemmas.Bool.{cases_Bool}
 use Rattle.wire_reader.specs.declared.stop.Kind.{Kind}
 use Rattle.wire_reader.specs.declared.stop.Stop.{Stop}
 use Rattle.wire_reader.specs.declared.stop.Stop.TheVariants.{Ends, Fails}
-use Rattle.wire_reader.specs.Reading.{◌>>=◌, seq, by_first}
+use Rattle.wire_reader.specs.Reading.{by_first}
 use Rattle.wire_reader.proofs.Reader.{Ender, stops, Taken, Refused, Reader}
 
 module _ {A : Type 0} {e : Ender} {L : A → List ℕ → Type 0} {r s : List ℕ → Result (A × List ℕ) Stop} (same : (xs : List ℕ) → s xs ≡ r xs) (p : Reader e L r) where

@@ -1,18 +1,13 @@
 -- Items that are folded as they are read: the fold of the items, which is what a loop over them has.
-use Rattle.std.proofs.Common.{◌≡◌, ℕ, zero, suc, ◌+◌, ◌-◌, ◌<◌, Bool, true, false, cond, eqb, List, [], ◌∷◌, ◌++◌, length, None, Result, Ok, Err, refl, sym, ap, ◌∙◌, inl, inr, arith}
+use Rattle.std.proofs.Common.{◌≡◌, ℕ, zero, suc, ◌+◌, ◌-◌, ◌<◌, Bool, false, cond, eqb, List, [], ◌∷◌, ◌++◌, length, None, Result, Ok, Err, refl, sym, ap, ◌∙◌, inl, inr, arith}
 use Rattle.std.specs.List.{fold}
 use Rattle.std.proofs.lemmas.List.Sums.{fold-append}
 use Rattle.std.proofs.lemmas.Bool.{cases_Bool, eq-eqb}
-use Rattle.wire_reader.specs.declared.side.Side.{Side}
 use Rattle.wire_reader.specs.declared.stop.Stop.{Stop}
 use Rattle.wire_reader.specs.declared.stop.Stop.TheVariants.{Ends}
 use Rattle.wire_reader.specs.Reading.{◌>>=◌, mapped}
 use Rattle.wire_reader.specs.Listing.{go_on, items_by, items_at}
-use Rattle.wire_reader.specs.Folding.{fold_on, fold_by, folded, FoldedText}
-use Rattle.wire_reader.proofs.Reader.{Ender, stops}
-use Rattle.wire_reader.proofs.Items.{with_sep}
-use Rattle.wire_reader.proofs.Part.{Part, as_part, mapped_part}
-use Rattle.wire_reader.proofs.PartItems.{items_part}
+use Rattle.wire_reader.specs.Folding.{fold_on, fold_by, folded}
 
 module _ {A B : Type 0} (sep : ℕ) (r : List ℕ → Result (A × List ℕ) Stop) (f : B → A → B) (b : B) where
   -- the items' answer, folded

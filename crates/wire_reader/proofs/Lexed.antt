@@ -1,7 +1,7 @@
 -- A reader that stops as the bytes alone say: it asks for a literal's octets where the phases do, and a fault is for a
 -- literal's length where the phases say that the byte passes the limit.
-use Rattle.std.proofs.Common.{◌≡◌, ℕ, suc, ◌<◌, ◌≤◌, ◌-◌, Bool, true, cond, leb, List, [], ◌∷◌, ◌++◌, length, Option, None, Result, Err, refl, sym, ap, ◌∙◌, inl, inr, arith}
-use Rattle.std.proofs.lemmas.Bool.{cases_lt, le-leb, lt-leb}
+use Rattle.std.proofs.Common.{◌≡◌, ℕ, suc, ◌<◌, ◌≤◌, ◌-◌, Bool, true, false, cond, eqb, leb, List, [], ◌∷◌, ◌++◌, length, Option, None, Result, Err, refl, sym, ap, ◌∙◌, inl, inr, arith}
+use Rattle.std.proofs.lemmas.Bool.{cases_lt, false≢true, le-leb, lt-leb}
 use Rattle.std.proofs.lemmas.List.{length-append}
 use Rattle.wire_reader.specs.declared.side.Side.{Side}
 use Rattle.wire_reader.specs.declared.lexical.Phase.{Phase}
@@ -9,7 +9,7 @@ use Rattle.wire_reader.specs.declared.stop.Kind.{Kind}
 use Rattle.wire_reader.specs.declared.stop.Kind.TheVariants.{Syntax, TooLong}
 use Rattle.wire_reader.specs.declared.stop.Stop.{Stop}
 use Rattle.wire_reader.specs.declared.stop.Stop.TheVariants.{Ends, Fails}
-use Rattle.wire_reader.specs.Lexical.{next, phase, asked, asks_from, kind_of, over_from}
+use Rattle.wire_reader.specs.Lexical.{next, phase, is_in, asked, asks_from, kind_of, over_from}
 use Rattle.wire_reader.proofs.Reader.{Ender, stops}
 
 -- what a fault is at the byte from which on n bytes are left
@@ -17,15 +17,24 @@ abbrev pub kind_at : Side → Phase → ℕ → List ℕ → Kind
 kind_at side p n [] = Syntax
 kind_at side p n (b ∷ bs) = cond (leb n (length bs)) (kind_at side (next p b) n bs) (kind_of side p b)
 
+-- Where the bytes end among the octets of a literal, any octet goes on.
+abbrev pub TakesOctets : {A : Type 0} → Phase → (List ℕ → Result (A × List ℕ) Stop) → Type 0
+TakesOctets p r = (xs : List ℕ) (w : Option ℕ) (b : ℕ) → r xs ≡ Err (Ends w) → is_in (phase p xs) ≡ true → eqb b 0 ≡ false → (v : Option ℕ) × (r (xs ++ b ∷ []) ≡ Err (Ends v))
+
 pub record Lexed {A : Type 0} (side : Side) (p : Phase) (r : List ℕ → Result (A × List ℕ) Stop) : Type 0 where
   pub asks : (xs : List ℕ) (w : Option ℕ) → r xs ≡ Err (Ends w) → asks_from side p xs ≡ w
   pub kind : (xs : List ℕ) (k : Kind) (n : ℕ) → r xs ≡ Err (Fails k n) → kind_at side p n xs ≡ k
+  pub octets : TakesOctets p r
 
 -- The texts of a language lead from a phase to one that the value determines. Behind a text that ends by itself nobody
 -- waits.
 pub record Leads {A : Type 0} (side : Side) (e : Ender) (p : Phase) (L : A → List ℕ → Type 0) (q : A → Phase) : Type 0 where
   pub after : (a : A) (t : List ℕ) → L a t → phase p t ≡ q a
   pub quiet : (a : A) (t : List ℕ) → L a t → stops e [] ≡ true → asks_from side p t ≡ None
+
+-- a reader whose bytes never end there
+pub dry : {A : Type 0} (p : Phase) (r : List ℕ → Result (A × List ℕ) Stop) → ((xs : List ℕ) (w : Option ℕ) → r xs ≡ Err (Ends w) → is_in (phase p xs) ≡ false) → TakesOctets p r
+dry p r out xs w b h i n = absurd (false≢true (sym (out xs w h) ∙ i))
 
 -- ---- phases along a text
 

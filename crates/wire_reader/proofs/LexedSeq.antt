@@ -1,14 +1,15 @@
 -- One reader after another stops as the bytes say, if both do and the texts of the first lead to where the second begins.
-use Rattle.std.proofs.Common.{◌≡◌, ℕ, ◌≤◌, true, List, [], ◌∷◌, ◌++◌, length, Option, None, Result, Ok, Err, refl, sym, ap, ◌∙◌, inl, inr, arith}
+use Rattle.std.proofs.Common.{◌≡◌, ℕ, ◌≤◌, true, false, eqb, List, [], ◌∷◌, ◌++◌, length, Option, None, Result, Ok, Err, refl, sym, ap, ◌∙◌, append_assoc, inl, inr, arith}
+use Rattle.std.proofs.lemmas.Bool.{false≢true}
 use Rattle.std.proofs.lemmas.List.{append-nil, length-append}
 use Rattle.wire_reader.specs.declared.side.Side.{Side}
 use Rattle.wire_reader.specs.declared.lexical.Phase.{Phase}
 use Rattle.wire_reader.specs.declared.stop.Kind.{Kind}
 use Rattle.wire_reader.specs.declared.stop.Stop.{Stop}
 use Rattle.wire_reader.specs.declared.stop.Stop.TheVariants.{Ends, Fails}
-use Rattle.wire_reader.specs.Lexical.{phase, asks_from}
-use Rattle.wire_reader.specs.Reading.{seq, mapped}
-use Rattle.wire_reader.proofs.Reader.{Ender, stops, Reader, bind_err}
+use Rattle.wire_reader.specs.Lexical.{phase, is_in, asks_from}
+use Rattle.wire_reader.specs.Reading.{◌>>=◌, seq, mapped}
+use Rattle.wire_reader.proofs.Reader.{Ender, Closed, Open, stops, Reader, bind_err}
 use Rattle.wire_reader.proofs.Lexed.{Lexed, Leads, kind_at, phase-append, asks-append, kind-append}
 
 -- ---- along a text in two parts
@@ -31,6 +32,12 @@ some_byte {A} {e} {L} {r} p a (b ∷ t) l s n = absurd cc
 -- no more bytes are left than there were
 pub left_within : {A : Type 0} {e : Ender} {L : A → List ℕ → Type 0} {r : List ℕ → Result (A × List ℕ) Stop} → Reader e L r → (xs : List ℕ) (k : Kind) (n : ℕ) → r xs ≡ Err (Fails k n) → n ≤ length xs
 left_within p xs k n h = let b = p.bad xs k n h in let l = b.left in omega (arith, ap length b.parts, length-append b.front (b.byte ∷ b.rest))
+
+-- more may stand behind what ends a token
+pub stops_on : (e : Ender) (xs ys : List ℕ) → stops e xs ≡ true → stops e (xs ++ ys) ≡ true
+stops_on Closed xs ys h = refl
+stops_on (Open g) [] ys h = absurd (false≢true h)
+stops_on (Open g) (c ∷ cs) ys h = h
 
 -- ---- one after the other
 
@@ -57,8 +64,23 @@ module _ {A B : Type 0} {side : Side} {e d : Ender} {p : Phase} {q : A → Phase
             ∙ ap (λ (ph : Phase). kind_at side ph n m.0.1) (l.after a t.text t.spelled) ∙ (y a).kind m.0.1 k n m.2
       ]
 
+  seq_octets : (xs : List ℕ) (w : Option ℕ) (b : ℕ) → seq r f xs ≡ Err (Ends w) → is_in (phase p xs) ≡ true → eqb b 0 ≡ false → (v : Option ℕ) × (seq r f (xs ++ b ∷ []) ≡ Err (Ends v))
+  seq_octets xs w b h i n =
+      elim (bind_err (r xs) (λ x. f x.0 x.1) (Ends w) h) [
+        | inl one ↦ let o = x.octets xs w b one i n in (o.0, ap (λ (o : Result (A × List ℕ) Stop). o >>= λ x. f x.0 x.1) o.1)
+        | inr m ↦
+            let a = m.0.0 in
+            let t = first.sound xs a m.0.1 m.1 in
+            let inside : is_in (phase (q a) m.0.1) ≡ true = ap is_in (sym (ap (phase p) t.parts ∙ two-phases p (q a) t.text m.0.1 (l.after a t.text t.spelled))) ∙ i in
+            let o = (y a).octets m.0.1 w b m.2 inside n in (
+              o.0,
+              ap (seq r f) (ap (λ (z : List ℕ). z ++ b ∷ []) t.parts ∙ append_assoc t.text m.0.1 (b ∷ []))
+                  ∙ ap (λ (o : Result (A × List ℕ) Stop). o >>= λ x. f x.0 x.1) (first.complete a t.text (m.0.1 ++ b ∷ []) t.spelled (stops_on e m.0.1 (b ∷ []) t.stop)) ∙ o.1,
+            )
+      ]
+
   pub seq_lexed : Lexed side p (seq r f)
-  seq_lexed = record { asks = seq_asks; kind = seq_kind }
+  seq_lexed = record { asks = seq_asks; kind = seq_kind; octets = seq_octets }
 
 -- ---- a value under a function
 
@@ -70,7 +92,8 @@ mapped_stop f r xs s h =
     ]
 
 pub mapped_lexed : {A B : Type 0} {side : Side} {p : Phase} {r : List ℕ → Result (A × List ℕ) Stop} (f : A → B) → Lexed side p r → Lexed side p (mapped f r)
-mapped_lexed {r} f x = record {
+mapped_lexed {A} {r} f x = record {
   asks = λ xs w h. x.asks xs w (mapped_stop f r xs (Ends w) h);
   kind = λ xs k n h. x.kind xs k n (mapped_stop f r xs (Fails k n) h);
+  octets = λ xs w b h i n. let o = x.octets xs w b (mapped_stop f r xs (Ends w) h) i n in (o.0, ap (λ (o : Result (A × List ℕ) Stop). o >>= λ x. Ok (f x.0, x.1)) o.1);
 }

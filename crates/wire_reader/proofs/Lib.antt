@@ -33,3 +33,6 @@ pub mod Folds
 pub mod Fronts
 pub mod Decisive
 pub mod Written
+pub mod Scanned
+pub mod Positions
+pub mod PlaceLaws

@@ -5,10 +5,10 @@ use Rattle.std.proofs.lemmas.List.{at_drop_more}
 use Rattle.wire_reader.specs.declared.lexical.Phase.{Phase}
 use Rattle.wire_reader.specs.Lexical.{next, is_in, outside_from, limit_from}
 
-abbrev one : Phase → ℕ
+abbrev pub one : Phase → ℕ
 one phase = cond (is_in phase) 0 1
 
-one_is : (phase : Phase) (b : Bool) → is_in phase ≡ b → one phase ≡ cond b 0 1
+pub one_is : (phase : Phase) (b : Bool) → is_in phase ≡ b → one phase ≡ cond b 0 1
 one_is phase b e = ap (λ (t : Bool). cond t 0 1) e
 
 pub outside_le : (xs : List ℕ) (phase : Phase) (i j : ℕ) → i ≤ j → outside_from phase (take i xs) ≤ outside_from phase (take j xs)

@@ -1,5 +1,5 @@
 -- A literal stops as the bytes alone say, and its texts lead back to where no literal is under way.
-use Rattle.std.proofs.Common.{◌≡◌, ℕ, zero, suc, ◌+◌, ◌*◌, ◌-◌, ◌<◌, ◌≤◌, Bool, true, false, cond, eqb, not, List, [], ◌∷◌, length, Option, None, Some, Result, Ok, Err, refl, sym, ap, subst, ◌∙◌, inl, inr, arith}
+use Rattle.std.proofs.Common.{◌≡◌, ℕ, zero, suc, ◌+◌, ◌*◌, ◌-◌, ◌<◌, ◌≤◌, Bool, true, false, cond, eqb, not, List, [], ◌∷◌, ◌++◌, length, Option, None, Some, Result, Ok, Err, refl, sym, ap, subst, ◌∙◌, inl, inr, arith}
 use Rattle.std.proofs.lemmas.Bool.{cases_Bool, false≢true, eqb-true, ne_eqb, le-leb, lt-leb}
 use Rattle.std.proofs.lemmas.List.{length-append}
 use Rattle.wire_reader.specs.declared.side.Side.{Side}
@@ -11,7 +11,7 @@ use Rattle.wire_reader.specs.declared.stop.Kind.TheVariants.{Syntax}
 use Rattle.wire_reader.specs.declared.stop.Stop.{Stop}
 use Rattle.wire_reader.specs.declared.stop.Stop.TheVariants.{Ends, Fails}
 use Rattle.wire_reader.specs.Spelling.{◌⨾◌, ThenBy, Is, is_digit}
-use Rattle.wire_reader.specs.Lexical.{next, phase, restart, asked, asks_from, kind_of}
+use Rattle.wire_reader.specs.Lexical.{next, phase, is_in, restart, asked, asks_from, kind_of}
 use Rattle.wire_reader.specs.Reading.{◌>>=◌, stuck, seq, skip, byte_at}
 use Rattle.wire_reader.specs.Machine.{On, Take, Odd}
 use Rattle.wire_reader.specs.Literal.{LengthText, Octets, Literal, length_step, length_at, octets_at, with_byte, followed, wait_at, waits_for, octets_of, literal_at}
@@ -47,6 +47,11 @@ module _ (side : Side) where
       let no_close : eqb b 125 ≡ false = ne_eqb b 125 (λ e. omega (arith, e)) in
       let no_plus : eqb b 43 ≡ false = ne_eqb b 43 (λ e. omega (arith, e)) in
       rw (no_close, no_plus, d, le-leb n 16777238 le) refl
+
+  stands_out : (s : Option (ℕ × Bool)) (p : Phase) → Stands s p → is_in p ≡ false
+  stands_out None p i = ap is_in i
+  stands_out (Some (n, true)) p i = ap is_in i
+  stands_out (Some (n, false)) p i = ap is_in i.0
 
   length_keeps : (s t : Option (ℕ × Bool)) (p : Phase) (b : ℕ) → Stands s p → length_step side s b ≡ On t → Stands t (next p b) × (asked side p b ≡ None)
   length_keeps None t p b i h =
@@ -127,11 +132,11 @@ module _ (side : Side) where
   ]
 
   pub length_lexed : Lexed side Brace (length_at side)
-  length_lexed = scan_lexed side (length_step side) Stands length_keeps length_odd None Brace refl
+  length_lexed = scan_lexed side (length_step side) Stands length_keeps length_odd stands_out None Brace refl
 
   pub length_leads : Leads side Closed Brace (LengthText side) closed
   length_leads =
-      let l = scan_leads side (length_step side) Stands length_keeps length_odd closed length_takes None Brace refl in
+      let l = scan_leads side (length_step side) Stands length_keeps length_odd stands_out closed length_takes None Brace refl in
       record { after = λ a t h. l.after a t (length_scanned side a t h); quiet = λ a t h s. l.quiet a t (length_scanned side a t h) s }
 
 -- ---- the octets
@@ -160,6 +165,27 @@ octets_short (suc n) (b ∷ bs) w h =
       | inl e ↦ let wrong : octet_case n b bs true ≡ Err (Ends w) = sym (ap (octet_case n b bs) e) ∙ h in absurd cc
       | inr e ↦ let r = octets_short n bs w (with_err b (octets_at n bs) (Ends w) (sym (ap (octet_case n b bs) e) ∙ h)) in (omega (arith, r.0), r.1)
     ]
+
+-- one octet more
+octets_next : (n : ℕ) (xs : List ℕ) (w : Option ℕ) (c : ℕ) → octets_at n xs ≡ Err (Ends w) → eqb c 0 ≡ false → (v : Option ℕ) × ((octets_at n (xs ++ c ∷ []) >>= λ x. followed x.0 x.1) ≡ Err (Ends v))
+octets_next n xs w c h z = later n xs h
+  where
+    both : (b : ℕ) (o : Result (List ℕ × List ℕ) Stop) (v : Option ℕ) → (o >>= λ x. followed x.0 x.1) ≡ Err (Ends v) → (u : Option ℕ) × ((with_byte b o >>= λ x. followed x.0 x.1) ≡ Err (Ends u))
+    both b (Ok x) v g = let e = (followed_err x.0 x.1 (Ends v) g).0 in (None, ap (followed (b ∷ x.0)) e)
+    both b (Err s) v g = (v, g)
+
+    later : (n : ℕ) (xs : List ℕ) → octets_at n xs ≡ Err (Ends w) → (v : Option ℕ) × ((octets_at n (xs ++ c ∷ []) >>= λ x. followed x.0 x.1) ≡ Err (Ends v))
+    later zero xs h = absurd cc
+    later (suc zero) [] h = (None, ap (λ (o : Result (List ℕ × List ℕ) Stop). o >>= λ x. followed x.0 x.1) (ap (octet_case 0 c []) z))
+    later (suc (suc n)) [] h = (None, ap (λ (o : Result (List ℕ × List ℕ) Stop). o >>= λ x. followed x.0 x.1) (ap (octet_case (suc n) c []) z))
+    later (suc n) (b ∷ bs) h =
+        elim (cases_Bool (eqb b 0)) [
+          | inl e ↦ let wrong : octet_case n b bs true ≡ Err (Ends w) = sym (ap (octet_case n b bs) e) ∙ h in absurd cc
+          | inr e ↦
+              let r = later n bs (with_err b (octets_at n bs) (Ends w) (sym (ap (octet_case n b bs) e) ∙ h)) in
+              let s = both b (octets_at n (bs ++ c ∷ [])) r.0 r.1 in
+              (s.0, ap (λ (o : Result (List ℕ × List ℕ) Stop). o >>= λ x. followed x.0 x.1) (ap (octet_case n b (bs ++ c ∷ [])) e) ∙ s.1)
+        ]
 
 octets_left : (n : ℕ) (xs : List ℕ) (k : Kind) (m : ℕ) → octets_at n xs ≡ Err (Fails k m) → m ≤ length xs
 octets_left zero xs k m h = absurd cc
@@ -260,8 +286,42 @@ module _ (side : Side) (n : ℕ) (plus : Bool) where
       waiting [] g = absurd cc
       waiting (c ∷ cs) g = among n c cs w g
 
+  feed_octets : (xs : List ℕ) (v : Option ℕ) (c : ℕ) → behind_cr xs ≡ Err (Ends v) → is_in (phase (Return n plus) xs) ≡ true → eqb c 0 ≡ false → (u : Option ℕ) × (behind_cr (xs ++ c ∷ []) ≡ Err (Ends u))
+  feed_octets [] v c h i z = absurd (false≢true i)
+  feed_octets (b ∷ bs) v c h i z =
+      elim (cases_Bool (eqb b 10)) [
+        | inl e ↦
+            let o = waiting bs (sym (ap (feed_case b bs) e) ∙ h) (ap (λ (x : ℕ). is_in (phase (next (Return n plus) x) bs)) (sym (eqb-true b 10 e)) ∙ i) in
+            (o.0, ap (feed_case b (bs ++ c ∷ [])) e ∙ o.1)
+        | inr e ↦ let wrong : feed_case b bs false ≡ Err (Ends v) = sym (ap (feed_case b bs) e) ∙ h in absurd cc
+      ]
+    where
+      none_in : (m : ℕ) → is_in (phase (next (Return m plus) 10) []) ≡ true → 0 < m
+      none_in zero i = absurd (false≢true i)
+      none_in (suc m) i = omega arith
+
+      first : (m : ℕ) (o : Option ℕ) → 0 < m → (u : Option ℕ) × (wait_at o m (c ∷ []) ≡ Err (Ends u))
+      first zero o lt = absurd (omega (arith, lt))
+      first (suc m) o lt = octets_next (suc m) [] None c refl z
+
+      among : (m : ℕ) (d : ℕ) (ds : List ℕ) (o : Option ℕ) → wait_at o m (d ∷ ds) ≡ Err (Ends v) → is_in (phase (next (Return m plus) 10) (d ∷ ds)) ≡ true → (u : Option ℕ) × (wait_at o m (d ∷ ds ++ c ∷ []) ≡ Err (Ends u))
+      among zero d ds o g j = absurd cc
+      among (suc m) d ds o g j =
+          elim (bind_err (octets_at (suc m) (d ∷ ds)) (λ x. followed x.0 x.1) (Ends v) g) [
+            | inl s ↦ octets_next (suc m) (d ∷ ds) v c s z
+            | inr x ↦
+                let f = followed_err x.0.0 x.0.1 (Ends v) x.2 in
+                let s = octets_sound (suc m) (d ∷ ds) x.0.0 x.0.1 x.1 in
+                let long : length (d ∷ ds) ≡ suc m = omega (arith, ap length s.0, length-append x.0.0 x.0.1, ap length f.0, s.1.long) in
+                absurd (false≢true (sym (ap (λ (p : Phase). is_in (phase p (d ∷ ds))) (feeds m plus) ∙ ap is_in (in-phase m (d ∷ ds) long)) ∙ j))
+          ]
+
+      waiting : (bs : List ℕ) → wait_at w n bs ≡ Err (Ends v) → is_in (phase (next (Return n plus) 10) bs) ≡ true → (u : Option ℕ) × (wait_at w n (bs ++ c ∷ []) ≡ Err (Ends u))
+      waiting [] g j = first n w (none_in n j)
+      waiting (d ∷ ds) g j = among n d ds w g j
+
   feed_lexed : Lexed side (Return n plus) behind_cr
-  feed_lexed = record { asks = feed_asks; kind = feed_kind }
+  feed_lexed = record { asks = feed_asks; kind = feed_kind; octets = feed_octets }
 
   feed_reader : Reader waits (λ o. Is (10 ∷ []) ⨾ Octets n o) behind_cr
   feed_reader = skip_reader (byte_reader 10) (wait_reader w n) (after_closed (wait_at w n))
@@ -270,7 +330,7 @@ module _ (side : Side) (n : ℕ) (plus : Bool) where
   cr_leads = record { after = λ _ t h. ap (phase (Close n plus)) h; quiet = λ _ t h s. ap (asks_from side (Close n plus)) h }
 
   pub of_lexed : Lexed side (Close n plus) (octets_of side (n, plus))
-  of_lexed = seq_lexed {M = λ _ o. Is (10 ∷ []) ⨾ Octets n o} (byte_reader 13) (byte_lexed side (Close n plus) 13 (λ _. refl)) cr_leads (λ _. feed_reader) (λ _. feed_lexed)
+  of_lexed = seq_lexed {M = λ _ o. Is (10 ∷ []) ⨾ Octets n o} (byte_reader 13) (byte_lexed side (Close n plus) 13 (λ _. refl) refl) cr_leads (λ _. feed_reader) (λ _. feed_lexed)
 
   pub of_reader : Reader waits (λ o. Is (13 ∷ []) ⨾ Is (10 ∷ []) ⨾ Octets n o) (octets_of side (n, plus))
   of_reader = skip_reader (byte_reader 13) feed_reader (after_closed behind_cr)
@@ -310,6 +370,6 @@ module _ (side : Side) where
   pub literal_part : Part side true waits (Literal side) (literal_at side)
   literal_part = record {
     reader = skip_reader (byte_reader 123) measured_reader (after_closed (seq (length_at side) (octets_of side)));
-    lexed = seq_lexed {M = λ _. ThenBy (LengthText side) Behind} (byte_reader 123) (byte_lexed side Plain 123 (λ _. refl)) brace_leads (λ _. measured_reader) (λ _. measured_lexed);
+    lexed = seq_lexed {M = λ _. ThenBy (LengthText side) Behind} (byte_reader 123) (byte_lexed side Plain 123 (λ _. refl) refl) brace_leads (λ _. measured_reader) (λ _. measured_lexed);
     leads = λ _. record { after = literal_after; quiet = λ a t h s. absurd (false≢true s) };
   }

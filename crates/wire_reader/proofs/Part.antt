@@ -9,13 +9,13 @@ use Rattle.wire_reader.specs.declared.stop.Kind.{Kind}
 use Rattle.wire_reader.specs.declared.stop.Kind.TheVariants.{Syntax}
 use Rattle.wire_reader.specs.declared.stop.Stop.{Stop}
 use Rattle.wire_reader.specs.declared.stop.Stop.TheVariants.{Ends, Fails}
-use Rattle.wire_reader.specs.Lexical.{phase, asks_from, kind_of}
+use Rattle.wire_reader.specs.Lexical.{phase, is_in, asks_from, kind_of}
 use Rattle.wire_reader.specs.Spelling.{◌⨾◌, ThenBy, Is, crlf}
 use Rattle.wire_reader.specs.Reading.{stuck, seq, mapped, skip, keep, both, by_first, byte_at, crlf_at}
 use Rattle.wire_reader.proofs.Reader.{Ender, Closed, stops, Reader, seq_reader}
 use Rattle.wire_reader.proofs.Parts.{same_reader, mapped_reader, keep_reader, both_reader, byte_reader, after_closed}
 use Rattle.wire_reader.proofs.First.{Begins, as_reader, first_reader}
-use Rattle.wire_reader.proofs.Lexed.{Lexed, Leads, kind_at, kind-first}
+use Rattle.wire_reader.proofs.Lexed.{Lexed, Leads, kind_at, dry, kind-first}
 use Rattle.wire_reader.proofs.LexedSeq.{two-phases, two-quiet, some_byte, seq_lexed, mapped_lexed}
 
 pub record Part {A : Type 0} (side : Side) (back : Bool) (e : Ender) (L : A → List ℕ → Type 0) (r : List ℕ → Result (A × List ℕ) Stop) : Type 0 where
@@ -41,7 +41,7 @@ module _ {A : Type 0} {side : Side} {k : Bool} {e : Ender} {L : A → List ℕ �
   pub as_part : Part side k e L s
   as_part = record {
     reader = as_reader same p.reader;
-    lexed = record { asks = λ xs w h. p.lexed.asks xs w (sym (same xs) ∙ h); kind = λ xs i n h. p.lexed.kind xs i n (sym (same xs) ∙ h) };
+    lexed = record { asks = λ xs w h. p.lexed.asks xs w (sym (same xs) ∙ h); kind = λ xs i n h. p.lexed.kind xs i n (sym (same xs) ∙ h); octets = λ xs w b h i n. let o = p.lexed.octets xs w b (sym (same xs) ∙ h) i n in (o.0, same (xs ++ b ∷ []) ∙ o.1) };
     leads = p.leads;
   }
 
@@ -128,10 +128,18 @@ module _ {A : Type 0} {side : Side} {k : Bool} {e : Ender} {L M : A → List ℕ
         | inr g ↦ q.lexed.kind (b ∷ bs) i n (sym (ap (at (b ∷ bs)) g) ∙ h)
       ]
 
+  first_octets : (xs : List ℕ) (w : Option ℕ) (c : ℕ) → by_first test r s xs ≡ Err (Ends w) → is_in (phase Plain xs) ≡ true → eqb c 0 ≡ false → (v : Option ℕ) × (by_first test r s (xs ++ c ∷ []) ≡ Err (Ends v))
+  first_octets [] w c h i n = absurd (false≢true i)
+  first_octets (b ∷ bs) w c h i n =
+      elim (cases_Bool (test b)) [
+        | inl g ↦ let o = p.lexed.octets (b ∷ bs) w c (sym (ap (at (b ∷ bs)) g) ∙ h) i n in (o.0, ap (at (b ∷ bs ++ c ∷ [])) g ∙ o.1)
+        | inr g ↦ let o = q.lexed.octets (b ∷ bs) w c (sym (ap (at (b ∷ bs)) g) ∙ h) i n in (o.0, ap (at (b ∷ bs ++ c ∷ [])) g ∙ o.1)
+      ]
+
   pub first_part : Part side k e (λ a t. L a t ⊎ M a t) (by_first test r s)
   first_part = record {
     reader = first_reader test p.reader q.reader first second;
-    lexed = record { asks = first_asks; kind = first_kind };
+    lexed = record { asks = first_asks; kind = first_kind; octets = first_octets };
     leads = λ b. record {
       after = λ a t h. elim h [ inl l ↦ (p.leads b).after a t l | inr l ↦ (q.leads b).after a t l ];
       quiet = λ a t h st. elim h [ inl l ↦ (p.leads b).quiet a t l st | inr l ↦ (q.leads b).quiet a t l st ];
@@ -143,10 +151,18 @@ module _ {A : Type 0} {side : Side} {k : Bool} {e : Ender} {L M : A → List ℕ
 abbrev byte_case : ℕ → ℕ → List ℕ → Bool → Result (Unit {0} × List ℕ) Stop
 byte_case c b bs t = cond t (Ok (tt, bs)) (stuck (b ∷ bs))
 
--- from a phase in which no number stands
-pub byte_lexed : (side : Side) (p : Phase) (c : ℕ) → ((b : ℕ) → kind_of side p b ≡ Syntax) → Lexed side p (byte_at c)
-byte_lexed side p c calm = record { asks = byte_asks; kind = byte_kind }
+-- from a phase in which no number stands and no octets are to come
+pub byte_lexed : (side : Side) (p : Phase) (c : ℕ) → ((b : ℕ) → kind_of side p b ≡ Syntax) → is_in p ≡ false → Lexed side p (byte_at c)
+byte_lexed side p c calm out = record { asks = byte_asks; kind = byte_kind; octets = dry p (byte_at c) byte_out }
   where
+    byte_out : (xs : List ℕ) (w : Option ℕ) → byte_at c xs ≡ Err (Ends w) → is_in (phase p xs) ≡ false
+    byte_out [] w h = out
+    byte_out (b ∷ bs) w h =
+        elim (cases_Bool (eqb b c)) [
+          | inl e ↦ let read : byte_case c b bs true ≡ Err (Ends w) = sym (ap (byte_case c b bs) e) ∙ h in absurd cc
+          | inr e ↦ let read : byte_case c b bs false ≡ Err (Ends w) = sym (ap (byte_case c b bs) e) ∙ h in absurd cc
+        ]
+
     byte_asks : (xs : List ℕ) (w : Option ℕ) → byte_at c xs ≡ Err (Ends w) → asks_from side p xs ≡ w
     byte_asks [] w h = cc
     byte_asks (b ∷ bs) w h =
@@ -171,7 +187,7 @@ byte_lexed side p c calm = record { asks = byte_asks; kind = byte_kind }
 pub byte_part : {side : Side} (c : ℕ) → eqb c 123 ≡ false → Part side true Closed (λ _ t. Is (c ∷ []) t) (byte_at c)
 byte_part {side} c plain = record {
   reader = byte_reader c;
-  lexed = byte_lexed side Plain c (λ b. refl);
+  lexed = byte_lexed side Plain c (λ b. refl) refl;
   leads = λ _. record {
     after = λ _ t h. ap (phase Plain) h ∙ ap (λ (x : Bool). cond x Brace Plain) plain;
     quiet = λ _ t h s. ap (asks_from side Plain) h;

@@ -1,6 +1,6 @@
 -- A part behind which no byte of a class may stand: so parts that end by themselves, and literals, end as a token of the
 -- class does, and may be put beside it.
-use Rattle.std.proofs.Common.{◌≡◌, ℕ, Bool, true, false, not, cond, ◌||◌, List, [], ◌∷◌, ◌++◌, length, Option, None, Result, Ok, Err, refl, sym, ap, subst, ◌∙◌, inl, inr, ◌⊎◌, arith}
+use Rattle.std.proofs.Common.{◌≡◌, ℕ, Bool, true, false, not, cond, eqb, ◌||◌, List, [], ◌∷◌, ◌++◌, length, Option, None, Result, Ok, Err, refl, sym, ap, subst, ◌∙◌, inl, inr, ◌⊎◌, arith}
 use Rattle.std.proofs.lemmas.Bool.{cases_Bool, false≢true, not-true, or_parts, or_from}
 use Rattle.std.proofs.lemmas.List.{append-nil}
 use Rattle.wire_reader.specs.declared.side.Side.{Side}
@@ -10,7 +10,7 @@ use Rattle.wire_reader.specs.declared.stop.Kind.{Kind}
 use Rattle.wire_reader.specs.declared.stop.Kind.TheVariants.{Syntax}
 use Rattle.wire_reader.specs.declared.stop.Stop.{Stop}
 use Rattle.wire_reader.specs.declared.stop.Stop.TheVariants.{Ends, Fails}
-use Rattle.wire_reader.specs.Lexical.{asks_from}
+use Rattle.wire_reader.specs.Lexical.{phase, is_in, asks_from}
 use Rattle.wire_reader.specs.Reading.{◌>>=◌, stuck}
 use Rattle.wire_reader.specs.Listing.{ended_by, ended}
 use Rattle.wire_reader.proofs.Reader.{Ender, Closed, Open, stops, Taken, Refused, Reader, bind_ok, bind_err}
@@ -171,8 +171,22 @@ module _ {A : Type 0} {e : Ender} {L : A → List ℕ → Type 0} {r : List ℕ 
               ]
         ]
 
+    ended_octets : (xs : List ℕ) (w : Option ℕ) (b : ℕ) → ended class r xs ≡ Err (Ends w) → is_in (phase Plain xs) ≡ true → eqb b 0 ≡ false → (v : Option ℕ) × (ended class r (xs ++ b ∷ []) ≡ Err (Ends v))
+    ended_octets xs w b h i n =
+        elim (bind_err (r xs) (λ x. ended_by class x.0 x.1) (Ends w) h) [
+          | inl o ↦ let y = x.octets xs w b o i n in (y.0, ap go y.1)
+          | inr m ↦
+              let t = p.sound xs m.0.0 m.0.1 m.1 in
+              elim (by_err m.0.0 m.0.1 (Ends w) m.2) [
+                | inl y ↦
+                    let whole : xs ≡ t.text = t.parts ∙ ap (λ (z : List ℕ). t.text ++ z) y.0 ∙ append-nil t.text in
+                    absurd (false≢true (sym (ap (λ (z : List ℕ). is_in (phase Plain z)) whole ∙ ap is_in (l.after m.0.0 t.text t.spelled)) ∙ i))
+                | inr y ↦ absurd (let o = y.4 in cc)
+              ]
+        ]
+
     pub ended_lexed : Lexed side Plain (ended class r)
-    ended_lexed = record { asks = ended_asks; kind = ended_kind }
+    ended_lexed = record { asks = ended_asks; kind = ended_kind; octets = ended_octets }
 
 -- a part that ends by itself, or waits for a byte, ends as a token of the class does; `with_class` computes
 pub ended_part : {A : Type 0} {side : Side} {e : Ender} {L : A → List ℕ → Type 0} {r : List ℕ → Result (A × List ℕ) Stop} (class : ℕ → Bool) → Part side true e L r → Part side true (with_class e class) L (ended class r)

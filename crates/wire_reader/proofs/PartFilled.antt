@@ -1,6 +1,6 @@
 -- A literal of at least one octet, as a part of a grammar.
 use Rattle.std.proofs.Common.{◌≡◌, ℕ, ◌+◌, ◌*◌, ◌-◌, ◌<◌, ◌≤◌, Bool, true, false, cond, eqb, List, [], ◌∷◌, ◌++◌, length, Option, Result, Ok, Err, refl, sym, ap, subst, ◌∙◌, inl, inr, arith}
-use Rattle.std.proofs.lemmas.Bool.{cases_Bool, cases_lt, true≢false, eqb-false, ne_eqb, and_parts}
+use Rattle.std.proofs.lemmas.Bool.{cases_Bool, cases_lt, true≢false, false≢true, eqb-false, ne_eqb, and_parts}
 use Rattle.wire_reader.specs.declared.side.Side.{Side}
 use Rattle.wire_reader.specs.declared.side.Side.TheVariants.{Commands, Replies}
 use Rattle.wire_reader.specs.declared.lexical.Phase.{Phase}
@@ -10,7 +10,7 @@ use Rattle.wire_reader.specs.declared.stop.Kind.TheVariants.{Syntax}
 use Rattle.wire_reader.specs.declared.stop.Stop.{Stop}
 use Rattle.wire_reader.specs.declared.stop.Stop.TheVariants.{Ends, Fails}
 use Rattle.wire_reader.specs.Spelling.{◌⨾◌, ThenBy, Is}
-use Rattle.wire_reader.specs.Lexical.{asks_from, kind_of}
+use Rattle.wire_reader.specs.Lexical.{phase, is_in, asks_from, kind_of}
 use Rattle.wire_reader.specs.Reading.{stuck, seq}
 use Rattle.wire_reader.specs.Literal.{value, Number, MayPlus, LengthText, close_text, Literal, length_at, literal_at, octets_of}
 use Rattle.wire_reader.specs.Filled.{FilledLiteral, barred, filled_literal_at}
@@ -104,7 +104,7 @@ module _ {A : Type 0} {L : A → List ℕ → Type 0} {r : List ℕ → Result (
     bad = barred_bad;
   }
 
-  module _ {side : Side} {ph : Phase} (calm : (b : ℕ) → kind_of side ph b ≡ Syntax) (x : Lexed side ph r) where
+  module _ {side : Side} {ph : Phase} (calm : (b : ℕ) → kind_of side ph b ≡ Syntax) (out : is_in ph ≡ false) (x : Lexed side ph r) where
     barred_asks : (xs : List ℕ) (w : Option ℕ) → barred c r xs ≡ Err (Ends w) → asks_from side ph xs ≡ w
     barred_asks [] w h = x.asks [] w h
     barred_asks (b ∷ bs) w h =
@@ -125,8 +125,16 @@ module _ {A : Type 0} {L : A → List ℕ → Type 0} {r : List ℕ → Result (
           | inr g ↦ x.kind (b ∷ bs) k n (sym (ap (at b bs) g) ∙ h)
         ]
 
+    barred_octets : (xs : List ℕ) (w : Option ℕ) (y : ℕ) → barred c r xs ≡ Err (Ends w) → is_in (phase ph xs) ≡ true → eqb y 0 ≡ false → (v : Option ℕ) × (barred c r (xs ++ y ∷ []) ≡ Err (Ends v))
+    barred_octets [] w y h i n = absurd (false≢true (sym out ∙ i))
+    barred_octets (b ∷ bs) w y h i n =
+        elim (cases_Bool (eqb b c)) [
+          | inl g ↦ let wrong : at b bs true ≡ Err (Ends w) = sym (ap (at b bs) g) ∙ h in absurd cc
+          | inr g ↦ let o = x.octets (b ∷ bs) w y (sym (ap (at b bs) g) ∙ h) i n in (o.0, ap (at b (bs ++ y ∷ [])) g ∙ o.1)
+        ]
+
     pub barred_lexed : Lexed side ph (barred c r)
-    barred_lexed = record { asks = barred_asks; kind = barred_kind }
+    barred_lexed = record { asks = barred_asks; kind = barred_kind; octets = barred_octets }
 
 -- ---- the length of a literal that has octets
 
@@ -179,7 +187,7 @@ module _ (side : Side) where
   measured_reader = seq_reader filled_length (λ p. of_reader side p.0 p.1) (λ p. after_closed (octets_of side p))
 
   measured_lexed : Lexed side Brace (seq length_1 (octets_of side))
-  measured_lexed = seq_lexed {M = Behind side} filled_length (barred_lexed 48 (length_reader side) one (λ b. refl) (length_lexed side)) filled_leads (λ p. of_reader side p.0 p.1) (λ p. of_lexed side p.0 p.1)
+  measured_lexed = seq_lexed {M = Behind side} filled_length (barred_lexed 48 (length_reader side) one (λ b. refl) refl (length_lexed side)) filled_leads (λ p. of_reader side p.0 p.1) (λ p. of_lexed side p.0 p.1)
 
   abbrev Steps : List ℕ → List ℕ → Type 0
   Steps o = Is (123 ∷ []) ⨾ ThenBy FilledLength (Behind side) o
@@ -208,6 +216,6 @@ module _ (side : Side) where
   pub filled_literal_part : Part side true waits (FilledLiteral side) (filled_literal_at side)
   filled_literal_part = record {
     reader = same_reader to_filled from_filled (skip_reader (byte_reader 123) measured_reader (after_closed (seq length_1 (octets_of side))));
-    lexed = seq_lexed {M = λ _. ThenBy FilledLength (Behind side)} (byte_reader 123) (byte_lexed side Plain 123 (λ _. refl)) (brace_leads side) (λ _. measured_reader) (λ _. measured_lexed);
+    lexed = seq_lexed {M = λ _. ThenBy FilledLength (Behind side)} (byte_reader 123) (byte_lexed side Plain 123 (λ _. refl) refl) (brace_leads side) (λ _. measured_reader) (λ _. measured_lexed);
     leads = λ b. let whole : Part side true waits (Literal side) (literal_at side) = literal_part _ in let l = whole.leads b in record { after = λ o t h. l.after o t h.0; quiet = λ o t h s. l.quiet o t h.0 s };
   }

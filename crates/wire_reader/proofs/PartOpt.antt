@@ -8,7 +8,7 @@ use Rattle.wire_reader.specs.declared.stop.Kind.{Kind}
 use Rattle.wire_reader.specs.declared.stop.Kind.TheVariants.{Syntax}
 use Rattle.wire_reader.specs.declared.stop.Stop.{Stop}
 use Rattle.wire_reader.specs.declared.stop.Stop.TheVariants.{Ends, Fails}
-use Rattle.wire_reader.specs.Lexical.{next, phase, restart, asks_from}
+use Rattle.wire_reader.specs.Lexical.{next, phase, is_in, restart, asks_from}
 use Rattle.wire_reader.specs.Spelling.{OptText}
 use Rattle.wire_reader.specs.Reading.{◌>>=◌, stuck, mapped}
 use Rattle.wire_reader.specs.Listing.{opt_at}
@@ -181,13 +181,27 @@ module _ {A : Type 0} {L : A → List ℕ → Type 0} {s : List ℕ → Result (
               ]
         ]
 
+    opt_octets : (xs : List ℕ) (w : Option ℕ) (y : ℕ) → opt_at g c s xs ≡ Err (Ends w) → is_in (phase Plain xs) ≡ true → eqb y 0 ≡ false → (v : Option ℕ) × (opt_at g c s (xs ++ y ∷ []) ≡ Err (Ends v))
+    opt_octets [] w y h i n = absurd (false≢true i)
+    opt_octets (b ∷ bs) w y h i n =
+        elim (cases_Bool (eqb b c)) [
+          | inl e ↦
+              let o = x.octets bs w y (mapped_stop (λ a. Some a) s bs (Ends w) (sym (ap (at g s b bs) e) ∙ h)) (ap (λ (ph : Phase). is_in (phase ph bs)) (sym (c_plain b e)) ∙ i) n in
+              (o.0, ap (at g s b (bs ++ y ∷ [])) e ∙ ap done o.1)
+          | inr e ↦
+              elim (cases_Bool (g b)) [
+                | inl f ↦ let wrong : at_none {A = A} b bs true ≡ Err (Ends w) = sym (ap (at g s b bs) e ∙ ap (at_none b bs) f) ∙ h in absurd cc
+                | inr f ↦ let wrong : at_none {A = A} b bs false ≡ Err (Ends w) = sym (ap (at g s b bs) e ∙ ap (at_none b bs) f) ∙ h in absurd cc
+              ]
+        ]
+
     opt_after : (v : Option A) (t : List ℕ) → O v t → phase Plain t ≡ Plain
     opt_after None t h = ap (phase Plain) h
     opt_after (Some a) t h =
         ap (phase Plain) (h.parts ∙ ap (λ (z : List ℕ). z ++ h.back) h.first) ∙ ap (λ (ph : Phase). phase ph h.back) (c_plain c (eq-eqb c c refl)) ∙ l.after a h.back h.second
 
     opt_lexed : Lexed side Plain (opt_at g c s)
-    opt_lexed = record { asks = opt_asks; kind = opt_kind }
+    opt_lexed = record { asks = opt_asks; kind = opt_kind; octets = opt_octets }
 
     pub opt_of : Part side true (Open (goes_on g c)) O (opt_at g c s)
     opt_of = record { reader = opt_reader; lexed = opt_lexed; leads = λ _. record { after = opt_after; quiet = λ v t h st. absurd (false≢true st) } }

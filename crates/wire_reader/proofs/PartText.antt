@@ -9,24 +9,30 @@ use Rattle.wire_reader.specs.declared.lexical.Phase.TheVariants.{Digits, Return,
 use Rattle.wire_reader.specs.declared.stop.Kind.{Kind}
 use Rattle.wire_reader.specs.declared.stop.Kind.TheVariants.{Syntax}
 use Rattle.wire_reader.specs.Spelling.{crlf, is_digit, LineText}
-use Rattle.wire_reader.specs.Lexical.{next, asked, kind_of}
+use Rattle.wire_reader.specs.Lexical.{next, is_in, asked, kind_of}
 use Rattle.wire_reader.specs.Machine.{Step, On, Take, Odd, ScanText, line_step, line_at}
 use Rattle.wire_reader.proofs.Reader.{Closed}
 use Rattle.wire_reader.proofs.Part.{Part, same_part}
 use Rattle.wire_reader.proofs.PartTokens.{scan_last}
-use Rattle.wire_reader.proofs.Texty.{texty, texty-next, texty-asked, texty-kind}
+use Rattle.wire_reader.proofs.Texty.{texty, texty-next, texty-asked, texty-kind, texty-out}
 
 abbrev LineStep : Type 0
 LineStep = Step (List ℕ × Bool) (List ℕ)
 
--- no number stands before the next byte
+-- no number stands before the next byte, and it is no octet
 abbrev calm : Phase → Bool
 calm (Digits n) = false
+calm (In n) = false
 calm _ = true
 
 calm-kind : (side : Side) (p : Phase) (b : ℕ) → calm p ≡ true → kind_of side p b ≡ Syntax
 calm-kind side (Digits n) b h = absurd (false≢true h)
+calm-kind side (In n) b h = absurd (false≢true h)
 calm-kind side _ b h = refl
+
+calm-out : (p : Phase) → calm p ≡ true → is_in p ≡ false
+calm-out (In n) h = absurd (false≢true h)
+calm-out _ h = refl
 
 calm-cr : (p : Phase) → texty p ≡ true → calm (next p 13) ≡ true
 calm-cr (Return n plus) h = absurd (false≢true h)
@@ -166,6 +172,10 @@ module _ (class : ℕ → Bool) (no_cr : class 13 ≡ false) (holds : (b : ℕ) 
               ]
         ]
 
+    out : (s : List ℕ × Bool) (p : Phase) → Stands s p → is_in p ≡ false
+    out (acc, true) p i = calm-out p i
+    out (acc, false) p i = texty-out p i
+
     completes : (s : List ℕ × Bool) → (z : List ℕ) × (a : List ℕ) × ScanText (line_step class) s a z
     completes (acc, true) = (10 ∷ [], acc, inr (refl, refl))
     completes (acc, false) = (crlf, acc, inl ((acc, true), refl, inr (refl, refl)))
@@ -174,4 +184,4 @@ module _ (class : ℕ → Bool) (no_cr : class 13 ≡ false) (holds : (b : ℕ) 
     line_part = same_part
         (λ a t h. let r = line_to t [] a h in (r.2 ∙ ap (λ (x : List ℕ). x ++ crlf) (sym r.1), ap (list_all class) r.1 ∙ r.3))
         (λ a t h. subst (ScanText (line_step class) ([], false) a) (sym h.0) (line_from a [] a refl h.1))
-        (scan_last side (line_step class) Stands keeps odd completes ([], false) refl)
+        (scan_last side (line_step class) Stands keeps odd out completes ([], false) refl)

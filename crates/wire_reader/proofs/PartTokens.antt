@@ -8,7 +8,7 @@ use Rattle.wire_reader.specs.declared.stop.Kind.{Kind}
 use Rattle.wire_reader.specs.declared.stop.Kind.TheVariants.{Syntax}
 use Rattle.wire_reader.specs.declared.stop.Stop.{Stop}
 use Rattle.wire_reader.specs.declared.stop.Stop.TheVariants.{Ends, Fails}
-use Rattle.wire_reader.specs.Lexical.{next, phase, asked, asks_from, kind_of}
+use Rattle.wire_reader.specs.Lexical.{next, phase, is_in, asked, asks_from, kind_of}
 use Rattle.wire_reader.specs.Spelling.{IsRun}
 use Rattle.wire_reader.specs.Machine.{run, run_next, run_end, RunText, text_go, text_out, Step, On, Take, Odd, scan, ScanText}
 use Rattle.wire_reader.proofs.Reader.{Closed, Open}
@@ -17,7 +17,7 @@ use Rattle.wire_reader.proofs.Runs as runs
 use Rattle.wire_reader.proofs.Texts as texts
 use Rattle.wire_reader.proofs.Scans.{scan_reader}
 use Rattle.wire_reader.proofs.Scans as scans
-use Rattle.wire_reader.proofs.Lexed.{Lexed, Leads, kind_at, asks-step, kind-first, kind-step}
+use Rattle.wire_reader.proofs.Lexed.{Lexed, Leads, kind_at, dry, asks-step, kind-first, kind-step}
 use Rattle.wire_reader.proofs.Braceless.{braceless, stays_plain, lacks_brace, braceless-phase}
 use Rattle.wire_reader.proofs.Part.{Part, same_part}
 
@@ -37,6 +37,18 @@ module _ {S A : Type 0} (side : Side) (class : ℕ → Bool) (go : S → ℕ →
         | inl e ↦
             elim (runs.next_err class go out (go s b) (λ t. run class go out t bs) (length (b ∷ bs)) (Ends w) (sym (ap (at_byte s b bs) e) ∙ h)) [
               | inl m ↦ asks-step side Plain b bs refl ∙ ap (λ (x : Phase). asks_from side x bs) (same b e) ∙ run_asks bs m.0 w m.2
+              | inr m ↦ absurd (let x = m.2 in cc)
+            ]
+        | inr e ↦ absurd (let x = (runs.end_err class go out (out s) b bs (Ends w) (sym (ap (at_byte s b bs) e) ∙ h)).1 in cc)
+      ]
+
+  run_out : (xs : List ℕ) (s : S) (w : Option ℕ) → run class go out s xs ≡ Err (Ends w) → is_in (phase Plain xs) ≡ false
+  run_out [] s w h = refl
+  run_out (b ∷ bs) s w h =
+      elim (cases_Bool (class b)) [
+        | inl e ↦
+            elim (runs.next_err class go out (go s b) (λ t. run class go out t bs) (length (b ∷ bs)) (Ends w) (sym (ap (at_byte s b bs) e) ∙ h)) [
+              | inl m ↦ ap (λ (x : Phase). is_in (phase x bs)) (same b e) ∙ run_out bs m.0 w m.2
               | inr m ↦ absurd (let x = m.2 in cc)
             ]
         | inr e ↦ absurd (let x = (runs.end_err class go out (out s) b bs (Ends w) (sym (ap (at_byte s b bs) e) ∙ h)).1 in cc)
@@ -81,7 +93,7 @@ module _ {S A : Type 0} (side : Side) (class : ℕ → Bool) (go : S → ℕ →
   pub run_part : (completes : (s : S) → (z : List ℕ) × (a : A) × RunText class go out s a z) (s : S) → Part side true (Open class) (RunText class go out s) (run class go out s)
   run_part completes s = record {
     reader = run_reader class go out completes s;
-    lexed = record { asks = λ xs w h. run_asks xs s w h; kind = λ xs k n h. run_kind xs s k n h };
+    lexed = record { asks = λ xs w h. run_asks xs s w h; kind = λ xs k n h. run_kind xs s k n h; octets = dry Plain (run class go out s) (λ xs w h. run_out xs s w h) };
     leads = λ _. record { after = λ a t h. braceless-phase t (run_braceless t s a h); quiet = λ a t h st. absurd (false≢true st) };
   }
 
@@ -107,12 +119,21 @@ text_part {side} class limit sample fits lacks pos = same_part
 -- `I s p`: in the phase p the state may be s
 module _ {S A : Type 0} (side : Side) (step : S → ℕ → Step S A) (I : S → Phase → Type 0)
     (keeps : (s t : S) (p : Phase) (b : ℕ) → I s p → step s b ≡ On t → I t (next p b) × (asked side p b ≡ None))
-    (odd : (s : S) (p : Phase) (b : ℕ) (k : Kind) → I s p → step s b ≡ Odd k → kind_of side p b ≡ k) where
+    (odd : (s : S) (p : Phase) (b : ℕ) (k : Kind) → I s p → step s b ≡ Odd k → kind_of side p b ≡ k)
+    (out : (s : S) (p : Phase) → I s p → is_in p ≡ false) where
   scan_asks : (xs : List ℕ) (s : S) (p : Phase) (w : Option ℕ) → I s p → scan step s xs ≡ Err (Ends w) → asks_from side p xs ≡ w
   scan_asks [] s p w i h = cc
   scan_asks (b ∷ bs) s p w i h =
       elim (scans.next_err step (step s b) (λ t. scan step t bs) b bs (Ends w) h) [
         | inl m ↦ let k = keeps s m.0 p b i m.1 in asks-step side p b bs k.1 ∙ scan_asks bs m.0 (next p b) w k.0 m.2
+        | inr m ↦ absurd (let x = m.2 in cc)
+      ]
+
+  scan_out : (xs : List ℕ) (s : S) (p : Phase) (w : Option ℕ) → I s p → scan step s xs ≡ Err (Ends w) → is_in (phase p xs) ≡ false
+  scan_out [] s p w i h = out s p i
+  scan_out (b ∷ bs) s p w i h =
+      elim (scans.next_err step (step s b) (λ t. scan step t bs) b bs (Ends w) h) [
+        | inl m ↦ scan_out bs m.0 (next p b) w (keeps s m.0 p b i m.1).0 m.2
         | inr m ↦ absurd (let x = m.2 in cc)
       ]
 
@@ -137,7 +158,7 @@ module _ {S A : Type 0} (side : Side) (step : S → ℕ → Step S A) (I : S →
       ]
 
   pub scan_lexed : (s : S) (p : Phase) → I s p → Lexed side p (scan step s)
-  scan_lexed s p i = record { asks = λ xs w h. scan_asks xs s p w i h; kind = λ xs k n h. scan_kind xs s p k n i h }
+  scan_lexed s p i = record { asks = λ xs w h. scan_asks xs s p w i h; kind = λ xs k n h. scan_kind xs s p k n i h; octets = dry p (scan step s) (λ xs w h. scan_out xs s p w i h) }
 
   -- where the last byte leads
   module _ (q : A → Phase) (takes : (s : S) (p : Phase) (b : ℕ) (a : A) → I s p → step s b ≡ Take a → (next p b ≡ q a) × (asked side p b ≡ None)) where

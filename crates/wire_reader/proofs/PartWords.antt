@@ -8,14 +8,14 @@ use Rattle.wire_reader.specs.declared.stop.Kind.{Kind}
 use Rattle.wire_reader.specs.declared.stop.Kind.TheVariants.{Syntax}
 use Rattle.wire_reader.specs.declared.stop.Stop.{Stop}
 use Rattle.wire_reader.specs.declared.stop.Stop.TheVariants.{Ends, Fails}
-use Rattle.wire_reader.specs.Lexical.{asks_from}
+use Rattle.wire_reader.specs.Lexical.{phase, is_in, asks_from}
 use Rattle.wire_reader.specs.Spelling.{upper, Word}
-use Rattle.wire_reader.specs.Reading.{stuck}
+use Rattle.wire_reader.specs.Reading.{stuck, mapped}
 use Rattle.wire_reader.specs.Words.{word_at, alt, keys_at}
 use Rattle.wire_reader.proofs.Reader.{Closed}
 use Rattle.wire_reader.proofs.Words.{IsUpperWord, any_word_reader, keys_reader, Among, distinct, either_ends, either_fails}
-use Rattle.wire_reader.proofs.Lexed.{Lexed, kind_at, asks-step, kind-first, kind-step}
-use Rattle.wire_reader.proofs.LexedSeq.{mapped_lexed}
+use Rattle.wire_reader.proofs.Lexed.{Lexed, kind_at, dry, asks-step, kind-first, kind-step}
+use Rattle.wire_reader.proofs.LexedSeq.{mapped_stop, mapped_lexed}
 use Rattle.wire_reader.proofs.Braceless.{braceless, stays_plain, upper_braceless, word_braceless, braceless-phase, braceless-asks}
 use Rattle.wire_reader.proofs.Part.{Part}
 
@@ -35,6 +35,18 @@ word_asks side (c ∷ cs) (b ∷ bs) v plain h =
           let p = and_parts _ _ plain in
           let same = stays_plain b (upper_braceless b c (eqb-true (upper b) c e) p.0) in
           asks-step side Plain b bs refl ∙ ap (λ (x : Phase). asks_from side x bs) same ∙ word_asks side cs bs v p.1 (sym (ap (at_byte cs b bs) e) ∙ h)
+      | inr e ↦ let wrong : at_byte cs b bs false ≡ Err (Ends v) = sym (ap (at_byte cs b bs) e) ∙ h in absurd cc
+    ]
+
+word_out : (w xs : List ℕ) (v : Option ℕ) → braceless w ≡ true → word_at w xs ≡ Err (Ends v) → is_in (phase Plain xs) ≡ false
+word_out [] xs v plain h = absurd cc
+word_out (c ∷ cs) [] v plain h = refl
+word_out (c ∷ cs) (b ∷ bs) v plain h =
+    elim (cases_Bool (eqb (upper b) c)) [
+      | inl e ↦
+          let p = and_parts _ _ plain in
+          let same = stays_plain b (upper_braceless b c (eqb-true (upper b) c e) p.0) in
+          ap (λ (x : Phase). is_in (phase x bs)) same ∙ word_out cs bs v p.1 (sym (ap (at_byte cs b bs) e) ∙ h)
       | inr e ↦ let wrong : at_byte cs b bs false ≡ Err (Ends v) = sym (ap (at_byte cs b bs) e) ∙ h in absurd cc
     ]
 
@@ -67,7 +79,7 @@ word_kind side (c ∷ cs) (b ∷ bs) k n plain h =
     ]
 
 word_lexed : (side : Side) (w : List ℕ) → braceless w ≡ true → Lexed side Plain (word_at w)
-word_lexed side w plain = record { asks = λ xs v h. word_asks side w xs v plain h; kind = λ xs k n h. word_kind side w xs k n plain h }
+word_lexed side w plain = record { asks = λ xs v h. word_asks side w xs v plain h; kind = λ xs k n h. word_kind side w xs k n plain h; octets = dry Plain (word_at w) (λ xs v h. word_out w xs v plain h) }
 
 -- a word in any case
 pub word_part : {side : Side} (w : List ℕ) → IsKeyword w → Part side true Closed (λ _ t. Word w t) (word_at w)
@@ -82,8 +94,15 @@ word_part {side} w good = record {
 
 -- ---- one of two
 
-alt_lexed : {A : Type 0} {side : Side} {r s : List ℕ → Result (A × List ℕ) Stop} → Lexed side Plain r → Lexed side Plain s → Lexed side Plain (alt r s)
-alt_lexed {A} {side} {r} {s} p q = record { asks = alt_asks; kind = alt_kind }
+-- the bytes end outside literals
+abbrev Out : {A : Type 0} → (List ℕ → Result (A × List ℕ) Stop) → Type 0
+Out r = (xs : List ℕ) (w : Option ℕ) → r xs ≡ Err (Ends w) → is_in (phase Plain xs) ≡ false
+
+alt_out : {A : Type 0} (r s : List ℕ → Result (A × List ℕ) Stop) → Out r → Out s → Out (alt r s)
+alt_out r s p q xs w h = elim (either_ends (r xs) (s xs) w h) [ inl e ↦ p xs w e | inr e ↦ q xs w e ]
+
+alt_lexed : {A : Type 0} {side : Side} {r s : List ℕ → Result (A × List ℕ) Stop} → Lexed side Plain r → Lexed side Plain s → Out (alt r s) → Lexed side Plain (alt r s)
+alt_lexed {A} {side} {r} {s} p q out = record { asks = alt_asks; kind = alt_kind; octets = dry Plain (alt r s) out }
   where
     alt_asks : (xs : List ℕ) (w : Option ℕ) → alt r s xs ≡ Err (Ends w) → asks_from side Plain xs ≡ w
     alt_asks xs w h = elim (either_ends (r xs) (s xs) w h) [ inl e ↦ p.asks xs w e | inr e ↦ q.asks xs w e ]
@@ -98,10 +117,18 @@ alt_lexed {A} {side} {r} {s} p q = record { asks = alt_asks; kind = alt_kind }
 
 -- ---- one of several words
 
+module _ {K : Type 0} (word : K → List ℕ) (good : (k : K) → IsKeyword (word k)) where
+  key_out : (k : K) → Out (mapped (λ _. k) (word_at (word k)))
+  key_out k xs w h = word_out (word k) xs w (good k).1 (mapped_stop (λ _. k) (word_at (word k)) xs (Ends w) h)
+
+  keys_out : (k : K) (ks : List K) → Out (keys_at word k ks)
+  keys_out k [] = key_out k
+  keys_out k (l ∷ ks) = alt_out (mapped (λ _. k) (word_at (word k))) (keys_at word l ks) (key_out k) (keys_out l ks)
+
 module _ {K : Type 0} {side : Side} (word : K → List ℕ) (good : (k : K) → IsKeyword (word k)) where
   keys_lexed : (k : K) (ks : List K) → Lexed side Plain (keys_at word k ks)
   keys_lexed k [] = mapped_lexed (λ _. k) (word_lexed side (word k) (good k).1)
-  keys_lexed k (l ∷ ks) = alt_lexed (mapped_lexed (λ _. k) (word_lexed side (word k) (good k).1)) (keys_lexed l ks)
+  keys_lexed k (l ∷ ks) = alt_lexed (mapped_lexed (λ _. k) (word_lexed side (word k) (good k).1)) (keys_lexed l ks) (keys_out word good k (l ∷ ks))
 
   pub keys_part : (k : K) (ks : List K) → distinct word (λ k. (good k).0) k ks ≡ true → Part side true Closed (λ x t. Among word (λ k. (good k).0) k ks x × Word (word x) t) (keys_at word k ks)
   keys_part k ks d = record {

@@ -8,7 +8,7 @@ use Rattle.wire_reader.specs.declared.lexical.Phase.TheVariants.{Plain, Brace, D
 use Rattle.wire_reader.specs.declared.stop.Kind.{Kind}
 use Rattle.wire_reader.specs.declared.stop.Kind.TheVariants.{Syntax, TooLong}
 use Rattle.wire_reader.specs.Spelling.{is_digit}
-use Rattle.wire_reader.specs.Lexical.{next, restart, asked, kind_of, over_by, literal_limit, plus_limit}
+use Rattle.wire_reader.specs.Lexical.{next, restart, is_in, asked, kind_of, over_by, literal_limit, plus_limit}
 
 -- no line end is under way, and no octets
 abbrev pub texty : Phase → Bool
@@ -38,6 +38,10 @@ texty-next (Plus m) b h n = choice_texty (eqb b 125) (Close m true) (restart b) 
 texty-next (Close m plus) b h n = ap (λ (t : Bool). texty (cond t (Return m plus) (restart b))) n ∙ restart_texty b
 texty-next (Return m plus) b h n = absurd (false≢true h)
 texty-next (In m) b h n = absurd (false≢true h)
+
+pub texty-out : (p : Phase) → texty p ≡ true → is_in p ≡ false
+texty-out (In n) h = absurd (false≢true h)
+texty-out _ h = refl
 
 pub texty-asked : (side : Side) (p : Phase) (b : ℕ) → texty p ≡ true → asked side p b ≡ None
 texty-asked side (Return m plus) b h = absurd (false≢true h)

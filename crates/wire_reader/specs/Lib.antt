@@ -9,3 +9,6 @@ pub mod Given
 pub mod Answers
 pub mod Filled
 pub mod Folding
+pub mod Scanning
+pub mod Advancing
+pub mod Places

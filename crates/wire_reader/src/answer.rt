@@ -87,7 +87,7 @@ fn decisive<'a, T>(answer: &Result<Read<T>, WireFault>, bytes: &'a [u8]) -> &'a 
 }
 
 /// The first so many of the bytes, or all.
-fn front(count: usize, bytes: &[u8]) -> &[u8]
+pub(crate) fn front(count: usize, bytes: &[u8]) -> &[u8]
     ensures { result.now ≡ take count bytes.now }
 {
     if count < bytes.len() {

@@ -24,7 +24,7 @@ pub enum Phase {
 }
 
 /// Where the next byte stands.
-fn next(phase: Phase, b: u8) -> Phase
+pub(crate) fn next(phase: Phase, b: u8) -> Phase
     ensures { result ≡ next phase b }
 {
     match phase {
@@ -54,7 +54,8 @@ fn next(phase: Phase, b: u8) -> Phase
     }
 }
 
-fn is_in(phase: Phase) -> bool
+/// Whether octets of a literal are still to come.
+pub(crate) fn is_in(phase: Phase) -> bool
     ensures { result ≡ is_in phase }
 {
     match phase {

@@ -7,5 +7,6 @@ pub mod keyword;
 pub mod lexical;
 pub mod literal;
 pub mod punctuation;
+pub mod scanner;
 pub mod side;
 pub mod stop;

@@ -163,6 +163,12 @@ Within Nothing p = p ≡ Plain
 Within Slash p = p ≡ Plain
 Within (Got c) p = (p ≡ Plain) ⊎ (p ≡ Brace)
 
+out : (s : Between) (p : Phase) → Within s p → is_in p ≡ false
+out Nothing p i = ap is_in i
+out Slash p i = ap is_in i
+out (Got c) p (inl i) = ap is_in i
+out (Got c) p (inr i) = ap is_in i
+
 behind : (b : ℕ) → (next Plain b ≡ Plain) ⊎ (next Plain b ≡ Brace)
 behind b = elim (cases_Bool (eqb b 123)) [
   | inl e ↦ inr (ap (λ (x : Bool). cond x Brace Plain) e)
@@ -238,7 +244,7 @@ rest_part : {side : Side} → Part side true Closed (λ c t. (t ≡ escaped c ++
 rest_part {side} = same_part
     (λ c t h. rest_to t Nothing c h)
     (λ c t h. subst (ScanText delimiter_step Nothing c) (sym h.0) (rest_from c h.1))
-    (scan_part side delimiter_step Within (keeps side) (odd side) (takes side) completes Nothing refl)
+    (scan_part side delimiter_step Within (keeps side) (odd side) out (takes side) completes Nothing refl)
 
 one : (c : ℕ) → escaped c ++ [] ≡ escaped c
 one c = append-nil (escaped c)

@@ -1,13 +1,13 @@
 -- A part whose texts may not begin with one byte.
 use Rattle.std.proofs.Common.{◌≡◌, ℕ, Bool, true, false, cond, eqb, List, [], ◌∷◌, ◌++◌, length, Option, None, Result, Ok, Err, refl, sym, ap, ◌∙◌, inl, inr}
-use Rattle.std.proofs.lemmas.Bool.{cases_Bool}
+use Rattle.std.proofs.lemmas.Bool.{cases_Bool, false≢true}
 use Rattle.wire_reader.specs.declared.side.Side.{Side}
 use Rattle.wire_reader.specs.declared.lexical.Phase.TheVariants.{Plain}
 use Rattle.wire_reader.specs.declared.stop.Kind.{Kind}
 use Rattle.wire_reader.specs.declared.stop.Kind.TheVariants.{Syntax}
 use Rattle.wire_reader.specs.declared.stop.Stop.{Stop}
 use Rattle.wire_reader.specs.declared.stop.Stop.TheVariants.{Ends, Fails}
-use Rattle.wire_reader.specs.Lexical.{asks_from}
+use Rattle.wire_reader.specs.Lexical.{phase, is_in, asks_from}
 use Rattle.wire_reader.specs.Reading.{stuck}
 use Rattle.wire_reader.proofs.Reader.{Ender, stops, Taken, Refused}
 use Rattle.wire_reader.proofs.Lexed.{kind_at, kind-first}
@@ -101,9 +101,17 @@ module _ {A : Type 0} {side : Side} {k : Bool} {e : Ender} {L : A → List ℕ �
         | inr g ↦ p.lexed.kind (b ∷ bs) i n (sym (goes b bs g) ∙ h)
       ]
 
+  unless_octets : (xs : List ℕ) (w : Option ℕ) (y : ℕ) → unless_at c r xs ≡ Err (Ends w) → is_in (phase Plain xs) ≡ true → eqb y 0 ≡ false → (v : Option ℕ) × (unless_at c r (xs ++ y ∷ []) ≡ Err (Ends v))
+  unless_octets [] w y h i n = absurd (false≢true i)
+  unless_octets (b ∷ bs) w y h i n =
+      elim (cases_Bool (eqb b c)) [
+        | inl g ↦ let wrong : (let o : Result (A × List ℕ) Stop = stuck (b ∷ bs) in o ≡ Err (Ends w)) = sym (halts b bs g) ∙ h in absurd cc
+        | inr g ↦ let o = p.lexed.octets (b ∷ bs) w y (sym (goes b bs g) ∙ h) i n in (o.0, goes b (bs ++ y ∷ []) g ∙ o.1)
+      ]
+
   pub unless_part : Part side k e (λ a t. L a t × (begins_with c t ≡ false)) (unless_at c r)
   unless_part = record {
     reader = record { start = (None, refl); sound = unless_sound; complete = unless_complete; open_end = unless_open; more = unless_more; bad = unless_bad };
-    lexed = record { asks = unless_asks; kind = unless_kind };
+    lexed = record { asks = unless_asks; kind = unless_kind; octets = unless_octets };
     leads = λ b. record { after = λ a t h. (p.leads b).after a t h.0; quiet = λ a t h s. (p.leads b).quiet a t h.0 s };
   }

@@ -15,7 +15,7 @@ use Rattle.wire_reader.proofs.Reader.{Closed}
 use Rattle.wire_reader.proofs.Parts.{after_closed}
 use Rattle.wire_reader.proofs.Part.{Part, same_part, mapped_part, skip_part, byte_part}
 use Rattle.wire_reader.proofs.PartTokens.{scan_part}
-use Rattle.wire_reader.proofs.Texty.{texty, texty-next, texty-asked, texty-kind, texty-quote}
+use Rattle.wire_reader.proofs.Texty.{texty, texty-next, texty-asked, texty-out, texty-kind, texty-quote}
 use Rattle.wire_strings.specs.Texts.{is_text}
 use Rattle.wire_strings.specs.Quotes.{is_special, escaped, RawOf, IsRaw, RawText, QuotedText, unescaped_from, unescaped, raw_step, raw_rest, raw_at, quoted_at}
 use Rattle.wire_strings.proofs.TextParts.{no_text, no_cr}
@@ -128,6 +128,10 @@ abbrev Within : List ℕ × Bool → Phase → Type 0
 Within (acc, true) p = p ≡ Plain
 Within (acc, false) p = texty p ≡ true
 
+out : (s : List ℕ × Bool) (p : Phase) → Within s p → is_in p ≡ false
+out (acc, true) p i = ap is_in i
+out (acc, false) p i = texty-out p i
+
 module _ (side : Side) where
   keeps : (s t : List ℕ × Bool) (p : Phase) (b : ℕ) → Within s p → raw_step s b ≡ On t → Within t (next p b) × (asked side p b ≡ None)
   keeps (acc, true) t p b i h = elim (stepped acc b true) [
@@ -180,7 +184,7 @@ pub raw_rest_part : {side : Side} → Part side true Closed (λ raw t. (t ≡ ra
 raw_rest_part {side} = same_part
     (λ a t h. let r = rest_to t [] false a h in (r.2 ∙ ap (λ (x : List ℕ). x ++ 34 ∷ []) (sym r.1), record { value = r.0; of = record { is = r.1; each = r.3 } }))
     (λ a t h. subst (ScanText raw_step ([], false) a) (sym (h.0 ∙ ap (λ (x : List ℕ). x ++ 34 ∷ []) h.1.of.is)) (rest_from h.1.value [] a h.1.of.is h.1.of.each))
-    (scan_part side raw_step Within (keeps side) (odd side) (takes side) completes ([], false) refl)
+    (scan_part side raw_step Within (keeps side) (odd side) out (takes side) completes ([], false) refl)
 
 pub raw_part : {side : Side} → Part side true Closed RawText raw_at
 raw_part = same_part

@@ -18,7 +18,7 @@ use Rattle.wire_reader.proofs.Parts.{byte_reader}
 use Rattle.wire_reader.proofs.Part.{Part, same_part}
 use Rattle.wire_reader.proofs.PartTokens.{scan_part}
 use Rattle.wire_reader.proofs.PartText.{line_part}
-use Rattle.wire_reader.proofs.Texty.{texty, texty-next, texty-asked, texty-kind, texty-bracket}
+use Rattle.wire_reader.proofs.Texty.{texty, texty-next, texty-asked, texty-out, texty-kind, texty-bracket}
 use Rattle.wire_reader.proofs.LengthSteps.{digit_is}
 use Rattle.wire_strings.proofs.PartUnless.{unless_part}
 use Rattle.wire_strings.specs.Texts.{is_text, begins_with, IsPlain, is_code_text, LastText, PlainLine, BracketText, last_text_at, plain_text_at, code_step, code_text_at}
@@ -155,6 +155,9 @@ rest_from (b ∷ v) acc a e all =
 abbrev Within : List ℕ → Phase → Type 0
 Within acc p = texty p ≡ true
 
+out : (s : List ℕ) (p : Phase) → Within s p → is_in p ≡ false
+out acc p i = texty-out p i
+
 module _ (side : Side) where
   keeps : (s t : List ℕ) (p : Phase) (b : ℕ) → Within s p → code_step s b ≡ On t → Within t (next p b) × (asked side p b ≡ None)
   keeps acc t p b i h = elim (stepped acc b) [
@@ -184,7 +187,7 @@ pub code_text_part : {side : Side} → Part side true Closed BracketText code_te
 code_text_part {side} = same_part
     (λ a t h. let r = rest_to t [] a h in (r.2 ∙ ap (λ (x : List ℕ). x ++ 93 ∷ []) (sym r.1), ap (list_all is_code_text) r.1 ∙ r.3))
     (λ a t h. subst (ScanText code_step [] a) (sym h.0) (rest_from a [] a refl h.1))
-    (scan_part side code_step Within (keeps side) (odd side) (takes side) completes [] refl)
+    (scan_part side code_step Within (keeps side) (odd side) out (takes side) completes [] refl)
 
 -- ---- the slices
 
