@@ -4,7 +4,10 @@
     bench/wire.py
 
 One input is FETCH replies with UID, FLAGS and RFC822.SIZE, 10,000 and ten times as many; the other one FETCH reply with a
-body of 16777216 bytes, and one of a tenth. Reading takes ten times as long for ten times the bytes."""
+body of 16777216 bytes, and one of a tenth. Reading takes ten times as long for ten times the bytes.
+
+The same bytes are then read as they would come over a connection: pushed to a buffer, scanned once, and read at each place
+where the scanner stops; as one piece, and in pieces of 4096 bytes. Many pieces take about as long as one."""
 import os
 import subprocess
 
@@ -26,19 +29,22 @@ def body(size):
 
 
 def measure(name, data):
-    """The seconds of reading: the least of three runs."""
+    """The seconds of reading at once, as one piece and in many: the least of five runs each."""
     best = None
-    for _ in range(3):
+    for _ in range(5):
         run = subprocess.run([os.path.join(TOP, "bin", "launch"), "bench_wire", *CRATES, "--"], input=data,
                              capture_output=True, check=True)
-        reading, scanning = (int(word) / 1e6 for word in run.stderr.split()[-2:])
-        best = min(best, (reading, scanning)) if best else (reading, scanning)
-    replies, used = int(run.stdout.split()[0]), int(run.stdout.split()[2])
-    if used != len(data):
-        raise SystemExit(f"{name}: only {used} of {len(data)} bytes were read")
-    reading, scanning = best
+        times = [int(word) / 1e6 for word in run.stderr.split()[-4:]]
+        best = [min(pair) for pair in zip(best, times)] if best else times
+    words = run.stdout.split()
+    replies, used = int(words[0]), int(words[2])
+    if {used, int(words[7]), int(words[12])} != {len(data)}:
+        raise SystemExit(f"{name}: not all of {len(data)} bytes were read: {run.stdout}")
+    reading, whole, pieces, scanning = best
     print("%-22s %7d replies %9d bytes  %8.4f s  %7.1f MB/s  %9.0f replies/s  line feeds alone %8.4f s"
           % (name, replies, used, reading, used / reading / 1e6, replies / reading, scanning))
+    print("%-22s as one piece %8.4f s  %7.1f MB/s  in pieces of 4096 %8.4f s  %7.1f MB/s  ratio %.2f"
+          % ("", whole, used / whole / 1e6, pieces, used / pieces / 1e6, pieces / whole))
     return reading
 
 

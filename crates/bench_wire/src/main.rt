@@ -1,6 +1,10 @@
-//! Reads the replies on standard input from memory, and tells how long that took: `bench/wire.py` runs it.
+//! Reads the replies on standard input from memory, at once and as they come in pieces, and tells how long that took:
+//! `bench/wire.py` runs it.
 #![tactic(auto)]
 
+mod feed;
+
+use crate::feed::feed_all;
 use imap_wire::read_reply;
 use std::alloc::Global;
 use std::io;
@@ -33,13 +37,23 @@ fn count_lines(bytes: &[u8]) -> usize {
     bytes.len()
 }
 
-/// Reads the replies of the input, and then looks for its line feeds; tells how many there are, and the times apart.
+/// How many bytes of replies are read where they come in pieces of this size, and in how many microseconds.
+fn time_feed(rt: &HostRuntime, bytes: &[u8], size: usize) -> io::Result<(usize, u128)> {
+    let start = Instant::now(rt)?;
+    let (_, used) = feed_all(rt.alloc(), bytes, size)?;
+    Ok((used, start.elapsed(rt)?.as_micros()))
+}
+
+/// Reads the replies of the input, at once, as one piece that is pushed to a buffer, and as pieces of 4096 bytes, and then
+/// looks for its line feeds; tells how many there are, and the times apart.
 fn run(rt: &HostRuntime) -> io::Result<()> {
     let mut bytes = Vec::new(rt.alloc());
     rt.stdin().read_to_end(&mut bytes)?;
     let start = Instant::now(rt)?;
     let (replies, used) = read_all(rt.alloc(), &bytes);
     let reading = start.elapsed(rt)?.as_micros();
+    let (at_once, one_piece) = time_feed(rt, &bytes, bytes.len())?;
+    let (in_pieces, many_pieces) = time_feed(rt, &bytes, 4096)?;
     let start = Instant::now(rt)?;
     let lines = count_lines(&bytes);
     let scanning = start.elapsed(rt)?.as_micros();
@@ -47,7 +61,14 @@ fn run(rt: &HostRuntime) -> io::Result<()> {
         rt.stdout(),
         "{replies} replies, {used} bytes, {lines} line feeds"
     )?;
-    writeln!(rt.stderr(), "{reading} {scanning}")
+    writeln!(
+        rt.stdout(),
+        "{at_once} bytes of one piece, {in_pieces} of many"
+    )?;
+    writeln!(
+        rt.stderr(),
+        "{reading} {one_piece} {many_pieces} {scanning}"
+    )
 }
 
 fn main(rt: HostRuntime) -> ExitCode {

@@ -4,3 +4,4 @@ pub mod CommandParts
 pub mod MessageParts
 pub mod WrittenCommands
 pub mod MessageWaits
+pub mod CommandFeeds

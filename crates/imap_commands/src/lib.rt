@@ -6,6 +6,7 @@ mod append;
 pub mod command;
 pub mod message;
 pub mod pattern;
+pub mod places;
 pub mod reading;
 mod request_writing;
 mod requests;

@@ -12,3 +12,4 @@ pub mod FetchParts
 pub mod ListParts
 pub mod UntaggedParts
 pub mod WrittenReplies
+pub mod ReplyFeeds

@@ -9,6 +9,7 @@ mod head;
 mod lines;
 mod listing;
 pub mod other;
+pub mod places;
 pub mod reading;
 pub mod reply;
 pub mod response;

@@ -35,4 +35,5 @@ pub mod Decisive
 pub mod Written
 pub mod Scanned
 pub mod Positions
+pub mod Feeds
 pub mod PlaceLaws

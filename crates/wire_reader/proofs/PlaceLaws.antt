@@ -17,15 +17,11 @@ use Rattle.wire_reader.specs.Places.{Found, Faulty, EachIsDecided, EndAtPlaces, 
 use Rattle.wire_reader.specs.Spelling.{crlf}
 use Rattle.wire_reader.proofs.Reader.{Closed}
 use Rattle.wire_reader.proofs.Part.{Part}
+use Rattle.wire_reader.proofs.Feeds.{EndsFeed}
 use Rattle.wire_reader.proofs.Top.{whole_is, begins_is, fault_is, none_begins}
 use Rattle.wire_reader.proofs.Limits.{one_is}
 use Rattle.wire_reader.proofs.Scanned.{scanned-append, no_place}
 use Rattle.wire_reader.proofs.Positions.{phase-scanned, outside-append, outside-scanned, Octet, Outside, no_place_at, no_feed}
-
--- the text's last byte is a LF
-pub record EndsFeed (text : List ℕ) : Type 0 where
-  pub front : List ℕ
-  pub parts : text ≡ front ++ 10 ∷ []
 
 -- ---- lists
 

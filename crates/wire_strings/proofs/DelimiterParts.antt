@@ -7,7 +7,7 @@ use Rattle.wire_reader.specs.declared.lexical.Phase.{Phase}
 use Rattle.wire_reader.specs.declared.lexical.Phase.TheVariants.{Plain, Brace}
 use Rattle.wire_reader.specs.declared.stop.Kind.{Kind}
 use Rattle.wire_reader.specs.declared.stop.Kind.TheVariants.{Syntax}
-use Rattle.wire_reader.specs.Lexical.{next, asked, kind_of}
+use Rattle.wire_reader.specs.Lexical.{next, is_in, asked, kind_of}
 use Rattle.wire_reader.specs.Machine.{Step, On, Take, Odd, ScanText}
 use Rattle.wire_reader.proofs.Reader.{Closed}
 use Rattle.wire_reader.proofs.Parts.{after_closed}

@@ -10,7 +10,7 @@ use Rattle.wire_reader.specs.declared.lexical.Phase.TheVariants.{Plain}
 use Rattle.wire_reader.specs.declared.stop.Kind.{Kind}
 use Rattle.wire_reader.specs.declared.stop.Kind.TheVariants.{Syntax}
 use Rattle.wire_reader.specs.Spelling.{is_digit, crlf}
-use Rattle.wire_reader.specs.Lexical.{next, asked, kind_of}
+use Rattle.wire_reader.specs.Lexical.{next, is_in, asked, kind_of}
 use Rattle.wire_reader.specs.Machine.{Step, On, Take, Odd, ScanText, scan, line_step}
 use Rattle.wire_reader.proofs.Reader.{Closed}
 use Rattle.wire_reader.specs.Reading.{byte_at}

@@ -1,0 +1,7 @@
+use Rattle.wire_reader.proofs.PlaceLaws.{waits_law}
+use Rattle.imap_commands.proofs.CommandParts.{command_part}
+use Rattle.imap_commands.proofs.CommandFeeds.{command_feed}
+use Rattle.imap_commands.proofs.places.commands_wait_between_places.Goals as goal
+
+pub returns : goal.returns
+returns c = waits_law command_part command_feed
