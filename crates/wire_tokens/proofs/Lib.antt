@@ -3,6 +3,7 @@ pub mod NumberLemmas
 pub mod NumberParts
 pub mod SetParts
 pub mod SetWriting
+pub mod SetTests
 pub mod AtomParts
 pub mod FlagParts
 pub mod NameParts

@@ -1,5 +1,6 @@
 -- Sets of UIDs (RFC 9051, section 9: sequence-set, in the profile).
-use Rattle.std.specs.Prelude.{◌≡◌, ◌≤◌, ℕ, ◌⊎◌, List, [], ◌∷◌, Option, None, Some, Result, Bool, ◌||◌, ◌==◌, Any}
+use Rattle.std.specs.Prelude.{◌≡◌, ◌≤◌, ℕ, ◌⊎◌, List, [], ◌∷◌, Option, None, Some, Result, Bool, true, false, ◌||◌, ◌&&◌, ◌==◌, nat_le, ◌↔◌, IsTrue, Any}
+use Rattle.std.specs.List.{list_any}
 use Rattle.wire_reader.specs.declared.stop.Stop.{Stop}
 use Rattle.wire_reader.specs.Spelling.{◌⨾◌, Is, ItemsText, is_digit}
 use Rattle.wire_reader.specs.Reading.{mapped, both, by_first, byte_at}
@@ -46,6 +47,22 @@ ItemNames greatest uid (Range x y) = Between (end_of greatest x) (end_of greates
 abbrev pub Names : Option ℕ → List SetItem → ℕ → Type 0
 Names None items uid = ⊥
 Names (Some greatest) items uid = Any (ItemNames greatest uid) items
+
+-- ---- the same, as a test that computes
+
+abbrev pub between : ℕ → ℕ → ℕ → Bool
+between a b uid = (nat_le a uid && nat_le uid b) || (nat_le b uid && nat_le uid a)
+
+abbrev pub item_names : ℕ → ℕ → SetItem → Bool
+item_names greatest uid (One x) = uid == end_of greatest x
+item_names greatest uid (Range x y) = between (end_of greatest x) (end_of greatest y) uid
+
+abbrev pub names : Option ℕ → List SetItem → ℕ → Bool
+names None items uid = false
+names (Some greatest) items uid = list_any (item_names greatest uid) items
+
+abbrev pub NamesAreTested : Type 0
+NamesAreTested = (greatest : Option ℕ) (items : List SetItem) (uid : ℕ) → IsTrue (names greatest items uid) ↔ Names greatest items uid
 
 -- ---- how it is read
 

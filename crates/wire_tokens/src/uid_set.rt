@@ -5,7 +5,7 @@ ghost use Rattle.wire_reader.specs.Given.{Gives, GivesOr};
 ghost use Rattle.wire_reader.specs.Listing.{ended_by};
 ghost use Rattle.wire_reader.specs.Spelling.{is_digit};
 ghost use Rattle.wire_tokens.specs.Writing.{Appended, Extended};
-ghost use Rattle.wire_tokens.specs.Sets.{EndText, ItemText, SetText, end_of, Between, ItemNames, Names, end_at, second_at, item_at, set_at};
+ghost use Rattle.wire_tokens.specs.Sets.{EndText, ItemText, SetText, end_of, ItemNames, Names, item_names, names, NamesAreTested, end_at, second_at, item_at, set_at};
 
 use crate::number::{NonZero, nz};
 use mailcore::uid::Uid;
@@ -81,7 +81,9 @@ impl UidSet {
     /// Whether the set names this UID, where `greatest` is the greatest UID of the mailbox. In an empty mailbox, where
     /// there is none, it names nothing.
     pub fn names(&self, uid: Uid, greatest: Option<Uid>) -> bool
-        ensures { IsTrue result ↔ Names greatest self.now uid }
+        ensures named { IsTrue result ↔ Names greatest self.now uid }
+        // The same, as a test that computes.
+        ensures test { result ≡ names greatest self.now uid }
     {
         match greatest {
             None => false,
@@ -108,7 +110,8 @@ impl UidSet {
 
 impl SetItem {
     fn names(&self, uid: u32, greatest: u32) -> bool
-        ensures { IsTrue result ↔ ItemNames greatest uid self.now }
+        ensures named { IsTrue result ↔ ItemNames greatest uid self.now }
+        ensures test { result ≡ item_names greatest uid self.now }
     {
         match self {
             SetItem::One(end) => uid == end.number(greatest),
@@ -154,6 +157,11 @@ impl SetEnd {
         }
     }
 }
+
+/// The test of what a set names says what the set names.
+pub fn names_are_tested()
+    ensures { NamesAreTested }
+{}
 
 /// Appends items with `,` between. Where memory runs out, a part of them may have been appended.
 fn write_items(items: &[SetItem], out: &mut Vec<u8>) -> Result<(), AllocError>
