@@ -37,3 +37,4 @@ pub mod Scanned
 pub mod Positions
 pub mod Feeds
 pub mod PlaceLaws
+pub mod Fitting

@@ -141,7 +141,7 @@ module _ (side : Side) where
 
 -- ---- the octets
 
-in-step : (n b : ℕ) → next (In (suc (suc n))) b ≡ In (suc n)
+pub in-step : (n b : ℕ) → next (In (suc (suc n))) b ≡ In (suc n)
 in-step n b = ap (λ (t : Bool). cond t Plain (In (suc (suc n) - 1))) (lt-leb (suc (suc n)) 1 (omega arith)) ∙ ap (λ (k : ℕ). In k) (let e : suc (suc n) - 1 ≡ suc n = omega arith in e)
 
 -- among the octets nobody waits
@@ -217,7 +217,7 @@ octets_kind side n (b ∷ bs) k m h =
 -- ---- the line feed and the octets
 
 -- the line feed behind a length that is not 0
-feeds : (n : ℕ) (plus : Bool) → next (Return (suc n) plus) 10 ≡ In (suc n)
+pub feeds : (n : ℕ) (plus : Bool) → next (Return (suc n) plus) 10 ≡ In (suc n)
 feeds n plus = ap (λ (t : Bool). cond (not t) (In (suc n)) Plain) (ne_eqb (suc n) 0 (λ e. omega (arith, e)))
 
 asked_here : (side : Side) (n : ℕ) (plus : Bool) → asked side (Return n plus) 10 ≡ waits_for side (n, plus)

@@ -5,3 +5,4 @@ pub mod TextParts
 pub mod DelimiterParts
 pub mod StringParts
 pub mod StringWriting
+pub mod StringsFit

@@ -3,3 +3,4 @@ pub mod Quotes
 pub mod Delimiters
 pub mod Literals
 pub mod Strings
+pub mod Room

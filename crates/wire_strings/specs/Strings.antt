@@ -1,5 +1,6 @@
 -- Strings (RFC 9051, section 9: string, nstring, nil, astring; in the profile the atom of an astring has no `]`).
-use Rattle.std.specs.Prelude.{ℕ, Bool, ◌||◌, List, codes, Option, None, Some, Result, ◌⊎◌, ◌==◌}
+use Rattle.std.specs.Prelude.{ℕ, Bool, true, false, ◌||◌, List, codes, Option, None, Some, Result, ◌⊎◌, ◌==◌}
+use Rattle.std.specs.List.{list_all}
 use Rattle.wire_reader.specs.declared.side.Side.{Side}
 use Rattle.wire_reader.specs.declared.stop.Stop.{Stop}
 use Rattle.wire_reader.specs.Spelling.{Word}
@@ -8,6 +9,7 @@ use Rattle.wire_reader.specs.Reading.{mapped, by_first}
 use Rattle.wire_reader.specs.Listing.{ended}
 use Rattle.wire_reader.specs.Words.{word_at}
 use Rattle.wire_tokens.specs.Atoms.{is_atom_byte, AtomText, atom_at}
+use Rattle.wire_strings.specs.Texts.{is_text}
 use Rattle.wire_strings.specs.Quotes.{RawText, QuotedText, unescaped, raw_at}
 use Rattle.wire_strings.specs.declared.string.WireString.{WireString}
 use Rattle.wire_strings.specs.declared.string.WireString.TheVariants as strings
@@ -37,6 +39,14 @@ ValueText side value text = AtomText value text ⊎ (QuotedText value text ⊎ L
 -- a text that each side may write
 abbrev pub OnEitherSide : (Side → List ℕ → Type 0) → List ℕ → Type 0
 OnEitherSide L text = (side : Side) → L side text
+
+-- quoted where each byte may stand between quotes, else a literal behind whose length the sender waits
+abbrev pub StringBy : Bool → List ℕ → List ℕ → Type 0
+StringBy true value text = QuotedText value text
+StringBy false value text = OnEitherSide (λ side. Literal side value) text
+
+abbrev pub WrittenString : List ℕ → List ℕ → Type 0
+WrittenString value text = StringBy (list_all is_text value) value text
 
 -- ---- how they are read: what ends by itself, too, ends before the first byte that is no atom's
 

@@ -10,3 +10,4 @@ pub mod NameParts
 pub mod SpacedNames
 pub mod WrittenFlags
 pub mod AppendLemmas
+pub mod TokensFit

@@ -1,7 +1,7 @@
 -- What is written for a set of flags spells it: read again, it gives the set. There are 64 sets, and each is tried. And
 -- the steps of the loop that writes it.
-use Rattle.std.proofs.Common.{◌≡◌, ℕ, zero, suc, ◌+◌, ◌<◌, ◌≤◌, Bool, true, false, eqb, ◌&&◌, if◌then◌else◌, List, [], ◌∷◌, ◌++◌, length, get_or, take, drop, Result, Ok, Err, refl, sym, ap, subst, ◌∙◌, append_assoc, inl, inr, arith}
-use Rattle.std.proofs.lemmas.Bool.{eqb-true, and_parts, cases_lt, false≢true}
+use Rattle.std.proofs.Common.{◌≡◌, ℕ, zero, suc, ◌+◌, ◌<◌, ◌≤◌, Bool, true, false, eqb, leb, ◌&&◌, if◌then◌else◌, List, [], ◌∷◌, ◌++◌, length, get_or, take, drop, Result, Ok, Err, refl, sym, ap, subst, ◌∙◌, append_assoc, inl, inr, arith}
+use Rattle.std.proofs.lemmas.Bool.{eqb-true, and_parts, cases_lt, false≢true, leb-true}
 use Rattle.std.proofs.lemmas.List.{append-nil, length-append, drop_more, take-append-le}
 use Rattle.mailcore.specs.declared.flags.Flag.{Flag}
 use Rattle.mailcore.specs.declared.flags.Flag.TheVariants.{Draft}
@@ -10,7 +10,7 @@ use Rattle.mailcore.specs.FlagNames.{place, imap_name}
 use Rattle.wire_reader.specs.declared.side.Side.TheVariants.{Commands}
 use Rattle.wire_reader.specs.declared.stop.Stop.{Stop}
 use Rattle.wire_tokens.specs.FlagLists.{FlagsText, PermanentFlagsText, flags_at, permanent_flags_at}
-use Rattle.wire_tokens.specs.FlagWriting.{written_order, written_from, flags_written}
+use Rattle.wire_tokens.specs.FlagWriting.{written_order, written_from, flags_written, WrittenFlags, WrittenPermanentFlags}
 use Rattle.wire_tokens.proofs.FlagParts.{flags_part, permanent_flags_part}
 
 abbrev all_below : ℕ → (ℕ → Bool) → Bool
@@ -43,7 +43,7 @@ each_set : all_below 64 (λ set. gave set (flags_at (flags_written set false))) 
 unfolding union each_flag flags_written
 each_set = refl
 
-pub flags_spelled : (set : ℕ) → set < 64 → FlagsText set (flags_written set false)
+flags_spelled : (set : ℕ) → set < 64 → FlagsText set (flags_written set false)
 flags_spelled set lt =
     let read = gave_is set (flags_at (flags_written set false)) (one_below 64 (λ s. gave s (flags_at (flags_written s false))) set each_set lt) in
     let t = (flags_part {side = Commands}).reader.sound (flags_written set false) set [] read in
@@ -78,11 +78,31 @@ unfolding union each_flag flags_written
 each_both true = refl
 each_both false = refl
 
-pub permanent_spelled : (set : ℕ) (others : Bool) → set < 64 → PermanentFlagsText (set, others) (flags_written set others)
+permanent_spelled : (set : ℕ) (others : Bool) → set < 64 → PermanentFlagsText (set, others) (flags_written set others)
 permanent_spelled set others lt =
     let read = both_is set others (permanent_flags_at (flags_written set others)) (one_below 64 (λ s. gave_both s others (permanent_flags_at (flags_written s others))) set (each_both others) lt) in
     let t = (permanent_flags_part {side = Commands}).reader.sound (flags_written set others) (set, others) [] read in
     subst (PermanentFlagsText (set, others)) (sym (t.parts ∙ append-nil t.text)) t.spelled
+
+-- ---- how long
+
+each_short : (others : Bool) → all_below 64 (λ set. leb (length (flags_written set others)) (if others then 56 else 53)) ≡ true
+unfolding flags_written
+each_short true = refl
+each_short false = refl
+
+pub flags_written_well : (set : ℕ) → set < 64 → WrittenFlags set (flags_written set false)
+flags_written_well set lt = record {
+  spelled = flags_spelled set lt;
+  short = leb-true _ _ (one_below 64 (λ s. leb (length (flags_written s false)) 53) set (each_short false) lt);
+}
+
+short_by : (set : ℕ) (others : Bool) → set < 64 → length (flags_written set others) ≤ 56
+short_by set true lt = leb-true _ _ (one_below 64 (λ s. leb (length (flags_written s true)) 56) set (each_short true) lt)
+short_by set false lt = let l = leb-true (length (flags_written set false)) 53 (one_below 64 (λ s. leb (length (flags_written s false)) 53) set (each_short false) lt) in omega (arith, l)
+
+pub permanent_written_well : (set : ℕ) (others : Bool) → set < 64 → WrittenPermanentFlags (set, others) (flags_written set others)
+permanent_written_well set others lt = record { spelled = permanent_spelled set others lt; short = short_by set others lt }
 
 -- ---- the loop that writes
 

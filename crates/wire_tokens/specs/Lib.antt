@@ -3,5 +3,6 @@ pub mod Numbers
 pub mod Sets
 pub mod Atoms
 pub mod FlagLists
-pub mod FlagWriting
 pub mod Names
+pub mod FlagWriting
+pub mod Room
