@@ -5,3 +5,4 @@ pub mod MessageParts
 pub mod WrittenCommands
 pub mod MessageWaits
 pub mod CommandFeeds
+pub mod CommandsFit

@@ -6,3 +6,4 @@ pub mod RequestReaders
 pub mod Commands
 pub mod Writing
 pub mod Waiting
+pub mod Room

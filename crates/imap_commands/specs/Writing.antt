@@ -4,9 +4,9 @@ use Rattle.wire_reader.specs.Spelling.{◌⨾◌, Is, crlf}
 use Rattle.wire_reader.specs.Filled.{FilledLiteral}
 use Rattle.wire_tokens.specs.Atoms.{TagText}
 use Rattle.wire_strings.specs.Quotes.{QuotedText}
-use Rattle.wire_strings.specs.Strings.{OnEitherSide, ValueText}
+use Rattle.wire_strings.specs.Strings.{OnEitherSide, WrittenString}
 use Rattle.wire_tokens.specs.Names.{NamesText}
-use Rattle.wire_tokens.specs.FlagLists.{FlagsText}
+use Rattle.wire_tokens.specs.FlagWriting.{WrittenFlags}
 use Rattle.wire_tokens.specs.Sets.{SetText}
 use Rattle.imap_commands.specs.declared.command.Request.{Request}
 use Rattle.imap_commands.specs.declared.command.Request.TheVariants as requests
@@ -14,10 +14,11 @@ use Rattle.imap_commands.specs.declared.command.Command.{Command}
 use Rattle.imap_commands.specs.Verbs.{word_of}
 use Rattle.imap_commands.specs.Requests.{space, verb_of, items_word, mode_word}
 
--- an astring or a message without `+`, which only a command may have
+-- quoted where it can be, else a literal without `+`, behind whose length the sender waits
 abbrev pub WrittenText : List ℕ → List ℕ → Type 0
-WrittenText bytes = OnEitherSide (λ side. ValueText side bytes)
+WrittenText bytes text = WrittenString bytes text
 
+-- a literal without `+`
 abbrev pub WrittenMessage : List ℕ → List ℕ → Type 0
 WrittenMessage octets = OnEitherSide (λ side. FilledLiteral side octets)
 
@@ -31,9 +32,9 @@ WrittenRequest (requests.Enable names) = NamesText names ⨾ Is crlf
 WrittenRequest (requests.List pattern) = QuotedText pattern ⨾ Is crlf
 WrittenRequest (requests.Create mailbox) = WrittenText mailbox ⨾ Is crlf
 WrittenRequest (requests.Select mailbox) = WrittenText mailbox ⨾ Is crlf
-WrittenRequest (requests.Append mailbox flags message) = WrittenText mailbox ⨾ Is space ⨾ FlagsText flags ⨾ Is space ⨾ WrittenMessage message ⨾ Is crlf
+WrittenRequest (requests.Append mailbox flags message) = WrittenText mailbox ⨾ Is space ⨾ WrittenFlags flags ⨾ Is space ⨾ WrittenMessage message ⨾ Is crlf
 WrittenRequest (requests.Fetch set what) = SetText set ⨾ Is space ⨾ Is (items_word what) ⨾ Is crlf
-WrittenRequest (requests.Store set mode flags) = SetText set ⨾ Is space ⨾ Is (mode_word mode) ⨾ FlagsText flags ⨾ Is crlf
+WrittenRequest (requests.Store set mode flags) = SetText set ⨾ Is space ⨾ Is (mode_word mode) ⨾ WrittenFlags flags ⨾ Is crlf
 WrittenRequest (requests.Expunge set) = SetText set ⨾ Is crlf
 
 abbrev pub Written : Command → List ℕ → Type 0

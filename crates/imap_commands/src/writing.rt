@@ -3,6 +3,7 @@
 ghost use Rattle.std.specs.Prelude.{◌≡◌, length, take, OnOk, OnErr};
 ghost use Rattle.wire_tokens.specs.Writing.{Appended};
 ghost use Rattle.imap_commands.specs.Commands.{Spelled};
+ghost use Rattle.imap_commands.specs.Room.{Fitting, CommandsFit};
 ghost use Rattle.imap_commands.specs.Waiting.{AppendsWait};
 ghost use Rattle.imap_commands.specs.Writing.{Written};
 
@@ -20,6 +21,8 @@ pub fn write_command(command: &Command, out: &mut Vec<u8>) -> Result<(), AllocEr
     ensures ok { OnOk result (Appended (Spelled command.now) out.old.items out.new.items) }
     // In which form.
     ensures form { OnOk result (Appended (Written command.now) out.old.items out.new.items) }
+    // With how many bytes outside the octets of literals.
+    ensures fits { OnOk result (Appended (Fitting command.now) out.old.items out.new.items) }
     ensures err { OnErr result (out.new.items ≡ out.old.items) }
 {
     let start = out.len();
@@ -45,4 +48,9 @@ fn append_command(command: &Command, out: &mut Vec<u8>) -> Result<(), AllocError
 /// The message of an APPEND as it is written stands before its line end, and its sender waits before it.
 pub fn append_waits_for_its_message()
     ensures { AppendsWait }
+{}
+
+/// A command as it is written has at most so many bytes outside the octets of literals as its parts say.
+pub fn written_commands_fit()
+    ensures { CommandsFit }
 {}

@@ -22,7 +22,7 @@ use Rattle.wire_strings.specs.declared.astring.AString.{AString}
 use Rattle.wire_strings.specs.declared.astring.AString.TheVariants as astrings
 use Rattle.wire_strings.specs.Texts.{is_text}
 use Rattle.wire_strings.specs.Quotes.{is_special, escaped, QuotedText, RawText, quoted_at, raw_at}
-use Rattle.wire_strings.specs.Strings.{AStringText, StringText, StringBy, WrittenString}
+use Rattle.wire_strings.specs.Strings.{AStringText, StringText, ValueText, StringBy, WrittenString}
 use Rattle.wire_strings.specs.Room.{most_string, most_astring, most_literal}
 use Rattle.wire_strings.proofs.QuoteParts.{quoted_part, raw_part}
 
@@ -68,3 +68,12 @@ pub astring_fits : (a : AString) (t : List ℕ) → AStringText Replies a t → 
 astring_fits (astrings.Atom atom) t h = atom_fits atom t h
 astring_fits (astrings.Quoted raw) t h = raw_fits raw t h
 astring_fits (astrings.Literal octets) t h = literal_fits Replies octets t h
+
+-- ---- as a string of the bytes
+
+string_value : (b : Bool) (side : Side) (value t : List ℕ) → StringBy b value t → ValueText side value t
+string_value true side value t h = inr (inl h)
+string_value false side value t h = inr (inr (h side))
+
+pub written_value : (side : Side) (value t : List ℕ) → WrittenString value t → ValueText side value t
+written_value side value t h = string_value (list_all is_text value) side value t h

@@ -4,7 +4,7 @@ ghost use Rattle.std.specs.Prelude.{◌≡◌, IfOk, OnOk, OnErr};
 ghost use Rattle.std.specs.Option.{SomeIff};
 ghost use Rattle.wire_reader.specs.Given.{GivesOr};
 ghost use Rattle.wire_strings.specs.Literals.{IsValue};
-ghost use Rattle.wire_strings.specs.Strings.{OnEitherSide, ValueText, WrittenString, value_of, value_at};
+ghost use Rattle.wire_strings.specs.Strings.{WrittenString, value_of, value_at};
 ghost use Rattle.wire_tokens.specs.Writing.{Appended};
 
 use crate::astring::{AString, read_astring};
@@ -72,9 +72,7 @@ impl Text {
     ///
     /// `AllocError`: memory ran out, and nothing is written.
     pub fn write(&self, out: &mut Vec<u8>) -> Result<(), AllocError>
-        ensures ok { OnOk result (Appended (OnEitherSide (λ side. ValueText side self.now)) out.old.items out.new.items) }
-        // In which form.
-        ensures form { OnOk result (Appended (WrittenString self.now) out.old.items out.new.items) }
+        ensures ok { OnOk result (Appended (WrittenString self.now) out.old.items out.new.items) }
         ensures err { OnErr result (out.new.items ≡ out.old.items) }
     {
         if all_text(&self.bytes) {
