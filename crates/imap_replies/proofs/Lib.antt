@@ -13,3 +13,4 @@ pub mod ListParts
 pub mod UntaggedParts
 pub mod WrittenReplies
 pub mod ReplyFeeds
+pub mod RepliesFit

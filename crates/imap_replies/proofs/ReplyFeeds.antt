@@ -3,6 +3,7 @@ use Rattle.std.proofs.Common.{ℕ, List, ◌∷◌, [], codes, Option, None, Som
 use Rattle.wire_reader.specs.Spelling.{Word, crlf}
 use Rattle.wire_reader.proofs.Feeds.{EndsFeed, line_feed, crlf_feed, then_feed}
 use Rattle.wire_strings.specs.Texts.{LastText}
+use Rattle.imap_replies.specs.Forms.{AsRead}
 use Rattle.imap_replies.specs.declared.response.ResponseText.{ResponseText}
 use Rattle.imap_replies.specs.declared.response.ResponseText.TheVariants as responses
 use Rattle.imap_replies.specs.declared.reply.Reply.{Reply}
@@ -14,7 +15,7 @@ use Rattle.imap_replies.specs.Replies.{NamesLine, ReplyText}
 last_feed : (a text : List ℕ) → LastText a text → EndsFeed text
 last_feed a text h = line_feed a text h.0
 
-response_feed : (response : ResponseText) (text : List ℕ) → ResponseIn Word response text → EndsFeed text
+response_feed : (response : ResponseText) (text : List ℕ) → ResponseIn AsRead response text → EndsFeed text
 response_feed (responses.Plain a) text h = line_feed a text h.0
 response_feed (responses.Coded code a) text h = then_feed (then_feed (then_feed (last_feed a))) text h
 

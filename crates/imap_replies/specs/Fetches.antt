@@ -11,30 +11,31 @@ use Rattle.wire_tokens.specs.Atoms.{is_atom_byte}
 use Rattle.wire_tokens.specs.Numbers.{NumberText, NzText, number_at, nz_at}
 use Rattle.wire_strings.specs.Strings.{NStringText, nstring_at}
 use Rattle.wire_tokens.specs.FlagLists.{FlagsText, flags_at}
+use Rattle.imap_replies.specs.Forms.{Form, AsRead, WordIn, FlagsIn}
 use Rattle.imap_replies.specs.declared.word.ItemWord.{ItemWord}
 use Rattle.imap_replies.specs.declared.word.ItemWord.TheVariants as words
 use Rattle.imap_replies.specs.declared.fetch.FetchItem.{FetchItem}
 use Rattle.imap_replies.specs.declared.fetch.FetchItem.TheVariants as items
 use Rattle.imap_replies.specs.Words.{item_word, later_item_words}
 
--- `W` says how words stand there
-abbrev pub ItemIn : (List ℕ → List ℕ → Type 0) → FetchItem → List ℕ → Type 0
-ItemIn W (items.Uid n) = W (item_word words.Uid) ⨾ NzText n
-ItemIn W (items.Flags flags) = W (item_word words.Flags) ⨾ FlagsText flags
-ItemIn W (items.Size n) = W (item_word words.Size) ⨾ NumberText n
-ItemIn W (items.Body string) = W (item_word words.Body) ⨾ NStringText Replies string
-ItemIn W (items.Head string) = W (item_word words.Head) ⨾ NStringText Replies string
+-- `F` says in which form
+abbrev pub ItemIn : Form → FetchItem → List ℕ → Type 0
+ItemIn F (items.Uid n) = WordIn F (item_word words.Uid) ⨾ NzText n
+ItemIn F (items.Flags flags) = WordIn F (item_word words.Flags) ⨾ FlagsIn F flags
+ItemIn F (items.Size n) = WordIn F (item_word words.Size) ⨾ NumberText n
+ItemIn F (items.Body string) = WordIn F (item_word words.Body) ⨾ NStringText Replies string
+ItemIn F (items.Head string) = WordIn F (item_word words.Head) ⨾ NStringText Replies string
 
 -- behind FETCH: the items in brackets, and the line end
-abbrev pub FetchIn : (List ℕ → List ℕ → Type 0) → List FetchItem → List ℕ → Type 0
-FetchIn W list = Is (codes " (") ⨾ ItemsText 32 (ItemIn W) list ⨾ Is (codes ")") ⨾ Is crlf
+abbrev pub FetchIn : Form → List FetchItem → List ℕ → Type 0
+FetchIn F list = Is (codes " (") ⨾ ItemsText 32 (ItemIn F) list ⨾ Is (codes ")") ⨾ Is crlf
 
 -- words in any case
 abbrev pub ItemText : FetchItem → List ℕ → Type 0
-ItemText item text = ItemIn Word item text
+ItemText item text = ItemIn AsRead item text
 
 abbrev pub FetchLine : List FetchItem → List ℕ → Type 0
-FetchLine list text = FetchIn Word list text
+FetchLine list text = FetchIn AsRead list text
 
 -- ---- how they are read: each item ends before the first byte that is no atom's
 

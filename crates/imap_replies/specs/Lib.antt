@@ -1,3 +1,4 @@
+pub mod Forms
 pub mod Words
 pub mod Others
 pub mod Heads
@@ -7,3 +8,4 @@ pub mod Fetches
 pub mod Listings
 pub mod Replies
 pub mod ReplyReading
+pub mod Room

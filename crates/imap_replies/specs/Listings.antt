@@ -9,25 +9,26 @@ use Rattle.wire_strings.specs.declared.astring.AString.{AString}
 use Rattle.wire_strings.specs.Delimiters.{DelimiterText, delimiter_at}
 use Rattle.wire_strings.specs.Strings.{AStringText, astring_at}
 use Rattle.wire_tokens.specs.FlagLists.{AttributesText, attributes_at}
+use Rattle.imap_replies.specs.Forms.{Form, AsRead, WordIn}
 
--- a quoted string of one byte, or NIL; `W` says how words stand there
-abbrev pub MarkIn : (List ℕ → List ℕ → Type 0) → Option ℕ → List ℕ → Type 0
-MarkIn W None text = W (codes "NIL") text
-MarkIn W (Some c) text = DelimiterText c text
+-- a quoted string of one byte, or NIL; `F` says in which form
+abbrev pub MarkIn : Form → Option ℕ → List ℕ → Type 0
+MarkIn F None text = WordIn F (codes "NIL") text
+MarkIn F (Some c) text = DelimiterText c text
 
 abbrev pub ListValue : Type 0
 ListValue = List (List ℕ) × (Option ℕ × AString)
 
 -- behind LIST
-abbrev pub ListIn : (List ℕ → List ℕ → Type 0) → List (List ℕ) → Option ℕ → AString → List ℕ → Type 0
-ListIn W attributes delimiter name = Is (codes " ") ⨾ AttributesText attributes ⨾ Is (codes " ") ⨾ MarkIn W delimiter ⨾ Is (codes " ") ⨾ AStringText Replies name ⨾ Is crlf
+abbrev pub ListIn : Form → List (List ℕ) → Option ℕ → AString → List ℕ → Type 0
+ListIn F attributes delimiter name = Is (codes " ") ⨾ AttributesText attributes ⨾ Is (codes " ") ⨾ MarkIn F delimiter ⨾ Is (codes " ") ⨾ AStringText Replies name ⨾ Is crlf
 
 -- words in any case
 abbrev pub MarkText : Option ℕ → List ℕ → Type 0
-MarkText mark text = MarkIn Word mark text
+MarkText mark text = MarkIn AsRead mark text
 
 abbrev pub ListLine : List (List ℕ) → Option ℕ → AString → List ℕ → Type 0
-ListLine attributes delimiter name text = ListIn Word attributes delimiter name text
+ListLine attributes delimiter name text = ListIn AsRead attributes delimiter name text
 
 -- ---- how they are read
 

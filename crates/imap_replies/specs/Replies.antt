@@ -8,6 +8,7 @@ use Rattle.wire_tokens.specs.Numbers.{NumberText, NzText}
 use Rattle.wire_strings.specs.Texts.{LastText}
 use Rattle.wire_tokens.specs.Names.{NamesText}
 use Rattle.wire_tokens.specs.FlagLists.{FlagsText}
+use Rattle.imap_replies.specs.Forms.{Form, AsRead, AsWritten, WordIn, FlagsIn}
 use Rattle.imap_replies.specs.declared.word.ReplyWord.TheVariants as words
 use Rattle.imap_replies.specs.declared.word.EventWord.TheVariants as events
 use Rattle.imap_replies.specs.declared.reply.Reply.{Reply}
@@ -29,28 +30,28 @@ OtherWordText a text = (text ≡ a) × IsOtherWord a
 abbrev pub OtherEventText : List ℕ → List ℕ → Type 0
 OtherEventText a text = (text ≡ a) × IsOtherEvent a
 
--- `W` says how words stand there
-abbrev pub ReplyIn : (List ℕ → List ℕ → Type 0) → Reply → List ℕ → Type 0
-ReplyIn W (Continue text) = Is (codes "+ ") ⨾ LastText text
-ReplyIn W (Tagged tag status text) = TagText tag ⨾ Is (codes " ") ⨾ W (status_word status) ⨾ Is (codes " ") ⨾ ResponseIn W text
-ReplyIn W (Notice kind text) = Is (codes "* ") ⨾ W (notice_word kind) ⨾ Is (codes " ") ⨾ ResponseIn W text
-ReplyIn W (Capability names) = Is (codes "* ") ⨾ W (reply_word words.Capability) ⨾ RestText crlf NamesLine names
-ReplyIn W (Enabled names) = Is (codes "* ") ⨾ W (reply_word words.Enabled) ⨾ RestText crlf NamesLine names
-ReplyIn W (Listed attributes delimiter name) = Is (codes "* ") ⨾ W (reply_word words.List) ⨾ ListIn W attributes delimiter name
-ReplyIn W (Flags flags) = Is (codes "* ") ⨾ W (reply_word words.Flags) ⨾ Is (codes " ") ⨾ FlagsText flags ⨾ Is crlf
-ReplyIn W (Exists n) = Is (codes "* ") ⨾ NumberText n ⨾ Is (codes " ") ⨾ W (event_word events.Exists) ⨾ Is crlf
-ReplyIn W (Expunge n) = Is (codes "* ") ⨾ NzText n ⨾ Is (codes " ") ⨾ W (event_word events.Expunge) ⨾ Is crlf
-ReplyIn W (Fetch n items) = Is (codes "* ") ⨾ NzText n ⨾ Is (codes " ") ⨾ W (event_word events.Fetch) ⨾ FetchIn W items
-ReplyIn W (Other word text) = Is (codes "* ") ⨾ OtherWordText word ⨾ RestText crlf LastText text
-ReplyIn W (OtherNumbered n event text) = Is (codes "* ") ⨾ NumberText n ⨾ Is (codes " ") ⨾ OtherEventText event ⨾ RestText crlf LastText text
+-- `F` says in which form
+abbrev pub ReplyIn : Form → Reply → List ℕ → Type 0
+ReplyIn F (Continue text) = Is (codes "+ ") ⨾ LastText text
+ReplyIn F (Tagged tag status text) = TagText tag ⨾ Is (codes " ") ⨾ WordIn F (status_word status) ⨾ Is (codes " ") ⨾ ResponseIn F text
+ReplyIn F (Notice kind text) = Is (codes "* ") ⨾ WordIn F (notice_word kind) ⨾ Is (codes " ") ⨾ ResponseIn F text
+ReplyIn F (Capability names) = Is (codes "* ") ⨾ WordIn F (reply_word words.Capability) ⨾ RestText crlf NamesLine names
+ReplyIn F (Enabled names) = Is (codes "* ") ⨾ WordIn F (reply_word words.Enabled) ⨾ RestText crlf NamesLine names
+ReplyIn F (Listed attributes delimiter name) = Is (codes "* ") ⨾ WordIn F (reply_word words.List) ⨾ ListIn F attributes delimiter name
+ReplyIn F (Flags flags) = Is (codes "* ") ⨾ WordIn F (reply_word words.Flags) ⨾ Is (codes " ") ⨾ FlagsIn F flags ⨾ Is crlf
+ReplyIn F (Exists n) = Is (codes "* ") ⨾ NumberText n ⨾ Is (codes " ") ⨾ WordIn F (event_word events.Exists) ⨾ Is crlf
+ReplyIn F (Expunge n) = Is (codes "* ") ⨾ NzText n ⨾ Is (codes " ") ⨾ WordIn F (event_word events.Expunge) ⨾ Is crlf
+ReplyIn F (Fetch n items) = Is (codes "* ") ⨾ NzText n ⨾ Is (codes " ") ⨾ WordIn F (event_word events.Fetch) ⨾ FetchIn F items
+ReplyIn F (Other word text) = Is (codes "* ") ⨾ OtherWordText word ⨾ RestText crlf LastText text
+ReplyIn F (OtherNumbered n event text) = Is (codes "* ") ⨾ NumberText n ⨾ Is (codes " ") ⨾ OtherEventText event ⨾ RestText crlf LastText text
 
 -- a reply, with its words in any case
 abbrev pub ReplyText : Reply → List ℕ → Type 0
-ReplyText reply text = ReplyIn Word reply text
+ReplyText reply text = ReplyIn AsRead reply text
 
 -- as it is written, with its words in upper case
 abbrev pub WrittenReply : Reply → List ℕ → Type 0
-WrittenReply reply text = ReplyIn Is reply text
+WrittenReply reply text = ReplyIn AsWritten reply text
 
 -- contracts see a reply as it is, with the bytes of its texts
 abbrev pub seen : Reply → Reply

@@ -6,6 +6,7 @@ use Rattle.wire_reader.specs.Reading.{seq, mapped, skip, keep, both, by_first, b
 use Rattle.wire_tokens.specs.Numbers.{NzText, nz_at}
 use Rattle.wire_strings.specs.Texts.{LastText, PlainLine, BracketText, last_text_at, plain_text_at, code_text_at}
 use Rattle.wire_tokens.specs.FlagLists.{PermanentFlagsText, permanent_flags_at}
+use Rattle.imap_replies.specs.Forms.{Form, AsRead, WordIn, PermanentFlagsIn}
 use Rattle.imap_replies.specs.declared.word.CodeWord.TheVariants as words
 use Rattle.imap_replies.specs.declared.word.CodeWord.{CodeWord}
 use Rattle.imap_replies.specs.declared.code_head.CodeHead.{CodeHead}
@@ -25,27 +26,27 @@ sp = 32 ∷ []
 abbrev pub OtherCodeText : List ℕ → List ℕ → Type 0
 OtherCodeText a text = (text ≡ a) × IsOtherCode a
 
--- a code behind its `[`, up to and with `]`; `W` says how words stand there
-abbrev pub CodeIn : (List ℕ → List ℕ → Type 0) → Code → List ℕ → Type 0
-CodeIn W (code.UidNext n) = W (code_word words.UidNext) ⨾ Is sp ⨾ NzText n ⨾ Is (codes "]")
-CodeIn W (code.UidValidity n) = W (code_word words.UidValidity) ⨾ Is sp ⨾ NzText n ⨾ Is (codes "]")
-CodeIn W (code.PermanentFlags flags others) = W (code_word words.PermanentFlags) ⨾ Is sp ⨾ PermanentFlagsText (flags, others) ⨾ Is (codes "]")
-CodeIn W (code.AppendUid validity uid) = W (code_word words.AppendUid) ⨾ Is sp ⨾ NzText validity ⨾ Is sp ⨾ NzText uid ⨾ Is (codes "]")
-CodeIn W code.ReadOnly = W (code_word words.ReadOnly) ⨾ Is (codes "]")
-CodeIn W code.ReadWrite = W (code_word words.ReadWrite) ⨾ Is (codes "]")
-CodeIn W (code.Other a text) = OtherCodeText a ⨾ RestText (codes "]") BracketText text
+-- a code behind its `[`, up to and with `]`; `F` says in which form
+abbrev pub CodeIn : Form → Code → List ℕ → Type 0
+CodeIn F (code.UidNext n) = WordIn F (code_word words.UidNext) ⨾ Is sp ⨾ NzText n ⨾ Is (codes "]")
+CodeIn F (code.UidValidity n) = WordIn F (code_word words.UidValidity) ⨾ Is sp ⨾ NzText n ⨾ Is (codes "]")
+CodeIn F (code.PermanentFlags flags others) = WordIn F (code_word words.PermanentFlags) ⨾ Is sp ⨾ PermanentFlagsIn F (flags, others) ⨾ Is (codes "]")
+CodeIn F (code.AppendUid validity uid) = WordIn F (code_word words.AppendUid) ⨾ Is sp ⨾ NzText validity ⨾ Is sp ⨾ NzText uid ⨾ Is (codes "]")
+CodeIn F code.ReadOnly = WordIn F (code_word words.ReadOnly) ⨾ Is (codes "]")
+CodeIn F code.ReadWrite = WordIn F (code_word words.ReadWrite) ⨾ Is (codes "]")
+CodeIn F (code.Other a text) = OtherCodeText a ⨾ RestText (codes "]") BracketText text
 
 -- the text of a status reply, with its line end
-abbrev pub ResponseIn : (List ℕ → List ℕ → Type 0) → ResponseText → List ℕ → Type 0
-ResponseIn W (responses.Plain text) = PlainLine text
-ResponseIn W (responses.Coded code text) = Is (codes "[") ⨾ CodeIn W code ⨾ Is sp ⨾ LastText text
+abbrev pub ResponseIn : Form → ResponseText → List ℕ → Type 0
+ResponseIn F (responses.Plain text) = PlainLine text
+ResponseIn F (responses.Coded code text) = Is (codes "[") ⨾ CodeIn F code ⨾ Is sp ⨾ LastText text
 
 -- words in any case
 abbrev pub CodeSpelling : Code → List ℕ → Type 0
-CodeSpelling code text = CodeIn Word code text
+CodeSpelling code text = CodeIn AsRead code text
 
 abbrev pub ResponseLine : ResponseText → List ℕ → Type 0
-ResponseLine response text = ResponseIn Word response text
+ResponseLine response text = ResponseIn AsRead response text
 
 -- ---- how they are read
 

@@ -5,6 +5,7 @@ ghost use Rattle.wire_reader.specs.declared.side.Side.TheVariants.{Replies};
 ghost use Rattle.wire_reader.specs.Spelling.{◌⨾◌, Is, Word, ItemsText};
 ghost use Rattle.wire_tokens.specs.Writing.{Appended};
 ghost use Rattle.wire_strings.specs.Strings.{NStringText};
+ghost use Rattle.imap_replies.specs.Forms.{AsWritten};
 ghost use Rattle.imap_replies.specs.declared.fetch.FetchItem.TheVariants as items;
 ghost use Rattle.imap_replies.specs.Fetches.{ItemIn, FetchIn};
 
@@ -18,7 +19,7 @@ use wire_tokens::number::{NonZero, write_number};
 
 /// Writes what stands behind FETCH, with the line end.
 pub(crate) fn append_fetch(list: &FetchList<'_>, out: &mut Vec<u8>) -> Result<(), AllocError>
-    ensures ok { OnOk result (Appended (FetchIn Is list.now) out.old.items out.new.items) }
+    ensures ok { OnOk result (Appended (FetchIn AsWritten list.now) out.old.items out.new.items) }
     ensures kept { OnErr result (take (length out.old.items) out.new.items ≡ out.old.items) }
 {
     append(b" (", out)?;
@@ -31,7 +32,7 @@ pub(crate) fn append_fetch(list: &FetchList<'_>, out: &mut Vec<u8>) -> Result<()
 /// Writes the items, with spaces between.
 fn append_items(items: &[FetchItem<'_>], out: &mut Vec<u8>) -> Result<(), AllocError>
     requires { 0 < length items.now }
-    ensures ok { OnOk result (Appended (ItemsText 32 (ItemIn Is) items.now) out.old.items out.new.items) }
+    ensures ok { OnOk result (Appended (ItemsText 32 (ItemIn AsWritten) items.now) out.old.items out.new.items) }
     ensures kept { OnErr result (take (length out.old.items) out.new.items ≡ out.old.items) }
 {
     for (i, item) in items.iter().enumerate() {
@@ -44,7 +45,7 @@ fn append_items(items: &[FetchItem<'_>], out: &mut Vec<u8>) -> Result<(), AllocE
 }
 
 fn append_item(item: &FetchItem<'_>, out: &mut Vec<u8>) -> Result<(), AllocError>
-    ensures ok { OnOk result (Appended (ItemIn Is item.now) out.old.items out.new.items) }
+    ensures ok { OnOk result (Appended (ItemIn AsWritten item.now) out.old.items out.new.items) }
     ensures kept { OnErr result (take (length out.old.items) out.new.items ≡ out.old.items) }
 {
     match item {
@@ -57,7 +58,7 @@ fn append_item(item: &FetchItem<'_>, out: &mut Vec<u8>) -> Result<(), AllocError
 }
 
 fn append_uid(uid: &NonZero, out: &mut Vec<u8>) -> Result<(), AllocError>
-    ensures ok { OnOk result (Appended (ItemIn Is (items.Uid uid.now)) out.old.items out.new.items) }
+    ensures ok { OnOk result (Appended (ItemIn AsWritten (items.Uid uid.now)) out.old.items out.new.items) }
     ensures kept { OnErr result (take (length out.old.items) out.new.items ≡ out.old.items) }
 {
     append(b"UID ", out)?;
@@ -66,7 +67,7 @@ fn append_uid(uid: &NonZero, out: &mut Vec<u8>) -> Result<(), AllocError>
 }
 
 fn append_flags(flags: &FlagSet, out: &mut Vec<u8>) -> Result<(), AllocError>
-    ensures ok { OnOk result (Appended (ItemIn Is (items.Flags flags.now)) out.old.items out.new.items) }
+    ensures ok { OnOk result (Appended (ItemIn AsWritten (items.Flags flags.now)) out.old.items out.new.items) }
     ensures kept { OnErr result (take (length out.old.items) out.new.items ≡ out.old.items) }
 {
     append(b"FLAGS ", out)?;
@@ -75,7 +76,7 @@ fn append_flags(flags: &FlagSet, out: &mut Vec<u8>) -> Result<(), AllocError>
 }
 
 fn append_size(size: u32, out: &mut Vec<u8>) -> Result<(), AllocError>
-    ensures ok { OnOk result (Appended (ItemIn Is (items.Size size)) out.old.items out.new.items) }
+    ensures ok { OnOk result (Appended (ItemIn AsWritten (items.Size size)) out.old.items out.new.items) }
     ensures kept { OnErr result (take (length out.old.items) out.new.items ≡ out.old.items) }
 {
     append(b"RFC822.SIZE ", out)?;

@@ -4,8 +4,8 @@ ghost use Rattle.std.specs.Prelude.{◌≡◌, length, take, codes, OnOk, OnErr}
 ghost use Rattle.wire_reader.specs.Spelling.{◌⨾◌, Is};
 ghost use Rattle.wire_tokens.specs.Writing.{Appended};
 ghost use Rattle.wire_tokens.specs.Numbers.{NzText};
-ghost use Rattle.wire_tokens.specs.FlagLists.{PermanentFlagsText};
 ghost use Rattle.wire_strings.specs.Texts.{BracketText};
+ghost use Rattle.imap_replies.specs.Forms.{AsWritten};
 ghost use Rattle.imap_replies.specs.declared.response.ResponseText.TheVariants as responses;
 ghost use Rattle.imap_replies.specs.declared.response.Code.TheVariants as code;
 ghost use Rattle.imap_replies.specs.Lines.{RestText};
@@ -23,7 +23,7 @@ use wire_tokens::number::NonZero;
 
 /// Writes the text of a status reply, with the line end.
 pub(crate) fn append_response(text: &ResponseText<'_>, out: &mut Vec<u8>) -> Result<(), AllocError>
-    ensures ok { OnOk result (Appended (ResponseIn Is text.now) out.old.items out.new.items) }
+    ensures ok { OnOk result (Appended (ResponseIn AsWritten text.now) out.old.items out.new.items) }
     ensures kept { OnErr result (take (length out.old.items) out.new.items ≡ out.old.items) }
 {
     match text {
@@ -33,7 +33,7 @@ pub(crate) fn append_response(text: &ResponseText<'_>, out: &mut Vec<u8>) -> Res
 }
 
 fn append_coded(code: &Code<'_>, text: &LineText<'_>, out: &mut Vec<u8>) -> Result<(), AllocError>
-    ensures ok { OnOk result (Appended (ResponseIn Is (responses.Coded code.now text.now)) out.old.items out.new.items) }
+    ensures ok { OnOk result (Appended (ResponseIn AsWritten (responses.Coded code.now text.now)) out.old.items out.new.items) }
     ensures kept { OnErr result (take (length out.old.items) out.new.items ≡ out.old.items) }
 {
     append(b"[", out)?;
@@ -45,7 +45,7 @@ fn append_coded(code: &Code<'_>, text: &LineText<'_>, out: &mut Vec<u8>) -> Resu
 
 /// Writes a code behind its `[`, up to and with `]`.
 fn append_code(code: &Code<'_>, out: &mut Vec<u8>) -> Result<(), AllocError>
-    ensures ok { OnOk result (Appended (CodeIn Is code.now) out.old.items out.new.items) }
+    ensures ok { OnOk result (Appended (CodeIn AsWritten code.now) out.old.items out.new.items) }
     ensures kept { OnErr result (take (length out.old.items) out.new.items ≡ out.old.items) }
 {
     match code {
@@ -82,7 +82,7 @@ fn append_uid(word: &[u8], uid: &NonZero, out: &mut Vec<u8>) -> Result<(), Alloc
 }
 
 fn append_permanent(flags: &FlagSet, others: bool, out: &mut Vec<u8>) -> Result<(), AllocError>
-    ensures ok { OnOk result (Appended (CodeIn Is (code.PermanentFlags flags.now others)) out.old.items out.new.items) }
+    ensures ok { OnOk result (Appended (CodeIn AsWritten (code.PermanentFlags flags.now others)) out.old.items out.new.items) }
     ensures kept { OnErr result (take (length out.old.items) out.new.items ≡ out.old.items) }
 {
     append(b"PERMANENTFLAGS", out)?;
@@ -93,7 +93,7 @@ fn append_permanent(flags: &FlagSet, others: bool, out: &mut Vec<u8>) -> Result<
 }
 
 fn append_two(validity: &NonZero, uid: &NonZero, out: &mut Vec<u8>) -> Result<(), AllocError>
-    ensures ok { OnOk result (Appended (CodeIn Is (code.AppendUid validity.now uid.now)) out.old.items out.new.items) }
+    ensures ok { OnOk result (Appended (CodeIn AsWritten (code.AppendUid validity.now uid.now)) out.old.items out.new.items) }
     ensures kept { OnErr result (take (length out.old.items) out.new.items ≡ out.old.items) }
 {
     append(b"APPENDUID", out)?;
@@ -110,7 +110,7 @@ fn append_other(
     text: &Option<CodeText<'_>>,
     out: &mut Vec<u8>,
 ) -> Result<(), AllocError>
-    ensures ok { OnOk result (Appended (CodeIn Is (code.Other word.now text.now)) out.old.items out.new.items) }
+    ensures ok { OnOk result (Appended (CodeIn AsWritten (code.Other word.now text.now)) out.old.items out.new.items) }
     ensures kept { OnErr result (take (length out.old.items) out.new.items ≡ out.old.items) }
 {
     append(word.text(), out)?;

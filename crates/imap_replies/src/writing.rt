@@ -4,11 +4,13 @@ ghost use Rattle.std.specs.Prelude.{◌≡◌, length, take, codes, OnOk, OnErr}
 ghost use Rattle.wire_reader.specs.Spelling.{◌⨾◌, Is, crlf};
 ghost use Rattle.wire_tokens.specs.Writing.{Appended};
 ghost use Rattle.wire_strings.specs.Texts.{LastText};
+ghost use Rattle.imap_replies.specs.Forms.{AsWritten};
 ghost use Rattle.imap_replies.specs.declared.reply.Reply.TheVariants as replies;
 ghost use Rattle.imap_replies.specs.Words.{status_word, notice_word};
 ghost use Rattle.imap_replies.specs.Lines.{RestText};
 ghost use Rattle.imap_replies.specs.Listings.{MarkIn};
 ghost use Rattle.imap_replies.specs.Replies.{NamesLine, ReplyIn, ReplyText, WrittenReply};
+ghost use Rattle.imap_replies.specs.Room.{Fitting, RepliesFit};
 
 use crate::fetch::FetchList;
 use crate::fetch_writing::append_fetch;
@@ -35,6 +37,8 @@ pub fn write_reply(reply: &Reply<'_>, out: &mut Vec<u8>) -> Result<(), AllocErro
     ensures ok { OnOk result (Appended (ReplyText reply.now) out.old.items out.new.items) }
     // In which form.
     ensures form { OnOk result (Appended (WrittenReply reply.now) out.old.items out.new.items) }
+    // With how many bytes outside the octets of literals.
+    ensures fits { OnOk result (Appended (Fitting reply.now) out.old.items out.new.items) }
     ensures err { OnErr result (out.new.items ≡ out.old.items) }
 {
     let start = out.len();
@@ -47,7 +51,7 @@ pub fn write_reply(reply: &Reply<'_>, out: &mut Vec<u8>) -> Result<(), AllocErro
 
 /// The same; where memory runs out, a part may be written.
 fn append_reply(reply: &Reply<'_>, out: &mut Vec<u8>) -> Result<(), AllocError>
-    ensures ok { OnOk result (Appended (ReplyIn Is reply.now) out.old.items out.new.items) }
+    ensures ok { OnOk result (Appended (ReplyIn AsWritten reply.now) out.old.items out.new.items) }
     ensures kept { OnErr result (take (length out.old.items) out.new.items ≡ out.old.items) }
 {
     match reply {
@@ -67,7 +71,7 @@ fn append_reply(reply: &Reply<'_>, out: &mut Vec<u8>) -> Result<(), AllocError>
 }
 
 fn append_continue(text: &LineText<'_>, out: &mut Vec<u8>) -> Result<(), AllocError>
-    ensures ok { OnOk result (Appended (ReplyIn Is (replies.Continue text.now)) out.old.items out.new.items) }
+    ensures ok { OnOk result (Appended (ReplyIn AsWritten (replies.Continue text.now)) out.old.items out.new.items) }
     ensures kept { OnErr result (take (length out.old.items) out.new.items ≡ out.old.items) }
 {
     append(b"+ ", out)?;
@@ -81,7 +85,7 @@ fn append_tagged(
     text: &ResponseText<'_>,
     out: &mut Vec<u8>,
 ) -> Result<(), AllocError>
-    ensures ok { OnOk result (Appended (ReplyIn Is (replies.Tagged tag.now status text.now)) out.old.items out.new.items) }
+    ensures ok { OnOk result (Appended (ReplyIn AsWritten (replies.Tagged tag.now status text.now)) out.old.items out.new.items) }
     ensures kept { OnErr result (take (length out.old.items) out.new.items ≡ out.old.items) }
 {
     tag.write(out)?;
@@ -108,7 +112,7 @@ fn append_notice(
     text: &ResponseText<'_>,
     out: &mut Vec<u8>,
 ) -> Result<(), AllocError>
-    ensures ok { OnOk result (Appended (ReplyIn Is (replies.Notice kind text.now)) out.old.items out.new.items) }
+    ensures ok { OnOk result (Appended (ReplyIn AsWritten (replies.Notice kind text.now)) out.old.items out.new.items) }
     ensures kept { OnErr result (take (length out.old.items) out.new.items ≡ out.old.items) }
 {
     append(b"* ", out)?;
@@ -163,7 +167,7 @@ fn append_list(
     name: &AString<'_>,
     out: &mut Vec<u8>,
 ) -> Result<(), AllocError>
-    ensures ok { OnOk result (Appended (ReplyIn Is (replies.List attributes.now delimiter.now name.now)) out.old.items out.new.items) }
+    ensures ok { OnOk result (Appended (ReplyIn AsWritten (replies.List attributes.now delimiter.now name.now)) out.old.items out.new.items) }
     ensures kept { OnErr result (take (length out.old.items) out.new.items ≡ out.old.items) }
 {
     append(b"* ", out)?;
@@ -179,7 +183,7 @@ fn append_list(
 }
 
 fn append_mark(delimiter: &Option<Delimiter>, out: &mut Vec<u8>) -> Result<(), AllocError>
-    ensures ok { OnOk result (Appended (MarkIn Is delimiter.now) out.old.items out.new.items) }
+    ensures ok { OnOk result (Appended (MarkIn AsWritten delimiter.now) out.old.items out.new.items) }
     ensures err { OnErr result (out.new.items ≡ out.old.items) }
 {
     match delimiter {
@@ -189,7 +193,7 @@ fn append_mark(delimiter: &Option<Delimiter>, out: &mut Vec<u8>) -> Result<(), A
 }
 
 fn append_flags(flags: &FlagSet, out: &mut Vec<u8>) -> Result<(), AllocError>
-    ensures ok { OnOk result (Appended (ReplyIn Is (replies.Flags flags.now)) out.old.items out.new.items) }
+    ensures ok { OnOk result (Appended (ReplyIn AsWritten (replies.Flags flags.now)) out.old.items out.new.items) }
     ensures kept { OnErr result (take (length out.old.items) out.new.items ≡ out.old.items) }
 {
     append(b"* ", out)?;
@@ -201,7 +205,7 @@ fn append_flags(flags: &FlagSet, out: &mut Vec<u8>) -> Result<(), AllocError>
 }
 
 fn append_exists(number: u32, out: &mut Vec<u8>) -> Result<(), AllocError>
-    ensures ok { OnOk result (Appended (ReplyIn Is (replies.Exists number)) out.old.items out.new.items) }
+    ensures ok { OnOk result (Appended (ReplyIn AsWritten (replies.Exists number)) out.old.items out.new.items) }
     ensures kept { OnErr result (take (length out.old.items) out.new.items ≡ out.old.items) }
 {
     append(b"* ", out)?;
@@ -213,7 +217,7 @@ fn append_exists(number: u32, out: &mut Vec<u8>) -> Result<(), AllocError>
 }
 
 fn append_expunge(number: &NonZero, out: &mut Vec<u8>) -> Result<(), AllocError>
-    ensures ok { OnOk result (Appended (ReplyIn Is (replies.Expunge number.now)) out.old.items out.new.items) }
+    ensures ok { OnOk result (Appended (ReplyIn AsWritten (replies.Expunge number.now)) out.old.items out.new.items) }
     ensures kept { OnErr result (take (length out.old.items) out.new.items ≡ out.old.items) }
 {
     append(b"* ", out)?;
@@ -230,7 +234,7 @@ fn append_message(
     items: &FetchList<'_>,
     out: &mut Vec<u8>,
 ) -> Result<(), AllocError>
-    ensures ok { OnOk result (Appended (ReplyIn Is (replies.Fetch number.now items.now)) out.old.items out.new.items) }
+    ensures ok { OnOk result (Appended (ReplyIn AsWritten (replies.Fetch number.now items.now)) out.old.items out.new.items) }
     ensures kept { OnErr result (take (length out.old.items) out.new.items ≡ out.old.items) }
 {
     append(b"* ", out)?;
@@ -246,7 +250,7 @@ fn append_other(
     text: &Option<LineText<'_>>,
     out: &mut Vec<u8>,
 ) -> Result<(), AllocError>
-    ensures ok { OnOk result (Appended (ReplyIn Is (replies.Other word.now text.now)) out.old.items out.new.items) }
+    ensures ok { OnOk result (Appended (ReplyIn AsWritten (replies.Other word.now text.now)) out.old.items out.new.items) }
     ensures kept { OnErr result (take (length out.old.items) out.new.items ≡ out.old.items) }
 {
     append(b"* ", out)?;
@@ -261,7 +265,7 @@ fn append_event(
     text: &Option<LineText<'_>>,
     out: &mut Vec<u8>,
 ) -> Result<(), AllocError>
-    ensures ok { OnOk result (Appended (ReplyIn Is (replies.OtherNumbered number event.now text.now)) out.old.items out.new.items) }
+    ensures ok { OnOk result (Appended (ReplyIn AsWritten (replies.OtherNumbered number event.now text.now)) out.old.items out.new.items) }
     ensures kept { OnErr result (take (length out.old.items) out.new.items ≡ out.old.items) }
 {
     append(b"* ", out)?;
@@ -286,3 +290,8 @@ fn append_rest(text: &Option<LineText<'_>>, out: &mut Vec<u8>) -> Result<(), All
         }
     }
 }
+
+/// A reply as it is written has at most so many bytes outside the octets of literals as its parts say.
+pub fn written_replies_fit()
+    ensures { RepliesFit }
+{}

@@ -37,6 +37,13 @@ then_few a b p q t h =
     let same : outside_from (phase Plain h.front) h.back ≡ outside h.back = ap (λ (x : Phase). outside_from x h.back) f.plain in
     omega (arith, ap outside h.parts, outside-append Plain h.front h.back, same, few, rest)
 
+-- by lengths alone
+pub then_long : {P Q : List ℕ → Type 0} (a b : ℕ) → ((t : List ℕ) → P t → length t ≤ a) → ((t : List ℕ) → Q t → length t ≤ b) → (t : List ℕ) → (P ⨾ Q) t → length t ≤ a + b
+then_long a b p q t h = omega (arith, ap length h.parts, length-append h.front h.back, p h.front h.first, q h.back h.second)
+
+pub is_long : (w : List ℕ) (t : List ℕ) → Is w t → length t ≤ length w
+is_long w t e = omega (arith, ap length e)
+
 pub is_few : (w : List ℕ) (t : List ℕ) → Is w t → outside t ≤ length w
 is_few w t e = omega (arith, ap length e, outside-le Plain t)
 
