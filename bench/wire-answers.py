@@ -5,14 +5,16 @@ usage: bench/wire-answers.py examples   prints the examples, which are the stand
        bench/wire-answers.py answers    prints their answers, which are to be its standard output
 
 An example is a line: C (a command) or R (a reply), a space, and the bytes as a world has them (docs/FORMATS.md), without
-quotes around. Behind that line stand its answers: to the whole, to each of its beginnings, and, a line for each byte, to the
-bytes with that one changed to each of CHANGES. With c or r in place of C or R, the whole alone is asked for: so stand the lines of
+quotes around. Behind that line stand its answers: to the whole, to each of its beginnings, its places (a line feed outside
+the octets of literals, a NUL among them), and, a line for each byte, to the bytes with that one changed to each of
+CHANGES. With c or r in place of C or R, the whole alone is asked for: so stand the lines of
 real servers, from bench/real-lines.txt.
 
     w N  whole, of N bytes    a N  a literal of N octets is asked for    p  partial
     s N  a byte that no spelling goes on with, at N    t N  a literal's number passes its limit at N
 """
 import os
+import re
 import sys
 
 REAL_LINES = os.path.join(os.path.dirname(os.path.abspath(__file__)), "real-lines.txt")
@@ -271,6 +273,17 @@ def answer(side, data):
     return f"t {at}" if passes(side, data, at) else f"s {at}"
 
 
+def places(data):
+    """How many bytes stand up to and with each place."""
+    ends, begin = [], 0
+    while (feed := data.find(b"\n", begin)) >= 0:
+        length = re.search(rb"\{([0-9]+)\+?\}\r\n$", data[begin:feed + 1])
+        behind = feed + 1 + (int(length.group(1)) if length else 0)
+        ends += [feed + 1] + [k + 1 for k in range(feed + 1, min(behind, len(data))) if data[k] == 0]
+        begin = behind
+    return ends
+
+
 EXAMPLES = [
     ("C", b"a1 CAPABILITY\r\n"), ("C", b"A2 noop\r\n"), ("C", b"A LOGOUT\r\n"),
     ("C", b"A3 LOGIN \"u\\\"\\\\\" pass\r\n"), ("C", b"A3 LOGIN {1}\r\nu {2+}\r\np\xe9\r\n"),
@@ -288,6 +301,7 @@ EXAMPLES = [
     ("R", b"* OK [PERMANENTFLAGS (\\Seen \\* k)] p\r\n"), ("R", b"A6 OK [APPENDUID 1 10] done\r\n"),
     ("R", b"A7 OK [READ-WRITE] done\r\n"), ("R", b"A7 OK [READ-ONLY] \r\n"),
     ("R", b"* CAPABILITY IMAP4rev2 X=[y\r\n"), ("R", b"* ENABLED\r\n"),
+    ("R", b"* 1 FETCH (BODY[] {6}\r\n{2}\r\n\n)\r\n"), ("R", b"* 1 FETCH (BODY[] {3}\r\n\0\n\0)\r\n"),
     ("R", b"* LIST (\\HasNoChildren) \"/\" \"a\\\\b\"\r\n"), ("R", b"* LIST () NIL {4}\r\na\nb]\r\n"),
     ("R", b"* LIST () \"\\\"\" INBOX\r\n"),
     ("R", b"* FLAGS (\\Answered $Forwarded)\r\n"), ("R", b"* 0 EXISTS\r\n"), ("R", b"* 12 EXPUNGE\r\n"),
@@ -305,6 +319,7 @@ def shown(data):
 def answers(side, data):
     yield answer(side, data)
     yield ", ".join(answer(side, data[:k]) for k in range(len(data)))
+    yield " ".join(["places"] + [str(end) for end in places(data)])
     for place in range(len(data)):
         yield ", ".join(answer(side, data[:place] + bytes([b]) + data[place + 1:]) for b in CHANGES)
 

@@ -1,12 +1,12 @@
 -- What a message has, as parts of a grammar.
-use Rattle.std.proofs.Common.{◌≡◌, ℕ, Bool, true, eqb, ◌||◌, List, [], ◌∷◌, ◌++◌, Result, Ok, Err, refl, sym, ap, subst, ◌∙◌, inl, inr}
+use Rattle.std.proofs.Common.{◌≡◌, ℕ, Bool, true, eqb, ◌||◌, List, [], ◌∷◌, ◌++◌, Result, refl, sym, ap, subst, ◌∙◌, inl, inr}
 use Rattle.std.proofs.Math.Path.{fun_ext}
 use Rattle.std.proofs.lemmas.Bool.{cases_Bool}
 use Rattle.wire_reader.specs.declared.side.Side.{Side}
 use Rattle.wire_reader.specs.declared.side.Side.TheVariants.{Replies}
 use Rattle.wire_reader.specs.declared.stop.Stop.{Stop}
 use Rattle.wire_reader.specs.Spelling.{◌⨾◌, ThenBy, Is, Word, ItemsText, is_digit, crlf}
-use Rattle.wire_reader.specs.Reading.{◌>>=◌, skip, keep, byte_at, crlf_at}
+use Rattle.wire_reader.specs.Reading.{skip, keep, byte_at, crlf_at}
 use Rattle.wire_reader.specs.Listing.{ended}
 use Rattle.wire_reader.proofs.Reader.{Closed, Open}
 use Rattle.wire_reader.proofs.Parts.{after_closed}
@@ -32,7 +32,6 @@ use Rattle.imap_replies.specs.Words.{item_word, later_item_words}
 use Rattle.imap_replies.specs.Fetches.{ItemText, FetchLine, uid, flags, size, body, head, item_value_at, item_word_at, item_at, item_list_at, fetch_at}
 use Rattle.imap_replies.proofs.Made.{Made, made_part}
 use Rattle.imap_replies.proofs.HeadParts.{digit_atom}
-use Rattle.wire_tokens.proofs.SetParts.{bind_all}
 
 -- ---- numbers that end before the first byte that is no atom's
 

@@ -1,20 +1,20 @@
 -- How many bytes of a reply stand outside the octets of literals as it is written, at most.
-use Rattle.std.proofs.Common.{◌≡◌, ℕ, ◌+◌, ◌*◌, ◌≤◌, Bool, true, List, [], ◌∷◌, ◌++◌, length, map, codes, Option, None, Some, refl, ap, arith}
+use Rattle.std.proofs.Common.{ℕ, ◌+◌, ◌≤◌, Bool, true, List, [], ◌∷◌, length, codes, Option, None, Some, refl, ap, arith}
 use Rattle.std.specs.List.{sum_by}
 use Rattle.std.proofs.lemmas.List.{length-append, length-map}
 use Rattle.wire_reader.specs.declared.side.Side.TheVariants.{Replies}
 use Rattle.wire_reader.specs.declared.lexical.Phase.TheVariants.{Plain}
-use Rattle.wire_reader.specs.Spelling.{Is, Word, crlf, upper, ItemsText}
-use Rattle.wire_reader.specs.Lexical.{phase, outside}
-use Rattle.wire_reader.proofs.Reader.{Closed, Open}
+use Rattle.wire_reader.specs.Spelling.{Is, crlf, upper}
+use Rattle.wire_reader.specs.Lexical.{outside}
+use Rattle.wire_reader.proofs.Reader.{Open}
 use Rattle.wire_reader.proofs.Part.{Part}
 use Rattle.wire_reader.proofs.Fitting.{Fits, outside-le, then_few, then_long, is_few, is_long, is_fits, as_few, both_fit, items_fit, number_few}
 use Rattle.wire_tokens.specs.Atoms.{is_atom_byte, TagText}
 use Rattle.wire_tokens.specs.Numbers.{NumberText, NzText}
 use Rattle.wire_tokens.specs.declared.spaced.NameKind.TheVariants as name_kinds
-use Rattle.wire_tokens.specs.Names.{NameText, NamesText, name_at}
+use Rattle.wire_tokens.specs.Names.{NameText, name_at}
 use Rattle.wire_tokens.specs.FlagLists.{AttributesText, ListedText}
-use Rattle.wire_tokens.specs.FlagWriting.{WrittenFlags, WrittenPermanentFlags}
+use Rattle.wire_tokens.specs.FlagWriting.{WrittenPermanentFlags}
 use Rattle.wire_tokens.specs.Room.{most_names}
 use Rattle.wire_tokens.proofs.NameParts.{name_part}
 use Rattle.wire_tokens.proofs.TokensFit.{number_fits, nz_fits, names_fit, flags_fit}
@@ -26,7 +26,6 @@ use Rattle.wire_strings.specs.Room.{most_astring, most_nstring}
 use Rattle.wire_strings.proofs.StringParts.{nstring_part}
 use Rattle.wire_strings.proofs.StringsFit.{astring_fits, raw_fits, literal_fits, quoted_fits}
 use Rattle.imap_replies.specs.Forms.{AsWritten}
-use Rattle.imap_replies.specs.declared.word.Status.{Status}
 use Rattle.imap_replies.specs.declared.word.ReplyWord.TheVariants as replies
 use Rattle.imap_replies.specs.declared.word.EventWord.TheVariants as events
 use Rattle.imap_replies.specs.declared.word.CodeWord.TheVariants as words
@@ -42,9 +41,9 @@ use Rattle.imap_replies.specs.declared.reply.Reply.TheVariants.{Continue, Tagged
 use Rattle.imap_replies.specs.Words.{code_word, status_word, notice_word, item_word, reply_word, event_word}
 use Rattle.imap_replies.specs.Lines.{RestText}
 use Rattle.imap_replies.specs.Responses.{CodeIn, ResponseIn}
-use Rattle.imap_replies.specs.Listings.{MarkIn, MarkText, mark_at}
+use Rattle.imap_replies.specs.Listings.{MarkIn}
 use Rattle.imap_replies.specs.Fetches.{ItemIn}
-use Rattle.imap_replies.specs.Replies.{NamesLine, OtherWordText, OtherEventText, WrittenReply}
+use Rattle.imap_replies.specs.Replies.{NamesLine, WrittenReply}
 use Rattle.imap_replies.specs.Room.{most_rest, most_line, most_code, most_response, most_item, most_outside}
 
 -- ---- lengths

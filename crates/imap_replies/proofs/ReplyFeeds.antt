@@ -1,6 +1,6 @@
 -- A reply ends with a line end.
-use Rattle.std.proofs.Common.{ℕ, List, ◌∷◌, [], codes, Option, None, Some}
-use Rattle.wire_reader.specs.Spelling.{Word, crlf}
+use Rattle.std.proofs.Common.{ℕ, List, Option, None, Some}
+use Rattle.wire_reader.specs.Spelling.{crlf}
 use Rattle.wire_reader.proofs.Feeds.{EndsFeed, line_feed, crlf_feed, then_feed}
 use Rattle.wire_strings.specs.Texts.{LastText}
 use Rattle.imap_replies.specs.Forms.{AsRead}

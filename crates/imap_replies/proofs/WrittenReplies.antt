@@ -1,5 +1,5 @@
 -- What is written is a spelling.
-use Rattle.std.proofs.Common.{◌≡◌, ℕ, Bool, List, [], ◌∷◌, codes, map, Option, None, Some, refl, ap, ◌∙◌}
+use Rattle.std.proofs.Common.{◌≡◌, ℕ, Bool, List, [], ◌∷◌, codes, map, Option, None, Some, refl}
 use Rattle.wire_reader.specs.Spelling.{◌⨾◌, Is, Word, ItemsText, upper}
 use Rattle.wire_tokens.specs.FlagLists.{FlagsText, PermanentFlagsText}
 use Rattle.wire_tokens.specs.FlagWriting.{WrittenFlags, WrittenPermanentFlags}

@@ -2,7 +2,7 @@
 use Rattle.std.specs.Prelude.{ℕ, List, codes, Option, Result}
 use Rattle.wire_reader.specs.declared.side.Side.TheVariants.{Replies}
 use Rattle.wire_reader.specs.declared.stop.Stop.{Stop}
-use Rattle.wire_reader.specs.Spelling.{◌⨾◌, Is, Word, crlf, ItemsText}
+use Rattle.wire_reader.specs.Spelling.{◌⨾◌, Is, crlf, ItemsText}
 use Rattle.wire_reader.specs.Reading.{seq, mapped, skip, keep, byte_at, crlf_at}
 use Rattle.wire_reader.specs.Listing.{items_at, ended}
 use Rattle.wire_reader.specs.Words.{keys_at}
@@ -10,7 +10,7 @@ use Rattle.wire_strings.specs.declared.string.WireString.{WireString}
 use Rattle.wire_tokens.specs.Atoms.{is_atom_byte}
 use Rattle.wire_tokens.specs.Numbers.{NumberText, NzText, number_at, nz_at}
 use Rattle.wire_strings.specs.Strings.{NStringText, nstring_at}
-use Rattle.wire_tokens.specs.FlagLists.{FlagsText, flags_at}
+use Rattle.wire_tokens.specs.FlagLists.{flags_at}
 use Rattle.imap_replies.specs.Forms.{Form, AsRead, WordIn, FlagsIn}
 use Rattle.imap_replies.specs.declared.word.ItemWord.{ItemWord}
 use Rattle.imap_replies.specs.declared.word.ItemWord.TheVariants as words

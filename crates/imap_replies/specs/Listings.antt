@@ -2,7 +2,7 @@
 use Rattle.std.specs.Prelude.{ℕ, Bool, List, codes, Option, None, Some, Result, ◌==◌}
 use Rattle.wire_reader.specs.declared.side.Side.TheVariants.{Replies}
 use Rattle.wire_reader.specs.declared.stop.Stop.{Stop}
-use Rattle.wire_reader.specs.Spelling.{◌⨾◌, Is, Word, crlf}
+use Rattle.wire_reader.specs.Spelling.{◌⨾◌, Is, crlf}
 use Rattle.wire_reader.specs.Reading.{mapped, skip, keep, both, by_first, byte_at, crlf_at}
 use Rattle.wire_reader.specs.Words.{word_at}
 use Rattle.wire_strings.specs.declared.astring.AString.{AString}

@@ -2,12 +2,11 @@
 -- resp-cond-state, resp-cond-bye, greeting, mailbox-data, message-data, capability-data, enable-data; in the profile an
 -- untagged line of another word is taken as it is).
 use Rattle.std.specs.Prelude.{◌≡◌, ℕ, List, codes}
-use Rattle.wire_reader.specs.Spelling.{◌⨾◌, Is, Word, crlf}
+use Rattle.wire_reader.specs.Spelling.{◌⨾◌, Is, crlf}
 use Rattle.wire_tokens.specs.Atoms.{TagText}
 use Rattle.wire_tokens.specs.Numbers.{NumberText, NzText}
 use Rattle.wire_strings.specs.Texts.{LastText}
 use Rattle.wire_tokens.specs.Names.{NamesText}
-use Rattle.wire_tokens.specs.FlagLists.{FlagsText}
 use Rattle.imap_replies.specs.Forms.{Form, AsRead, AsWritten, WordIn, FlagsIn}
 use Rattle.imap_replies.specs.declared.word.ReplyWord.TheVariants as words
 use Rattle.imap_replies.specs.declared.word.EventWord.TheVariants as events

@@ -1,11 +1,11 @@
 -- The text of a status reply (RFC 9051, section 9: resp-text, resp-text-code).
 use Rattle.std.specs.Prelude.{◌≡◌, ℕ, Bool, List, [], ◌∷◌, codes, Option, Result, ◌==◌}
 use Rattle.wire_reader.specs.declared.stop.Stop.{Stop}
-use Rattle.wire_reader.specs.Spelling.{◌⨾◌, Is, Word}
+use Rattle.wire_reader.specs.Spelling.{◌⨾◌, Is}
 use Rattle.wire_reader.specs.Reading.{seq, mapped, skip, keep, both, by_first, byte_at}
 use Rattle.wire_tokens.specs.Numbers.{NzText, nz_at}
 use Rattle.wire_strings.specs.Texts.{LastText, PlainLine, BracketText, last_text_at, plain_text_at, code_text_at}
-use Rattle.wire_tokens.specs.FlagLists.{PermanentFlagsText, permanent_flags_at}
+use Rattle.wire_tokens.specs.FlagLists.{permanent_flags_at}
 use Rattle.imap_replies.specs.Forms.{Form, AsRead, WordIn, PermanentFlagsIn}
 use Rattle.imap_replies.specs.declared.word.CodeWord.TheVariants as words
 use Rattle.imap_replies.specs.declared.word.CodeWord.{CodeWord}

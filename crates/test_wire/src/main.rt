@@ -1,12 +1,15 @@
 //! Prints each example on standard input, and behind it what the readers of IMAP lines answer: to the whole, to each of
-//! its beginnings, and to it with each byte changed to others. `bench/wire-answers.py` decides the same in another way.
+//! its beginnings, and to it with each byte changed to others; and where a scanner stops in it. `bench/wire-answers.py`
+//! decides the same in another way.
 #![tactic(auto)]
 
 mod answer;
 mod example;
+mod places;
 
 use crate::answer::Answer;
 use crate::example::{Example, ExampleFault, read_example};
+use crate::places::push_places;
 use std::alloc::{AllocError, Global};
 use std::io;
 use std::io::{ErrorKind, Read, Write};
@@ -106,6 +109,7 @@ fn push_all(alloc: Global, answers: &mut String, example: &Example) -> Result<()
     writeln!(answers, "{whole}")?;
     if example.in_parts {
         push_beginnings(alloc, answers, example)?;
+        push_places(answers, bytes)?;
         for place in 0..bytes.len() {
             push_changed(alloc, answers, example, place)?;
         }

@@ -1,5 +1,5 @@
 -- Texts that end with a line end.
-use Rattle.std.proofs.Common.{◌≡◌, ℕ, Bool, List, [], ◌∷◌, ◌++◌, sym, ap, ◌∙◌, append_assoc}
+use Rattle.std.proofs.Common.{◌≡◌, ℕ, List, [], ◌∷◌, ◌++◌, sym, ap, ◌∙◌, append_assoc}
 use Rattle.wire_reader.specs.Spelling.{◌⨾◌, Is, crlf}
 
 -- the last byte is a LF

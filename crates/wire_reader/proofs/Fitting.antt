@@ -1,5 +1,5 @@
 -- How many bytes of a text stand outside literals, at most.
-use Rattle.std.proofs.Common.{◌≡◌, ℕ, zero, suc, ◌+◌, ◌-◌, ◌*◌, ◌<◌, ◌≤◌, Bool, true, false, cond, List, [], ◌∷◌, ◌++◌, length, sym, ap, ◌∙◌, inl, inr, arith}
+use Rattle.std.proofs.Common.{◌≡◌, ℕ, zero, suc, ◌+◌, ◌-◌, ◌*◌, ◌<◌, ◌≤◌, Bool, true, false, List, [], ◌∷◌, ◌++◌, length, ap, ◌∙◌, inl, inr, arith}
 use Rattle.std.proofs.lemmas.Bool.{cases_Bool, cases_lt, and_parts}
 use Rattle.std.specs.List.{sum_by}
 use Rattle.std.proofs.lemmas.List.{length-append}
@@ -7,8 +7,8 @@ use Rattle.std.proofs.lemmas.List.Sums.{sum_by-cons}
 use Rattle.wire_reader.specs.declared.side.Side.{Side}
 use Rattle.wire_reader.specs.declared.lexical.Phase.{Phase}
 use Rattle.wire_reader.specs.declared.lexical.Phase.TheVariants.{Plain, Brace, Close, Return, In}
-use Rattle.wire_reader.specs.Spelling.{◌⨾◌, Is, crlf, ItemsText}
-use Rattle.wire_reader.specs.Lexical.{next, phase, is_in, outside, outside_from, plus_limit, literal_limit}
+use Rattle.wire_reader.specs.Spelling.{◌⨾◌, Is, ItemsText}
+use Rattle.wire_reader.specs.Lexical.{next, phase, is_in, outside, outside_from}
 use Rattle.wire_reader.specs.Literal.{value, Number, close_text, LengthText, Literal}
 use Rattle.wire_reader.proofs.LengthSteps.{digit_is}
 use Rattle.wire_reader.proofs.Limits.{one_is}

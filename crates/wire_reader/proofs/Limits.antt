@@ -1,6 +1,6 @@
 -- Where the limit is passed.
-use Rattle.std.proofs.Common.{◌≡◌, ℕ, zero, suc, ◌+◌, ◌-◌, ◌<◌, ◌≤◌, Bool, true, false, cond, eqb, List, [], ◌∷◌, length, take, drop, get_or, Option, Some, None, sym, ap, ◌∙◌, inl, inr, arith}
-use Rattle.std.proofs.lemmas.Bool.{cases_Bool, eqb-true, eqb-false, eq-eqb}
+use Rattle.std.proofs.Common.{◌≡◌, ℕ, zero, suc, ◌+◌, ◌-◌, ◌<◌, ◌≤◌, Bool, true, false, cond, eqb, List, [], ◌∷◌, length, take, drop, get_or, Option, Some, None, refl, sym, ap, ◌∙◌, inl, inr, arith}
+use Rattle.std.proofs.lemmas.Bool.{cases_Bool, eqb-true, eqb-false, eq-eqb, ne_eqb}
 use Rattle.std.proofs.lemmas.List.{at_drop_more}
 use Rattle.wire_reader.specs.declared.lexical.Phase.{Phase}
 use Rattle.wire_reader.specs.Lexical.{next, is_in, outside_from, limit_from}
@@ -79,3 +79,12 @@ passed (b ∷ bs) phase room at end h =
 pub stops_here : (phase : Phase) (room i : ℕ) (xs : List ℕ) (total : Option ℕ) → i < length xs → is_in phase ≡ false → room ≡ 0 → limit_from phase room i (drop i xs) ≡ total → Some (i + 1) ≡ total
 stops_here phase room i xs total lt out none h =
     sym (at_drop_more (limit_from phase room i) xs i 0 lt ∙ ap (step room i phase (get_or xs i 0) (drop (i + 1) xs)) out ∙ ap (full room i phase (get_or xs i 0) (drop (i + 1) xs)) (eq-eqb room 0 none)) ∙ h
+
+-- there is room for all of them
+pub room_for_all : (xs : List ℕ) (phase : Phase) (room at : ℕ) → length xs ≤ room → limit_from phase room at xs ≡ None
+room_for_all [] phase room at le = refl
+room_for_all (b ∷ bs) phase room at le =
+    elim (cases_Bool (is_in phase)) [
+      | inl e ↦ ap (step room at phase b bs) e ∙ room_for_all bs (next phase b) room (at + 1) (omega (arith, le))
+      | inr e ↦ ap (step room at phase b bs) e ∙ ap (full room at phase b bs) (ne_eqb room 0 (λ z. omega (arith, z, le))) ∙ room_for_all bs (next phase b) (room - 1) (at + 1) (omega (arith, le))
+    ]

@@ -68,6 +68,9 @@ pub(crate) fn is_in(phase: Phase) -> bool
 pub fn limit_end(bytes: &[u8]) -> Option<usize>
     ensures { result ≡ limit_from Plain 65536 0 bytes.now }
 {
+    if bytes.len() <= 65536 {
+        return None;
+    }
     let mut phase = Phase::Plain;
     let mut room = 65536u32;
     for (i, b) in bytes.iter().enumerate() {

@@ -1,5 +1,5 @@
 -- How many bytes of strings stand outside the octets of literals, at most.
-use Rattle.std.proofs.Common.{◌≡◌, ℕ, ◌+◌, ◌*◌, ◌≤◌, Bool, true, false, cond, eqb, ◌||◌, List, [], ◌∷◌, ◌++◌, length, Option, None, Some, refl, ap, inl, inr, arith}
+use Rattle.std.proofs.Common.{◌≡◌, ℕ, ◌+◌, ◌*◌, ◌≤◌, Bool, true, false, cond, List, [], ◌∷◌, length, refl, ap, inl, inr, arith}
 use Rattle.std.specs.List.{flat_map, list_all}
 use Rattle.std.proofs.lemmas.Bool.{cases_Bool}
 use Rattle.std.proofs.lemmas.List.{length-append}
@@ -9,20 +9,17 @@ use Rattle.wire_reader.specs.declared.side.Side.TheVariants.{Replies}
 use Rattle.wire_reader.specs.declared.lexical.Phase.TheVariants.{Plain}
 use Rattle.wire_reader.specs.Lexical.{phase}
 use Rattle.wire_reader.specs.Literal.{Literal, literal_at}
-use Rattle.wire_reader.specs.Spelling.{Is}
 use Rattle.wire_reader.proofs.Reader.{Closed}
 use Rattle.wire_reader.proofs.Part.{Part}
 use Rattle.wire_reader.proofs.Octets.{waits}
 use Rattle.wire_reader.proofs.LiteralPhases.{literal_part}
 use Rattle.wire_reader.proofs.Fitting.{Fits, outside-le, literal_few}
 use Rattle.wire_tokens.proofs.TokensFit.{atom_fits}
-use Rattle.wire_strings.specs.declared.string.WireString.{WireString}
-use Rattle.wire_strings.specs.declared.string.WireString.TheVariants as strings
 use Rattle.wire_strings.specs.declared.astring.AString.{AString}
 use Rattle.wire_strings.specs.declared.astring.AString.TheVariants as astrings
 use Rattle.wire_strings.specs.Texts.{is_text}
 use Rattle.wire_strings.specs.Quotes.{is_special, escaped, QuotedText, RawText, quoted_at, raw_at}
-use Rattle.wire_strings.specs.Strings.{AStringText, StringText, ValueText, StringBy, WrittenString}
+use Rattle.wire_strings.specs.Strings.{AStringText, ValueText, StringBy, WrittenString}
 use Rattle.wire_strings.specs.Room.{most_string, most_astring, most_literal}
 use Rattle.wire_strings.proofs.QuoteParts.{quoted_part, raw_part}
 

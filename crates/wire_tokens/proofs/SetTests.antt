@@ -1,12 +1,10 @@
 -- What a set names, and the test that computes it.
-use Rattle.std.proofs.Common.{rules, ◌≡◌, ℕ, ◌≤◌, Bool, true, false, eqb, leb, ◌||◌, ◌&&◌, List, [], ◌∷◌, Option, None, Some, IsTrue, ◌↔◌, refl, sym, ap, subst, ◌∙◌, inl, inr, ◌⊎◌}
-use Rattle.std.specs.Prelude.{Any}
-use Rattle.std.specs.List.{list_any}
-use Rattle.std.proofs.lemmas.Bool.{eqb-true, eq-eqb, true≢false}
+use Rattle.std.proofs.Common.{rules, ◌≡◌, ℕ, Bool, true, false, None, Some, refl, sym}
+use Rattle.std.proofs.lemmas.Bool.{true≢false}
 use Rattle.std.proofs.lemmas.List.Folds.{Any-from_list_any, list_any-from_Any}
 use Rattle.wire_tokens.specs.declared.uid_set.SetItem.{SetItem}
 use Rattle.wire_tokens.specs.declared.uid_set.SetItem.TheVariants.{One, Range}
-use Rattle.wire_tokens.specs.Sets.{end_of, Between, ItemNames, Names, between, item_names, names, NamesAreTested}
+use Rattle.wire_tokens.specs.Sets.{ItemNames, item_names, NamesAreTested}
 
 to_item : (g u : ℕ) (item : SetItem) → item_names g u item ≡ true → ItemNames g u item
 to_item g u (One x) h = search rules

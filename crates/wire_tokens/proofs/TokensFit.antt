@@ -7,7 +7,7 @@ use Rattle.std.proofs.lemmas.List.Sums.{sum_by-cons}
 use Rattle.wire_reader.specs.declared.side.Side.TheVariants.{Commands}
 use Rattle.wire_reader.specs.declared.lexical.Phase.TheVariants.{Plain}
 use Rattle.wire_reader.specs.Spelling.{is_digit}
-use Rattle.wire_reader.specs.Lexical.{phase, outside}
+use Rattle.wire_reader.specs.Lexical.{phase}
 use Rattle.wire_reader.proofs.Reader.{Closed, Open}
 use Rattle.wire_reader.proofs.Part.{Part}
 use Rattle.wire_reader.proofs.PartOpt.{goes_on}

@@ -1,5 +1,5 @@
 -- Sets of UIDs (RFC 9051, section 9: sequence-set, in the profile).
-use Rattle.std.specs.Prelude.{◌≡◌, ◌≤◌, ℕ, ◌⊎◌, List, [], ◌∷◌, Option, None, Some, Result, Bool, true, false, ◌||◌, ◌&&◌, ◌==◌, nat_le, ◌↔◌, IsTrue, Any}
+use Rattle.std.specs.Prelude.{◌≡◌, ◌≤◌, ℕ, ◌⊎◌, List, [], ◌∷◌, Option, None, Some, Result, Bool, false, ◌||◌, ◌&&◌, ◌==◌, nat_le, ◌↔◌, IsTrue, Any}
 use Rattle.std.specs.List.{list_any}
 use Rattle.wire_reader.specs.declared.stop.Stop.{Stop}
 use Rattle.wire_reader.specs.Spelling.{◌⨾◌, Is, ItemsText, is_digit}

@@ -1,7 +1,6 @@
 use Rattle.std.proofs.Common.{[], ◌∷◌, refl, arith}
 use Rattle.std.proofs.lemmas.Result.{err_from_is_err_and}
 use Rattle.wire_tokens.specs.Writing.{Extended}
-use Rattle.wire_reader.specs.Spelling.{Is}
 use Rattle.imap_replies.specs.Forms.{AsWritten}
 use Rattle.imap_replies.specs.Fetches.{ItemIn}
 use Rattle.wire_tokens.proofs.WritingLemmas.{extended_twice}

@@ -1,5 +1,4 @@
 use Rattle.std.proofs.Common.{take}
-use Rattle.wire_reader.specs.Spelling.{Is}
 use Rattle.imap_replies.specs.Forms.{AsWritten}
 use Rattle.imap_replies.specs.Fetches.{ItemIn}
 use Rattle.wire_tokens.proofs.SetWriting.{Written}

@@ -1,4 +1,4 @@
-use Rattle.std.proofs.Common.{rules, Some}
+use Rattle.std.proofs.Common.{rules}
 use Rattle.wire_tokens.specs.Sets.{names}
 use Rattle.wire_tokens.proofs.SetTests.{tested, same_truth}
 use Rattle.wire_tokens.proofs.uid_set.UidSet.names.Goals as goal
