@@ -73,7 +73,8 @@ impl Record {
         // The last folder on a disk has to go before the next one is made.
         self.set(Stage::Empty);
         let disk = Disk::new(&self.rt)?;
-        self.set(Stage::Disk(Session::new(self.rt.alloc(), disk)));
+        let alloc = self.rt.alloc();
+        self.set(Stage::Disk(Session::new(alloc, disk)));
         Ok(())
     }
 
