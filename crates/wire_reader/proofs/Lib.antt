@@ -38,3 +38,4 @@ pub mod Positions
 pub mod Feeds
 pub mod PlaceLaws
 pub mod Fitting
+pub mod LimitScan

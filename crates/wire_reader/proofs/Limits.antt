@@ -1,7 +1,6 @@
 -- Where the limit is passed.
-use Rattle.std.proofs.Common.{◌≡◌, ℕ, zero, suc, ◌+◌, ◌-◌, ◌<◌, ◌≤◌, Bool, true, false, cond, eqb, List, [], ◌∷◌, length, take, drop, get_or, Option, Some, None, refl, sym, ap, ◌∙◌, inl, inr, arith}
-use Rattle.std.proofs.lemmas.Bool.{cases_Bool, eqb-true, eqb-false, eq-eqb, ne_eqb}
-use Rattle.std.proofs.lemmas.List.{at_drop_more}
+use Rattle.std.proofs.Common.{◌≡◌, ℕ, zero, suc, ◌+◌, ◌-◌, ◌<◌, ◌≤◌, Bool, true, false, cond, eqb, List, [], ◌∷◌, length, take, Option, Some, None, refl, sym, ap, ◌∙◌, inl, inr, arith}
+use Rattle.std.proofs.lemmas.Bool.{cases_Bool, eqb-true, eqb-false, ne_eqb}
 use Rattle.wire_reader.specs.declared.lexical.Phase.{Phase}
 use Rattle.wire_reader.specs.Lexical.{next, is_in, outside_from, limit_from}
 
@@ -20,10 +19,10 @@ outside_le (b ∷ bs) phase zero j le = omega arith
 outside_le (b ∷ bs) phase (suc i) zero le = absurd (omega (arith, le))
 outside_le (b ∷ bs) phase (suc i) (suc j) le = let r = outside_le bs (next phase b) i j (omega (arith, le)) in omega (arith, r)
 
-abbrev step : ℕ → ℕ → Phase → ℕ → List ℕ → Bool → Option ℕ
+abbrev pub step : ℕ → ℕ → Phase → ℕ → List ℕ → Bool → Option ℕ
 step room at phase b bs t = cond t (limit_from (next phase b) room (at + 1) bs) (cond (eqb room 0) (Some (at + 1)) (limit_from (next phase b) (room - 1) (at + 1) bs))
 
-abbrev full : ℕ → ℕ → Phase → ℕ → List ℕ → Bool → Option ℕ
+abbrev pub full : ℕ → ℕ → Phase → ℕ → List ℕ → Bool → Option ℕ
 full room at phase b bs t = cond t (Some (at + 1)) (limit_from (next phase b) (room - 1) (at + 1) bs)
 
 pub within : (xs : List ℕ) (phase : Phase) (room at : ℕ) → limit_from phase room at xs ≡ None → outside_from phase xs ≤ room
@@ -75,10 +74,6 @@ passed (b ∷ bs) phase room at end h =
                 record { index = suc r.index; end_is = omega (arith, r.end_is); in_range = omega (arith, r.in_range); before = omega (arith, r.before, k, pos); after = omega (arith, r.after, k, pos) }
           ]
     ]
-
-pub stops_here : (phase : Phase) (room i : ℕ) (xs : List ℕ) (total : Option ℕ) → i < length xs → is_in phase ≡ false → room ≡ 0 → limit_from phase room i (drop i xs) ≡ total → Some (i + 1) ≡ total
-stops_here phase room i xs total lt out none h =
-    sym (at_drop_more (limit_from phase room i) xs i 0 lt ∙ ap (step room i phase (get_or xs i 0) (drop (i + 1) xs)) out ∙ ap (full room i phase (get_or xs i 0) (drop (i + 1) xs)) (eq-eqb room 0 none)) ∙ h
 
 -- there is room for all of them
 pub room_for_all : (xs : List ℕ) (phase : Phase) (room at : ℕ) → length xs ≤ room → limit_from phase room at xs ≡ None

@@ -21,10 +21,10 @@ pub outside-append : (p : Phase) (xs ys : List ℕ) → outside_from p (xs ++ ys
 outside-append p [] ys = omega arith
 outside-append p (b ∷ xs) ys = let r = outside-append (next p b) xs ys in omega (arith, r)
 
-after_octet : (s : Scanner) (b : ℕ) → is_in s.phase ≡ true → (after s b).outside ≡ s.outside
+pub after_octet : (s : Scanner) (b : ℕ) → is_in s.phase ≡ true → (after s b).outside ≡ s.outside
 after_octet s b e = ap (λ (t : Bool). cond t s.outside (one_more s.outside)) e
 
-after_other : (s : Scanner) (b : ℕ) → is_in s.phase ≡ false → s.outside ≤ 65536 → (after s b).outside ≡ suc s.outside
+pub after_other : (s : Scanner) (b : ℕ) → is_in s.phase ≡ false → s.outside ≤ 65536 → (after s b).outside ≡ suc s.outside
 after_other s b e le = ap (λ (t : Bool). cond t s.outside (one_more s.outside)) e ∙ ap (λ (t : Bool). cond t (suc s.outside) s.outside) (le-leb s.outside 65536 le)
 
 -- as long as the count is no more than 65536, it is exact

@@ -1,6 +1,6 @@
 -- What a reader answers while it waits can change at some bytes alone, its places: a LF outside the octets of literals,
 -- a NUL among them, and the 65537th byte outside them. They are found without the grammar.
-use Rattle.std.specs.Prelude.{◌≡◌, ℕ, suc, Bool, ◌||◌, List, [], ◌∷◌, Option, None, Some, take, nat_le, ◌==◌, if◌then◌else◌}
+use Rattle.std.specs.Prelude.{◌≡◌, ℕ, suc, Bool, ◌||◌, List, [], ◌∷◌, Option, None, Some, take, nat_le, nat_lt, ◌==◌, if◌then◌else◌}
 use Rattle.wire_reader.specs.declared.lexical.Phase.{Phase}
 use Rattle.wire_reader.specs.declared.lexical.Phase.TheVariants.{Plain, In}
 use Rattle.wire_reader.specs.declared.scanner.Scanner.{Scanner}
@@ -45,6 +45,10 @@ up_to (Some n) bytes = take n bytes
 abbrev pub owed_in : Phase → ℕ
 owed_in (In n) = n
 owed_in _ = 0
+
+-- more than 65536 bytes stand outside literals
+abbrev pub is_over : Scanner → Bool
+is_over s = nat_lt 65536 s.outside
 
 -- behind the text xs, none of the bytes ys is a place
 abbrev pub NoPlace : List ℕ → List ℕ → Type 0

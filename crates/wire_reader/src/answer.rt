@@ -3,7 +3,7 @@
 ghost use Rattle.std.specs.Prelude.{◌≡◌, suc, take};
 ghost use Rattle.wire_reader.specs.Answers.{stopped, answered, decisive, KeptOr, fault_within, within};
 
-use crate::lexical::limit_end;
+use crate::limit::limit_end;
 use crate::stop::{Kind, ReadError, Stop};
 use thiserror::Error;
 

@@ -1,8 +1,7 @@
-//! The limit on bytes outside literals, counted apart from the grammar.
+//! Where a byte stands in a line, as far as literals go, without the grammar.
 
-ghost use Rattle.std.specs.Prelude.{◌≡◌, ◌<◌, ◌≤◌};
-ghost use Rattle.wire_reader.specs.Lexical.{next, is_in, limit_from};
-ghost use Rattle.wire_reader.specs.declared.lexical.Phase.TheVariants.{Plain};
+ghost use Rattle.std.specs.Prelude.{◌≡◌};
+ghost use Rattle.wire_reader.specs.Lexical.{next, is_in};
 
 /// Where a byte stands in a line, as far as literals go.
 #[derive(Clone, Copy, Debug, PartialEq, Eq)]
@@ -62,25 +61,4 @@ pub(crate) fn is_in(phase: Phase) -> bool
         Phase::In(_) => true,
         _ => false,
     }
-}
-
-/// The end of the bytes up to and with the first one outside literals that is too many: 65536 may stand there.
-pub fn limit_end(bytes: &[u8]) -> Option<usize>
-    ensures { result ≡ limit_from Plain 65536 0 bytes.now }
-{
-    if bytes.len() <= 65536 {
-        return None;
-    }
-    let mut phase = Phase::Plain;
-    let mut room = 65536u32;
-    for (i, b) in bytes.iter().enumerate() {
-        if !is_in(phase) {
-            if room == 0 {
-                return Some(i + 1);
-            }
-            room -= 1;
-        }
-        phase = next(phase, *b);
-    }
-    None
 }

@@ -5,6 +5,7 @@
 pub mod answer;
 pub mod keyword;
 pub mod lexical;
+pub mod limit;
 pub mod literal;
 pub mod punctuation;
 pub mod scanner;

@@ -2,7 +2,7 @@
 
 ghost use Rattle.std.specs.Prelude.{◌≡◌, ◌<◌, ◌≤◌, ◌≢◌, ◌++◌, ◌∷◌, All, MatchOption, length, take};
 ghost use Rattle.wire_reader.specs.declared.lexical.Phase.TheVariants.{In};
-ghost use Rattle.wire_reader.specs.Scanning.{start, after, scanned, is_place, first_place, up_to, owed_in};
+ghost use Rattle.wire_reader.specs.Scanning.{start, after, scanned, is_place, first_place, up_to, owed_in, is_over};
 ghost use Rattle.wire_reader.specs.Advancing.{Advances, Nul};
 
 use crate::answer::front;
@@ -39,6 +39,13 @@ impl Scanner {
             Phase::In(n) => n,
             _ => 0,
         }
+    }
+
+    /// Whether more than 65536 bytes stand outside literals.
+    pub fn is_over(&self) -> bool
+        ensures { result ≡ is_over self.now }
+    {
+        self.outside > 65536
     }
 
     /// Scans the next bytes of the line, up to and with the first place among them; tells how many these are, or that

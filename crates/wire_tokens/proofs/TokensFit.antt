@@ -20,14 +20,14 @@ use Rattle.wire_tokens.specs.declared.uid_set.SetItem.TheVariants.{One, Range}
 use Rattle.wire_tokens.specs.Atoms.{is_atom_byte, is_tag_byte, TagText, AtomText, tag_at, atom_at}
 use Rattle.wire_tokens.specs.Numbers.{NumberText, NzText, number_at, nz_at}
 use Rattle.wire_tokens.specs.Names.{NameText, NamesText, name_at}
-use Rattle.wire_tokens.specs.FlagLists.{FlagsText, PermanentFlagsText, flags_at, permanent_flags_at}
-use Rattle.wire_tokens.specs.FlagWriting.{WrittenFlags, WrittenPermanentFlags}
+use Rattle.wire_tokens.specs.FlagLists.{FlagsText, flags_at}
+use Rattle.wire_tokens.specs.FlagWriting.{WrittenFlags}
 use Rattle.wire_tokens.specs.Sets.{EndText, ItemText, SetText, item_at}
 use Rattle.wire_tokens.specs.Room.{most_item, most_set, most_names}
 use Rattle.wire_tokens.proofs.AtomParts.{tag_part, atom_part}
 use Rattle.wire_tokens.proofs.NumberParts.{number_part, nz_part}
 use Rattle.wire_tokens.proofs.NameParts.{name_part}
-use Rattle.wire_tokens.proofs.FlagParts.{flags_part, permanent_flags_part}
+use Rattle.wire_tokens.proofs.FlagParts.{flags_part}
 use Rattle.wire_tokens.proofs.SetParts.{item_part}
 
 -- a text of so many bytes
@@ -91,6 +91,3 @@ names_fit names t h = items_fit 32 (NameText kinds.Atom) length refl name_fits n
 
 pub flags_fit : (set : ℕ) (t : List ℕ) → WrittenFlags set t → Fits 53 t
 flags_fit set t h = let p : Part Commands true Closed FlagsText flags_at = flags_part in by_length 53 t ((p.leads refl).after set t h.spelled) h.short
-
-pub permanent_flags_fit : (v : ℕ × Bool) (t : List ℕ) → WrittenPermanentFlags v t → Fits 56 t
-permanent_flags_fit v t h = let p : Part Commands true Closed PermanentFlagsText permanent_flags_at = permanent_flags_part in by_length 56 t ((p.leads refl).after v t h.spelled) h.short
