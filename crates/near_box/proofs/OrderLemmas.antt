@@ -1,7 +1,12 @@
 -- The order of numbers, and the order in which waiting files get their UIDs.
-use Rattle.std.proofs.Common.{◌≡◌, ℕ, Bool, true, false, cond, ltb, eqb, refl}
-use Rattle.std.proofs.lemmas.Bool.{eqb-true}
-use Rattle.std.specs.Ordering.{nat_cmp}
+use Rattle.std.proofs.Common.{◌≡◌, ◌+◌, ◌<◌, ◌∙◌, ℕ, Bool, true, false, cond, ltb, eqb, List, All, get_or, Err, ⊎_elim, refl, sym, arith}
+use Rattle.std.specs.Prelude.{AllPairs}
+use Rattle.std.proofs.lemmas.Bool.{eqb-true, cases_lt}
+use Rattle.std.proofs.lemmas.Bool.Decides.{nat_tests}
+use Rattle.std.proofs.lemmas.Cmp.{nat_cmp_total}
+use Rattle.std.proofs.lemmas.List.Sorted.{searchable_from_sorted}
+use Rattle.std.specs.List.Sorted.{IsBinarySearchResult, IsSortedBy}
+use Rattle.std.specs.Ordering.{nat_cmp, is_lt}
 use Rattle.std.specs.Cmp.{IsTotalOrder, IsStrictWeakOrder, then_total, on_total}
 use Rattle.std.specs.Cmp.Lexicographic.{on_texts}
 use Rattle.std.specs.Ordering.{ordering_reverse}
@@ -20,6 +25,30 @@ equal_numbers x y e = by_tests (ltb x y) (eqb x y) refl e
     by_tests true b t f = cc
     by_tests false true t f = eqb-true x y t
     by_tests false false t f = cc
+
+not_before : (x y : ℕ) → nat_cmp x y ≡ Less → x ≡ y → ⊥
+not_before x y e same = grind (arith, nat_tests)
+
+not_behind : (x y : ℕ) → nat_cmp x y ≡ Greater → x ≡ y → ⊥
+not_behind x y e same = grind (arith, nat_tests)
+
+not_above : (x y : ℕ) → x < y → is_lt (nat_cmp y x) ≡ false
+not_above x y less = grind (arith, nat_tests)
+
+-- a number that is not found where numbers rise is not there
+module _ {A : Type 0} (key : A → ℕ) where
+  in_order : (xs : List A) → AllPairs (λ a b. key a < key b) xs → IsSortedBy (λ a b. is_lt (nat_cmp (key a) (key b))) xs
+  in_order xs rising = λ k d low below.
+      not_above (key (get_or xs k d)) (key (get_or xs (k + 1) d)) (rising k (k + 1) d (omega arith) below)
+
+  pub none_found : (xs : List A) (number b i : ℕ) → b ≡ number → IsBinarySearchResult (λ x. nat_cmp (key x) b) xs (Err i)
+      → AllPairs (λ a b. key a < key b) xs → All (λ x. key x ≡ number → ⊥) xs
+  none_found xs number b i same search_result rising =
+      let parts = search_result (searchable_from_sorted nat_cmp_total key xs b (in_order xs rising)) in
+      λ k d below e. ⊎_elim
+      (λ before. not_before _ b (parts.0 k d (omega arith) before) (e ∙ sym same))
+      (λ behind. not_behind _ b (parts.1 k d behind below) (e ∙ sym same))
+      (cases_lt k i)
 
 places_antisymm : (x y : Place) → place_cmp x y ≡ ordering_reverse (place_cmp y x)
 places_antisymm New New = refl

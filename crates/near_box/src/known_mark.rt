@@ -1,6 +1,6 @@
 //! The marks of messages whose files were read once.
 
-ghost use Rattle.std.specs.Prelude.{◌≡◌, ◌≤◌, List, ℕ, IfOk, OnOk, length};
+ghost use Rattle.std.specs.Prelude.{◌≡◌, ◌≢◌, ◌<◌, ◌≤◌, List, ℕ, All, AllPairs, IfErr, IfOk, OnOk, insert, length};
 ghost use Rattle.std.specs.List.{HoldsAt};
 ghost use Rattle.std.specs.List.Sorted.{IsSearchInRange};
 ghost use Rattle.mailcore.specs.declared.mailbox.Message.{Message};
@@ -23,6 +23,7 @@ pub struct KnownMark {
 pub fn place_of_mark(known: &[KnownMark], uid: Uid) -> Result<usize, usize>
     ensures within { IsSearchInRange result (length known.now) }
     ensures found { IfOk result (λ i. HoldsAt (λ mark. mark.uid ≡ uid) known.now i) }
+    ensures missing { AllPairs (λ a b. a.uid < b.uid) known.now → IfErr result (λ i. All (λ mark. mark.uid ≢ uid) known.now) }
 {
     let number = uid.get();
     let guess = likely_place(known, number);
@@ -49,7 +50,8 @@ pub fn keep_mark(
     mark: Option<Tuid>,
 ) -> Result<(), AllocError>
     requires { place ≤ length known.old.items }
-    ensures { (next : ℕ) (messages : List Message) → IsMarkAmong next messages (record { uid = uid; mark = mark })
+    ensures kept { OnOk result (known.new.items ≡ insert known.old.items place (record { uid = uid; mark = mark })) }
+    ensures known { (next : ℕ) (messages : List Message) → IsMarkAmong next messages (record { uid = uid; mark = mark })
         → AreMarksAmong next messages known.old.items → OnOk result (AreMarksAmong next messages known.new.items) }
 {
     known.insert(place, KnownMark { uid, mark })?;

@@ -10,5 +10,5 @@ returns-in_ok-keep_mark-in-Err-clause-known g c = λ honest there next messages 
     let entry = c.args.entry.now in
     let read : c.mark_of-mark.result ≡ mark_of (message_at (g.F.Folder.seen c.args.folder.now).stored entry).bytes =
     c.mark_of-mark.ensures ∙ ap mark_of (c.deref-in-Err.ensures.value ∙ c.in_ok-read_message-in-Err.ensures.bytes honest there) in
-    c.in_ok-keep_mark-in-Err.ensures next messages
+    c.in_ok-keep_mark-in-Err.ensures.known next messages
     (subst (λ (mark : Option (List ℕ)). let k : KnownMark = record { uid = entry.uid; mark = mark } in IsMarkAmong next messages k) (sym read) is) are
