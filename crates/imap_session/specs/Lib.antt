@@ -14,4 +14,4 @@ pub mod Unread
 pub mod Serving
 pub mod Heard
 pub mod Lines
-pub mod SessionExample
+pub mod SessionExamples
