@@ -55,6 +55,14 @@ impl Messages {
         }
     }
 
+    /// These messages, which stand in the order of their UIDs, without taking memory.
+    pub fn from_vec(list: Vec<Message>) -> Self
+        requires { AreRising list.items }
+        ensures { result ≡ list.items }
+    {
+        Messages { list }
+    }
+
     /// All of them.
     pub fn as_slice(&self) -> &[Message]
         ensures all { result.now ≡ self.now }

@@ -1,0 +1,101 @@
+-- Replies to UID FETCH, one message after another.
+use Rattle.std.proofs.Common.{◌≡◌, ◌<◌, ◌≤◌, ◌^◌, ℕ, zero, suc, ◌+◌, ◌-◌, Bool, true, false, List, [], ◌∷◌, ◌++◌, length, refl, sym, ◌∙◌, ap, subst, append-nil, append_assoc, Option, Some, None, arith, get_or, if◌then◌else◌}
+use Rattle.std.specs.Option.{SomeIff}
+use Rattle.mailcore.specs.declared.mailbox.Message.{Message}
+use Rattle.wire_tokens.specs.declared.uid_set.SetItem.{SetItem}
+use Rattle.wire_tokens.specs.Sets.{Names}
+use Rattle.imap_commands.specs.declared.command.FetchItems.{FetchItems}
+use Rattle.imap_replies.specs.declared.reply.Reply.{Reply}
+use Rattle.imap_replies.specs.declared.reply.Reply.TheVariants.{Fetch}
+use Rattle.imap_session.specs.Mailboxes.{FarMailbox}
+use Rattle.imap_session.specs.NamedMessages.{greatest, set_names}
+use Rattle.imap_session.specs.Servers.{Server, selected}
+use Rattle.imap_session.specs.Answering.{done}
+use Rattle.imap_session.specs.MessageCommands.{shown, fetched, fetches, fetches_in}
+use Rattle.session_laws.proofs.Naming.{is_named, is_tested}
+use Rattle.imap_server.specs.Naming.{IsTop}
+use Rattle.imap_server.specs.Writing.{Wrote, Answered}
+use Rattle.imap_server.proofs.WritingLemmas.{wrote_then}
+use Rattle.imap_server.proofs.CommandLemmas.{answered_as}
+
+-- ---- a message more
+
+abbrev one : (ℕ → Bool) → FetchItems → ℕ → Message → List Reply
+one named what place m = if named m.uid then Fetch place (shown what m) ∷ [] else []
+
+fetched-first : (named : ℕ → Bool) (what : FetchItems) (place : ℕ) (m : Message) (ms : List Message)
+    → fetched named what place (m ∷ ms) ≡ one named what place m ++ fetched named what (place + 1) ms
+fetched-first named what place m ms =
+    elim (named m.uid) as (λ b. (if b then Fetch place (shown what m) ∷ fetched named what (place + 1) ms else fetched named what (place + 1) ms)
+    ≡ (if b then Fetch place (shown what m) ∷ [] else []) ++ fetched named what (place + 1) ms)
+    [ true ↦ refl | false ↦ refl ]
+
+pub fetched-push : (named : ℕ → Bool) (what : FetchItems) (place : ℕ) (ms : List Message) (m : Message)
+    → fetched named what place (ms ++ m ∷ []) ≡ fetched named what place ms ++ one named what (place + length ms) m
+fetched-push named what place [] m =
+    fetched-first named what place m [] ∙ append-nil (one named what place m) ∙ ap (λ (n : ℕ). one named what n m) (let e : place ≡ place + 0 = omega arith in e)
+fetched-push named what place (x ∷ ms) m =
+    let e : place + 1 + length ms ≡ place + length (x ∷ ms) = omega arith in
+    fetched-first named what place x (ms ++ m ∷ [])
+    ∙ ap (λ (l : List Reply). one named what place x ++ l) (fetched-push named what (place + 1) ms m ∙ ap (λ (n : ℕ). fetched named what (place + 1) ms ++ one named what n m) e)
+    ∙ sym (append_assoc (one named what place x) (fetched named what (place + 1) ms) (one named what (place + length (x ∷ ms)) m))
+    ∙ ap (λ (l : List Reply). l ++ one named what (place + length (x ∷ ms)) m) (sym (fetched-first named what place x ms))
+
+pub wrote_named : (named : ℕ → Bool) (what : FetchItems) (ms more : List Message) (m : Message) (place : ℕ) (test : Bool) (a b c : List ℕ)
+    → more ≡ ms ++ m ∷ [] → place ≡ 1 + length ms → test ≡ named m.uid → test ≡ true
+    → Wrote (fetched named what 1 ms) a b → Wrote (Fetch place (shown what m) ∷ []) b c → Wrote (fetched named what 1 more) a c
+wrote_named named what ms more m place test a b c e p t is_so h k =
+    let is : one named what (1 + length ms) m ≡ Fetch (1 + length ms) (shown what m) ∷ [] = ap (λ (x : Bool). if x then Fetch (1 + length ms) (shown what m) ∷ [] else []) (sym t ∙ is_so) in
+    subst (λ (l : List Reply). Wrote l a c) (sym (ap (fetched named what 1) e ∙ fetched-push named what 1 ms m ∙ ap (λ (l : List Reply). fetched named what 1 ms ++ l) is))
+    (wrote_then _ _ a b c h (subst (λ (n : ℕ). Wrote (Fetch n (shown what m) ∷ []) b c) p k))
+
+pub wrote_unnamed : (named : ℕ → Bool) (what : FetchItems) (ms more : List Message) (m : Message) (test : Bool) (a b : List ℕ)
+    → more ≡ ms ++ m ∷ [] → test ≡ named m.uid → test ≡ false → Wrote (fetched named what 1 ms) a b → Wrote (fetched named what 1 more) a b
+wrote_unnamed named what ms more m test a b e t is_not h =
+    let is : one named what (1 + length ms) m ≡ [] = ap (λ (x : Bool). if x then Fetch (1 + length ms) (shown what m) ∷ [] else []) (sym t ∙ is_not) in
+    subst (λ (l : List Reply). Wrote l a b)
+    (sym (ap (fetched named what 1) e ∙ fetched-push named what 1 ms m ∙ ap (λ (l : List Reply). fetched named what 1 ms ++ l) is ∙ append-nil (fetched named what 1 ms))) h
+
+-- ---- the greatest UID
+
+pub greatest-last : (ms : List Message) (m : Message) → greatest (ms ++ m ∷ []) ≡ Some m.uid
+greatest-last [] m = refl
+greatest-last (x ∷ []) m = refl
+greatest-last (x ∷ y ∷ ms) m = greatest-last (y ∷ ms) m
+
+greatest_at : (ms : List Message) (d : Message) (k : ℕ) → k + 1 ≡ length ms → greatest ms ≡ Some (get_or ms k d).uid
+greatest_at [] d k h = absurd (omega arith)
+greatest_at (x ∷ []) d zero h = refl
+greatest_at (x ∷ []) d (suc k) h = absurd (omega arith)
+greatest_at (x ∷ y ∷ ms) d zero h = absurd (omega arith)
+greatest_at (x ∷ y ∷ ms) d (suc k) h = greatest_at (y ∷ ms) d k (omega arith)
+
+pub top_of_last : (ms : List Message) (m : Message) (n : ℕ) → 1 ≤ length ms → m ≡ get_or ms (length ms - 1) m → n ≡ m.uid → 0 < n → n + 1 < 2 ^ 32 → IsTop (greatest ms) n
+top_of_last ms m n some last is positive below =
+    let at : greatest ms ≡ Some m.uid = greatest_at ms m (length ms - 1) (omega arith) ∙ ap (λ (x : Message). Some x.uid) (sym last) in
+    subst (λ (o : Option ℕ). IsTop o n) (sym at) (is, positive, below)
+
+-- ---- the answer
+
+pub fetch_answered : (s : Server) (tag : List ℕ) (set : List SetItem) (what : FetchItems) (m : FarMailbox) (a b c : List ℕ) → selected s ≡ Some m
+    → Wrote (fetched (set_names (greatest m.store.messages) set) what 1 m.store.messages) a b → Wrote (done tag ∷ []) b c → Answered (fetches s tag set what) a c s
+fetch_answered s tag set what m a b c at h k =
+    answered_as _ _ a c s (ap (λ (o : Option FarMailbox). fetches_in o s tag set what) at) (record { wrote = wrote_then _ _ a b c h k; after_is = refl })
+
+-- ---- what a set names, by the greatest UID as a number
+
+same_test : (test other : Bool) (P : Type 0) → (test ≡ true → P) → (P → test ≡ true) → (other ≡ true → P) → (P → other ≡ true) → test ≡ other
+same_test true true P a b c d = refl
+same_test true false P a b c d = sym (d (a refl))
+same_test false true P a b c d = b (c refl)
+same_test false false P a b c d = refl
+
+pub named_by : (set : List SetItem) (top uid : ℕ) (found : Option ℕ) (test : Bool) → SomeIff found ((0 < top) × (top + 1 < 2 ^ 32)) top → (test ≡ true → Names found set uid) → (Names found set uid → test ≡ true)
+    → (most : Option ℕ) → IsTop most top → test ≡ set_names most set uid
+named_by set top uid None test none a b None is = same_test test false (Names None set uid) a b (is_named None set uid) (is_tested None set uid)
+named_by set top uid None test none a b (Some u) is = absurd (none (is.1, is.2))
+named_by set top uid (Some n) test some a b None is = let more = some.0.0 in absurd (omega arith)
+named_by set top uid (Some n) test some a b (Some u) is =
+    let same : n ≡ u = some.1 ∙ is.0 in
+    same_test test (set_names (Some u) set uid) (Names (Some u) set uid) (λ t. subst (λ (k : ℕ). Names (Some k) set uid) same (a t)) (λ k. b (subst (λ (j : ℕ). Names (Some j) set uid) (sym same) k))
+    (is_named (Some u) set uid) (is_tested (Some u) set uid)

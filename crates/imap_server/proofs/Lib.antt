@@ -1,0 +1,5 @@
+pub mod WritingLemmas
+pub mod PlaceLemmas
+pub mod CommandLemmas
+pub mod ListedLemmas
+pub mod FetchLemmas

@@ -1,0 +1,6 @@
+pub mod Boxes
+pub mod Places
+pub mod Services
+pub mod Writing
+pub mod Selection
+pub mod Naming
