@@ -1,7 +1,8 @@
 -- A LIST reply for a name within the limits.
-use Rattle.std.proofs.Common.{◌≡◌, ℕ, Bool, true, false, ◌&&◌, List, [], ◌∷◌, ◌++◌, length, codes, refl, sym, ◌∙◌, ap, append_assoc, cond, arith}
-use Rattle.std.specs.Prelude.{nat_le, ◌==◌}
+use Rattle.std.proofs.Common.{◌≡◌, ℕ, Bool, true, false, ◌&&◌, List, [], ◌∷◌, ◌++◌, length, codes, refl, sym, ◌∙◌, ap, append_assoc, cond, arith, ◌<◌, zero, suc}
+use Rattle.std.specs.Prelude.{nat_le, ◌==◌, slice_index}
 use Rattle.std.specs.List.{list_all, flat_map, slice_split}
+use Rattle.std.specs.Str.{IsAscii}
 use Rattle.std.proofs.lemmas.Bool.Decides.{nat_tests}
 use Rattle.wire_strings.specs.Texts.{is_text}
 use Rattle.wire_strings.specs.Quotes.{is_special, escaped, IsRaw}
@@ -102,3 +103,17 @@ listed_wrote name old x y new is e f g = wrote_one (listed name) old new (record
       ∙ append_assoc (old ++ codes "* LIST () \"/\" \"") name (codes "\"\r\n") ∙ append_assoc old (codes "* LIST () \"/\" \"") (name ++ codes "\"\r\n");
   spelled = listed_written name (name_is_raw name is);
 })
+
+-- ---- a name is ASCII
+
+below : (b : ℕ) → is_name_byte b ≡ true → b < 128
+below b h = grind (arith, nat_tests)
+
+all_below : (name : List ℕ) → list_all is_name_byte name ≡ true → (i : ℕ) → slice_index name i < 128
+all_below [] h i = omega arith
+all_below (b ∷ bs) h zero = below b (first_of (is_name_byte b) (list_all is_name_byte bs) h)
+all_below (b ∷ bs) h (suc i) = all_below bs (second_of (is_name_byte b) (list_all is_name_byte bs) h) i
+
+pub name_is_ascii : (name : List ℕ) → is_name name ≡ true → IsAscii name
+name_is_ascii name h =
+    all_below name (second_of (nat_le (length name) 255) (list_all is_name_byte name) (first_of (nat_le (length name) 255 && list_all is_name_byte name) (list_all is_part (slice_split (λ b. b == 47) name)) h))

@@ -1,7 +1,9 @@
 -- The place at which the mailbox of a name stands.
-use Rattle.std.proofs.Common.{◌≡◌, ◌<◌, ◌≤◌, inl, inr, ℕ, zero, suc, ◌+◌, Bool, true, false, not, cond, List, [], ◌∷◌, length, refl, sym, ◌∙◌, ap, subst, Option, Some, None, arith, get_or}
+use Rattle.std.proofs.Common.{◌≡◌, ◌<◌, ◌≤◌, inl, inr, ℕ, zero, suc, ◌+◌, Bool, true, false, not, cond, List, [], ◌∷◌, length, refl, sym, ◌∙◌, ap, subst, Option, Some, None, arith, get_or, ◌++◌}
 use Rattle.std.specs.Prelude.{nat_lt, slice_get}
 use Rattle.std.specs.List.{position, position_or_len}
+use Rattle.std.proofs.lemmas.List.{map-append}
+use Rattle.std.proofs.lemmas.List.Elements.{All-nil, All-cons, All-append}
 use Rattle.std.proofs.lemmas.Bool.{cases_Bool, ltb-true}
 use Rattle.std.proofs.lemmas.Bool.Decides.{nat_tests}
 use Rattle.mailcore.specs.declared.mailbox.Mailbox.{Mailbox}
@@ -75,3 +77,12 @@ pub served_there : (raw : List Mailbox) (n : ℕ) (d : Mailbox) → AreServed (a
 served_there [] n d are h = absurd (omega arith)
 served_there (m ∷ ms) zero d are h = are 0 (far_of d) (omega arith)
 served_there (m ∷ ms) (suc n) d are h = served_there ms n d (λ k e within. are (suc k) e (omega arith)) (omega arith)
+
+-- one more mailbox
+pub served_push : (raw : List Mailbox) (m : Mailbox) → AreServed (all_of raw) → IsServed (far_of m) → AreServed (all_of (raw ++ m ∷ []))
+served_push raw m are is =
+    subst AreServed (sym (map-append far_of raw (m ∷ []))) (All-append IsServed (all_of raw) (far_of m ∷ []) are (All-cons IsServed (far_of m) [] is (All-nil IsServed)))
+
+pub served_pushed : (b : Bool) (raw new : List Mailbox) (m : Mailbox) → new ≡ cond b (raw ++ m ∷ []) raw → AreServed (all_of raw) → IsServed (far_of m) → AreServed (all_of new)
+served_pushed true raw new m e are is = subst (λ (l : List Mailbox). AreServed (all_of l)) (sym e) (served_push raw m are is)
+served_pushed false raw new m e are is = subst (λ (l : List Mailbox). AreServed (all_of l)) (sym e) are

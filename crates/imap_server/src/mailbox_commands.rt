@@ -1,31 +1,78 @@
 //! CREATE and SELECT (RFC 9051, sections 6.3.4 and 6.3.2).
 
-ghost use Rattle.std.specs.Prelude.{◌≡◌, ◌<◌, ◌∷◌, [], true, length, OnOk};
+ghost use Rattle.std.specs.Prelude.{◌≡◌, ◌<◌, ◌≤◌, ◌==◌, ◌∷◌, [], true, length, OnOk, IfOk, IfSome, IfNone};
+ghost use Rattle.std.specs.List.{list_all, slice_split};
 ghost use Rattle.imap_session.specs.Answering.{listed};
-ghost use Rattle.imap_session.specs.MailboxCommands.{SIX, is_name, closes, opening};
-ghost use Rattle.imap_server.specs.Boxes.{far_of, IsServed};
+ghost use Rattle.imap_session.specs.MailboxCommands.{SIX, is_name_byte, is_part, is_name, next_validity, empty_mailbox, closes, opening};
+ghost use Rattle.imap_server.specs.Boxes.{far_of, all_of, IsServed};
 ghost use Rattle.imap_server.specs.Services.{condition_of};
 ghost use Rattle.imap_server.specs.Writing.{Wrote};
 
 use crate::condition::Condition;
 use crate::service::Service;
 use crate::words::{coded, word_code};
-use crate::writing::{say, say_no_with, say_note, say_out_of_place};
+use crate::writing::{say, say_done, say_no, say_no_with, say_note, say_out_of_place};
 use imap_replies::reply::Reply;
 use imap_replies::response::Code;
 use imap_replies::word::Status;
 use mailcore::flags::{Flag, Flags};
 use mailcore::mailbox::Mailbox;
-use std::alloc::AllocError;
+use mailcore::mailbox_name::MailboxName;
+use std::alloc::{AllocError, Global};
 use wire_strings::text::Text;
 use wire_tokens::flag_list::FlagSet;
 use wire_tokens::number::NonZero;
 use wire_tokens::tag::Tag;
 
 impl Service {
-    ghost use Rattle.std.specs.Prelude.{◌≡◌, OnOk, OnErr};
-    ghost use Rattle.imap_session.specs.MailboxCommands.{selects};
+    ghost use Rattle.std.specs.Prelude.{◌≡◌, None, OnOk, OnErr};
+    ghost use Rattle.imap_session.specs.MailboxCommands.{creates, creates_at, selects};
     ghost use Rattle.imap_server.specs.Writing.{Answered};
+
+    /// Answers CREATE.
+    pub(crate) fn create(
+        &mut self,
+        tag: Tag,
+        name: &Text,
+        out: &mut Vec<u8>,
+    ) -> Result<(), AllocError>
+        ensures ok { OnOk result (Answered (creates self.old tag name.now) out.old.items out.new.items self.new) }
+        ensures err { OnErr result (self.new ≡ self.old) }
+    {
+        if !self.is_logged_in() {
+            return say_out_of_place(tag, out);
+        }
+        match self.place_of(name.as_slice()) {
+            Some(_) => {
+                say_no_with(tag, b"ALREADYEXISTS", b"exists", out)?;
+                Ok(())
+            }
+            None => self.create_new(tag, name.as_slice(), out),
+        }
+    }
+
+    /// The same, where no mailbox has the name.
+    fn create_new(&mut self, tag: Tag, name: &[u8], out: &mut Vec<u8>) -> Result<(), AllocError>
+        ensures ok { OnOk result (Answered (creates_at None self.old tag name.now) out.old.items out.new.items self.new) }
+        ensures err { OnErr result (self.new ≡ self.old) }
+    {
+        if !is_name(name) {
+            say_no(tag, b"name", out)?;
+            return Ok(());
+        }
+        match next_validity(&self.mailboxes) {
+            Some(validity) => {
+                let mailbox = empty_mailbox(self.alloc, name, validity)?;
+                say_done(tag, out)?;
+                self.mailboxes.push(mailbox)?;
+                Ok(())
+            }
+            None => {
+                say_no(tag, b"limit", out)?;
+                Ok(())
+            }
+        }
+    }
 
     /// Answers SELECT.
     pub(crate) fn select(
@@ -133,4 +180,61 @@ pub(crate) fn say_listed(name: &[u8], out: &mut Vec<u8>) -> Result<(), AllocErro
     out.extend_from_slice(name)?;
     out.extend_from_slice(b"\"\r\n")?;
     Ok(())
+}
+
+/// Whether this is a name within the limits.
+fn is_name(name: &[u8]) -> bool
+    ensures { result ≡ is_name name.now }
+{
+    name.len() <= 255 && all_name_bytes(name) && all_parts(name)
+}
+
+fn all_name_bytes(name: &[u8]) -> bool
+    ensures { result ≡ list_all is_name_byte name.now }
+{
+    name.iter().all(|b| is_name_byte(*b))
+}
+
+/// Whether each part between slashes may stand in a name.
+fn all_parts(name: &[u8]) -> bool
+    ensures { result ≡ list_all is_part (slice_split (λ b. b == 47) name.now) }
+{
+    name.split(|b| *b == b'/').all(|part| is_part(part))
+}
+
+fn is_name_byte(b: u8) -> bool
+    ensures { result ≡ is_name_byte b }
+{
+    32 <= b && b <= 126 && !(b == b'*' || b == b'%' || b == b'"' || b == b'\\')
+}
+
+fn is_part(part: &[u8]) -> bool
+    ensures { result ≡ is_part part.now }
+{
+    0 < part.len() && !(part == b".".as_slice() || part == b"..".as_slice())
+}
+
+/// The UIDVALIDITY of the next mailbox, or none where none is left.
+fn next_validity(mailboxes: &[Mailbox]) -> Option<u32>
+    ensures some { IfSome result (λ v. v ≡ next_validity (all_of mailboxes.now)) }
+    ensures none { IfNone result (4294967296 ≤ next_validity (all_of mailboxes.now)) }
+{
+    let greatest = mailboxes.iter().fold(0u32, |most, m| most.max(m.validity));
+    greatest.checked_add(1)
+}
+
+/// A mailbox without messages.
+fn empty_mailbox(alloc: Global, name: &[u8], validity: u32) -> Result<Mailbox, AllocError>
+    requires name { is_name name.now ≡ true }
+    requires validity { 0 < validity }
+    ensures new { IfOk result (λ m. far_of m ≡ empty_mailbox name.now validity) }
+    ensures served { IfOk result (λ m. IsServed (far_of m)) }
+{
+    match str::from_utf8(name) {
+        Ok(text) => {
+            let name = MailboxName::from_string(String::from_str(alloc, text)?);
+            Ok(Mailbox::new(alloc, name, validity, 1))
+        }
+        Err(_) => unreachable!(),
+    }
 }
