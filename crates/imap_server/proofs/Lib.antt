@@ -3,3 +3,4 @@ pub mod PlaceLemmas
 pub mod CommandLemmas
 pub mod ListedLemmas
 pub mod FetchLemmas
+pub mod AppendLemmas

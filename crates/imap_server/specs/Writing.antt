@@ -20,3 +20,9 @@ pub record Wrote (replies : List Reply) (old new : List ℕ) : Type 0 where
 pub record Answered (answer : Answer) (old new : List ℕ) (after : Server) : Type 0 where
   pub wrote : Wrote answer.replies old new
   pub after_is : after ≡ answer.after
+
+-- some replies were appended, and with them this server is behind
+pub record AnsweredBy (gives : List Reply → Server → Type 0) (old new : List ℕ) (after : Server) : Type 0 where
+  pub replies : List Reply
+  pub wrote : Wrote replies old new
+  pub gives_them : gives replies after

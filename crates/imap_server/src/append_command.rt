@@ -11,9 +11,10 @@ ghost use Rattle.imap_server.specs.Services.{condition_of};
 ghost use Rattle.imap_server.specs.Writing.{Wrote};
 
 use crate::condition::Condition;
-use crate::service::same_name;
+use crate::mailbox_commands::{count_of, number};
+use crate::service::{Service, same_name};
 use crate::words::coded;
-use crate::writing::say;
+use crate::writing::{say, say_no, say_no_with, say_out_of_place};
 use imap_commands::message::Message as Sent;
 use imap_replies::reply::Reply;
 use imap_replies::response::Code;
@@ -23,8 +24,87 @@ use mailcore::mailbox::{Mailbox, Message};
 use mailcore::octets::Octets;
 use mailcore::uid::Uid;
 use std::alloc::AllocError;
+use wire_strings::text::Text;
 use wire_tokens::number::NonZero;
 use wire_tokens::tag::Tag;
+
+impl Service {
+    ghost use Rattle.std.specs.Prelude.{◌≡◌, ◌<◌, Some, length, slice_get, OnOk, OnErr};
+    ghost use Rattle.mailcore.specs.Operations.{added};
+    ghost use Rattle.imap_session.specs.Mailboxes.{FarMailbox, mailbox_at};
+    ghost use Rattle.imap_session.specs.AppendCommand.{Appends, AppendsAt};
+    ghost use Rattle.imap_server.specs.Places.{IsPlace, changed_there};
+    ghost use Rattle.imap_server.specs.Writing.{AnsweredBy};
+
+    /// Answers APPEND.
+    pub(crate) fn append(
+        &mut self,
+        tag: Tag,
+        name: &Text,
+        flags: Flags,
+        message: Sent,
+        out: &mut Vec<u8>,
+    ) -> Result<(), AllocError>
+        ensures ok { OnOk result (AnsweredBy (Appends self.old tag name.now flags message) out.old.items out.new.items self.new) }
+        ensures err { OnErr result (self.new ≡ self.old) }
+    {
+        if !self.is_logged_in() {
+            say_out_of_place(tag, out)?;
+            return Ok(());
+        }
+        match self.place_of(name.as_slice()) {
+            Some(place) => self.append_at(place, tag, name.as_slice(), flags, message, out),
+            None => {
+                say_no_with(tag, b"TRYCREATE", b"no mailbox", out)?;
+                Ok(())
+            }
+        }
+    }
+
+    /// The same, to the mailbox at this place.
+    fn append_at(
+        &mut self,
+        place: usize,
+        tag: Tag,
+        name: &[u8],
+        flags: Flags,
+        message: Sent,
+        out: &mut Vec<u8>,
+    ) -> Result<(), AllocError>
+        requires { IsPlace name.now self.old.mailboxes place }
+        ensures ok { OnOk result (AnsweredBy (AppendsAt (mailbox_at name.now self.old.mailboxes) self.old tag name.now flags message) out.old.items out.new.items self.new) }
+        ensures err { OnErr result (self.new ≡ self.old) }
+    {
+        let mailbox = self.mailbox(place);
+        match Uid::new(mailbox.next) {
+            Some(uid) => {
+                let validity = number(mailbox.validity);
+                let count = count_of(mailbox) + 1;
+                say_grown(&self.condition, name, count, out)?;
+                say_appended(tag, validity, uid, out)?;
+                self.add(place, uid, flags, message)
+            }
+            None => {
+                say_no(tag, b"uids", out)?;
+                Ok(())
+            }
+        }
+    }
+
+    /// Adds the message to the mailbox at this place, under its next UID.
+    fn add(&mut self, place: usize, uid: Uid, flags: Flags, message: Sent) -> Result<(), AllocError>
+        requires within { place < length self.old.mailboxes }
+        requires next { (m : FarMailbox) → slice_get self.old.mailboxes place ≡ Some m → uid ≡ m.store.next }
+        ensures ok { OnOk result (self.new ≡ record self.old { mailboxes = changed_there (added uid flags message) place self.old.mailboxes }) }
+        ensures err { OnErr result (self.new ≡ self.old) }
+    {
+        // They tell the prover that the values are in their ranges (docs/DECISIONS.md, "Forms").
+        let _ = uid.get();
+        let _ = flags.bits();
+        let _ = message.octets();
+        add(&mut self.mailboxes[place], uid, flags, message)
+    }
+}
 
 /// Tells how many messages the mailbox of this name has now, where it is the one that is selected.
 fn say_grown(

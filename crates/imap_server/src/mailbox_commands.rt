@@ -141,7 +141,8 @@ fn say_opening(mailbox: &Mailbox, tag: Tag, out: &mut Vec<u8>) -> Result<(), All
 /// How many messages the mailbox has.
 pub(crate) fn count_of(mailbox: &Mailbox) -> u32
     requires { IsServed (far_of mailbox.now) }
-    ensures { result ≡ length mailbox.now.messages }
+    ensures count { result ≡ length mailbox.now.messages }
+    ensures below { result < mailbox.now.next }
 {
     mailbox.messages.as_slice().len() as u32
 }
