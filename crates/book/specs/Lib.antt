@@ -11,3 +11,4 @@ pub mod DiskShelves
 pub mod EntryOrders
 pub mod MemShelves
 pub mod Shelves
+pub mod Standings

@@ -2,7 +2,8 @@
 
 ghost use Rattle.std.specs.Prelude.{◌≡◌, ◌↔◌, ◌<◌, true, ◌&&◌, ◌==◌, not, [], length, position, IfNone, IfSome};
 ghost use Rattle.std.specs.List.{list_all, list_any, zip};
-ghost use Rattle.book.specs.Agreement.{is_pair, is_entry, is_named, is_side, step_agrees, note_agrees, copy_of, copies_of, is_source_of, is_taken, log_agrees, disagreement, Agrees, IsAgreed};
+ghost use Rattle.book.specs.Agreement.{is_pair, is_entry, is_named, is_side, step_agrees, note_agrees, copy_of, copies_of};
+ghost use Rattle.book.specs.Agreement.{is_source_of, is_taken, log_agrees, disagreement, Agrees, IsAgreed};
 ghost use Rattle.book.specs.BookLogs.{fresh};
 
 use mailcore::side::Side;

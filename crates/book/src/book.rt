@@ -2,7 +2,8 @@
 
 ghost use Rattle.std.specs.Prelude.{◌≡◌, false, true, Some, Ok, IfOk, IfErr, OnOk, OnErr, MatchOption};
 ghost use Rattle.sync_state.specs.declared.journal.WrittenJournal.{WrittenJournal};
-ghost use Rattle.book.specs.Books.{Holds, HoldsState, HoldsJournal, IsPlanned, IsSound, IsUnstopped, Fits, Ends, Leaves, mended, TellsOpen, TellsStateFile, TellsJournalFile, TellsPending, StopsTold};
+ghost use Rattle.book.specs.Books.{Holds, HoldsState, HoldsJournal, IsPlanned, IsSound, IsUnstopped, Fits, Ends, mended};
+ghost use Rattle.book.specs.Books.{TellsOpen, TellsStateFile, TellsJournalFile, TellsPending, StopsTold};
 ghost use Rattle.book.specs.BookLaws.{Fits-prop, IsSound-prop};
 
 use crate::agreement::disagreement;
@@ -121,6 +122,8 @@ pub struct Book<S: Shelf> {
 }
 
 impl<S: Shelf> Book<S> {
+    ghost use Rattle.book.specs.Standings.{LeavesJournal, standing};
+
     /// Reads both files and changes nothing. `BadState`: the state is not spelled so. `BadJournal`: a journal with `go`
     /// is not spelled so, or it is of a run above the next one, which is line 2, or it is of the next one and disagrees
     /// with the state.
@@ -156,7 +159,8 @@ impl<S: Shelf> Book<S> {
 
     /// The plan of the next run and which of its steps are logged, if it is pending.
     pub fn pending(&self) -> Option<&Journal>
-        ensures { MatchOption result (¬ IsPlanned self.now.pending) (λ journal. (written : WrittenJournal) × (self.now.pending ≡ Pending.Planned written) × (journal.now ≡ written.journal)) }
+        ensures { MatchOption result (¬ IsPlanned self.now.pending)
+            (λ journal. (written : WrittenJournal) × (self.now.pending ≡ Pending.Planned written) × (journal.now ≡ written.journal)) }
     {
         match &self.pending {
             Pending::Planned(written) => Some(&written.journal),
@@ -186,8 +190,8 @@ impl<S: Shelf> Book<S> {
         ensures removed { OnOk result (self.new.pending ≡ Pending.Missing) }
         ensures kept { OnErr result (self.new.pending ≡ self.old.pending) }
         ensures untouched { self.old.is_ready ≡ true → self.old.pending ≡ Pending.Missing → (result ≡ Ok tt) × (self.new.shelf ≡ self.old.shelf) }
-        ensures leaves { S.is_honest ≡ true → Leaves self.old.pending Pending.Missing Pending.Missing (S.seen self.old.shelf).stored (S.seen self.new.shelf).stored result }
-        ensures ends { Ends false (record { is_ready = self.old.is_ready; shelf = S.seen self.old.shelf }) (record { is_ready = self.new.is_ready; shelf = S.seen self.new.shelf }) result }
+        ensures leaves { S.is_honest ≡ true → LeavesJournal self.old.pending Pending.Missing Pending.Missing self.old self.new result }
+        ensures ends { Ends false (standing self.old) (standing self.new) result }
     {
         if !self.is_ready {
             return Err(BookFault::Stopped);
@@ -207,9 +211,10 @@ impl<S: Shelf> Book<S> {
         ensures state { self.new.state ≡ self.old.state }
         ensures mended { OnOk result (self.new.pending ≡ mended self.old.pending) }
         ensures kept { OnErr result (self.new.pending ≡ self.old.pending) }
-        ensures untouched { self.old.is_ready ≡ true → mended self.old.pending ≡ self.old.pending → (result ≡ Ok tt) × (self.new.shelf ≡ self.old.shelf) }
-        ensures leaves { S.is_honest ≡ true → Leaves self.old.pending (mended self.old.pending) self.old.pending (S.seen self.old.shelf).stored (S.seen self.new.shelf).stored result }
-        ensures ends { Ends false (record { is_ready = self.old.is_ready; shelf = S.seen self.old.shelf }) (record { is_ready = self.new.is_ready; shelf = S.seen self.new.shelf }) result }
+        ensures untouched { self.old.is_ready ≡ true → mended self.old.pending ≡ self.old.pending
+            → (result ≡ Ok tt) × (self.new.shelf ≡ self.old.shelf) }
+        ensures leaves { S.is_honest ≡ true → LeavesJournal self.old.pending (mended self.old.pending) self.old.pending self.old self.new result }
+        ensures ends { Ends false (standing self.old) (standing self.new) result }
     {
         if !self.is_ready {
             return Err(BookFault::Stopped);

@@ -3,7 +3,7 @@
 ghost use Rattle.std.specs.Prelude.{◌≡◌, ◌+◌, ◌++◌, ◌∷◌, [], false, true, IfOk, OnOk, OnErr};
 ghost use Rattle.book.specs.Agreement.{Agrees};
 ghost use Rattle.sync_state.specs.JournalText.{IsPlan, log_line};
-ghost use Rattle.book.specs.Books.{Ends, Leaves, torn};
+ghost use Rattle.book.specs.Books.{Ends, torn};
 ghost use Rattle.book.specs.BookLogs.{fresh, begun, as_done, logged_more, is_free, is_free_for, is_refused, MayLog};
 
 use crate::agreement::is_taken;
@@ -19,6 +19,8 @@ use sync_state::journal_lines::push_logged;
 use sync_state::journal_text::write_plan;
 
 impl<S: Shelf> Book<S> {
+    ghost use Rattle.book.specs.Standings.{LeavesJournal, standing};
+
     /// Writes the plan of the next run, of which no step is logged: one `append`. A fault leaves no journal, one without
     /// a plan, or this one.
     pub fn begin(&mut self, plan: Plan) -> Result<(), BookFault>
@@ -29,8 +31,8 @@ impl<S: Shelf> Book<S> {
         ensures state { self.new.state ≡ self.old.state }
         ensures begun { OnOk result (self.new.pending ≡ begun plan) }
         ensures kept { OnErr result (self.new.pending ≡ self.old.pending) }
-        ensures leaves { S.is_honest ≡ true → Leaves Pending.Missing (begun plan) Pending.Useless (S.seen self.old.shelf).stored (S.seen self.new.shelf).stored result }
-        ensures ends { Ends false (record { is_ready = self.old.is_ready; shelf = S.seen self.old.shelf }) (record { is_ready = self.new.is_ready; shelf = S.seen self.new.shelf }) result }
+        ensures leaves { S.is_honest ≡ true → LeavesJournal Pending.Missing (begun plan) Pending.Useless self.old self.new result }
+        ensures ends { Ends false (standing self.old) (standing self.new) result }
     {
         if !self.is_ready {
             return Err(BookFault::Stopped);
@@ -55,8 +57,9 @@ impl<S: Shelf> Book<S> {
         ensures state { self.new.state ≡ self.old.state }
         ensures logged { OnOk result (self.new.pending ≡ logged_more self.old.pending (as_done copy)) }
         ensures kept { OnErr result (self.new.pending ≡ self.old.pending) }
-        ensures leaves { S.is_honest ≡ true → Leaves self.old.pending (logged_more self.old.pending (as_done copy)) (torn self.old.pending) (S.seen self.old.shelf).stored (S.seen self.new.shelf).stored result }
-        ensures ends { Ends (is_refused self.old.state.entries self.old.pending (as_done copy)) (record { is_ready = self.old.is_ready; shelf = S.seen self.old.shelf }) (record { is_ready = self.new.is_ready; shelf = S.seen self.new.shelf }) result }
+        ensures leaves { S.is_honest ≡ true
+            → LeavesJournal self.old.pending (logged_more self.old.pending (as_done copy)) (torn self.old.pending) self.old self.new result }
+        ensures ends { Ends (is_refused self.old.state.entries self.old.pending (as_done copy)) (standing self.old) (standing self.new) result }
     {
         if !self.is_ready {
             return Err(BookFault::Stopped);
@@ -75,8 +78,9 @@ impl<S: Shelf> Book<S> {
         ensures state { self.new.state ≡ self.old.state }
         ensures logged { OnOk result (self.new.pending ≡ logged_more self.old.pending Logged.Void) }
         ensures kept { OnErr result (self.new.pending ≡ self.old.pending) }
-        ensures leaves { S.is_honest ≡ true → Leaves self.old.pending (logged_more self.old.pending Logged.Void) (torn self.old.pending) (S.seen self.old.shelf).stored (S.seen self.new.shelf).stored result }
-        ensures ends { Ends false (record { is_ready = self.old.is_ready; shelf = S.seen self.old.shelf }) (record { is_ready = self.new.is_ready; shelf = S.seen self.new.shelf }) result }
+        ensures leaves { S.is_honest ≡ true
+            → LeavesJournal self.old.pending (logged_more self.old.pending Logged.Void) (torn self.old.pending) self.old self.new result }
+        ensures ends { Ends false (standing self.old) (standing self.new) result }
     {
         self.log(step, Logged::Void)
     }
@@ -88,8 +92,9 @@ impl<S: Shelf> Book<S> {
         ensures state { self.new.state ≡ self.old.state }
         ensures logged { OnOk result (self.new.pending ≡ logged_more self.old.pending logged) }
         ensures kept { OnErr result (self.new.pending ≡ self.old.pending) }
-        ensures leaves { S.is_honest ≡ true → Leaves self.old.pending (logged_more self.old.pending logged) (torn self.old.pending) (S.seen self.old.shelf).stored (S.seen self.new.shelf).stored result }
-        ensures ends { Ends false (record { is_ready = self.old.is_ready; shelf = S.seen self.old.shelf }) (record { is_ready = self.new.is_ready; shelf = S.seen self.new.shelf }) result }
+        ensures leaves { S.is_honest ≡ true
+            → LeavesJournal self.old.pending (logged_more self.old.pending logged) (torn self.old.pending) self.old self.new result }
+        ensures ends { Ends false (standing self.old) (standing self.new) result }
     {
         if !self.is_ready {
             return Err(BookFault::Stopped);

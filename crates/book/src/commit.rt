@@ -11,6 +11,8 @@ use sync_state::fault::BookFault;
 use sync_state::state_text::write_state_text;
 
 impl<S: Shelf> Book<S> {
+    ghost use Rattle.book.specs.Standings.{files_in, standing};
+
     /// Puts the state that the finished journal makes in place of the old one, and then removes the journal: one
     /// `replace` and one `remove`. A fault leaves the old state and the journal, the new state and the journal, which is
     /// useless then, or the new state alone.
@@ -19,9 +21,9 @@ impl<S: Shelf> Book<S> {
         ensures committed { OnOk result (Makes self.old.pending self.old.state self.new.state) }
         ensures removed { OnOk result (self.new.pending ≡ Pending.Missing) }
         ensures kept { OnErr result ((self.new.state ≡ self.old.state) × (self.new.pending ≡ self.old.pending)) }
-        ensures held { OnOk result (S.is_honest ≡ true → Holds (S.seen self.new.shelf).stored self.new.state Pending.Missing) }
-        ensures leaves { S.is_honest ≡ true → LeavesMade self.old.pending (S.seen self.old.shelf).stored (S.seen self.new.shelf).stored result }
-        ensures ends { Ends false (record { is_ready = self.old.is_ready; shelf = S.seen self.old.shelf }) (record { is_ready = self.new.is_ready; shelf = S.seen self.new.shelf }) result }
+        ensures held { OnOk result (S.is_honest ≡ true → Holds (files_in self.new) self.new.state Pending.Missing) }
+        ensures leaves { S.is_honest ≡ true → LeavesMade self.old.pending (files_in self.old) (files_in self.new) result }
+        ensures ends { Ends false (standing self.old) (standing self.new) result }
     {
         if !self.is_ready {
             return Err(BookFault::Stopped);

@@ -20,7 +20,8 @@ pub fn books_by_their_files()
 
 /// Files that hold a book are refused by no line: a book is opened anew, unless the shelf stops or memory is wanting.
 pub fn held_books_open()
-    ensures { (files : Files) (s : SyncState) (p : Pending) (fault : BookFault) → Holds files s p → TellsOpen files fault → (fault ≡ BookFault.Stopped) ⊎ (fault ≡ BookFault.NoMemory) }
+    ensures { (files : Files) (s : SyncState) (p : Pending) (fault : BookFault) → Holds files s p → TellsOpen files fault
+        → (fault ≡ BookFault.Stopped) ⊎ (fault ≡ BookFault.NoMemory) }
 {}
 
 /// A plan that agrees with the entries, as the clause `agrees` of the planner says, agrees as `begin` asks for it.

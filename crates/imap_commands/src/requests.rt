@@ -5,7 +5,8 @@ ghost use Rattle.wire_reader.specs.Given.{Gives, GivesOr, viewed};
 ghost use Rattle.wire_reader.specs.Reading.{mapped};
 ghost use Rattle.wire_reader.specs.Words.{word_at};
 ghost use Rattle.imap_commands.specs.Requests.{items_word, mode_word};
-ghost use Rattle.imap_commands.specs.RequestReaders.{items_at, mode_at, login_at, enable_at, list_at, create_at, select_at, append_at, fetch_at, store_at, expunge_at, request_at};
+ghost use Rattle.imap_commands.specs.RequestReaders.{items_at, mode_at, login_at, enable_at, list_at, create_at, select_at};
+ghost use Rattle.imap_commands.specs.RequestReaders.{append_at, fetch_at, store_at, expunge_at, request_at};
 
 use crate::command::{FetchItems, Request, StoreMode};
 use crate::message::read_message;

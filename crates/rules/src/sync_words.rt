@@ -2,7 +2,9 @@
 
 ghost use Rattle.std.specs.Prelude.{◌≡◌, nat_lt, map};
 ghost use Rattle.std.specs.List.{list_all};
-ghost use Rattle.rules.specs.SyncWords.{are_words, asserting, asserts, directions_on, is_cell_twice, is_compound, is_known, is_on, is_asserted_twice, is_twice, is_word, is_word_twice, says, says_compound, says_type, says_way, sync_cells, times, word_text};
+ghost use Rattle.rules.specs.SyncWords.{are_words, asserting, asserts, directions_on, is_cell_twice, is_compound};
+ghost use Rattle.rules.specs.SyncWords.{is_known, is_on, is_asserted_twice, is_twice};
+ghost use Rattle.rules.specs.SyncWords.{is_word, is_word_twice, says, says_compound, says_type, says_way, sync_cells, times, word_text};
 
 use crate::options::{Cells, Directions};
 use mailcore::side::Direction;

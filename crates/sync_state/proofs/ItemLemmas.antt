@@ -1,5 +1,5 @@
 -- Items in the order of their places, each with its line.
-use Rattle.std.proofs.Common.{◌≡◌, ◌≢◌, ℕ, ◌+◌, Bool, true, false, List, [], ◌∷◌, ◌++◌, length, get_or, drop, map, Option, Some, None, refl, sym, ap, ◌∙◌, subst}
+use Rattle.std.proofs.Common.{◌≡◌, ◌≢◌, ℕ, Bool, true, List, [], ◌∷◌, ◌++◌, get_or, drop, map, Option, Some, None, refl, sym, ap, ◌∙◌, subst}
 use Rattle.std.specs.Prelude.{All, IfNone, ◌&&◌}
 use Rattle.std.proofs.lemmas.Bool.{and_parts}
 use Rattle.std.proofs.lemmas.List.{map-append}
@@ -8,7 +8,7 @@ use Rattle.sync_state.specs.Cuts.{same_cut, no_cut}
 use Rattle.sync_state.specs.Lines.{OneLine, AreLines, HasLine, HasNoLine}
 use Rattle.sync_state.specs.JournalText.{is_below, rises, bottom}
 use Rattle.sync_state.specs.Places.{last_of}
-use Rattle.sync_state.specs.JournalReading.{AreItems, IsBadItem}
+use Rattle.sync_state.specs.JournalReading.{AreItems}
 use Rattle.sync_state.proofs.LineLemmas.{no_lines, line_more}
 
 -- ---- one line

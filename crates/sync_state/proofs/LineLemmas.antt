@@ -2,22 +2,11 @@
 use Rattle.std.proofs.Common.{◌≡◌, ◌≢◌, ℕ, true, false, eqb, List, [], ◌∷◌, ◌++◌, length, get_or, drop, take, map, sym, ◌+◌, ◌<◌, ap, ◌∙◌, subst, append_assoc, refl, Option, None, Some}
 use Rattle.std.specs.Prelude.{IfNone}
 use Rattle.std.proofs.lemmas.List.Elements.{All-nil, All-push, All-append}
-use Rattle.std.specs.Cmp.Lexicographic.{pointwise, bytes_decides}
-use Rattle.std.proofs.lemmas.List.{take-append-drop, take_at, drop_at, take_more, map-append}
+use Rattle.std.specs.Cmp.Lexicographic.{pointwise}
+use Rattle.std.proofs.lemmas.List.{drop_at, take_more, map-append}
+use Rattle.texts.proofs.StartLemmas.{starts, no_start}
 use Rattle.sync_state.specs.Cuts.{same_cut, no_cut}
 use Rattle.sync_state.specs.Lines.{lines_text, OneLine, AreLines, HasLine, HasNoLine}
-
-pub starts : (start text rest : List ℕ) → pointwise eqb (take (length start) text) start ≡ true → rest ≡ drop (length start) text → text ≡ start ++ rest
-starts start text rest same is =
-    let front : take (length start) text ≡ start = (bytes_decides (take (length start) text) start).0 same in
-    sym (take-append-drop (length start) text) ∙ ap (λ (x : List ℕ). x ++ drop (length start) text) front ∙ ap (λ (x : List ℕ). start ++ x) (sym is)
-
-pub no_start : (start text rest : List ℕ) → pointwise eqb (take (length start) text) start ≡ false → text ≢ start ++ rest
-no_start start text rest other is =
-    let front : take (length start) text ≡ start = ap (λ (x : List ℕ). take (length start) x) is ∙ take_at start rest (length start) refl in
-    let same = (bytes_decides (take (length start) text) start).1 front in
-    let both : true ≡ false = sym same ∙ other in
-    cc
 
 behind_start : (start text rest more : List ℕ) → rest ≡ drop (length start) text → text ≡ start ++ more → rest ≡ more
 behind_start start text rest more is e = is ∙ ap (λ (x : List ℕ). drop (length start) x) e ∙ drop_at start more (length start) refl

@@ -1,5 +1,5 @@
 -- Items in the order of their places, walked over from the first one.
-use Rattle.std.proofs.Common.{◌≡◌, ℕ, ◌+◌, ◌<◌, Bool, true, false, List, ◌∷◌, length, get_or, drop, map, sym, ap, ◌∙◌, subst}
+use Rattle.std.proofs.Common.{◌≡◌, ℕ, ◌+◌, ◌<◌, Bool, true, List, ◌∷◌, length, get_or, drop, map, sym, ap, ◌∙◌, subst}
 use Rattle.std.specs.Prelude.{All, ◌&&◌}
 use Rattle.std.proofs.lemmas.List.{drop_more, at_drop_more}
 use Rattle.std.proofs.lemmas.List.Elements.{All-cons}

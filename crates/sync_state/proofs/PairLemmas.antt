@@ -1,7 +1,7 @@
 -- An entry that stands behind others may stand there.
 use Rattle.std.proofs.Common.{◌≡◌, ℕ, ◌<◌, ◌≤◌, Bool, true, false, List, ◌∷◌, ◌++◌, length, get_or, Option, Some, None, refl, ap, subst, arith, length-append}
 use Rattle.std.specs.Prelude.{not, ◌&&◌, ◌||◌, ◌==◌, nat_lt, is_none}
-use Rattle.std.proofs.lemmas.Bool.{eqb-true}
+use Rattle.std.proofs.lemmas.Bool.{and_from, eqb-true}
 use Rattle.std.proofs.lemmas.Bool.Decides.{nat_tests}
 use Rattle.std.proofs.lemmas.List.{get_or_at, get_or_append_left}
 use Rattle.std.proofs.lemmas.List.Sums.{list_all-from_AllPass}
@@ -24,21 +24,16 @@ apart None (Some v) once = refl
 apart (Some u) None once = refl
 apart (Some u) (Some v) once = other u v once
 
-both_true : (a b : Bool) → a ≡ true → b ≡ true → (a && b) ≡ true
-both_true true true e f = refl
-both_true true false e f = f
-both_true false b e f = e
-
 follows_from : (a e : Entry) → EntryBefore a e → (a.far ≡ e.far → a.far ≡ None) → (a.near ≡ e.near → a.near ≡ None) → follows a e ≡ true
 follows_from a e before far near =
-    both_true _ _ (both_true _ _ (placed (uid_of Far a) (uid_of Far e) (uid_of Near a) (uid_of Near e) before.0 before.1) (apart a.far e.far far)) (apart a.near e.near near)
+    and_from _ _ (and_from _ _ (placed (uid_of Far a) (uid_of Far e) (uid_of Near a) (uid_of Near e) before.0 before.1) (apart a.far e.far far)) (apart a.near e.near near)
 
 pub may_stand : (es ys : List Entry) (e : Entry) → ArePairs (es ++ e ∷ ys) → may_end e es ≡ true
 may_stand es ys e p =
     let here : (d : Entry) → get_or (es ++ e ∷ ys) (length es) d ≡ e = λ d. get_or_at es e ys d (length es) refl in
     let within : length es < length (es ++ e ∷ ys) = omega (arith, length-append es (e ∷ ys)) in
     let side : has_a_side e ≡ true = subst (λ (x : Entry). has_a_side x ≡ true) (here e) (p.some (length es) e within) in
-    both_true _ _ side (list_all-from_AllPass (λ a. follows a e) es (λ k d l.
+    and_from _ _ side (list_all-from_AllPass (λ a. follows a e) es (λ k d l.
     let there : get_or (es ++ e ∷ ys) k d ≡ get_or es k d = get_or_append_left es (e ∷ ys) d k l in
     let P : Entry → Entry → Type 0 = λ a b. EntryBefore a b in
     let F : Entry → Entry → Type 0 = λ a b. a.far ≡ b.far → a.far ≡ None in

@@ -1,8 +1,8 @@
 -- Each word is known from its text, and has no space.
-use Rattle.std.specs.Prelude.{ℕ, zero, suc, ◌+◌, ◌<◌, ◌^◌, ◌%◌, ◌≡◌, ◌≢◌, Bool, true, false, cond, ◌==◌, List, [], ◌∷◌, Option, Some, None, filter, unwrap_or, codes, decimal, refl, get_or, not, length}
+use Rattle.std.specs.Prelude.{ℕ, zero, suc, ◌+◌, ◌<◌, ◌^◌, ◌%◌, ◌≡◌, ◌≢◌, Bool, true, false, cond, ◌==◌, List, [], ◌∷◌, Option, Some, None, filter, unwrap_or, codes, decimal, refl, get_or, not}
 use Rattle.std.specs.List.{list_all}
 use Rattle.std.proofs.Common.{sym, ap, ◌∙◌, subst, arith}
-use Rattle.std.proofs.lemmas.Bool.{false≢true, eqb-true, and_parts}
+use Rattle.std.proofs.lemmas.Bool.{false≢true, eqb-true}
 use Rattle.std.proofs.lemmas.Fmt.{decimal_by_steps, decimal_injective}
 use Rattle.std.proofs.lemmas.List.Elements.{All-cons, All-map, All-push, All-weaker}
 use Rattle.std.proofs.lemmas.List.Sums.{AllPass-from_list_all}
@@ -14,7 +14,7 @@ use Rattle.mailcore.specs.declared.flags.Flag.{Flag}
 use Rattle.mailcore.specs.declared.flags.Flag.TheVariants.{Draft, Flagged, Forwarded, Answered, Seen, Deleted}
 use Rattle.mailcore.specs.FlagSet.{has, FLAGS}
 use Rattle.mailcore.specs.FlagNames.{place, letter, letters_of, all_flags}
-use Rattle.mailcore.specs.Mark.{IsMark, is_mark_char, MARK_LENGTH}
+use Rattle.mailcore.specs.Mark.{IsMark}
 use Rattle.mailcore.proofs.FlagLetters.{set_from_letters}
 use Rattle.sync_state.specs.Cuts.{Lacks}
 use Rattle.sync_state.specs.Words.{IsUidOrNone, flags_word, direction_word, side_word}

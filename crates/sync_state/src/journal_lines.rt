@@ -69,7 +69,8 @@ pub fn read_step(line: &[u8]) -> Option<Step>
 /// The step with this line, if it is one that changes flags.
 fn read_flags_step(line: &[u8]) -> Option<Step>
     ensures some { IfSome result (λ step. IsStep step × (line.now ≡ step_line step)) }
-    ensures none { IfNone result ((direction : Direction) (far near set cleared : ℕ) → IsStep (step.Flags direction far near set cleared) → line.now ≢ step_line (step.Flags direction far near set cleared)) }
+    ensures none { IfNone result ((direction : Direction) (far near set cleared : ℕ) → IsStep (step.Flags direction far near set cleared)
+        → line.now ≢ step_line (step.Flags direction far near set cleared)) }
 {
     if let Some((direction, (far, (near, (set, cleared))))) = after::<BothFields>(
         line,

@@ -1,2 +1,3 @@
 pub mod EscapeLemmas
 pub mod NumberLemmas
+pub mod StartLemmas

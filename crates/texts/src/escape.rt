@@ -26,7 +26,8 @@ pub fn unescape(alloc: Global, text: &[u8]) -> Result<Vec<u8>, EscapeFault>
 
 /// The first byte of an escaped text and what stands behind it, or none if the text does not begin with a byte.
 fn split_first_byte(text: &[u8]) -> Option<(u8, &[u8])>
-    ensures { MatchOption result ((b : ℕ) → b < 256 → (rest : List ℕ) → escape_of b ++ rest ≢ text.now) (λ first. escape_of first.0 ++ first.1.now ≡ text.now) }
+    ensures { MatchOption result ((b : ℕ) → b < 256 → (rest : List ℕ) → escape_of b ++ rest ≢ text.now)
+        (λ first. escape_of first.0 ++ first.1.now ≡ text.now) }
 {
     let (&first, rest) = text.split_first()?;
     if first == b'\\' {

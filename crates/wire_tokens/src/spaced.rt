@@ -2,7 +2,8 @@
 
 ghost use Rattle.std.specs.Prelude.{◌≡◌, IfOk};
 ghost use Rattle.wire_reader.specs.Given.{Gives};
-ghost use Rattle.wire_tokens.specs.Names.{flag_at, star_or_atom_at, permanent_flag_at, name_at, spaced_at, passed, names_passed, end_passed, names_of, IsSpaced, has_name};
+ghost use Rattle.wire_tokens.specs.Names.{flag_at, star_or_atom_at, permanent_flag_at, name_at, spaced_at, passed};
+ghost use Rattle.wire_tokens.specs.Names.{names_passed, end_passed, names_of, IsSpaced, has_name};
 
 use crate::atom::{is_atom_byte, read_atom};
 use wire_reader::punctuation::separator;

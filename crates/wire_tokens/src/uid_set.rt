@@ -5,7 +5,8 @@ ghost use Rattle.wire_reader.specs.Given.{Gives, GivesOr};
 ghost use Rattle.wire_reader.specs.Listing.{ended_by};
 ghost use Rattle.wire_reader.specs.Spelling.{is_digit};
 ghost use Rattle.wire_tokens.specs.Writing.{Appended, Extended};
-ghost use Rattle.wire_tokens.specs.Sets.{EndText, ItemText, SetText, end_of, ItemNames, Names, item_names, names, NamesAreTested, end_at, second_at, item_at, set_at};
+ghost use Rattle.wire_tokens.specs.Sets.{EndText, ItemText, SetText, end_of, ItemNames, Names, item_names};
+ghost use Rattle.wire_tokens.specs.Sets.{names, NamesAreTested, end_at, second_at, item_at, set_at};
 
 use crate::number::{NonZero, nz};
 use mailcore::uid::Uid;

@@ -1,19 +1,16 @@
 -- The next UID may be given.
-use Rattle.std.proofs.Common.{◌≡◌, ℕ, ◌+◌, ◌≢◌, true, false, List, ap, sym, subst, ◌∙◌, arith}
-use Rattle.std.specs.Prelude.{Bool, nat_lt, ◌&&◌}
+use Rattle.std.proofs.Common.{◌≡◌, ℕ, ◌+◌, ◌≢◌, true, false, List, sym, subst, ◌∙◌, arith}
+use Rattle.std.specs.Prelude.{nat_lt}
 use Rattle.std.specs.List.{list_all}
-use Rattle.std.proofs.lemmas.Bool.{lt-ltb}
+use Rattle.std.proofs.lemmas.Bool.{and_from, lt-ltb}
 use Rattle.std.proofs.lemmas.List.Sums.{list_all-from_AllPass}
 use Rattle.mailcore.specs.Listed.{AreBelow, may_end}
 use Rattle.mailcore.specs.declared.mailbox.Message.{Message}
 
-both_true : (a b : Bool) → a ≡ true → b ≡ true → (a && b) ≡ true
-both_true a b p q = ap (λ x. x && b) p ∙ q
-
 -- behind messages with lesser UIDs
 next_may_end : (ms : List Message) (next : ℕ) → AreBelow ms next → may_end ms (next + 1) next ≡ true
 next_may_end ms next below =
-    both_true (nat_lt next (next + 1)) (list_all (λ (m : Message). nat_lt m.uid next) ms) (lt-ltb next (next + 1) (omega arith))
+    and_from (nat_lt next (next + 1)) (list_all (λ (m : Message). nat_lt m.uid next) ms) (lt-ltb next (next + 1) (omega arith))
     (list_all-from_AllPass (λ (m : Message). nat_lt m.uid next) ms (λ k d h. lt-ltb _ _ (below k d h)))
 
 pub not_refused : (ms : List Message) (next uid got : ℕ) → AreBelow ms next → uid ≡ next → got ≡ uid → may_end ms (got + 1) uid ≢ false

@@ -1,9 +1,10 @@
 -- Texts that begin with a line.
-use Rattle.std.proofs.Common.{◌≡◌, ◌≢◌, ℕ, ◌+◌, ◌≤◌, true, false, eqb, List, [], ◌∷◌, ◌++◌, length, length-append, get_or, drop, take, sym, ap, ◌∙◌, refl, arith}
+use Rattle.std.proofs.Common.{◌≡◌, ◌≢◌, ℕ, ◌+◌, ◌≤◌, true, false, eqb, List, [], ◌∷◌, ◌++◌, length, length-append, get_or, drop, take, ap, ◌∙◌, refl, arith}
 use Rattle.std.specs.Prelude.{All, IfNone, Option, None, Some}
-use Rattle.std.specs.Cmp.Lexicographic.{pointwise, bytes_decides}
+use Rattle.std.specs.Cmp.Lexicographic.{pointwise}
 use Rattle.std.proofs.lemmas.Grind.{common_steps}
-use Rattle.std.proofs.lemmas.List.{take-append-drop, take_at, drop_at, get_or_at}
+use Rattle.std.proofs.lemmas.List.{drop_at, get_or_at}
+use Rattle.texts.proofs.StartLemmas.{starts, no_start}
 use Rattle.worlds.specs.Lines.{IsLine, line_ends}
 
 -- one line end less
@@ -21,18 +22,6 @@ line_taken start line behind text is =
     let h = fewer_behind start (line ++ 10 ∷ behind) in
     let g = one_less line behind in
     omega arith
-
-starts : (start text rest : List ℕ) → pointwise eqb (take (length start) text) start ≡ true → rest ≡ drop (length start) text → text ≡ start ++ rest
-starts start text rest same is =
-    let front : take (length start) text ≡ start = (bytes_decides (take (length start) text) start).0 same in
-    sym (take-append-drop (length start) text) ∙ ap (λ (x : List ℕ). x ++ drop (length start) text) front ∙ ap (λ (x : List ℕ). start ++ x) (sym is)
-
-no_start : (start text rest : List ℕ) → pointwise eqb (take (length start) text) start ≡ false → text ≢ start ++ rest
-no_start start text rest other is =
-    let front : take (length start) text ≡ start = ap (λ (x : List ℕ). take (length start) x) is ∙ take_at start rest (length start) refl in
-    let same = (bytes_decides (take (length start) text) start).1 front in
-    let both : true ≡ false = sym same ∙ other in
-    cc
 
 no_line : (start text rest line behind : List ℕ) → rest ≡ drop (length start) text → All (λ b. b ≢ 10) rest → text ≢ start ++ (line ++ 10 ∷ behind)
 no_line start text rest line behind is none parts =

@@ -14,7 +14,8 @@ pub const LAST_UID: u32 = u32::MAX - 1;
 
 /// The first word of a text and what stands behind the space that ends it, or none if there is no space.
 pub fn split_word(text: &[u8]) -> Option<(&[u8], &[u8])>
-    ensures { MatchOption result (All (λ b. b ≢ 32) text.now) (λ parts. (text.now ≡ parts.0.now ++ 32 ∷ parts.1.now) × All (λ b. b ≢ 32) parts.0.now) }
+    ensures { MatchOption result (All (λ b. b ≢ 32) text.now)
+        (λ parts. (text.now ≡ parts.0.now ++ 32 ∷ parts.1.now) × All (λ b. b ≢ 32) parts.0.now) }
 {
     cut(text, b' ')
 }

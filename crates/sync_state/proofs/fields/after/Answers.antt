@@ -1,7 +1,7 @@
 use Rattle.std.proofs.Common.{◌≡◌, ◌≢◌, ◌∙◌, ap, true, false, eqb, ℕ, List, ◌++◌, length, take, drop, Option, None, Some}
 use Rattle.std.specs.Prelude.{IfNone, IfSome}
 use Rattle.std.specs.Cmp.Lexicographic.{pointwise}
-use Rattle.sync_state.proofs.LineLemmas.{starts, no_start}
+use Rattle.texts.proofs.StartLemmas.{starts, no_start}
 use Rattle.sync_state.proofs.fields.after.Goals as goal
 
 refused : {A X : Type 0} (r : Option X) (fits : A → Type 0) (spelling : A → List ℕ) (start line : List ℕ) → pointwise eqb (take (length start) line) start ≡ false
