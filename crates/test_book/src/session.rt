@@ -46,19 +46,8 @@ struct Session<'a> {
 /// Plays a script, and gives its record. `Line`: that line is bad.
 pub fn play(rt: &HostRuntime, script: &[u8]) -> Result<String, Failure> {
     let mut session = Session::new(rt);
-    let mut number = 1usize;
-    for line in script.split_inclusive(|byte| *byte == b'\n') {
-        let played = session.play_line(line.strip_suffix(b"\n").unwrap_or(line));
-        if let Err(failure) = played {
-            return Err(failure.at(number));
-        }
-        number = number.saturating_add(1);
-    }
-    folder::clear(rt)?;
-    match session.block {
-        Some(_) => Err(Failure::Line(number)),
-        None => Ok(session.record),
-    }
+    session.play_lines(script)?;
+    Ok(session.into_record())
 }
 
 impl<'a> Session<'a> {
@@ -71,6 +60,26 @@ impl<'a> Session<'a> {
             plan: None,
             schedule: Vec::new(rt.alloc()),
             kept: Kept::Nothing,
+        }
+    }
+
+    fn into_record(self) -> String {
+        self.record
+    }
+
+    fn play_lines(&mut self, script: &[u8]) -> Result<(), Failure> {
+        let mut number = 1usize;
+        for line in script.split_inclusive(|byte| *byte == b'\n') {
+            let played = self.play_line(line.strip_suffix(b"\n").unwrap_or(line));
+            if let Err(failure) = played {
+                return Err(failure.at(number));
+            }
+            number = number.saturating_add(1);
+        }
+        folder::clear(self.rt)?;
+        match self.block {
+            Some(_) => Err(Failure::Line(number)),
+            None => Ok(()),
         }
     }
 
@@ -116,15 +125,8 @@ impl<'a> Session<'a> {
             Command::Missing(file) => self.files.put(file, None),
             Command::Plan => self.block = Some(Block::Plan(Draft::new(alloc))),
             Command::Stop(stop) => self.schedule.push(stop)?,
-            Command::Memory => {
-                let schedule = mem::replace(&mut self.schedule, Vec::new(alloc));
-                self.kept = Kept::Memory(Desk::new(self.files.on_shelf(alloc, schedule)?));
-            }
-            Command::Disk => {
-                folder::fill(self.rt, &self.files)?;
-                let shelf = DiskShelf::new(self.rt.clone()?, folder::PATH)?;
-                self.kept = Kept::Disk(Desk::new(shelf));
-            }
+            Command::Memory => self.stand_in_memory()?,
+            Command::Disk => self.stand_on_disk()?,
             Command::Folder(change) => change.make(self.rt)?,
             Command::Mode(file) => {
                 let mode = folder::mode_of(self.rt, file)?;
@@ -145,7 +147,26 @@ impl<'a> Session<'a> {
         self.files = Files::none();
         self.plan = None;
         self.schedule = Vec::new(self.rt.alloc());
-        self.kept = Kept::Nothing;
+        self.keep(Kept::Nothing);
+        Ok(())
+    }
+
+    fn keep(&mut self, kept: Kept) {
+        self.kept = kept;
+    }
+
+    fn stand_in_memory(&mut self) -> Result<(), Failure> {
+        let alloc = self.rt.alloc();
+        let schedule = mem::replace(&mut self.schedule, Vec::new(alloc));
+        let shelf = self.files.on_shelf(alloc, schedule)?;
+        self.keep(Kept::Memory(Desk::new(shelf)));
+        Ok(())
+    }
+
+    fn stand_on_disk(&mut self) -> Result<(), Failure> {
+        folder::fill(self.rt, &self.files)?;
+        let shelf = DiskShelf::new(self.rt.clone()?, folder::PATH)?;
+        self.keep(Kept::Disk(Desk::new(shelf)));
         Ok(())
     }
 
