@@ -3,16 +3,15 @@ use Rattle.std.proofs.Common.{◌≡◌, ◌<◌, ◌≤◌, ◌^◌, ℕ, zero,
 use Rattle.std.specs.Option.{SomeIff}
 use Rattle.mailcore.specs.declared.mailbox.Message.{Message}
 use Rattle.wire_tokens.specs.declared.uid_set.SetItem.{SetItem}
-use Rattle.wire_tokens.specs.Sets.{Names}
+use Rattle.wire_tokens.specs.Sets.{names}
 use Rattle.imap_commands.specs.declared.command.FetchItems.{FetchItems}
 use Rattle.imap_replies.specs.declared.reply.Reply.{Reply}
 use Rattle.imap_replies.specs.declared.reply.Reply.TheVariants.{Fetch}
 use Rattle.imap_session.specs.Mailboxes.{FarMailbox}
-use Rattle.imap_session.specs.NamedMessages.{greatest, set_names}
+use Rattle.imap_session.specs.NamedMessages.{greatest}
 use Rattle.imap_session.specs.Servers.{Server, selected}
 use Rattle.imap_session.specs.Answering.{done}
 use Rattle.imap_session.specs.MessageCommands.{shown, fetched, fetches, fetches_in}
-use Rattle.session_laws.proofs.Naming.{is_named, is_tested}
 use Rattle.imap_server.specs.Naming.{IsTop}
 use Rattle.imap_server.specs.Writing.{Wrote, Answered}
 use Rattle.imap_server.proofs.WritingLemmas.{wrote_then}
@@ -78,24 +77,15 @@ top_of_last ms m n some last is positive below =
 -- ---- the answer
 
 pub fetch_answered : (s : Server) (tag : List ℕ) (set : List SetItem) (what : FetchItems) (m : FarMailbox) (a b c : List ℕ) → selected s ≡ Some m
-    → Wrote (fetched (set_names (greatest m.store.messages) set) what 1 m.store.messages) a b → Wrote (done tag ∷ []) b c → Answered (fetches s tag set what) a c s
+    → Wrote (fetched (names (greatest m.store.messages) set) what 1 m.store.messages) a b → Wrote (done tag ∷ []) b c → Answered (fetches s tag set what) a c s
 fetch_answered s tag set what m a b c at h k =
     answered_as _ _ a c s (ap (λ (o : Option FarMailbox). fetches_in o s tag set what) at) (record { wrote = wrote_then _ _ a b c h k; after_is = refl })
 
 -- ---- what a set names, by the greatest UID as a number
 
-same_test : (test other : Bool) (P : Type 0) → (test ≡ true → P) → (P → test ≡ true) → (other ≡ true → P) → (P → other ≡ true) → test ≡ other
-same_test true true P a b c d = refl
-same_test true false P a b c d = sym (d (a refl))
-same_test false true P a b c d = b (c refl)
-same_test false false P a b c d = refl
-
-pub named_by : (set : List SetItem) (top uid : ℕ) (found : Option ℕ) (test : Bool) → SomeIff found ((0 < top) × (top + 1 < 2 ^ 32)) top → (test ≡ true → Names found set uid) → (Names found set uid → test ≡ true)
-    → (most : Option ℕ) → IsTop most top → test ≡ set_names most set uid
-named_by set top uid None test none a b None is = same_test test false (Names None set uid) a b (is_named None set uid) (is_tested None set uid)
-named_by set top uid None test none a b (Some u) is = absurd (none (is.1, is.2))
-named_by set top uid (Some n) test some a b None is = let more = some.0.0 in absurd (omega arith)
-named_by set top uid (Some n) test some a b (Some u) is =
-    let same : n ≡ u = some.1 ∙ is.0 in
-    same_test test (set_names (Some u) set uid) (Names (Some u) set uid) (λ t. subst (λ (k : ℕ). Names (Some k) set uid) same (a t)) (λ k. b (subst (λ (j : ℕ). Names (Some j) set uid) (sym same) k))
-    (is_named (Some u) set uid) (is_tested (Some u) set uid)
+pub named_by : (set : List SetItem) (top uid : ℕ) (found : Option ℕ) (test : Bool) → SomeIff found ((0 < top) × (top + 1 < 2 ^ 32)) top → test ≡ names found set uid
+    → (most : Option ℕ) → IsTop most top → test ≡ names most set uid
+named_by set top uid None test none t None is = t
+named_by set top uid None test none t (Some u) is = absurd (none (is.1, is.2))
+named_by set top uid (Some n) test some t None is = let more = some.0.0 in absurd (omega arith)
+named_by set top uid (Some n) test some t (Some u) is = t ∙ ap (λ (k : ℕ). names (Some k) set uid) (some.1 ∙ is.0)

@@ -1,7 +1,7 @@
 -- The greatest UID of a mailbox as a number, and what a set names by it.
 use Rattle.std.specs.Prelude.{◌≡◌, ◌<◌, ℕ, ◌+◌, ◌^◌, Bool, List, Option, None, Some}
 use Rattle.wire_tokens.specs.declared.uid_set.SetItem.{SetItem}
-use Rattle.imap_session.specs.NamedMessages.{set_names}
+use Rattle.wire_tokens.specs.Sets.{names}
 
 -- the number is this UID, or 0 where there is none
 abbrev pub IsTop : Option ℕ → ℕ → Type 0
@@ -10,4 +10,4 @@ IsTop (Some uid) top = (top ≡ uid) × (0 < top) × (top + 1 < 2 ^ 32)
 
 -- the test tells whether the set names the UID
 abbrev pub Named : List SetItem → (top uid : ℕ) → Bool → Type 0
-Named set top uid test = (most : Option ℕ) → IsTop most top → test ≡ set_names most set uid
+Named set top uid test = (most : Option ℕ) → IsTop most top → test ≡ names most set uid

@@ -1,14 +1,12 @@
 -- Which messages a set names, and what a command does to them (RFC 9051, sections 6.4.6 and 6.4.9). What becomes of one
 -- message is said in mailcore, in the words that both sides share.
-use Rattle.std.specs.Prelude.{ℕ, Bool, false, ◌||◌, ◌&&◌, ◌==◌, nat_le, List, [], ◌∷◌, map, filter, Option, None, Some}
-use Rattle.std.specs.List.{list_any}
+use Rattle.std.specs.Prelude.{ℕ, Bool, ◌&&◌, List, [], ◌∷◌, map, filter, Option, None, Some}
 use Rattle.mailcore.specs.declared.mailbox.Message.{Message}
 use Rattle.mailcore.specs.FlagSet.{has, DELETED}
 use Rattle.mailcore.specs.Stores.{Store}
 use Rattle.mailcore.specs.Operations.{flags_added, flags_removed, expunged}
 use Rattle.wire_tokens.specs.declared.uid_set.SetItem.{SetItem}
-use Rattle.wire_tokens.specs.declared.uid_set.SetItem.TheVariants.{One, Range}
-use Rattle.wire_tokens.specs.Sets.{end_of}
+use Rattle.wire_tokens.specs.Sets.{names}
 use Rattle.imap_commands.specs.declared.command.StoreMode.{StoreMode}
 use Rattle.imap_commands.specs.declared.command.StoreMode.TheVariants as modes
 
@@ -18,18 +16,9 @@ greatest [] = None
 greatest (m ∷ []) = Some m.uid
 greatest (m ∷ n ∷ ms) = greatest (n ∷ ms)
 
-abbrev pub item_names : (greatest uid : ℕ) → SetItem → Bool
-item_names most uid (One x) = uid == end_of most x
-item_names most uid (Range x y) =
-    nat_le (end_of most x) uid && nat_le uid (end_of most y) || nat_le (end_of most y) uid && nat_le uid (end_of most x)
-
--- in an empty mailbox a set names nothing
-abbrev pub set_names : (greatest : Option ℕ) → List SetItem → (uid : ℕ) → Bool
-set_names None set uid = false
-set_names (Some most) set uid = list_any (item_names most uid) set
-
+-- the set names this UID in the mailbox
 abbrev pub named_in : Store → List SetItem → (uid : ℕ) → Bool
-named_in s set uid = set_names (greatest s.messages) set uid
+named_in s set uid = names (greatest s.messages) set uid
 
 -- the UIDs of those messages that a set names
 abbrev pub uids_named : List SetItem → Store → List ℕ

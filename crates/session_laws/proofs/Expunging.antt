@@ -15,7 +15,7 @@ use Rattle.imap_session.specs.Answering.{Gives}
 use Rattle.imap_session.specs.MessageCommands.{expunges_in}
 use Rattle.session_laws.specs.Laws.{TakesNamed, TakesIn}
 use Rattle.session_laws.proofs.Messages.{has_uid, is_among, find-stays, find-gone}
-use Rattle.session_laws.proofs.Naming.{is_named}
+use Rattle.wire_tokens.proofs.SetTests.{tested}
 use Rattle.session_laws.proofs.Giving.{selected-changed}
 
 -- the message under this UID is one that goes
@@ -92,7 +92,7 @@ swept_takes set m is = record {
         let g = going (named_in m.store set) uid m.store.messages is.rising among in
         inr (record {
           gone = find-gone (uids_going set m.store) uid m.store.messages among;
-          named = is_named (greatest m.store.messages) set uid g.is_named;
+          named = (tested (greatest m.store.messages) set uid).0 g.is_named;
           deleted = g.deleted;
         })
     | inr not_among ↦ inl (find-stays (uids_going set m.store) uid m.store.messages not_among)

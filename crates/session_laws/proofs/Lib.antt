@@ -4,7 +4,6 @@ pub mod Messages
 pub mod Continuing
 pub mod GoingOn
 pub mod Bodies
-pub mod Naming
 pub mod Refusing
 pub mod Giving
 pub mod Expunging

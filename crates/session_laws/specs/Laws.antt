@@ -1,5 +1,5 @@
 -- What holds of sessions, in laws that functions of `src/laws.rt` show.
-use Rattle.std.specs.Prelude.{◌≡◌, ◌≤◌, ◌<◌, ◌↔◌, ◌⊎◌, ◌==◌, ℕ, ◌+◌, Bool, true, false, List, [], ◌∷◌, ◌++◌, map, find, Option, None, Some, IsSomeAnd}
+use Rattle.std.specs.Prelude.{◌≡◌, ◌≤◌, ◌<◌, ◌⊎◌, ◌==◌, ℕ, ◌+◌, Bool, true, false, List, [], ◌∷◌, ◌++◌, map, find, Option, None, Some, IsSomeAnd}
 use Rattle.std.specs.List.{list_any}
 use Rattle.mailcore.specs.declared.mailbox.Message.{Message}
 use Rattle.mailcore.specs.FlagSet.{has, DELETED}
@@ -16,7 +16,7 @@ use Rattle.imap_replies.specs.declared.word.Status.TheVariants as statuses
 use Rattle.imap_replies.specs.declared.word.NoticeKind.TheVariants as notices
 use Rattle.imap_replies.specs.declared.response.Code.TheVariants as codes_of
 use Rattle.imap_session.specs.Mailboxes.{FarMailbox, mailbox_at}
-use Rattle.imap_session.specs.NamedMessages.{greatest, set_names}
+use Rattle.imap_session.specs.NamedMessages.{greatest}
 use Rattle.imap_session.specs.Servers.{Server, selected}
 use Rattle.imap_session.specs.Answering.{done_with}
 use Rattle.imap_session.specs.Steps.{StepOf}
@@ -155,8 +155,3 @@ abbrev pub StoreKeepsBodies : Type 0
 StoreKeepsBodies =
     (old new : Server) (tag : List ℕ) (set : List SetItem) (mode : StoreMode) (flags : ℕ) (replies : List Reply)
     → StepOf old tag (requests.Store set mode flags) replies new → map bodies_of new.mailboxes ≡ map bodies_of old.mailboxes
-
--- ---- sets
-
-abbrev pub SetsName : Type 0
-SetsName = (most : Option ℕ) (set : List SetItem) (uid : ℕ) → (set_names most set uid ≡ true) ↔ Names most set uid

@@ -36,8 +36,3 @@ pub fn bodies_stay()
     ensures fetch { law.FetchChangesNothing }
     ensures store { law.StoreKeepsBodies }
 {}
-
-/// A set names the UIDs that wire_tokens says, also where it is tested.
-pub fn sets_name()
-    ensures { law.SetsName }
-{}

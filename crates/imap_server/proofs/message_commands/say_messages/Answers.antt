@@ -1,7 +1,8 @@
 use Rattle.std.proofs.Common.{Bool, ◌≡◌, ◌+◌, ◌∙◌, ℕ, List, ◌∷◌, [], ◌++◌, length, take, sym, ap, arith}
 use Rattle.std.proofs.lemmas.List.{take_more, length-take-le}
 use Rattle.mailcore.specs.declared.mailbox.Message.{Message}
-use Rattle.imap_session.specs.NamedMessages.{greatest, set_names, named_in}
+use Rattle.wire_tokens.specs.Sets.{names}
+use Rattle.imap_session.specs.NamedMessages.{greatest, named_in}
 use Rattle.imap_server.specs.Boxes.{store_of}
 use Rattle.imap_server.proofs.CommandLemmas.{count_fits}
 use Rattle.imap_server.proofs.FetchLemmas.{wrote_named, wrote_unnamed}
@@ -28,7 +29,7 @@ loop-message-preserved c =
     let at = c.loop-message.invariant.place in
     let place : c.loop-message.place ≡ 1 + length (take i ms) = omega arith in
     let test : c.is_named.result ≡ named c.message-item.result.uid =
-    c.is_named.ensures (greatest ms) c.greatest-top.ensures ∙ ap (λ (l : List Message). set_names (greatest l) c.args.set.now c.message-item.result.uid) c.as_slice-messages.ensures.all in
+    c.is_named.ensures (greatest ms) c.greatest-top.ensures ∙ ap (λ (l : List Message). names (greatest l) c.args.set.now c.message-item.result.uid) c.as_slice-messages.ensures.all in
     record {
       place = omega arith;
       wrote = elim c.if-is_named.branch [
