@@ -4,3 +4,5 @@ pub mod CommandLemmas
 pub mod ListedLemmas
 pub mod FetchLemmas
 pub mod AppendLemmas
+pub mod StoreLemmas
+pub mod ExpungeLemmas

@@ -4,3 +4,4 @@ pub mod Services
 pub mod Writing
 pub mod Selection
 pub mod Naming
+pub mod Changing

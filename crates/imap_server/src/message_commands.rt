@@ -1,23 +1,27 @@
-//! UID FETCH (RFC 9051, section 6.4.5).
+//! UID FETCH, UID STORE and UID EXPUNGE (RFC 9051, sections 6.4.5, 6.4.6 and 6.4.9).
 
-ghost use Rattle.std.specs.Prelude.{◌≡◌, ◌<◌, ◌∷◌, [], length, take, IfOk, OnOk};
+ghost use Rattle.std.specs.Prelude.{◌≡◌, ◌<◌, ◌∷◌, [], length, take, map, filter, IfOk, OnOk};
 ghost use Rattle.wire_strings.specs.Literals.{IsLiteral};
 ghost use Rattle.imap_replies.specs.declared.reply.Reply.TheVariants as replies;
-ghost use Rattle.imap_session.specs.NamedMessages.{greatest, named_in};
-ghost use Rattle.imap_session.specs.MessageCommands.{shown, fetched};
+ghost use Rattle.wire_tokens.specs.Sets.{names};
+ghost use Rattle.imap_session.specs.NamedMessages.{greatest, named_in, stored, swept};
+ghost use Rattle.imap_session.specs.MessageCommands.{shown, fetched, removed};
 ghost use Rattle.imap_server.specs.Boxes.{store_of, far_of, IsServed};
-ghost use Rattle.imap_server.specs.Naming.{IsTop, Named};
+ghost use Rattle.imap_server.specs.Changing.{new_flags, given, stays};
+ghost use Rattle.imap_server.specs.Naming.{IsTop, Named, Going};
 ghost use Rattle.imap_server.specs.Writing.{Wrote};
 
 use crate::mailbox_commands::number;
 use crate::service::Service;
 use crate::writing::{say, say_done, say_out_of_place};
-use imap_commands::command::FetchItems;
+use imap_commands::command::{FetchItems, StoreMode};
 use imap_replies::fetch::{FetchItem, FetchList};
 use imap_replies::reply::Reply;
-use mailcore::mailbox::{Mailbox, Message};
+use mailcore::flags::{Flag, Flags};
+use mailcore::mailbox::{Mailbox, Message, Messages};
 use mailcore::uid::Uid;
 use std::alloc::{AllocError, Global};
+use std::mem;
 use wire_strings::octets::Octets;
 use wire_strings::string::WireString;
 use wire_tokens::flag_list::FlagSet;
@@ -26,8 +30,10 @@ use wire_tokens::tag::Tag;
 use wire_tokens::uid_set::UidSet;
 
 impl Service {
-    ghost use Rattle.std.specs.Prelude.{◌≡◌, OnOk};
-    ghost use Rattle.imap_session.specs.MessageCommands.{fetches};
+    ghost use Rattle.std.specs.Prelude.{◌≡◌, ◌<◌, length, OnOk, OnErr};
+    ghost use Rattle.imap_session.specs.NamedMessages.{stored, swept};
+    ghost use Rattle.imap_session.specs.MessageCommands.{fetches, stores, expunges};
+    ghost use Rattle.imap_server.specs.Places.{changed_there};
     ghost use Rattle.imap_server.specs.Writing.{Answered};
 
     /// Answers UID FETCH. Each body is written once, into the answer.
@@ -51,6 +57,71 @@ impl Service {
                 Ok(())
             }
         }
+    }
+
+    /// Answers UID STORE.
+    pub(crate) fn store(
+        &mut self,
+        tag: Tag,
+        set: &UidSet,
+        mode: StoreMode,
+        flags: Flags,
+        out: &mut Vec<u8>,
+    ) -> Result<(), AllocError>
+        ensures ok { OnOk result (Answered (stores self.old tag set.now mode flags) out.old.items out.new.items self.new) }
+        ensures err { OnErr result (self.new ≡ self.old) }
+    {
+        match self.selected_place() {
+            Some(place) => {
+                say_done(tag, out)?;
+                self.store_at(place, set, mode, flags);
+                Ok(())
+            }
+            None => {
+                say_out_of_place(tag, out)?;
+                Ok(())
+            }
+        }
+    }
+
+    /// The same to the mailbox at this place.
+    fn store_at(&mut self, place: usize, set: &UidSet, mode: StoreMode, flags: Flags)
+        requires { place < length self.old.mailboxes }
+        ensures { self.new ≡ record self.old { mailboxes = changed_there (stored mode flags set.now) place self.old.mailboxes } }
+    {
+        store(self.alloc, &mut self.mailboxes[place], set, mode, flags);
+    }
+
+    /// Answers UID EXPUNGE.
+    pub(crate) fn expunge(
+        &mut self,
+        tag: Tag,
+        set: &UidSet,
+        out: &mut Vec<u8>,
+    ) -> Result<(), AllocError>
+        ensures ok { OnOk result (Answered (expunges self.old tag set.now) out.old.items out.new.items self.new) }
+        ensures err { OnErr result (self.new ≡ self.old) }
+    {
+        match self.selected_place() {
+            Some(place) => {
+                say_removed(self.mailbox(place), set, out)?;
+                say_done(tag, out)?;
+                self.expunge_at(place, set);
+                Ok(())
+            }
+            None => {
+                say_out_of_place(tag, out)?;
+                Ok(())
+            }
+        }
+    }
+
+    /// The same to the mailbox at this place.
+    fn expunge_at(&mut self, place: usize, set: &UidSet)
+        requires { place < length self.old.mailboxes }
+        ensures { self.new ≡ record self.old { mailboxes = changed_there (swept set.now) place self.old.mailboxes } }
+    {
+        expunge(self.alloc, &mut self.mailboxes[place], set);
     }
 }
 
@@ -155,4 +226,92 @@ fn head(bytes: &[u8]) -> &[u8]
     } else {
         bytes
     }
+}
+
+/// Changes the flags of those messages that the set names.
+fn store(alloc: Global, mailbox: &mut Mailbox, set: &UidSet, mode: StoreMode, flags: Flags)
+    requires { IsServed (far_of mailbox.old) }
+    ensures store { far_of mailbox.new ≡ record (far_of mailbox.old) { store = stored mode flags set.now (store_of mailbox.old) } }
+    ensures served { IsServed (far_of mailbox.new) }
+{
+    let messages = mem::replace(&mut mailbox.messages, Messages::new(alloc));
+    let mut list = messages.into_vec();
+    give_flags(&mut list, set, mode, flags);
+    mailbox.messages = Messages::from_vec(list);
+}
+
+/// Changes the flags of those of all messages of a mailbox that the set names.
+fn give_flags(list: &mut [Message], set: &UidSet, mode: StoreMode, flags: Flags)
+    ensures { list.new ≡ map (given (names (greatest list.old) set.now) mode flags) list.old }
+{
+    let top = greatest(list);
+    for message in list.iter_mut() {
+        if is_named(set, top, message.uid) {
+            message.flags = new_flags(mode, message.flags, flags);
+        }
+    }
+}
+
+/// The flags with these set, or taken away.
+fn new_flags(mode: StoreMode, old: Flags, flags: Flags) -> Flags
+    ensures { result ≡ new_flags mode flags old }
+{
+    match mode {
+        StoreMode::Add => old.union(flags),
+        StoreMode::Remove => old.minus(flags),
+    }
+}
+
+/// Tells which messages go: those that the set names and that are marked as deleted.
+fn say_removed(mailbox: &Mailbox, set: &UidSet, out: &mut Vec<u8>) -> Result<(), AllocError>
+    requires { IsServed (far_of mailbox.now) }
+    ensures { OnOk result (Wrote (removed (named_in (store_of mailbox.now) set.now) 1 mailbox.now.messages) out.old.items out.new.items) }
+{
+    let messages = mailbox.messages.as_slice();
+    let top = greatest(messages);
+    let mut place = 1u32;
+    for message in messages {
+        if goes(set, top, message) {
+            say_expunged(place, out)?;
+        } else {
+            place += 1;
+        }
+    }
+    Ok(())
+}
+
+/// Tells that the message at this place goes.
+fn say_expunged(place: u32, out: &mut Vec<u8>) -> Result<(), AllocError>
+    requires { 0 < place }
+    ensures { OnOk result (Wrote (replies.Expunge place ∷ []) out.old.items out.new.items) }
+{
+    say(&Reply::Expunge(number(place)), out)?;
+    Ok(())
+}
+
+/// Removes the messages that go.
+fn expunge(alloc: Global, mailbox: &mut Mailbox, set: &UidSet)
+    requires { IsServed (far_of mailbox.old) }
+    ensures store { far_of mailbox.new ≡ record (far_of mailbox.old) { store = swept set.now (store_of mailbox.old) } }
+    ensures served { IsServed (far_of mailbox.new) }
+{
+    let messages = mem::replace(&mut mailbox.messages, Messages::new(alloc));
+    let mut list = messages.into_vec();
+    keep_staying(&mut list, set);
+    mailbox.messages = Messages::from_vec(list);
+}
+
+/// Leaves those of all messages of a mailbox that stay.
+fn keep_staying(list: &mut Vec<Message>, set: &UidSet)
+    ensures { list.new.items ≡ filter (stays (names (greatest list.old.items) set.now)) list.old.items }
+{
+    let top = greatest(list);
+    list.retain(|message| !goes(set, top, message));
+}
+
+/// Whether the set names the message and it is marked as deleted, where this is the greatest UID.
+fn goes(set: &UidSet, top: u32, message: &Message) -> bool
+    ensures { Going set.now top message.now result }
+{
+    is_named(set, top, message.uid) && message.flags.has(Flag::Deleted)
 }
