@@ -6,3 +6,4 @@ pub mod FetchLemmas
 pub mod AppendLemmas
 pub mod StoreLemmas
 pub mod ExpungeLemmas
+pub mod MatchingLemmas

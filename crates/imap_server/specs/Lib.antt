@@ -5,3 +5,4 @@ pub mod Writing
 pub mod Selection
 pub mod Naming
 pub mod Changing
+pub mod Matching

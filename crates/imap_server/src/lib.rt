@@ -5,6 +5,7 @@
 mod append_command;
 mod condition;
 mod mailbox_commands;
+mod matching;
 mod message_commands;
 mod service;
 mod session_commands;
