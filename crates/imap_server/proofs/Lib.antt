@@ -7,3 +7,4 @@ pub mod AppendLemmas
 pub mod StoreLemmas
 pub mod ExpungeLemmas
 pub mod MatchingLemmas
+pub mod OrderLemmas

@@ -6,3 +6,4 @@ pub mod Selection
 pub mod Naming
 pub mod Changing
 pub mod Matching
+pub mod Ordering

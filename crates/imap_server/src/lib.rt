@@ -7,6 +7,7 @@ mod condition;
 mod mailbox_commands;
 mod matching;
 mod message_commands;
+mod name_order;
 mod service;
 mod session_commands;
 mod words;
