@@ -72,7 +72,8 @@ impl Service {
         out: &mut Vec<u8>,
     ) -> Result<(), AllocError>
         requires { IsPlace name.now self.old.mailboxes place }
-        ensures ok { OnOk result (AnsweredBy (AppendsAt (mailbox_at name.now self.old.mailboxes) self.old tag name.now flags message) out.old.items out.new.items self.new) }
+        ensures ok { OnOk result (AnsweredBy (AppendsAt (mailbox_at name.now self.old.mailboxes) self.old tag name.now flags message)
+            out.old.items out.new.items self.new) }
         ensures err { OnErr result (self.new ≡ self.old) }
     {
         let mailbox = self.mailbox(place);
