@@ -24,10 +24,6 @@ use Rattle.imap_session.specs.Heard.{tag_of, is_passed, IsAnswer, AreUntagged, L
 use Rattle.exchange_laws.specs.Ends.{Did}
 use Rattle.exchange_laws.proofs.Others.{news_untagged}
 
-pub untagged-append : (a b : List Reply) → AreUntagged a → AreUntagged b → AreUntagged (a ++ b)
-untagged-append [] b h k = k
-untagged-append (r ∷ a) b h k = (h.0, untagged-append a b h.1 k)
-
 pub answer-append : (tag : List ℕ) (a b : List Reply) → AreUntagged a → IsAnswer tag b → IsAnswer tag (a ++ b)
 answer-append tag [] b h k = k
 answer-append tag (r ∷ a) b h k = inr (h.0, answer-append tag a b h.1 k)
@@ -67,9 +63,6 @@ grown_untagged (Selected at) name n =
 grown_untagged LoggedOut name n = tt
 
 -- ---- one command at a time
-
-only_answer : (s : Server) (tag : List ℕ) (r : Reply) → tag_of r ≡ Some tag → IsAnswer tag (only s r).replies
-only_answer s tag r e = inl (e, refl)
 
 -- of two answers, by a test
 either : (b : Bool) (tag : List ℕ) (x y : Answer) → IsAnswer tag x.replies → IsAnswer tag y.replies → IsAnswer tag (if b then x else y).replies

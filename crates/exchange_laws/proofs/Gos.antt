@@ -41,9 +41,6 @@ goes_no_more from read lost e =
     ∙ ap (λ (l : List Reply). l ++ goes_from (phase Plain (from ++ read)) lost) (sym one) ∙ sym (goes-append Plain (from ++ read) lost) ∙ e ∙ sym (append-nil (goes_in from)) in
     one ∙ ap (λ (l : List Reply). goes_in from ++ l) (front_none (goes_from (phase Plain from) read) _ (cancel (goes_in from) _ [] two)) ∙ append-nil (goes_in from)
 
-pub goes_none : (text a b : List ℕ) → goes_in text ≡ [] → text ≡ a ++ b → goes_in a ≡ []
-goes_none text a b h e = front_none (goes_in a) (goes_from (phase Plain a) b) (sym (goes-append Plain a b) ∙ ap goes_in (sym e) ∙ h)
-
 -- ---- what was said of the part of a command that was read
 
 no_drop : (c : Command) (text unread lost : List ℕ) (said : List Reply) (fault : LineFault) (at : ℕ) → IsText c text → text ≡ unread ++ lost → GoesOn fault at unread said → ⊥

@@ -8,9 +8,6 @@ use Rattle.imap_session.specs.Lines.{Stays}
 use Rattle.imap_session.specs.Heard.{AreUntagged}
 use Rattle.exchange_laws.specs.Ends.{HasRead}
 
-pub quiet-refl : (s : Server) → Quiet s s
-quiet-refl s = refl
-
 pub quiet-trans : (s t u : Server) → Quiet s t → Quiet t u → Quiet s u
 quiet-trans s t u h k = k ∙ h
 

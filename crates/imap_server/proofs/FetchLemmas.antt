@@ -57,11 +57,6 @@ wrote_unnamed named what ms more m test a b e t is_not h =
 
 -- ---- the greatest UID
 
-pub greatest-last : (ms : List Message) (m : Message) → greatest (ms ++ m ∷ []) ≡ Some m.uid
-greatest-last [] m = refl
-greatest-last (x ∷ []) m = refl
-greatest-last (x ∷ y ∷ ms) m = greatest-last (y ∷ ms) m
-
 greatest_at : (ms : List Message) (d : Message) (k : ℕ) → k + 1 ≡ length ms → greatest ms ≡ Some (get_or ms k d).uid
 greatest_at [] d k h = absurd (omega arith)
 greatest_at (x ∷ []) d zero h = refl

@@ -48,9 +48,6 @@ end_by false true p ps = or_false (matches ps [])
     or_false false = refl
 end_by false false p ps = refl
 
-end_reaches : (p : ℕ) (ps : List ℕ) → matches (p ∷ ps) [] ≡ reaches_end p (matches ps [])
-end_reaches p ps = end_by (eqb p 42) (eqb p 37) p ps
-
 place_reaches : (p : ℕ) (ps name : List ℕ) (j : ℕ) → j < length name
     → matches (p ∷ ps) (drop j name) ≡ reaches p (get_or name j 0) (matches ps (drop j name)) (matches ps (drop (j + 1) name)) (matches (p ∷ ps) (drop (j + 1) name))
 place_reaches p ps name j h =
@@ -69,22 +66,6 @@ pub record IsMade (p : ℕ) (ps name : List ℕ) (count : ℕ) (after : Bool) (r
 drop_all : (name : List ℕ) → drop (length name) name ≡ []
 drop_all [] = refl
 drop_all (c ∷ cs) = drop_all cs
-
-pub made_first : (p : ℕ) (ps name : List ℕ) (row : List Bool) (after : Bool) → IsRow ps name row → after ≡ get_or row (length name) false
-    → IsMade p ps name 0 after (slice_set row (length name) (reaches_end p after))
-made_first p ps name row after is e = record {
-  long = length-set row (length name) (reaches_end p after) ∙ is.long;
-  after_is = λ j h. let same : length name ≡ j = omega arith in subst (λ (n : ℕ). after ≡ matches ps (drop n name)) same (e ∙ is.at (length name) (omega arith));
-  old = λ j h. get_or-set_other row (length name) j (reaches_end p after) false (let less : j + 0 < length name = h in omega arith) ∙ is.at j (omega arith);
-  new = λ j h within.
-      let same : length name ≡ j = omega arith in
-      let last : get_or (slice_set row (length name) (reaches_end p after)) (length name) false ≡ reaches_end p after
-      = get_or-set_same row (length name) (reaches_end p after) false (let long = is.long in omega arith) in
-      let was : after ≡ matches ps [] = e ∙ is.at (length name) (omega arith) ∙ ap (matches ps) (drop_all name) in
-      let at_end : get_or (slice_set row (length name) (reaches_end p after)) (length name) false ≡ matches (p ∷ ps) (drop (length name) name)
-      = last ∙ ap (reaches_end p) was ∙ sym (end_reaches p ps) ∙ ap (matches (p ∷ ps)) (sym (drop_all name)) in
-      subst (λ (n : ℕ). get_or (slice_set row (length name) (reaches_end p after)) n false ≡ matches (p ∷ ps) (drop n name)) same at_end;
-}
 
 pub made_more : (p : ℕ) (ps name : List ℕ) (count more j : ℕ) (after here v : Bool) (row : List Bool) → IsMade p ps name count after row → j + 1 + count ≡ length name → more ≡ count + 1
     → here ≡ get_or row j false → v ≡ reaches p (get_or name j 0) here after (get_or row (j + 1) false) → IsMade p ps name more here (slice_set row j v)

@@ -22,26 +22,6 @@ put_at (n ∷ ns) name (suc k) is =
 
 -- ---- one byte after another
 
-pub same_byte : (a b : List ℕ) (k : ℕ) → k < length a → k < length b → get_or a k 0 ≡ get_or b k 0 → stands_before (drop k a) (drop k b) ≡ stands_before (drop (k + 1) a) (drop (k + 1) b)
-same_byte a b k h g e =
-    let c = get_or a k 0 in
-    let d = get_or b k 0 in
-    let less : nat_lt c d ≡ false = grind (arith, nat_tests) in
-    let equal : eqb c d ≡ true = grind (arith, nat_tests) in
-    ap (λ (l : List ℕ). stands_before l (drop k b)) (at_drop_more (λ (l : List ℕ). l) a k 0 h) ∙ ap (stands_before (c ∷ drop (k + 1) a)) (at_drop_more (λ (l : List ℕ). l) b k 0 g)
-    ∙ ap (λ (t : Bool). t || eqb c d && stands_before (drop (k + 1) a) (drop (k + 1) b)) less ∙ ap (λ (t : Bool). t && stands_before (drop (k + 1) a) (drop (k + 1) b)) equal
-
-pub other_byte : (a b : List ℕ) (k : ℕ) → k < length a → k < length b → eqb (get_or a k 0) (get_or b k 0) ≡ false → stands_before (drop k a) (drop k b) ≡ nat_lt (get_or a k 0) (get_or b k 0)
-other_byte a b k h g e =
-    let c = get_or a k 0 in
-    let d = get_or b k 0 in
-    ap (λ (l : List ℕ). stands_before l (drop k b)) (at_drop_more (λ (l : List ℕ). l) a k 0 h) ∙ ap (stands_before (c ∷ drop (k + 1) a)) (at_drop_more (λ (l : List ℕ). l) b k 0 g)
-    ∙ ap (λ (t : Bool). nat_lt c d || t && stands_before (drop (k + 1) a) (drop (k + 1) b)) e ∙ or_false (nat_lt c d)
-  where
-    or_false : (b : Bool) → (b || false) ≡ b
-    or_false true = refl
-    or_false false = refl
-
 drop_all : (a : List ℕ) → drop (length a) a ≡ []
 drop_all [] = refl
 drop_all (c ∷ cs) = drop_all cs

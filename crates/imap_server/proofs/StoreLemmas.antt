@@ -192,9 +192,3 @@ module _ (named : ℕ → Bool) (mode : StoreMode) (flags : ℕ) (xs list : List
       mixed_step (given named mode flags) xs list i item item h is at (ap (λ (b : Bool). cond b (record item { flags = new_flags mode flags item.flags }) item) (sym not_so ∙ t))
 
 -- ---- the answer
-
-pub store_answered : (s new : Server) (tag : List ℕ) (set : List SetItem) (mode : StoreMode) (flags : ℕ) (m : FarMailbox) (n : ℕ) (a b : List ℕ) → IsSelected s n → slice_get s.mailboxes n ≡ Some m
-    → Wrote (done tag ∷ []) a b → new ≡ record s { mailboxes = changed_there (stored mode flags set) n s.mailboxes } → Answered (stores s tag set mode flags) a b new
-store_answered s new tag set mode flags m n a b place at h is =
-    answered_as _ _ a b new (ap (λ (o : Option FarMailbox). stores_in o s tag set mode flags) (place.found ∙ at))
-    (record { wrote = h; after_is = is ∙ ap (λ (l : List FarMailbox). record s { mailboxes = l }) (sym (place.change (stored mode flags set))) })

@@ -29,9 +29,9 @@ const COPY: &str = "tmp/mbsync.copy";
 ///
 /// Messages are files and symlinks to files; what else stands in `new` and `cur` under a name without a UID is left alone.
 /// Names with a UID are listed as they stand, since synchronisers alone give them, and to files; if something else has such a
-/// name, it reads as a file that is gone. A copy and a meta file are written anew and synced before they get their names; the
-/// names themselves are synced by `sync` alone. Whether a disk gives back what was written no proof can say: so no contract
-/// promises what a real folder stores.
+/// name, it reads as a file that is gone, and it is neither renamed nor removed. A copy and a meta file are written anew and
+/// synced before they get their names; the names themselves are synced by `sync` alone. Whether a disk gives back what was
+/// written no proof can say: so no contract promises what a real folder stores.
 #[derive(Drop)]
 pub struct DiskFolder<R: Files + AllocGlobal + Clone + Drop> {
     disk: Disk<R>,
@@ -135,11 +135,25 @@ impl<R: Files + AllocGlobal + Clone + Drop> DiskFolder<R> {
 
     // The bytes of a file, or none where no file stands. It is asked before it is opened, since a fifo would not answer.
     fn mail_bytes(&self, part: &str) -> io::Result<Option<Vec<u8>>> {
-        let path = self.disk.at(part)?;
-        if is_file(self.disk.rt(), Path::new(path.as_str()))? {
+        if self.has_file(part)? {
             self.disk.read(part)
         } else {
             Ok(None)
+        }
+    }
+
+    // Whether a file or a symlink to a file stands in this part of the folder.
+    fn has_file(&self, part: &str) -> io::Result<bool> {
+        let path = self.disk.at(part)?;
+        is_file(self.disk.rt(), Path::new(path.as_str()))
+    }
+
+    // Renames a message. What is no file is left alone: an error, as where nothing stands.
+    fn rename_mail(&self, from: &str, to: &str) -> io::Result<()> {
+        if self.has_file(from)? {
+            self.disk.rename(from, to)
+        } else {
+            Err(io::Error::from(ErrorKind::NotFound))
         }
     }
 
@@ -149,7 +163,7 @@ impl<R: Files + AllocGlobal + Clone + Drop> DiskFolder<R> {
             Origin::Tmp => self.disk.rename(COPY, to.as_str()),
             Origin::Delivered(file) => {
                 let from = self.part_of(file)?;
-                self.disk.rename(from.as_str(), to.as_str())
+                self.rename_mail(from.as_str(), to.as_str())
             }
         }
     }

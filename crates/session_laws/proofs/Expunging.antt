@@ -1,7 +1,7 @@
 -- What UID EXPUNGE takes.
 use Rattle.std.proofs.Common.{◌≡◌, ◌<◌, inl, inr, ℕ, suc, Bool, true, false, ◌&&◌, ◌||◌, cond, eqb, List, [], ◌∷◌, map, filter, refl, sym, ◌∙◌, ap, subst, Option, Some, None, arith}
 use Rattle.std.specs.Prelude.{find, All, IsSomeAnd}
-use Rattle.std.proofs.lemmas.Bool.{cases_Bool}
+use Rattle.std.proofs.lemmas.Bool.{cases_Bool, and_parts}
 use Rattle.mailcore.specs.declared.mailbox.Message.{Message}
 use Rattle.mailcore.specs.FlagSet.{has, DELETED}
 use Rattle.mailcore.specs.Listed.{AreRising}
@@ -46,10 +46,6 @@ later_uid named uid n (m ∷ ms) above h =
     ]
     by_test false k rest here = rest k
 
-both_true : (a b : Bool) → (a && b) ≡ true → (a ≡ true) × (b ≡ true)
-both_true true b h = (refl, h)
-both_true false b h = cc
-
 going : (named : ℕ → Bool) (uid : ℕ) (ms : List Message) → AreRising ms → is_among (going_uids named ms) uid ≡ true → Going named uid ms
 unfolding going_uids
 going named uid [] r h = cc
@@ -69,7 +65,7 @@ going named uid (m ∷ ms) r h = by_test (goes named m) refl h (going named uid 
       | inl same ↦
           let equal : uid ≡ m.uid = grind arith in
           let found : eqb m.uid uid ≡ true = grind arith in
-          let parts = both_true (named m.uid) (has m.flags DELETED) is in
+          let parts = and_parts (named m.uid) (has m.flags DELETED) is in
           record {
             is_named = ap named equal ∙ parts.0;
             deleted = subst (λ (b : Bool). IsSomeAnd (cond b (Some m) (find (has_uid uid) ms)) (λ (x : Message). has x.flags DELETED ≡ true)) (sym found) parts.1;

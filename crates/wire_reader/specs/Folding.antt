@@ -19,9 +19,3 @@ fold_by sep r f (suc n) b xs = r xs >>= λ x. fold_on sep (f b x.0) (fold_by sep
 -- one or more items; each has at least a byte, so the bytes bound their number
 abbrev pub folded : {A B : Type 0} → ℕ → (List ℕ → Result (A × List ℕ) Stop) → (B → A → B) → B → List ℕ → Result (B × List ℕ) Stop
 folded sep r f b xs = fold_by sep r f (suc (length xs)) b xs
-
--- texts of items whose fold is the value
-pub record FoldedText {A B : Type 0} (sep : ℕ) (L : A → List ℕ → Type 0) (f : B → A → B) (b value : B) (text : List ℕ) : Type 0 where
-  pub items : List A
-  pub value_is : value ≡ fold f b items
-  pub spelled : ItemsText sep L items text
