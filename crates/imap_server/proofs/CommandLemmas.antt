@@ -20,7 +20,7 @@ use Rattle.imap_server.proofs.WritingLemmas.{wrote_then, wrote_more}
 pub answered_as : (x y : Answer) (a b : List ℕ) (s : Server) → x ≡ y → Answered y a b s → Answered x a b s
 answered_as x y a b s e h = subst (λ (z : Answer). Answered z a b s) (sym e) h
 
-by_true : (b : Bool) (x y : Answer) → b ≡ true → (if b then x else y) ≡ x
+pub by_true : (b : Bool) (x y : Answer) → b ≡ true → (if b then x else y) ≡ x
 by_true b x y e = ap (λ (c : Bool). if c then x else y) e
 
 -- ---- ENABLE

@@ -8,3 +8,4 @@ pub mod StoreLemmas
 pub mod ExpungeLemmas
 pub mod MatchingLemmas
 pub mod OrderLemmas
+pub mod ListLemmas

@@ -6,7 +6,7 @@ use Rattle.std.proofs.lemmas.Bool.{cases_Bool}
 use Rattle.std.proofs.lemmas.Bool.Decides.{nat_tests}
 use Rattle.std.proofs.lemmas.List.{at_drop_more, get_or-set_same, get_or-set_other, length-set}
 use Rattle.imap_session.specs.Patterns.{matches, behind_any, behind_level, behind_same}
-use Rattle.imap_server.specs.Matching.{IsRow, reaches, reaches_end}
+use Rattle.imap_server.specs.Matching.{IsRow, reaches}
 
 -- ---- one character more, at a character of the name and behind it
 
@@ -34,19 +34,6 @@ by_tests false false p c ps cs =
 
 char_reaches : (p c : ℕ) (ps cs : List ℕ) → matches (p ∷ ps) (c ∷ cs) ≡ reaches p c (matches ps (c ∷ cs)) (matches ps cs) (matches (p ∷ ps) cs)
 char_reaches p c ps cs = by_tests (eqb p 42) (eqb p 37) p c ps cs
-
-end_by : (star percent : Bool) (p : ℕ) (ps : List ℕ) → list_any (λ rest. matches ps rest) (behind_by star percent p []) ≡ ((star || percent) && matches ps [])
-end_by true percent p ps = or_false (matches ps [])
-  where
-    or_false : (b : Bool) → (b || false) ≡ b
-    or_false true = refl
-    or_false false = refl
-end_by false true p ps = or_false (matches ps [])
-  where
-    or_false : (b : Bool) → (b || false) ≡ b
-    or_false true = refl
-    or_false false = refl
-end_by false false p ps = refl
 
 place_reaches : (p : ℕ) (ps name : List ℕ) (j : ℕ) → j < length name
     → matches (p ∷ ps) (drop j name) ≡ reaches p (get_or name j 0) (matches ps (drop j name)) (matches ps (drop (j + 1) name)) (matches (p ∷ ps) (drop (j + 1) name))

@@ -1,8 +1,8 @@
 -- UID STORE as one walk over the messages.
-use Rattle.std.proofs.Common.{◌≡◌, ◌<◌, ◌^◌, ℕ, zero, suc, ◌+◌, Bool, true, false, cond, eqb, List, [], ◌∷◌, length, map, filter, take, drop, ◌++◌, refl, sym, ◌∙◌, ap, subst, Option, Some, arith, get_or}
+use Rattle.std.proofs.Common.{◌≡◌, ◌<◌, ◌^◌, ℕ, zero, suc, ◌+◌, Bool, true, false, cond, eqb, List, [], ◌∷◌, length, map, filter, take, drop, ◌++◌, refl, sym, ◌∙◌, ap, subst, arith, get_or}
 use Rattle.std.specs.Prelude.{All}
 use Rattle.std.proofs.lemmas.List.Elements.{All-map, All-filter, All-weaker}
-use Rattle.std.specs.Prelude.{slice_get, slice_set}
+use Rattle.std.specs.Prelude.{slice_set}
 use Rattle.std.proofs.lemmas.Bool.Decides.{nat_tests}
 use Rattle.mailcore.specs.declared.mailbox.Message.{Message}
 use Rattle.mailcore.specs.FlagSet.{FLAGS}
@@ -18,15 +18,8 @@ use Rattle.imap_commands.specs.declared.command.StoreMode.{StoreMode}
 use Rattle.imap_commands.specs.declared.command.StoreMode.TheVariants as modes
 use Rattle.imap_session.specs.Mailboxes.{FarMailbox}
 use Rattle.imap_session.specs.NamedMessages.{each_changed, stored, named_in, uids_named}
-use Rattle.imap_session.specs.Servers.{Server}
-use Rattle.imap_session.specs.Answering.{done}
-use Rattle.imap_session.specs.MessageCommands.{stores, stores_in}
 use Rattle.imap_server.specs.Boxes.{IsServed}
 use Rattle.imap_server.specs.Changing.{new_flags, given}
-use Rattle.imap_server.specs.Places.{changed_there}
-use Rattle.imap_server.specs.Selection.{IsSelected}
-use Rattle.imap_server.specs.Writing.{Wrote, Answered}
-use Rattle.imap_server.proofs.CommandLemmas.{answered_as}
 
 -- ---- the flags of one message after another are changed
 

@@ -6,4 +6,3 @@ pub mod Selection
 pub mod Naming
 pub mod Changing
 pub mod Matching
-pub mod Ordering

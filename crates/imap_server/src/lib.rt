@@ -4,10 +4,10 @@
 
 mod append_command;
 mod condition;
+mod list_command;
 mod mailbox_commands;
 mod matching;
 mod message_commands;
-mod name_order;
 mod service;
 mod session_commands;
 mod words;
