@@ -3,6 +3,7 @@
 #![tactic(auto)]
 
 mod append_command;
+mod commands;
 mod condition;
 mod list_command;
 mod mailbox_commands;
