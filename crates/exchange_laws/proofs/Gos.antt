@@ -11,14 +11,9 @@ use Rattle.imap_session.specs.Answering.{go}
 use Rattle.imap_session.specs.Portions.{LineFault, once, goes_from, goes_in}
 use Rattle.imap_session.specs.Unread.{Kept, Whole, Dropping, GoesOn, Holds}
 use Rattle.imap_session.specs.Serving.{End, IsUnread}
+use Rattle.session_laws.proofs.Gos.{goes-append}
 use Rattle.exchange_laws.specs.Ends.{IsText, HasRead}
 use Rattle.exchange_laws.proofs.Fronts.{no_fault, fault_at}
-
-pub goes-append : (p : Phase) (a b : List ℕ) → goes_from p (a ++ b) ≡ goes_from p a ++ goes_from (phase p a) b
-goes-append p [] b = refl
-goes-append p (c ∷ a) b =
-    ap (λ (l : List Reply). once (asked Commands p c) ++ l) (goes-append (next p c) a b)
-    ∙ sym (append_assoc (once (asked Commands p c)) (goes_from (next p c) a) (goes_from (phase (next p c) a) b))
 
 front_none : {A : Type 0} (a b : List A) → a ++ b ≡ [] → a ≡ []
 front_none [] b e = refl

@@ -73,15 +73,15 @@ pub record EndsLine (at : ℕ) (text : List ℕ) : Type 0 where
   pub ends : drop at text ≡ part ++ crlf
   pub first : (a b : List ℕ) → drop at text ≡ a ++ (crlf ++ b) → b ≡ []
 
--- the line ends with `+}`: the octets of its literal follow, since nobody waits
-pub record EndsPlus (text : List ℕ) : Type 0 where
+-- from its fault on, the line ends with `+}`: the octets of its literal follow, since nobody waits
+pub record EndsPlus (rest : List ℕ) : Type 0 where
   pub part : List ℕ
-  pub ends : text ≡ part ++ (codes "+}" ++ crlf)
+  pub ends : rest ≡ part ++ (codes "+}" ++ crlf)
 
 -- so it is behind a literal that is too long alone
-abbrev pub OctetsFollow : LineFault → (text : List ℕ) → Type 0
-OctetsFollow (Syntax tag) text = ⊥
-OctetsFollow (LiteralTooLong tag) text = EndsPlus text
+abbrev pub OctetsFollow : LineFault → (rest : List ℕ) → Type 0
+OctetsFollow (Syntax tag) rest = ⊥
+OctetsFollow (LiteralTooLong tag) rest = EndsPlus rest
 
 -- a line with a fault, up to its end
 pub record IsFaultyLine (fault : LineFault) (text : List ℕ) (said : List Reply) : Type 0 where
@@ -100,7 +100,7 @@ pub record IsLongLine (text : List ℕ) (said : List Reply) : Type 0 where
 pub record LosesOctets (text : List ℕ) (said : List Reply) : Type 0 where
   pub fault : LineFault
   pub line : IsFaultyLine fault text said
-  pub follow : OctetsFollow fault text
+  pub follow : OctetsFollow fault (drop line.at text)
 
 -- ---- how the text of a portion is read, and how often `+ go` is said before it is whole
 
@@ -111,6 +111,6 @@ pub record IsCommand (command : Command) (text : List ℕ) (said : List Reply) :
 
 abbrev pub Reads : Item → (text : List ℕ) → (said : List Reply) → Type 0
 Reads (Asks command) text said = IsCommand command text said
-Reads (Faulty fault) text said = IsFaultyLine fault text said × (OctetsFollow fault text → ⊥)
+Reads (Faulty fault) text said = (line : IsFaultyLine fault text said) × (OctetsFollow fault (drop line.at text) → ⊥)
 Reads Ends text said = LosesOctets text said ⊎ IsLongLine text said
 Reads Late text said = (said ≡ []) × (0 < length text)

@@ -1,4 +1,5 @@
 pub mod Joins
+pub mod Gos
 pub mod Opening
 pub mod Messages
 pub mod Continuing
