@@ -9,3 +9,13 @@ pub mod ExpungeLemmas
 pub mod MatchingLemmas
 pub mod OrderLemmas
 pub mod ListLemmas
+pub mod UpToPlaces
+pub mod Decided
+pub mod TagLemmas
+pub mod Feeding
+pub mod LastBytes
+pub mod FaultyLines
+pub mod LineFeeds
+pub mod DropFeeds
+pub mod PlaceAnswers
+pub mod HostLemmas

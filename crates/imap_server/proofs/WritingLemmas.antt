@@ -32,3 +32,7 @@ wrote_then rs qs a b c h k = record {
 
 pub wrote_more : (r : Reply) (qs : List Reply) (a b c : List ℕ) → Wrote (r ∷ []) a b → Wrote qs b c → Wrote (r ∷ qs) a c
 wrote_more r qs a b c h k = wrote_then (r ∷ []) qs a b c h k
+
+-- nothing is written
+pub wrote_none : (a : List ℕ) → Wrote [] a a
+wrote_none a = record { appended = record { text = []; parts = sym (append-nil a); spelled = refl } }

@@ -6,3 +6,6 @@ pub mod Selection
 pub mod Naming
 pub mod Changing
 pub mod Matching
+pub mod Dropping
+pub mod Unreads
+pub mod Taking

@@ -5,11 +5,17 @@
 mod append_command;
 mod commands;
 mod condition;
+mod dropped;
+mod fault;
+mod line;
 mod list_command;
 mod mailbox_commands;
 mod matching;
 mod message_commands;
+mod reading;
+pub mod server;
 mod service;
 mod session_commands;
+mod unread;
 mod words;
 mod writing;

@@ -27,8 +27,16 @@ pub(crate) fn coded(code: Code<'static>, text: &'static [u8]) -> ResponseText<'s
     requires { list_all is_text text.now ≡ true }
     ensures { result ≡ ResponseText.Coded code.entry text.now }
 {
+    ResponseText::Coded(code, line_text(text))
+}
+
+/// A text of a line.
+pub(crate) fn line_text(text: &'static [u8]) -> LineText<'static>
+    requires { list_all is_text text.now ≡ true }
+    ensures { result ≡ text.now }
+{
     match LineText::read(text) {
-        Some(text) => ResponseText::Coded(code, text),
+        Some(text) => text,
         None => unreachable!(),
     }
 }

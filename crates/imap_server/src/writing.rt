@@ -4,10 +4,10 @@ ghost use Rattle.std.specs.Prelude.{◌≡◌, ◌∷◌, [], true, codes, OnOk}
 ghost use Rattle.std.specs.List.{list_all};
 ghost use Rattle.wire_strings.specs.Texts.{is_text, IsPlain};
 ghost use Rattle.imap_replies.specs.Others.{IsOtherCode};
-ghost use Rattle.imap_session.specs.Answering.{done, bad, refused, refused_with, note, bye};
+ghost use Rattle.imap_session.specs.Answering.{done, bad, refused, refused_with, note, bye, go};
 ghost use Rattle.imap_server.specs.Writing.{Wrote};
 
-use crate::words::{coded, plain, word_code};
+use crate::words::{coded, line_text, plain, word_code};
 use imap_replies::reply::Reply;
 use imap_replies::response::Code;
 use imap_replies::word::{NoticeKind, Status};
@@ -85,4 +85,11 @@ pub(crate) fn say_bye(text: &'static [u8], out: &mut Vec<u8>) -> Result<(), Allo
     ensures { OnOk result (Wrote (bye text.now ∷ []) out.old.items out.new.items) }
 {
     say(&Reply::Notice(NoticeKind::Bye, plain(text)), out)
+}
+
+/// Writes `+ go`.
+pub(crate) fn say_go(out: &mut Vec<u8>) -> Result<(), AllocError>
+    ensures { OnOk result (Wrote (go ∷ []) out.old.items out.new.items) }
+{
+    say(&Reply::Continue(line_text(b"go")), out)
 }

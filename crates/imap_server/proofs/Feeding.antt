@@ -1,0 +1,69 @@
+-- How what was read makes a run of portions.
+use Rattle.std.proofs.Common.{◌≡◌, ℕ, ◌<◌, Bool, true, List, [], ◌∷◌, ◌++◌, length, refl, sym, ap, subst, ◌∙◌, append_assoc, append-nil}
+use Rattle.imap_replies.specs.declared.reply.Reply.{Reply}
+use Rattle.imap_session.specs.Servers.{Server, is_over}
+use Rattle.imap_session.specs.Portions.{Item, Late, Reads}
+use Rattle.imap_session.specs.Unread.{Kept, Whole, Holds}
+use Rattle.imap_session.specs.Serving.{Does, is_late, Runs, End, IsUnread, FeedsFrom, Feeds, FeedsSome}
+
+-- ---- no portion, and one
+
+pub no_portion : (s : Server) (stream : List ℕ) → Runs s stream [] stream s
+no_portion s stream = record { portions = []; read = refl; served = (refl, refl) }
+
+pub one_portion : (old new : Server) (item : Item) (text : List ℕ) (said own : List Reply) → Reads item text said → is_late item ≡ is_over old.condition → Does old item own new → Runs old text (said ++ own) [] new
+one_portion old new item text said own reads late does = record {
+  portions = record { item = item; text = text; said = said } ∷ [];
+  read = sym (append-nil (text ++ []) ∙ append-nil text);
+  served = (said ++ own, [], new, record { before = old; own = own; reads = reads; quiet = refl; at_end = late; does = does; replies_are = refl }, (refl, refl), sym (append-nil (said ++ own)));
+}
+
+-- the stream goes on
+pub run_more : (old new : Server) (stream replies-rest more : List ℕ) (replies : List Reply) → Runs old stream replies replies-rest new → Runs old (stream ++ more) replies (replies-rest ++ more) new
+run_more old new stream rest more replies r = record {
+  portions = r.portions;
+  read = ap (λ (l : List ℕ). l ++ more) r.read ∙ append_assoc _ rest more;
+  served = r.served;
+}
+
+-- what was read of a front of the bytes is a part of what they are
+pub feeds_some : (old mid : End) (front more : List ℕ) (said : List Reply) → Feeds old front said mid → FeedsSome old (front ++ more) mid.server
+feeds_some old mid front more said f = record {
+  from = λ text told is.
+      let r = f.from text told is in
+      record {
+        replies = r.replies;
+        rest = r.rest ++ more;
+        runs = subst (λ (l : List ℕ). Runs old.server l r.replies (r.rest ++ more) mid.server) (append_assoc text front more) (run_more old.server mid.server (text ++ front) r.rest more r.replies r.runs);
+      };
+}
+
+pub feeds_none : (old : End) → Feeds old [] [] old
+feeds_none old = record {
+  from = λ text told is. record {
+    replies = [];
+    rest = text;
+    rest_said = told;
+    runs = subst (λ (l : List ℕ). Runs old.server l [] text old.server) (sym (append-nil text)) (no_portion old.server text);
+    unread_then = is;
+    are = append-nil told;
+  };
+}
+
+-- ---- a connection that is over
+
+pub feeds_late : (old : End) (bytes : List ℕ) → is_over old.server.condition ≡ true → old.kept ≡ Whole [] → 0 < length bytes → Feeds old bytes [] old
+feeds_late old bytes over kept some = record { from = λ text told is. late text told (subst (λ (k : Kept). Holds (is_over old.server.condition) k text told) kept is) (subst (λ (b : Bool). Holds b old.kept [] []) (sym over) (subst (λ (k : Kept). Holds true k [] []) (sym kept) (refl, refl, refl))) }
+  where
+    late : (text : List ℕ) (told : List Reply) → Holds (is_over old.server.condition) (Whole []) text told → IsUnread old [] [] → FeedsFrom old text told bytes [] old
+    late text told is none =
+        let h : Holds true (Whole []) text told = subst (λ (b : Bool). Holds b (Whole []) text told) over is in
+        let same : text ++ bytes ≡ bytes = ap (λ (l : List ℕ). l ++ bytes) h.1 in
+        record {
+          replies = [];
+          rest = [];
+          rest_said = [];
+          runs = subst (λ (l : List ℕ). Runs old.server l [] [] old.server) (sym same) (one_portion old.server old.server Late bytes [] [] (refl, some) (sym over) (refl, refl));
+          unread_then = none;
+          are = append-nil told ∙ h.2;
+        }

@@ -1,0 +1,16 @@
+use Rattle.std.proofs.Common.{◌∙◌, ap}
+use Rattle.std.specs.Option.{option_map}
+use Rattle.imap_server.specs.declared.server.Server.TheInside.{Inside}
+use Rattle.imap_server.specs.Unreads.{kept_of}
+use Rattle.imap_server.proofs.HostLemmas.{fed_by, lost_by}
+use Rattle.imap_server.proofs.server.Server.feed.Goals as goal
+
+pub returns-in-Ok-clause-ok : goal.returns-in-Ok-clause-ok
+returns-in-Ok-clause-ok c =
+    fed_by c.args.self.now _ _ c.take.result c.in-Some.unread (ap (λ (i : Inside). record { server = i.service; connection = option_map kept_of i.unread }) c.self-inside.view_is ∙ c.self.view_is) c.take.ensures.value c.in-Some.is
+    c.args.piece.now c.new-out.result.items c.read.new.out.items c.read.new.self c.in-Ok.after c.new-out.ensures.items c.in-Ok.ensures.ok
+
+pub returns-in-Err-clause-no_memory : goal.returns-in-Err-clause-no_memory
+returns-in-Err-clause-no_memory c is =
+    lost_by c.args.self.now _ _ c.take.result c.in-Some.unread (ap (λ (i : Inside). record { server = i.service; connection = option_map kept_of i.unread }) c.self-inside.view_is ∙ c.self.view_is) c.take.ensures.value c.in-Some.is
+    c.args.piece.now c.read.new.self c.take.new.self c.take.ensures.after c.in-Err.ensures.err

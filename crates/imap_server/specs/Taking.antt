@@ -1,0 +1,92 @@
+-- What becomes of the bytes that come.
+use Rattle.std.specs.Prelude.{◌≡◌, ◌<◌, ◌≤◌, ℕ, false, List, [], ◌∷◌, ◌++◌, length, take, drop, Option, None, Some, if◌then◌else◌}
+use Rattle.wire_reader.specs.Scanning.{NoPlace}
+use Rattle.wire_reader.specs.Places.{Opens}
+use Rattle.imap_commands.specs.Commands.{Spelled}
+use Rattle.imap_replies.specs.declared.reply.Reply.{Reply}
+use Rattle.imap_session.specs.Servers.{Server, is_over}
+use Rattle.imap_session.specs.Answering.{Answer, only}
+use Rattle.imap_session.specs.Portions.{LineFault, FaultIs, goes_in}
+use Rattle.imap_session.specs.Unread.{Kept}
+use Rattle.imap_session.specs.Serving.{fault_reply, ends, Runs, End, IsUnread, Feeds, FeedsSome}
+use Rattle.imap_server.specs.declared.unread.Unread.{Unread}
+use Rattle.imap_server.specs.Dropping.{loses_octets}
+use Rattle.imap_server.specs.Unreads.{IsSound, end_of}
+use Rattle.imap_server.specs.Writing.{AreWritten, Wrote}
+
+-- they were read, and what they complete was answered
+pub record Took (old : End) (bytes : List ℕ) (before out : List ℕ) (server : Server) (unread : Unread) : Type 0 where
+  pub said : List Reply
+  pub feeds : Feeds old bytes said (end_of server unread)
+  pub wrote : Wrote said before out
+  pub sound : IsSound server unread
+
+-- so it was with some of them, at least one
+pub record TookSome (old : End) (bytes : List ℕ) (before out : List ℕ) (server : Server) (unread : Unread) (count : ℕ) : Type 0 where
+  pub some : 0 < count
+  pub within : count ≤ length bytes
+  pub took : Took old (take count bytes) before out server unread
+
+-- ---- a line up to a place
+
+-- up to its last byte the line was waited for
+pub record ToPlace (text : List ℕ) : Type 0 where
+  pub front : List ℕ
+  pub since : List ℕ
+  pub byte : ℕ
+  pub parts : text ≡ (front ++ since) ++ byte ∷ []
+  pub opens : Opens Spelled front
+  pub no_place : NoPlace front since
+
+-- the text was read, of which so many `+ go` had been said before
+pub record ReadLine (old : Server) (text : List ℕ) (told : List Reply) (before out : List ℕ) (new : Server) (unread : Unread) : Type 0 where
+  pub said : List Reply
+  pub wrote : Wrote said before out
+  pub sound : IsSound new unread
+  pub replies : List Reply
+  pub rest : List ℕ
+  pub rest_said : List Reply
+  pub runs : Runs old text replies rest new
+  pub unread_then : IsUnread (end_of new unread) rest rest_said
+  pub are : told ++ said ≡ replies ++ rest_said
+
+abbrev pub AnswersPlace : Server → (text before out : List ℕ) → Server → Unread → Type 0
+AnswersPlace old text before out new unread = (is_over old.condition ≡ false) → (line : ToPlace text) → ReadLine old text (goes_in line.front) before out new unread
+
+-- the answer to a line with a fault that ends so
+abbrev pub dropped_answer : Server → LineFault → (last : List ℕ) → Answer
+dropped_answer s fault last = if loses_octets fault last then ends s else only s (fault_reply fault)
+
+-- so it is with a line whose fault stands before these bytes
+abbrev pub DropsLine : Server → LineFault → (rest before out : List ℕ) → Server → Unread → Type 0
+DropsLine old fault rest before out new unread =
+    (is_over old.condition ≡ false) → (text : List ℕ) (at : ℕ) → FaultIs fault at text → drop at text ≡ rest → (line : ToPlace text) → ReadLine old text (goes_in line.front) before out new unread
+
+-- ---- a server and its connection
+
+-- the server, and what it keeps of its connection where there is one
+pub record Host : Type 0 where
+  pub server : Server
+  pub connection : Option Kept
+
+-- a piece came over the connection, and this is the answer
+pub record Fed (old : Host) (piece out : List ℕ) (new : Host) : Type 0 where
+  pub before : Kept
+  pub after : Kept
+  pub was : old.connection ≡ Some before
+  pub is : new.connection ≡ Some after
+  pub said : List Reply
+  pub feeds : Feeds (record { server = old.server; kept = before }) piece said (record { server = new.server; kept = after })
+  pub written : AreWritten said out
+
+-- a part of the piece was read, and the connection is no more
+pub record Lost (old : Host) (piece : List ℕ) (new : Host) : Type 0 where
+  pub before : Kept
+  pub was : old.connection ≡ Some before
+  pub closed : new.connection ≡ None
+  pub some : FeedsSome (record { server = old.server; kept = before }) piece new.server
+
+-- What is kept of a connection is sound.
+abbrev pub IsServing : Server → Option Unread → Type 0
+IsServing server None = Unit {0}
+IsServing server (Some unread) = IsSound server unread

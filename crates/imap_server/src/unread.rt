@@ -1,0 +1,13 @@
+//! What of the bytes of a connection is not answered yet.
+
+use crate::dropped::Dropped;
+use crate::line::Line;
+
+/// The bytes that are read and not answered.
+#[derive(Drop)]
+pub(crate) enum Unread {
+    /// The begin of a line.
+    Line(Line),
+    /// A line with a fault.
+    Dropped(Dropped),
+}
