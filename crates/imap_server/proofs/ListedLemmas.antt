@@ -3,6 +3,7 @@ use Rattle.std.proofs.Common.{◌≡◌, ℕ, Bool, true, false, ◌&&◌, List,
 use Rattle.std.specs.Prelude.{nat_le, ◌==◌, slice_index}
 use Rattle.std.specs.List.{list_all, flat_map, slice_split}
 use Rattle.std.specs.Str.{IsAscii}
+use Rattle.std.proofs.lemmas.Bool.{and_parts}
 use Rattle.std.proofs.lemmas.Bool.Decides.{nat_tests}
 use Rattle.wire_strings.specs.Texts.{is_text}
 use Rattle.wire_strings.specs.Quotes.{is_special, escaped, IsRaw}
@@ -11,15 +12,6 @@ use Rattle.imap_session.specs.Answering.{listed}
 use Rattle.imap_session.specs.MailboxCommands.{is_name_byte, is_part, is_name}
 use Rattle.imap_server.specs.Writing.{Wrote}
 use Rattle.imap_server.proofs.WritingLemmas.{wrote_one}
-
--- the first of two tests
-first_of : (a b : Bool) → (a && b) ≡ true → a ≡ true
-first_of true b h = refl
-first_of false b h = cc
-
-second_of : (a b : Bool) → (a && b) ≡ true → b ≡ true
-second_of true b h = h
-second_of false b h = cc
 
 byte_text : (b : ℕ) → is_name_byte b ≡ true → is_text b ≡ true
 byte_text b h = grind (arith, nat_tests)
@@ -30,18 +22,23 @@ byte_plain b h = grind (arith, nat_tests)
 all_text : (name : List ℕ) → list_all is_name_byte name ≡ true → list_all is_text name ≡ true
 all_text [] h = refl
 all_text (b ∷ bs) h =
-    ap (λ (x : Bool). x && list_all is_text bs) (byte_text b (first_of (is_name_byte b) (list_all is_name_byte bs) h)) ∙ all_text bs (second_of (is_name_byte b) (list_all is_name_byte bs) h)
+    ap (λ (x : Bool). x && list_all is_text bs) (byte_text b ((and_parts (is_name_byte b) (list_all is_name_byte bs) h).0)) ∙ all_text bs ((and_parts (is_name_byte b) (list_all is_name_byte bs) h).1)
 
 no_escape : (name : List ℕ) → list_all is_name_byte name ≡ true → name ≡ flat_map escaped name
 no_escape [] h = refl
 no_escape (b ∷ bs) h =
-    let plain = byte_plain b (first_of (is_name_byte b) (list_all is_name_byte bs) h) in
-    ap (λ (l : List ℕ). b ∷ l) (no_escape bs (second_of (is_name_byte b) (list_all is_name_byte bs) h))
+    let plain = byte_plain b ((and_parts (is_name_byte b) (list_all is_name_byte bs) h).0) in
+    ap (λ (l : List ℕ). b ∷ l) (no_escape bs ((and_parts (is_name_byte b) (list_all is_name_byte bs) h).1))
     ∙ ap (λ (x : Bool). cond x (92 ∷ b ∷ []) (b ∷ []) ++ flat_map escaped bs) (sym plain)
+
+name_bytes : (name : List ℕ) → is_name name ≡ true → list_all is_name_byte name ≡ true
+name_bytes name h =
+    let front = (and_parts (nat_le (length name) 255 && list_all is_name_byte name) (list_all is_part (slice_split (λ b. b == 47) name)) h).0 in
+    (and_parts (nat_le (length name) 255) (list_all is_name_byte name) front).1
 
 pub name_is_raw : (name : List ℕ) → is_name name ≡ true → IsRaw name
 name_is_raw name h =
-    let bytes = second_of (nat_le (length name) 255) (list_all is_name_byte name) (first_of (nat_le (length name) 255 && list_all is_name_byte name) (list_all is_part (slice_split (λ b. b == 47) name)) h) in
+    let bytes = name_bytes name h in
     record { value = name; of = record { is = no_escape name bytes; each = all_text name bytes } }
 
 pub listed_written : (name : List ℕ) → IsRaw name → WrittenReply (listed name) (codes "* LIST () \"/\" \"" ++ (name ++ codes "\"\r\n"))
@@ -111,9 +108,9 @@ below b h = grind (arith, nat_tests)
 
 all_below : (name : List ℕ) → list_all is_name_byte name ≡ true → (i : ℕ) → slice_index name i < 128
 all_below [] h i = omega arith
-all_below (b ∷ bs) h zero = below b (first_of (is_name_byte b) (list_all is_name_byte bs) h)
-all_below (b ∷ bs) h (suc i) = all_below bs (second_of (is_name_byte b) (list_all is_name_byte bs) h) i
+all_below (b ∷ bs) h zero = below b ((and_parts (is_name_byte b) (list_all is_name_byte bs) h).0)
+all_below (b ∷ bs) h (suc i) = all_below bs ((and_parts (is_name_byte b) (list_all is_name_byte bs) h).1) i
 
 pub name_is_ascii : (name : List ℕ) → is_name name ≡ true → IsAscii name
 name_is_ascii name h =
-    all_below name (second_of (nat_le (length name) 255) (list_all is_name_byte name) (first_of (nat_le (length name) 255 && list_all is_name_byte name) (list_all is_part (slice_split (λ b. b == 47) name)) h))
+    all_below name (name_bytes name h)
