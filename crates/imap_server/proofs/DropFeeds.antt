@@ -1,6 +1,7 @@
 -- What is read of a line with a fault, as a run of portions.
-use Rattle.std.proofs.Common.{◌≡◌, ℕ, ◌<◌, ◌≤◌, Bool, false, List, [], ◌∷◌, ◌++◌, length, take, drop, Option, None, Some, sym, ap, subst, ◌∙◌, append_assoc, append-nil, take-append-drop, inl, inr, arith}
-use Rattle.std.proofs.lemmas.Bool.{cases_lt, false≢true}
+use Rattle.std.proofs.Common.{◌≡◌, ℕ, ◌<◌, ◌≤◌, Bool, true, false, List, [], ◌∷◌, ◌++◌, length, take, drop, Option, None, Some, refl, sym, ap, subst, ◌∙◌, append_assoc, append-nil, take-append-drop, if◌then◌else◌, inl, inr, arith}
+use Rattle.std.specs.List.{list_all}
+use Rattle.std.proofs.lemmas.Bool.{cases_lt, false≢true, and_from}
 use Rattle.std.proofs.lemmas.List.{length-append, take_all, take-append-le, drop-append-le}
 use Rattle.wire_reader.specs.Spelling.{crlf}
 use Rattle.wire_reader.specs.Answers.{FaultAt}
@@ -9,11 +10,14 @@ use Rattle.imap_replies.specs.declared.reply.Reply.{Reply}
 use Rattle.imap_session.specs.Servers.{Server, is_over}
 use Rattle.imap_session.specs.Portions.{LineFault, FaultIs, goes_in}
 use Rattle.imap_session.specs.Unread.{Kept, Dropping, Drops, Holds, last_three}
-use Rattle.imap_session.specs.Serving.{FeedsFrom, Feeds}
+use Rattle.imap_session.specs.Serving.{ends, fault_reply, FeedsFrom, Feeds}
 use Rattle.imap_server.specs.declared.dropped.Dropped.{Dropped as Line}
 use Rattle.imap_server.specs.declared.unread.Unread.{Unread}
 use Rattle.imap_server.specs.declared.unread.Unread.TheVariants as kinds
-use Rattle.imap_server.specs.Dropping.{EndsAt, Passes}
+use Rattle.imap_session.specs.Answering.{only}
+use Rattle.session_laws.specs.Short.{is_short}
+use Rattle.session_laws.proofs.ShortReplies.{fault_short}
+use Rattle.imap_server.specs.Dropping.{EndsAt, Passes, loses_octets}
 use Rattle.imap_server.specs.Unreads.{IsSound, IsNothing, fault_of, kept_of, end_of}
 use Rattle.imap_server.specs.Taking.{TookSome, ToPlace, ReadLine, dropped_answer}
 use Rattle.imap_server.specs.Writing.{Answered}
@@ -23,6 +27,9 @@ use Rattle.imap_server.proofs.LastBytes.{ends_with, no_bytes}
 use Rattle.imap_server.proofs.FaultyLines.{fault_there, fault_stays, dropped}
 use Rattle.imap_server.proofs.Feeding.{no_portion, one_portion}
 use Rattle.imap_server.proofs.LineFeeds.{unread_none, read_portion, told_to_fault}
+
+dropped_short : (s : Server) (fault : LineFault) (last : List ℕ) → list_all is_short (dropped_answer s fault last).replies ≡ true
+dropped_short s fault last = elim (loses_octets fault last) as (λ b. list_all is_short (if b then ends s else only s (fault_reply fault)).replies ≡ true) [ true ↦ refl | false ↦ and_from _ _ (fault_short fault) refl ]
 
 -- ---- from the fault on, up to the place
 
@@ -54,6 +61,7 @@ module _ (old : Server) (text : List ℕ) (line : ToPlace text) (fault : LineFau
       record {
         said = [];
         wrote = wrote_none out;
+        short = refl;
         sound = sound;
         replies = [];
         rest = text;
@@ -70,7 +78,7 @@ module _ (old : Server) (text : List ℕ) (line : ToPlace text) (fault : LineFau
   drops_all count last before out new after in_time passes nothing answered =
       let e = passes [] no_bytes in
       let d = dropped fault at text e.front last e.x e.y is (all_passed count last e) e.tail e.return (goes_in line.front) old (told_to_fault old text line fault at is) in
-      read_portion old text line d.item (dropped_answer old fault last).replies new before out after in_time d.reads d.in_time (d.does new answered.after_is) answered.wrote nothing
+      read_portion old text line d.item (dropped_answer old fault last).replies new before out after (dropped_short old fault last) in_time d.reads d.in_time (d.does new answered.after_is) answered.wrote nothing
 
 -- ---- further bytes of it
 
@@ -146,6 +154,7 @@ passed_on s line new bytes out some in_time passes same =
             (subst (λ (f : LineFault). Feeds (end_of s (kinds.Dropped line)) bytes [] (record { server = s; kept = Dropping f new.last })) (sym (ap fault_of same))
             (feeds_dropped s (fault_of line.fault) line.last bytes new.last in_time passes));
         wrote = wrote_none out;
+        short = refl;
         sound = dropped_sound s new in_time;
       };
     }
@@ -162,6 +171,7 @@ passed_some s new line passed bytes before out count after in_time counted passe
         said = (dropped_answer s (fault_of line.fault) passed.last).replies;
         feeds = feeds_dropped_end s new (fault_of line.fault) line.last passed.last bytes before out count after in_time passes nothing of_line;
         wrote = of_line.wrote;
+        short = dropped_short s (fault_of line.fault) passed.last;
         sound = (unread_none new after nothing).0;
       };
     }

@@ -1,5 +1,6 @@
 -- What is read of a line, as a run of portions.
 use Rattle.std.proofs.Common.{◌≡◌, ℕ, suc, ◌+◌, ◌-◌, ◌<◌, ◌≤◌, ◌⊎◌, Bool, true, false, List, [], ◌∷◌, ◌++◌, length, take, drop, Option, None, Some, Result, Ok, Err, OnErr, refl, sym, ap, subst, ◌∙◌, append_assoc, append-nil, take-append-drop, inl, inr, arith}
+use Rattle.std.specs.List.{list_all}
 use Rattle.std.proofs.Math.Seq.{take-append_seam, take-append-add, take-add}
 use Rattle.std.proofs.lemmas.List.{length-append, take_all, take_at, take-append-le}
 use Rattle.std.proofs.lemmas.Bool.{false≢true}
@@ -20,8 +21,10 @@ use Rattle.imap_session.specs.Servers.{Server, is_over}
 use Rattle.imap_session.specs.Portions.{LineFault, FaultIs, Item, Asks, Ends, Reads, once, goes_in}
 use Rattle.imap_session.specs.Unread.{Kept, Whole, Holds}
 use Rattle.imap_session.specs.Serving.{Does, is_late, Runs, End, IsUnread, Feeds, FeedsSome}
+use Rattle.session_laws.specs.Short.{is_short}
 use Rattle.session_laws.proofs.Joins.{feeds-join}
 use Rattle.session_laws.proofs.Opening.{nothing_opens}
+use Rattle.session_laws.proofs.ShortReplies.{short_append}
 use Rattle.imap_server.specs.declared.line.Line.{Line}
 use Rattle.imap_server.specs.declared.unread.Unread.{Unread}
 use Rattle.imap_server.specs.declared.unread.Unread.TheVariants as kinds
@@ -141,13 +144,14 @@ module _ (old : Server) (text : List ℕ) (line : ToPlace text) where
   begun = line.front ++ line.since
 
   -- one portion was answered
-  pub read_portion : (item : Item) (own : List Reply) (new : Server) (before out : List ℕ) (after : Unread) → is_over old.condition ≡ false → Reads item text (goes_in line.front) → is_late item ≡ false
+  pub read_portion : (item : Item) (own : List Reply) (new : Server) (before out : List ℕ) (after : Unread) → list_all is_short own ≡ true → is_over old.condition ≡ false → Reads item text (goes_in line.front) → is_late item ≡ false
       → Does old item own new → Wrote own before out → IsNothing after → ReadLine old text (goes_in line.front) before out new after
-  read_portion item own new before out after in_time reads late does wrote nothing =
+  read_portion item own new before out after short in_time reads late does wrote nothing =
       let n = unread_none new after nothing in
       record {
         said = own;
         wrote = wrote;
+        short = short;
         sound = n.0;
         replies = goes_in line.front ++ own;
         rest = [];
@@ -175,12 +179,17 @@ module _ (old : Server) (text : List ℕ) (line : ToPlace text) where
         said_is = sym (goes_there ∙ ap (λ (o : Option ℕ). goes_in line.front ++ once o) quiet ∙ append-nil (goes_in line.front));
       }
 
+  once_short : (w : Option ℕ) → list_all is_short (once w) ≡ true
+  once_short None = refl
+  once_short (Some n) = refl
+
   -- more is waited for
   pub read_begin : (w : Option ℕ) (before out : List ℕ) (after : Unread) → is_over old.condition ≡ false → Begins Spelled text → outside text ≤ 65536 → asks Commands text ≡ w → Wrote (once w) before out
       → kept_of after ≡ Whole text → IsSound old after → ReadLine old text (goes_in line.front) before out old after
   read_begin w before out after in_time begins fits asked wrote kept sound = record {
     said = once w;
     wrote = wrote;
+    short = once_short w;
     sound = sound;
     replies = [];
     rest = text;
@@ -243,6 +252,7 @@ waits_more s line new bytes out found in_time w some is_none found_is taken_up s
             (subst (λ (l : List ℕ). Feeds (end_of s (kinds.Line line)) bytes [] (record { server = s; kept = Whole l })) (ap (λ (l : List ℕ). l ++ bytes) (sym w.parts) ∙ sym taken)
             (subst (λ (l : List ℕ). Feeds (record { server = s; kept = Whole l }) bytes [] (record { server = s; kept = Whole ((w.front ++ w.since) ++ bytes) })) (sym w.parts) fed));
         wrote = wrote_none out;
+        short = refl;
         sound = record {
           scanned = record {
             front = w.front;
@@ -286,6 +296,7 @@ placed s new line text bytes before out count after found_at in_time w is_some f
         feeds = subst (λ (l : List ℕ). Feeds (record { server = s; kept = Whole l }) (take count bytes) there.said (end_of new after)) (sym w.parts)
             (feeds_place s new w.front w.since (take count bytes) before out after in_time w.opens w.no_place there);
         wrote = there.wrote;
+        short = there.short;
         sound = there.sound;
       };
     }
@@ -298,6 +309,7 @@ late_took s unread bytes out some sound over = record {
     said = [];
     feeds = subst (λ (l : List ℕ). Feeds (end_of s unread) l [] (end_of s unread)) (sym (take_all (length bytes) bytes (omega arith))) (feeds_late (end_of s unread) bytes over (sound.over over) some);
     wrote = wrote_none out;
+    short = refl;
     sound = sound;
   };
 }
@@ -305,7 +317,7 @@ late_took s unread bytes out some sound over = record {
 -- ---- piece after piece
 
 pub took_none : (s : Server) (unread : Unread) (bytes out : List ℕ) → IsSound s unread → Took (end_of s unread) (take 0 bytes) out out s unread
-took_none s unread bytes out sound = record { said = []; feeds = feeds_none (end_of s unread); wrote = wrote_none out; sound = sound }
+took_none s unread bytes out sound = record { said = []; feeds = feeds_none (end_of s unread); wrote = wrote_none out; short = refl; sound = sound }
 
 pub took_more : (old : End) (mid new : Server) (first after : Unread) (bytes before between out : List ℕ) (done count next : ℕ) → Took old (take done bytes) before between mid first
     → TookSome (end_of mid first) (drop done bytes) between out new after count → next ≡ done + count → Took old (take next bytes) before out new after
@@ -314,6 +326,7 @@ took_more old mid new first after bytes before between out done count next t u i
   feeds = subst (λ (l : List ℕ). Feeds old l (t.said ++ u.took.said) (end_of new after)) (sym (ap (λ (n : ℕ). take n bytes) is ∙ take-add done count bytes))
       (feeds-join old (end_of mid first) (end_of new after) (take done bytes) (take count (drop done bytes)) t.said u.took.said t.feeds u.took.feeds);
   wrote = wrote_then t.said u.took.said before between out t.wrote u.took.wrote;
+  short = short_append t.said u.took.said t.short u.took.short;
   sound = u.took.sound;
 }
 

@@ -1,24 +1,34 @@
 -- What becomes of the bytes that come.
-use Rattle.std.specs.Prelude.{◌≡◌, ◌<◌, ◌≤◌, ℕ, false, List, [], ◌∷◌, ◌++◌, length, take, drop, Option, None, Some, if◌then◌else◌}
+use Rattle.std.specs.Prelude.{◌≡◌, ◌<◌, ◌≤◌, ℕ, true, false, List, [], ◌∷◌, ◌++◌, length, take, drop, Option, None, Some, if◌then◌else◌}
+use Rattle.std.specs.List.{list_all}
 use Rattle.wire_reader.specs.Scanning.{NoPlace}
 use Rattle.wire_reader.specs.Places.{Opens}
+use Rattle.imap_commands.specs.declared.command.Command.{Command}
 use Rattle.imap_commands.specs.Commands.{Spelled}
 use Rattle.imap_replies.specs.declared.reply.Reply.{Reply}
 use Rattle.imap_session.specs.Servers.{Server, is_over}
 use Rattle.imap_session.specs.Answering.{Answer, only}
 use Rattle.imap_session.specs.Portions.{LineFault, FaultIs, goes_in}
 use Rattle.imap_session.specs.Unread.{Kept}
+use Rattle.imap_session.specs.Heard.{AreReplies}
+use Rattle.imap_session.specs.Steps.{Step}
 use Rattle.imap_session.specs.Serving.{fault_reply, ends, Runs, End, IsUnread, Feeds, FeedsSome}
+use Rattle.session_laws.specs.Short.{is_short}
 use Rattle.imap_server.specs.declared.unread.Unread.{Unread}
 use Rattle.imap_server.specs.Dropping.{loses_octets}
 use Rattle.imap_server.specs.Unreads.{IsSound, end_of}
-use Rattle.imap_server.specs.Writing.{AreWritten, Wrote}
+use Rattle.imap_server.specs.Writing.{Wrote}
+
+-- a command was done, with short replies
+abbrev pub StepsShort : Server → Command → List Reply → Server → Type 0
+StepsShort old command replies new = Step old command replies new × (list_all is_short replies ≡ true)
 
 -- they were read, and what they complete was answered
 pub record Took (old : End) (bytes : List ℕ) (before out : List ℕ) (server : Server) (unread : Unread) : Type 0 where
   pub said : List Reply
   pub feeds : Feeds old bytes said (end_of server unread)
   pub wrote : Wrote said before out
+  pub short : list_all is_short said ≡ true
   pub sound : IsSound server unread
 
 -- so it was with some of them, at least one
@@ -42,6 +52,7 @@ pub record ToPlace (text : List ℕ) : Type 0 where
 pub record ReadLine (old : Server) (text : List ℕ) (told : List Reply) (before out : List ℕ) (new : Server) (unread : Unread) : Type 0 where
   pub said : List Reply
   pub wrote : Wrote said before out
+  pub short : list_all is_short said ≡ true
   pub sound : IsSound new unread
   pub replies : List Reply
   pub rest : List ℕ
@@ -77,7 +88,7 @@ pub record Fed (old : Host) (piece out : List ℕ) (new : Host) : Type 0 where
   pub is : new.connection ≡ Some after
   pub said : List Reply
   pub feeds : Feeds (record { server = old.server; kept = before }) piece said (record { server = new.server; kept = after })
-  pub written : AreWritten said out
+  pub spelled : AreReplies said out
 
 -- a part of the piece was read, and the connection is no more
 pub record Lost (old : Host) (piece : List ℕ) (new : Host) : Type 0 where

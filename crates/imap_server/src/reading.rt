@@ -18,11 +18,10 @@ impl Service {
     ghost use Rattle.std.specs.Prelude.{◌≡◌, ◌<◌, false, length, OnErr, IfOk};
     ghost use Rattle.wire_reader.specs.Scanning.{start, scanned};
     ghost use Rattle.imap_session.specs.Servers.{is_over};
-    ghost use Rattle.imap_session.specs.Steps.{Step};
     ghost use Rattle.imap_session.specs.Serving.{FeedsSome, ends};
     ghost use Rattle.imap_server.specs.declared.unread.Unread.TheVariants as kinds;
     ghost use Rattle.imap_server.specs.Unreads.{Waits, IsSound, IsNothing, end_of, fault_of};
-    ghost use Rattle.imap_server.specs.Taking.{Took, TookSome, AnswersPlace, DropsLine, dropped_answer};
+    ghost use Rattle.imap_server.specs.Taking.{StepsShort, Took, TookSome, AnswersPlace, DropsLine, dropped_answer};
     ghost use Rattle.imap_server.specs.Writing.{Answered, AnsweredBy};
 
     /// Reads bytes of the connection, and answers what they complete.
@@ -123,11 +122,12 @@ impl Service {
 
     /// Answers a command; nothing is unread behind it.
     fn answer_command(&mut self, command: Command, out: &mut Vec<u8>) -> Result<Unread, AllocError>
-        ensures ok { IfOk result (λ after. IsNothing after × AnsweredBy (Step self.old command) out.old.items out.new.items self.new) }
+        ensures ok { IfOk result (λ after. IsNothing after × AnsweredBy (StepsShort self.old command) out.old.items out.new.items self.new) }
         ensures err { OnErr result (self.new ≡ self.old) }
     {
+        let nothing = Unread::Line(Line::new(self.alloc));
         self.answer(command, out)?;
-        Ok(self.nothing())
+        Ok(nothing)
     }
 
     /// Drops a line with this fault, which these bytes follow, the byte with the fault first.

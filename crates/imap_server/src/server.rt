@@ -46,10 +46,10 @@ impl Server {
     ghost use Rattle.std.specs.Prelude.{◌≡◌, None, Some, [], IfOk, IsErrOf};
     ghost use Rattle.imap_session.specs.Servers.{NotAuthenticated};
     ghost use Rattle.imap_session.specs.Unread.{Whole};
+    ghost use Rattle.imap_session.specs.Heard.{AreReplies};
     ghost use Rattle.imap_session.specs.Lines.{greeting};
     ghost use Rattle.imap_server.specs.Boxes.{all_of, AreServed};
     ghost use Rattle.imap_server.specs.Taking.{Host, Fed, Lost};
-    ghost use Rattle.imap_server.specs.Writing.{AreWritten};
 
     /// A server with these mailboxes, for one user with a password. There is no connection.
     ///
@@ -76,7 +76,7 @@ impl Server {
 
     /// Begins a connection, and hangs up an earlier one. The answer is the greeting, `* OK ready` (RFC 9051, section 7.1.1).
     pub fn connect(&mut self) -> &'static [u8]
-        ensures greeting { AreWritten greeting result.now }
+        ensures greeting { AreReplies greeting result.now }
         ensures new { self.new ≡ record { server = record self.old.server { condition = NotAuthenticated }; connection = Some (Whole []) } }
     {
         self.service.enter(Condition::NotAuthenticated);

@@ -1,5 +1,6 @@
 pub mod Joins
 pub mod Gos
+pub mod ShortReplies
 pub mod Opening
 pub mod Messages
 pub mod Continuing

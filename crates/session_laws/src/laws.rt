@@ -1,6 +1,7 @@
 //! Laws of sessions, each shown by a function that does nothing.
 
 ghost use Rattle.session_laws.specs.Laws as law;
+ghost use Rattle.session_laws.specs.Short.{RepliesAreShort, ShortRepliesFit};
 
 /// A stream in two pieces is the stream as one: the replies to one piece and then to another are those to both joined.
 pub fn pieces_join()
@@ -35,4 +36,11 @@ pub fn refusals_change_nothing()
 pub fn bodies_stay()
     ensures fetch { law.FetchChangesNothing }
     ensures store { law.StoreKeepsBodies }
+{}
+
+/// What a server says keeps to the limit of 65536 bytes outside the octets of literals, where its mailboxes have names
+/// within the limits.
+pub fn replies_fit()
+    ensures short { RepliesAreShort }
+    ensures fit { ShortRepliesFit }
 {}

@@ -11,8 +11,8 @@ returns-in-Ok-Whole-clause-ok c =
     let w = whole_there c.as_slice.result.now c.args.line.bytes.items c.as_slice.ensures.value c.in-Ok-Whole.field-0 c.in-Ok-Whole.command c.in-Ok-Whole.field-0-1 c.in-Ok-Whole.field-0-is c.in-Ok-Whole.ensures.answers in
     IfOk-weaker c.answer_command.result _ _
     (λ after h in_time line.
-    read_portion c.args.self.now c.args.line.bytes.items line (Asks c.in-Ok-Whole.command) h.1.replies c.answer_command.new.self c.args.out.now.items c.answer_command.new.out.items after in_time
-    (command_reads c.args.self.now c.args.line.bytes.items line c.in-Ok-Whole.command c.in-Ok-Whole.field-0-1 w.0 w.1) refl h.1.gives_them h.1.wrote h.0)
+    read_portion c.args.self.now c.args.line.bytes.items line (Asks c.in-Ok-Whole.command) h.1.replies c.answer_command.new.self c.args.out.now.items c.answer_command.new.out.items after h.1.gives_them.1 in_time
+    (command_reads c.args.self.now c.args.line.bytes.items line c.in-Ok-Whole.command c.in-Ok-Whole.field-0-1 w.0 w.1) refl h.1.gives_them.0 h.1.wrote h.0)
     c.answer_command.ensures.ok
 
 pub returns-in-Ok-WantsLiteral-clause-ok : goal.returns-in-Ok-WantsLiteral-clause-ok
@@ -57,6 +57,6 @@ returns-in-Err-LineTooLong-clause-ok c =
     let p = limit_there c.as_slice.result.now c.args.line.bytes.items c.as_slice.ensures.value c.in-Err-LineTooLong.field-0 c.in-Err-LineTooLong.field-0-is c.in-Err-LineTooLong.ensures.answers in
     IfOk-weaker c.end.result _ _
     (λ after h in_time line.
-    read_portion c.args.self.now c.args.line.bytes.items line Ends _ c.end.new.self c.args.out.now.items c.end.new.out.items after in_time
+    read_portion c.args.self.now c.args.line.bytes.items line Ends _ c.end.new.self c.args.out.now.items c.end.new.out.items after refl in_time
     (limit_reads c.args.self.now c.args.line.bytes.items line p) refl (refl, h.1.after_is) h.1.wrote h.0)
     c.end.ensures.ok
