@@ -19,3 +19,4 @@ pub mod LineFeeds
 pub mod DropFeeds
 pub mod PlaceAnswers
 pub mod HostLemmas
+pub mod ServedLemmas

@@ -13,6 +13,7 @@ mod mailbox_commands;
 mod matching;
 mod message_commands;
 mod reading;
+pub mod served;
 pub mod server;
 mod service;
 mod session_commands;

@@ -184,7 +184,7 @@ pub(crate) fn say_listed(name: &[u8], out: &mut Vec<u8>) -> Result<(), AllocErro
 }
 
 /// Whether this is a name within the limits.
-fn is_name(name: &[u8]) -> bool
+pub(crate) fn is_name(name: &[u8]) -> bool
     ensures { result ≡ is_name name.now }
 {
     name.len() <= 255 && all_name_bytes(name) && all_parts(name)

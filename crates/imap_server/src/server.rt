@@ -44,7 +44,7 @@ impl Model for Server {
 
 impl Server {
     ghost use Rattle.std.specs.Prelude.{◌≡◌, None, Some, [], IfOk, IsErrOf};
-    ghost use Rattle.imap_session.specs.Servers.{NotAuthenticated};
+    ghost use Rattle.imap_session.specs.Servers.{NotAuthenticated, is_over};
     ghost use Rattle.imap_session.specs.Unread.{Whole};
     ghost use Rattle.imap_session.specs.Heard.{AreReplies};
     ghost use Rattle.imap_session.specs.Lines.{greeting};
@@ -111,6 +111,14 @@ impl Server {
         ensures { self.new ≡ record { server = self.old.server; connection = None } }
     {
         self.unread = None;
+    }
+
+    /// Whether nothing more is read: LOGOUT was answered, or what came last could not be read to its end. It stays so until
+    /// `connect`.
+    pub fn is_over(&self) -> bool
+        ensures { result ≡ is_over self.now.server.condition }
+    {
+        self.service.is_over()
     }
 
     /// The mailboxes as they stand.
