@@ -1,23 +1,6 @@
 //! The plan of a run.
 
-ghost use Rattle.std.specs.Prelude.{
-  true,
-  Some,
-  ◌≡◌,
-  ◌≢◌,
-  ◌^◌,
-  ◌-◌,
-  ◌+◌,
-  ◌↔◌,
-  ◌<◌,
-  min,
-  length,
-  All,
-  AllPairs,
-  Contains,
-  IfOk,
-  IsErrOf,
-};
+ghost use Rattle.std.specs.Prelude.{true, Some, ◌≡◌, ◌≢◌, ◌^◌, ◌-◌, ◌+◌, ◌↔◌, ◌<◌, min, length, All, AllPairs, Contains, IfOk, IsErrOf, OnOk};
 ghost use Rattle.rules.specs.Propagation.{Propagation};
 ghost use Rattle.rules.specs.Called.{called};
 ghost use Rattle.rules.specs.Order.{Before};
@@ -26,14 +9,7 @@ ghost use Rattle.rules.specs.PlanEntries.{PlanAgrees};
 ghost use Rattle.rules.specs.Plans.{AreInRange, IsHighest, IsPlan, IsPlanSide, IsStep};
 ghost use Rattle.rules.specs.Scene.{highest, scene};
 ghost use Rattle.planner.specs.Seen.{seen};
-ghost use Rattle.planner.specs.Written.{
-  listed,
-  marks_of,
-  side_with,
-  CarriesFlags,
-  all_steps,
-  all_notes,
-};
+ghost use Rattle.planner.specs.Written.{CarriesFlags, all_new, all_notes, all_steps, listed, marks_of, side_with, with_changes};
 
 use crate::fault::PlanFault;
 use crate::lists::Lists;
@@ -144,19 +120,39 @@ impl Lists<'_> {
         ensures written { IfOk result (λ v. v.items ≡ all_steps (seen self.now) marks.now) }
         ensures fit { IfOk result (λ v. All IsStep v.items) }
     {
+        let mut steps = self.copies(alloc, marks)?;
+        self.push_changes(&mut steps)?;
+        Ok(steps)
+    }
+
+    // The copies.
+    fn copies(&self, alloc: Global, marks: &[Tuid]) -> Result<Vec<Step>, AllocError>
+        requires { length marks.now ≡ length (news (seen self.now) Direction.Pull)
+            + length (news (seen self.now) Direction.Push) }
+        ensures written { IfOk result (λ v. v.items ≡ all_new (seen self.now) marks.now) }
+        ensures fit { IfOk result (λ v. All IsStep v.items) }
+    {
         let pulled = self.new_items(alloc, Direction::Pull)?;
         let pushed = self.new_items(alloc, Direction::Push)?;
         let (first, second) = marks.split_at(pulled.len());
         let mut steps = Vec::new(alloc);
         push_new(Direction::Pull, &pulled, first, &mut steps)?;
         push_new(Direction::Push, &pushed, second, &mut steps)?;
-        self.push_gones(Direction::Pull, &mut steps)?;
-        self.push_gones(Direction::Push, &mut steps)?;
-        self.push_flags(Direction::Pull, &mut steps)?;
-        self.push_flags(Direction::Push, &mut steps)?;
-        self.push_expunges(Side::Far, &mut steps)?;
-        self.push_expunges(Side::Near, &mut steps)?;
         Ok(steps)
+    }
+
+    // All other steps.
+    fn push_changes(&self, steps: &mut Vec<Step>) -> Result<(), AllocError>
+        ensures written { OnOk result (steps.new.items ≡ with_changes (seen self.now) steps.old.items) }
+        ensures fit { OnOk result (All IsStep steps.old.items → All IsStep steps.new.items) }
+    {
+        self.push_gones(Direction::Pull, steps)?;
+        self.push_gones(Direction::Push, steps)?;
+        self.push_flags(Direction::Pull, steps)?;
+        self.push_flags(Direction::Push, steps)?;
+        self.push_expunges(Side::Far, steps)?;
+        self.push_expunges(Side::Near, steps)?;
+        Ok(())
     }
 
     // MaxPulledUid or MaxPushedUid after the run.

@@ -59,8 +59,8 @@ impl fmt::Display for StepLine<'_> {
             } => {
                 let direction = direction_word(direction);
                 let (far, near) = (far.get(), near.get());
-                write!(f, "flags {direction} {far} {near}")?;
-                write!(f, "{}{}", Change(" +", set), Change(" -", cleared))
+                let (set, cleared) = (Change(" +", set), Change(" -", cleared));
+                write!(f, "flags {direction} {far} {near}{set}{cleared}")
             }
             Step::Expunge { side, uid } => {
                 let side = side_word(side);
