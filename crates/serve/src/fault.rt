@@ -1,0 +1,14 @@
+//! Why a connection was not served to its end.
+
+use thiserror::Error;
+
+/// Why a connection was not served to its end. It is hung up.
+#[derive(Clone, Copy, Debug, PartialEq, Eq, Error)]
+pub enum ServeFault {
+    /// Reading or writing failed, or the connection did not end within 2^64 readings.
+    #[error("connection failed")]
+    Connection,
+    /// Memory ran out.
+    #[error("no memory")]
+    NoMemory,
+}
