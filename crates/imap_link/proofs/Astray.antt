@@ -1,0 +1,124 @@
+-- Where an answer comes, nothing else stands.
+use Rattle.std.proofs.Common.{◌≡◌, ◌⊎◌, inl, inr, ℕ, true, List, [], ◌∷◌, ◌++◌, codes, refl, sym, ◌∙◌, ap, subst, arith, append_assoc, append-nil, take, drop, take-append-drop, Some}
+use Rattle.std.proofs.lemmas.List.{take_all}
+use Rattle.wire_reader.specs.Spelling.{crlf}
+use Rattle.imap_replies.specs.declared.word.Status.{Status}
+use Rattle.imap_replies.specs.declared.reply.Reply.{Reply}
+use Rattle.imap_replies.specs.declared.reply.Reply.TheVariants.{Continue}
+use Rattle.imap_session.specs.Heard.{tag_of, is_passed, IsAnswer, AreUntagged, AreReplies}
+use Rattle.exchange_laws.proofs.Apart.{apart, replies_apart}
+use Rattle.exchange_laws.proofs.AnswersApart.{plain_go, reply_some}
+use Rattle.imap_link.specs.declared.front.Kind.{Kind}
+use Rattle.imap_link.specs.declared.front.Kind.TheVariants.{Stray}
+use Rattle.imap_link.specs.ReplyKinds.{kind_of, passes, IsAwaited}
+use Rattle.imap_link.specs.Buffers.{Begins, IsFaulty, IsPassed, EndsIn, Expects, IsAnswerText}
+use Rattle.imap_link.proofs.KindLemmas.{passes_is, awaited_stays, tagged_awaited, mine_tagged}
+
+-- ---- the same bytes end in the same reply
+
+pub record SameEnd {P Q : Reply → Type 0} (x y z : List ℕ) (h : EndsIn P x) (k : EndsIn Q y) : Type 0 where
+  pub passed : h.passed ≡ k.passed
+  pub last : h.last ≡ k.last
+  pub rest : z ≡ []
+
+module _ (r q : Reply) (r_stays : is_passed r ≡ true → ⊥) (q_stays : is_passed q ≡ true → ⊥) where
+  pub ends_apart : (ps qs : List Reply) (x y z : List ℕ) → AreUntagged ps → AreUntagged qs → AreReplies (ps ++ r ∷ []) x → AreReplies (qs ++ q ∷ []) y → x ++ z ≡ y
+      → (ps ≡ qs) × (r ≡ q) × (z ≡ [])
+  ends_apart [] [] x y z u v a b e =
+      let bytes : a.front ++ (a.back ++ z) ≡ b.front ++ b.back = sym (append_assoc a.front a.back z) ∙ ap (λ (l : List ℕ). l ++ z) (sym a.parts) ∙ e ∙ b.parts in
+      let same = apart replies_apart r q a.front (a.back ++ z) b.front b.back a.first b.first bytes in
+      (refl, same.value, ap (λ (l : List ℕ). l ++ z) (sym a.others) ∙ same.rest ∙ b.others)
+  ends_apart [] (t ∷ qs) x y z u v a b e =
+      let bytes : a.front ++ (a.back ++ z) ≡ b.front ++ b.back = sym (append_assoc a.front a.back z) ∙ ap (λ (l : List ℕ). l ++ z) (sym a.parts) ∙ e ∙ b.parts in
+      let same = apart replies_apart r t a.front (a.back ++ z) b.front b.back a.first b.first bytes in
+      absurd (r_stays (ap is_passed same.value ∙ v.0))
+  ends_apart (s ∷ ps) [] x y z u v a b e =
+      let bytes : a.front ++ (a.back ++ z) ≡ b.front ++ b.back = sym (append_assoc a.front a.back z) ∙ ap (λ (l : List ℕ). l ++ z) (sym a.parts) ∙ e ∙ b.parts in
+      let same = apart replies_apart s q a.front (a.back ++ z) b.front b.back a.first b.first bytes in
+      absurd (q_stays (ap is_passed (sym same.value) ∙ u.0))
+  ends_apart (s ∷ ps) (t ∷ qs) x y z u v a b e =
+      let bytes : a.front ++ (a.back ++ z) ≡ b.front ++ b.back = sym (append_assoc a.front a.back z) ∙ ap (λ (l : List ℕ). l ++ z) (sym a.parts) ∙ e ∙ b.parts in
+      let same = apart replies_apart s t a.front (a.back ++ z) b.front b.back a.first b.first bytes in
+      let rest = ends_apart ps qs a.back b.back z u.1 v.1 a.others b.others same.rest in
+      (ap (λ (f : Reply). f ∷ ps) same.value ∙ ap (λ (l : List Reply). t ∷ l) rest.0, rest.1, rest.2)
+
+-- ---- an answer
+
+answer-more : (t : List ℕ) (rs : List Reply) (r : Reply) → AreUntagged rs → tag_of r ≡ Some t → IsAnswer t (rs ++ r ∷ [])
+answer-more t [] r h e = inl (e, refl)
+answer-more t (q ∷ rs) r h e = inr (h.0, answer-more t rs r h.1 e)
+
+pub answer_of : (tag bytes : List ℕ) (status : Status) (h : IsAnswerText tag status bytes) → IsAnswer tag (h.passed ++ h.last ∷ [])
+answer_of tag bytes status h = answer-more tag h.passed h.last h.untagged (mine_tagged tag h.last status h.is)
+
+-- replies that are an answer end in what is waited for
+pub record Closed (tag : List ℕ) (rs : List Reply) : Type 0 where
+  pub passed : List Reply
+  pub untagged : AreUntagged passed
+  pub last : Reply
+  pub is : tag_of last ≡ Some tag
+  pub all : rs ≡ passed ++ last ∷ []
+
+pub closed_of : (tag : List ℕ) (rs : List Reply) → IsAnswer tag rs → Closed tag rs
+closed_of tag [] h = absurd h
+closed_of tag (r ∷ rs) (inl h) = record { passed = []; untagged = tt; last = r; is = h.0; all = ap (λ (l : List Reply). r ∷ l) h.1 }
+closed_of tag (r ∷ rs) (inr h) =
+    let c = closed_of tag rs h.1 in
+    record { passed = r ∷ c.passed; untagged = (h.0, c.untagged); last = c.last; is = c.is; all = ap (λ (l : List Reply). r ∷ l) c.all }
+
+pub expects_answer : (tag : List ℕ) (rs : List Reply) (bytes : List ℕ) → IsAnswer tag rs → AreReplies rs bytes → Expects tag bytes
+expects_answer tag rs bytes h a =
+    let c = closed_of tag rs h in
+    inr (record { passed = c.passed; untagged = c.untagged; last = c.last; is = tagged_awaited tag c.last c.is; spelled = subst (λ (l : List Reply). AreReplies l bytes) c.all a })
+
+-- ---- no other reply stands where an answer comes
+
+abbrev pub Astray : List ℕ → List ℕ → Type 0
+Astray tag bytes = ((len : ℕ) × Begins tag Stray bytes len) ⊎ IsFaulty bytes
+
+abbrev Last : List ℕ → Reply → Type 0
+Last tag r = IsAwaited (kind_of tag r)
+
+stray_stays : (k : Kind) → k ≡ Stray → (passes k ≡ true → ⊥) × (IsAwaited k → ⊥)
+stray_stays k e = (λ p. let q : passes Stray ≡ true = ap passes (sym e) ∙ p in cc, λ a. subst IsAwaited e a)
+
+first_astray : (tag : List ℕ) (ps : List Reply) (last : Reply) (d : List ℕ) → AreUntagged ps → Last tag last → AreReplies (ps ++ last ∷ []) d → Astray tag d → ⊥
+first_astray tag [] last d u is a (inr f) = f last a.front a.back [] a.first a.fits (append-nil d ∙ a.parts)
+first_astray tag (q ∷ ps) last d u is a (inr f) = f q a.front a.back [] a.first a.fits (append-nil d ∙ a.parts)
+first_astray tag [] last d u is a (inl (len, b)) =
+    let same = apart replies_apart b.reply last (take len d) (drop len d) a.front a.back b.spelled a.first (take-append-drop len d ∙ a.parts) in
+    (stray_stays (kind_of tag last) (ap (kind_of tag) (sym same.value) ∙ b.is)).1 is
+first_astray tag (q ∷ ps) last d u is a (inl (len, b)) =
+    let same = apart replies_apart b.reply q (take len d) (drop len d) a.front a.back b.spelled a.first (take-append-drop len d ∙ a.parts) in
+    (stray_stays (kind_of tag q) (ap (kind_of tag) (sym same.value) ∙ b.is)).0 (sym (passes_is tag q) ∙ u.0)
+
+walk : (tag : List ℕ) (us ps : List Reply) (last : Reply) (x z y : List ℕ) → AreUntagged us → AreReplies us x → AreUntagged ps → Last tag last → AreReplies (ps ++ last ∷ []) y → x ++ z ≡ y → Astray tag z → ⊥
+walk tag [] ps last x z y u a v is b e s =
+    first_astray tag ps last z v is (subst (AreReplies (ps ++ last ∷ [])) (sym e ∙ ap (λ (l : List ℕ). l ++ z) a) b) s
+walk tag (r ∷ us) [] last x z y u a v is b e s =
+    let bytes : a.front ++ (a.back ++ z) ≡ b.front ++ b.back = sym (append_assoc a.front a.back z) ∙ ap (λ (l : List ℕ). l ++ z) (sym a.parts) ∙ e ∙ b.parts in
+    let same = apart replies_apart r last a.front (a.back ++ z) b.front b.back a.first b.first bytes in
+    awaited_stays tag last is (ap is_passed (sym same.value) ∙ u.0)
+walk tag (r ∷ us) (q ∷ ps) last x z y u a v is b e s =
+    let bytes : a.front ++ (a.back ++ z) ≡ b.front ++ b.back = sym (append_assoc a.front a.back z) ∙ ap (λ (l : List ℕ). l ++ z) (sym a.parts) ∙ e ∙ b.parts in
+    let same = apart replies_apart r q a.front (a.back ++ z) b.front b.back a.first b.first bytes in
+    walk tag us ps last a.back z b.back u.1 a.others v.1 is b.others same.rest s
+
+take_none : (len : ℕ) (d : List ℕ) → d ≡ [] → take len d ≡ []
+take_none len d e = ap (take len) e ∙ take_all len [] (omega arith)
+
+nothing_astray : (tag d : List ℕ) → d ≡ [] → Astray tag d → ⊥
+nothing_astray tag d e (inl (len, b)) = reply_some b.reply (take len d) b.spelled (take_none len d e)
+nothing_astray tag d e (inr f) = f (Continue []) (codes "+ " ++ crlf) [] (codes "+ " ++ crlf) plain_go (omega arith) (ap (λ (l : List ℕ). l ++ (codes "+ " ++ crlf)) e ∙ sym (append-nil (codes "+ " ++ crlf)))
+
+back_none : (a b : List ℕ) → a ++ b ≡ [] → b ≡ []
+back_none [] b e = e
+back_none (x ∷ a) b e = cc
+
+drop_none : (n : ℕ) (l : List ℕ) → l ≡ [] → drop n l ≡ []
+drop_none n l e = let none : take n l ++ drop n l ≡ [] = take-append-drop n l ∙ e in back_none (take n l) (drop n l) none
+
+pub none_astray : (tag coming : List ℕ) (read : ℕ) → IsPassed (take read coming) → Expects tag coming → Astray tag (drop read coming) → ⊥
+none_astray tag coming read u (inl e) s = nothing_astray tag (drop read coming) (drop_none read coming e) s
+none_astray tag coming read u (inr a) s =
+    walk tag u.replies a.passed a.last (take read coming) (drop read coming) coming u.untagged u.spelled a.untagged a.is a.spelled (take-append-drop read coming) s

@@ -1,0 +1,119 @@
+-- How the sending of a command ends.
+use Rattle.std.proofs.Common.{◌≡◌, inl, inr, ℕ, false, List, [], ◌∷◌, ◌++◌, refl, sym, ◌∙◌, ap, subst, append_assoc, take, drop, take-append-drop, Err, Some}
+use Rattle.imap_commands.specs.declared.command.Command.{Command}
+use Rattle.imap_replies.specs.declared.word.Status.{Status}
+use Rattle.imap_replies.specs.declared.reply.Reply.{Reply}
+use Rattle.imap_session.specs.Servers.{Server, Quiet}
+use Rattle.imap_session.specs.Serving.{FeedsSome}
+use Rattle.imap_session.specs.Heard.{tag_of, AreReplies}
+use Rattle.imap_session.specs.Lines.{Line, Sends}
+use Rattle.exchange_laws.specs.Ends.{Ends, ends_of, IsAt, IsIdle, Hears, SentOr, Done, MayHave, DidCommand, is_logout}
+use Rattle.exchange_laws.proofs.Sent.{sent, half_sent}
+use Rattle.exchange_laws.proofs.Ended.{done_of, half_of}
+use Rattle.exchange_laws.proofs.Answering.{did_answer, leaves_answer}
+use Rattle.exchange_laws.proofs.AnswersApart.{reply_some}
+use Rattle.imap_link.specs.declared.fault.FarFault.{FarFault}
+use Rattle.imap_link.specs.declared.fault.FarFault.TheVariants.{Stopped, Refused, Protocol, TooLong, NoRev2, ReadOnly, NoMemory}
+use Rattle.imap_link.specs.declared.wire.Answered.{Answered}
+use Rattle.imap_link.specs.declared.front.Kind.TheVariants.{Go}
+use Rattle.imap_link.specs.Faults.{IsStop}
+use Rattle.imap_link.specs.ReplyKinds.{kind_of, IsAwaited}
+use Rattle.imap_link.specs.Outcomes.{Outcome, Never}
+use Rattle.imap_link.specs.Buffers.{EndsIn, IsAnswerText, IsGoText, Expects, Keeps}
+use Rattle.imap_link.specs.Exchanges.{Replied, Completes, Exchanges}
+use Rattle.imap_link.proofs.KindLemmas.{awaited_stays, tagged_awaited, go_or_tagged}
+use Rattle.imap_link.proofs.Astray.{ends_apart, answer_of, closed_of, expects_answer}
+
+pub stop_outcome : {T : Type 0} (does : T → Server → Server → Type 0) (refuses effect : Server → Server → Type 0) (y : FarFault) (old new : Server) → IsStop y → MayHave effect old new
+    → Outcome {T = T} does refuses effect (Err y) old new
+stop_outcome does refuses effect Stopped old new s h = h
+stop_outcome does refuses effect NoMemory old new s h = h
+stop_outcome does refuses effect Refused old new s h = absurd s
+stop_outcome does refuses effect Protocol old new s h = absurd s
+stop_outcome does refuses effect TooLong old new s h = absurd s
+stop_outcome does refuses effect NoRev2 old new s h = absurd s
+stop_outcome does refuses effect ReadOnly old new s h = absurd s
+
+expects_of : (c : Command) (old mid : Ends) → SentOr c old mid → Expects c.tag mid.coming
+expects_of c old mid (inl none) = inl none.coming
+expects_of c old mid (inr w) =
+    expects_answer c.tag w.heard mid.coming (leaves_answer c.tag w.heard w.said w.left_out (did_answer c old.end.server w.said mid.end.server w.did)) w.coming
+
+-- the first n bytes of the buffer are heard
+abbrev pub hears_of : (old : Ends) (new : Line) (heard : List ℕ) (n : ℕ) (rs : List Reply) → Keeps old (ends_of new heard) → AreReplies rs (take n heard) → Hears rs old (ends_of new (drop n heard))
+hears_of old new heard n rs k a = record {
+  stays = k.stays;
+  bytes = take n heard;
+  spelled = a;
+  heard = sym k.coming ∙ ap (λ (l : List ℕ). l ++ new.unseen) (sym (take-append-drop n heard)) ∙ append_assoc (take n heard) (drop n heard) new.unseen;
+}
+
+empty_front : (a b : List ℕ) → a ++ b ≡ [] → a ≡ []
+empty_front [] b e = refl
+empty_front (x ∷ a) b e = cc
+
+first_some : (ps : List Reply) (last : Reply) (bytes rest : List ℕ) → AreReplies (ps ++ last ∷ []) bytes → bytes ++ rest ≡ [] → ⊥
+first_some [] last bytes rest a e = reply_some last a.front a.first (empty_front a.front a.back (sym a.parts ∙ empty_front bytes rest e))
+first_some (p ∷ ps) last bytes rest a e = reply_some p a.front a.first (empty_front a.front a.back (sym a.parts ∙ empty_front bytes rest e))
+
+-- text that ends in a reply has bytes
+pub some_end : {P : Reply → Type 0} (bytes rest : List ℕ) → EndsIn P bytes → bytes ++ rest ≡ [] → ⊥
+some_end bytes rest g e = first_some g.passed g.last bytes rest g.spelled e
+
+go_awaited : (tag : List ℕ) (r : Reply) → kind_of tag r ≡ Go → IsAwaited (kind_of tag r)
+go_awaited tag r e = subst IsAwaited (sym e) tt
+
+-- `+` is not heard where an answer comes
+go_astray : (c : Command) (tag : List ℕ) (old mid new : Ends) (bytes : List ℕ) → c.tag ≡ tag → SentOr c old mid → IsGoText tag bytes → mid.coming ≡ bytes ++ new.coming → ⊥
+go_astray c tag old mid new bytes t (inl none) g e = some_end bytes new.coming g (sym e ∙ none.coming)
+go_astray c tag old mid new bytes t (inr w) g e =
+    let a = leaves_answer c.tag w.heard w.said w.left_out (did_answer c old.end.server w.said mid.end.server w.did) in
+    let closed = closed_of c.tag w.heard a in
+    let mine : IsAwaited (kind_of tag closed.last) = tagged_awaited tag closed.last (closed.is ∙ ap (λ (x : List ℕ). Some x) t) in
+    let same = ends_apart g.last closed.last (awaited_stays tag g.last (go_awaited tag g.last g.is)) (awaited_stays tag closed.last mine)
+    g.passed closed.passed bytes mid.coming new.coming g.untagged closed.untagged g.spelled (subst (λ (l : List Reply). AreReplies l mid.coming) closed.all w.coming) (sym e) in
+    go_or_tagged tag g.last c.tag g.is (ap tag_of same.1 ∙ closed.is)
+
+module _ (c : Command) (tag from rest : List ℕ) (w : Completes c tag from rest) (old mid new : Line) (heard : List ℕ) (at : IsAt from (ends_of old heard)) (s : Sends rest old mid) where
+  or : SentOr c (ends_of old heard) (ends_of mid heard)
+  or = sent c from rest old mid heard w.text w.asks_no_more at s
+
+  pub may_expect : Expects tag (ends_of mid heard).coming
+  may_expect = subst (λ (t : List ℕ). Expects t (ends_of mid heard).coming) w.tag_is (expects_of c (ends_of old heard) (ends_of mid heard) or)
+
+  pub may_have : (after : Server) → Quiet mid.end.server after → MayHave (DidCommand c) old.end.server after
+  may_have after q = half_of c (ends_of old heard) (ends_of mid heard) after or q
+
+  done : (now : List ℕ) (n : ℕ) (status : Status) (a : IsAnswerText tag status (take n now)) → Keeps (ends_of mid heard) (ends_of new now)
+      → Done c (a.passed ++ a.last ∷ []) (ends_of old heard) (ends_of new (drop n now))
+  done now n status a k =
+      done_of c tag (ends_of old heard) (ends_of mid heard) (ends_of new (drop n now)) (a.passed ++ a.last ∷ []) at.reads_on or
+      (hears_of (ends_of mid heard) new now n (a.passed ++ a.last ∷ []) k a.spelled) (answer_of tag (take n now) status a)
+
+  pub replied : (now : List ℕ) (n : ℕ) (status : Status) → IsAnswerText tag status (take n now) → Keeps (ends_of mid heard) (ends_of new now) → Replied c status (take n now) old.end.server new.end.server
+  replied now n status a k = record {
+    text = subst (λ (t : List ℕ). IsAnswerText t status (take n now)) (sym w.tag_is) a;
+    replies = a.passed ++ a.last ∷ [];
+    spelled = a.spelled;
+    did = (done now n status a k).did;
+  }
+
+  pub idle : (now : List ℕ) (n : ℕ) (status : Status) → is_logout c.request ≡ false → IsAnswerText tag status (take n now) → Keeps (ends_of mid heard) (ends_of new now) → IsIdle (ends_of new (drop n now))
+  idle now n status l a k = (done now n status a k).idle l
+
+  pub no_go : (now : List ℕ) (n : ℕ) → IsGoText tag (take n now) → Keeps (ends_of mid heard) (ends_of new now) → ⊥
+  no_go now n g k =
+      let h = hears_of (ends_of mid heard) new now n (g.passed ++ g.last ∷ []) k g.spelled in
+      go_astray c tag (ends_of old heard) (ends_of mid heard) (ends_of new (drop n now)) (take n now) w.tag_is or g h.heard
+
+-- where the bytes were not sent
+pub unsent : (tag rest : List ℕ) (y : FarFault) (old new : Line) (heard now : List ℕ) → IsStop y → FeedsSome old.end rest new.end.server → Exchanges tag rest (Err y) old heard new now
+unsent tag rest y old new heard now stop s c from w at =
+    stop_outcome {T = Answered} (λ a. Replied c a.status (take a.len now)) Never (DidCommand c) y old.end.server new.end.server stop (half_sent c from rest old new.end.server heard w.text at s)
+
+-- where they were sent, and waiting failed
+pub unheard : (tag rest : List ℕ) (y : FarFault) (old mid new : Line) (heard now : List ℕ) → Sends rest old mid → Quiet mid.end.server new.end.server
+    → (Expects tag (ends_of mid heard).coming → IsStop y) → Exchanges tag rest (Err y) old heard new now
+unheard tag rest y old mid new heard now s q stop c from w at =
+    stop_outcome {T = Answered} (λ a. Replied c a.status (take a.len now)) Never (DidCommand c) y old.end.server new.end.server
+    (stop (may_expect c tag from rest w old mid new heard at s)) (may_have c tag from rest w old mid new heard at s new.end.server q)

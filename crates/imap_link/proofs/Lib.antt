@@ -1,0 +1,10 @@
+pub mod KindLemmas
+pub mod Places
+pub mod Text
+pub mod Astray
+pub mod Faulty
+pub mod Kept
+pub mod Exits
+pub mod Finished
+pub mod Asked
+pub mod Greeted

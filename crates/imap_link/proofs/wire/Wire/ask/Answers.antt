@@ -1,0 +1,27 @@
+use Rattle.std.proofs.Common.{sym, subst, Result}
+use Rattle.std.proofs.lemmas.Result.{err_from_is_err_and}
+use Rattle.imap_link.specs.declared.fault.FarFault.{FarFault}
+use Rattle.imap_link.specs.declared.wire.Told.{Told}
+use Rattle.imap_link.specs.Faults.{IsStop}
+use Rattle.imap_link.specs.Exchanges.{AsksFor}
+use Rattle.imap_link.proofs.Exits.{stop_of, at_ok, on_ok, at_err}
+use Rattle.imap_link.proofs.Asked.{unasked, answered_so}
+use Rattle.imap_link.proofs.wire.Wire.ask.Goals as goal
+
+pub returns-in_err-send-clause-outcome : goal.returns-in_err-send-clause-outcome
+returns-in_err-send-clause-outcome g c honest =
+    let old = g.L.Link.line c.args.self.now.link in
+    let new = g.L.Link.line c.send.new.self in
+    let heard = c.args.self.now.heard.items in
+    let p = err_from_is_err_and c.from_residual.result c.from_residual.ensures.1 in
+    let stop : IsStop p.0 = subst IsStop (sym p.2) (stop_of c.in_err-send.field-0.0) in
+    subst (λ (r : Result Told FarFault). AsksFor c.args.front.now r old heard new heard) (sym p.1)
+    (unasked c.args.front.now p.0 old new heard heard stop (c.in_err-send.ensures.err honest))
+
+pub returns-clause-outcome : goal.returns-clause-outcome
+returns-clause-outcome g c honest =
+    let was = c.wait.ensures.was_honest honest in
+    answered_so c.args.tag.now c.args.front.now c.wait.result (g.L.Link.line c.args.self.now.link) (g.L.Link.line c.send.new.self) (g.L.Link.line c.wait.new.self.link)
+    c.args.self.now.heard.items c.wait.new.self.heard.items (c.in_ok-send.ensures.ok was) (c.wait.ensures.quiet honest)
+    (λ told e. (at_ok _ c.wait.result told c.wait.ensures.told e, on_ok _ c.wait.result told c.wait.ensures.same e honest))
+    (λ y e expects. at_err _ c.wait.result y c.wait.ensures.fault e honest expects)

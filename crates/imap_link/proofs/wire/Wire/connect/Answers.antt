@@ -1,0 +1,57 @@
+use Rattle.std.proofs.Common.{◌≡◌, ◌⊎◌, inr, arith, sym, subst, Result, Err, List, ℕ, [], drop}
+use Rattle.std.proofs.lemmas.Result.{err_from_is_err_and}
+use Rattle.exchange_laws.specs.Ends.{ends_of, IsAt}
+use Rattle.imap_link.specs.declared.fault.FarFault.{FarFault}
+use Rattle.imap_link.specs.declared.fault.FarFault.TheVariants.{Stopped, Protocol}
+use Rattle.imap_link.specs.declared.front.Kind.{Kind}
+use Rattle.imap_link.specs.Faults.{IsStop}
+use Rattle.imap_link.specs.Buffers.{Begins, IsFaulty, Keeps}
+use Rattle.imap_link.specs.Outcomes.{Outcome, Never}
+use Rattle.imap_link.specs.Exchanges.{Restarts}
+use Rattle.imap_link.proofs.Exits.{only_stop}
+use Rattle.imap_link.proofs.Finished.{stop_outcome}
+use Rattle.imap_link.proofs.Greeted.{greets_well, greets_so, greeted_idle, restarts, says_bye}
+use Rattle.imap_link.proofs.wire.Wire.connect.Goals as goal
+
+pub returns-in_err-kind-clause-outcome : goal.returns-in_err-kind-clause-outcome
+returns-in_err-kind-clause-outcome g c honest =
+    let p = err_from_is_err_and c.from_residual-in_err-kind.result c.from_residual-in_err-kind.ensures.1 in
+    let f = c.in_err-kind.field-0.0 in
+    let was = c.in_err-kind.ensures.was_honest honest in
+    let old = g.L.Link.line c.args.self.now.link in
+    let mid = g.L.Link.line c.reconnect.new.self in
+    let new = g.L.Link.line c.hear.new.self.link in
+    let starts = c.in_ok-reconnect.ensures.ok was in
+    let none = c.clear.ensures.items in
+    let stop = only_stop f _ (greets_well old mid starts) (subst (λ (l : List ℕ). IsStop f ⊎ IsFaulty (drop 0 (ends_of mid l).coming)) none (c.in_err-kind.ensures.fault honest)) in
+    subst (λ (r : Result (Unit {0}) FarFault). Outcome (λ _. Restarts) Never Restarts r old.end.server new.end.server) (sym p.1)
+    (stop_outcome {T = Unit {0}} (λ _. Restarts) Never Restarts p.0 old.end.server new.end.server (subst IsStop (sym p.2) stop) (inr (restarts old mid starts new.end.server (c.in_err-kind.ensures.quiet honest))))
+
+pub returns-in-Hello-clause-idle : goal.returns-in-Hello-clause-idle
+returns-in-Hello-clause-idle g c =
+    subst (λ l. g.L.Link.honest l → IsAt [] (ends_of (g.L.Link.line l) c.forget.new.self.heard.items)) (sym c.forget.ensures.link) (λ honest.
+    subst (λ (x : List ℕ). IsAt [] (ends_of (g.L.Link.line c.hear.new.self.link) x)) (sym c.forget.ensures.heard)
+    (greeted_idle (g.L.Link.line c.args.self.now.link) (g.L.Link.line c.reconnect.new.self) (c.in_ok-reconnect.ensures.ok (c.in_ok-kind.ensures.was_honest honest)) c.args.tag.now c.in_ok-kind.kind
+    (g.L.Link.line c.hear.new.self.link) c.hear.new.self.heard.items c.in_ok-kind.len c.in_ok-kind.ensures.heard
+    (subst (λ (x : List ℕ). Keeps (ends_of (g.L.Link.line c.reconnect.new.self) x) (ends_of (g.L.Link.line c.hear.new.self.link) c.hear.new.self.heard.items)) c.clear.ensures.items (c.in_ok-kind.ensures.same honest))))
+
+pub returns-in-Bye-clause-stopped : goal.returns-in-Bye-clause-stopped
+returns-in-Bye-clause-stopped g c stopped =
+    inr (says_bye c.args.tag.now c.hear.new.self.heard.items c.in_ok-kind.len (subst (λ (k : Kind). Begins c.args.tag.now k c.hear.new.self.heard.items c.in_ok-kind.len) c.in-Bye.is c.in_ok-kind.ensures.heard))
+
+apart : (let r : Result (Unit {0}) FarFault = Err Protocol in r) ≡ Err Stopped → ⊥
+apart e = cc
+
+pub returns-in_default : goal.returns-in_default
+returns-in_default g c = record {
+  was_honest = λ h. c.in_ok-reconnect.ensures.was_honest (c.in_ok-kind.ensures.was_honest h);
+  counts = omega (arith, c.in_ok-kind.ensures.steady, c.in_ok-reconnect.ensures.steady);
+  steady = tt;
+  outcome = λ honest.
+      absurd (c.in_default.not-Hello
+      (greets_so (g.L.Link.line c.args.self.now.link) (g.L.Link.line c.reconnect.new.self) (c.in_ok-reconnect.ensures.ok (c.in_ok-kind.ensures.was_honest honest)) c.args.tag.now c.in_ok-kind.kind
+      (g.L.Link.line c.hear.new.self.link) c.hear.new.self.heard.items c.in_ok-kind.len c.in_ok-kind.ensures.heard
+      (subst (λ (x : List ℕ). Keeps (ends_of (g.L.Link.line c.reconnect.new.self) x) (ends_of (g.L.Link.line c.hear.new.self.link) c.hear.new.self.heard.items)) c.clear.ensures.items (c.in_ok-kind.ensures.same honest))));
+  idle = tt;
+  stopped = λ e. absurd (apart e);
+}

@@ -1,0 +1,71 @@
+-- A command that is sent, and the replies to it.
+use Rattle.std.specs.Prelude.{◌≡◌, ℕ, false, List, [], ◌++◌, take, drop, Result, Ok, Err}
+use Rattle.imap_commands.specs.declared.command.Command.{Command}
+use Rattle.imap_replies.specs.declared.word.Status.{Status}
+use Rattle.imap_replies.specs.declared.reply.Reply.{Reply}
+use Rattle.imap_session.specs.Servers.{Server, NotAuthenticated, Quiet}
+use Rattle.imap_session.specs.Portions.{goes_in}
+use Rattle.imap_session.specs.Heard.{AreReplies}
+use Rattle.imap_session.specs.Lines.{Line}
+use Rattle.exchange_laws.specs.Ends.{ends_of, IsAt, IsIdle, IsText, DidSo, DidCommand, AsksAtEnd, MayHave, is_logout}
+use Rattle.imap_link.specs.declared.fault.FarFault.{FarFault}
+use Rattle.imap_link.specs.declared.fault.FarFault.TheVariants.{Stopped, Refused, Protocol, TooLong, NoRev2, ReadOnly, NoMemory}
+use Rattle.imap_link.specs.declared.wire.Answered.{Answered}
+use Rattle.imap_link.specs.declared.wire.Told.{Told}
+use Rattle.imap_link.specs.declared.wire.Told.TheVariants as tells
+use Rattle.imap_link.specs.Buffers.{IsAnswerText}
+use Rattle.imap_link.specs.Outcomes.{Outcome, Never}
+
+-- the server did the command, and these bytes are its replies, of which the last has this status
+pub record Replied (c : Command) (status : Status) (bytes : List ℕ) (old new : Server) : Type 0 where
+  pub text : IsAnswerText c.tag status bytes
+  pub replies : List Reply
+  pub spelled : AreReplies replies bytes
+  pub did : DidSo c replies old new
+
+-- the bytes are what is missing of the command, behind what the server has read
+pub record Completes (c : Command) (tag from rest : List ℕ) : Type 0 where
+  pub text : IsText c (from ++ rest)
+  pub asks_no_more : goes_in (from ++ rest) ≡ goes_in from
+  pub tag_is : c.tag ≡ tag
+
+-- the outcome of a command whose rest is sent; `new_heard` is the buffer after it
+abbrev pub Exchanges : (tag rest : List ℕ) → Result Answered FarFault → (old : Line) (old_heard : List ℕ) (new : Line) (new_heard : List ℕ) → Type 0
+Exchanges tag rest result old old_heard new new_heard =
+    (c : Command) (from : List ℕ) → Completes c tag from rest → IsAt from (ends_of old old_heard)
+    → Outcome (λ a. Replied c a.status (take a.len new_heard)) Never (DidCommand c) result old.end.server new.end.server
+
+-- where it has an answer, nothing is on the way behind that
+abbrev pub StaysIdle : (tag rest : List ℕ) → (n : ℕ) → (old : Line) (old_heard : List ℕ) (new : Line) (new_heard : List ℕ) → Type 0
+StaysIdle tag rest n old old_heard new new_heard =
+    (c : Command) (from : List ℕ) → Completes c tag from rest → is_logout c.request ≡ false → IsAt from (ends_of old old_heard) → IsIdle (ends_of new (drop n new_heard))
+
+-- ---- a literal
+
+-- the server waits for the literal, and nothing is on the way behind its `+`
+pub record Waits (front : List ℕ) (n : ℕ) (old new : Line) (new_heard : List ℕ) : Type 0 where
+  pub quiet : Quiet old.end.server new.end.server
+  pub at : IsAt front (ends_of new (drop n new_heard))
+
+abbrev pub AsksOr : (c : Command) (front : List ℕ) → Result Told FarFault → (old new : Line) (new_heard : List ℕ) → Type 0
+AsksOr c front (Ok (tells.Go n)) old new heard = Waits front n old new heard
+AsksOr c front (Ok (tells.Answer n status)) old new heard = ⊥
+AsksOr c front (Err Stopped) old new heard = MayHave (DidCommand c) old.end.server new.end.server
+AsksOr c front (Err Refused) old new heard = ⊥
+AsksOr c front (Err Protocol) old new heard = ⊥
+AsksOr c front (Err TooLong) old new heard = ⊥
+AsksOr c front (Err NoRev2) old new heard = ⊥
+AsksOr c front (Err ReadOnly) old new heard = ⊥
+AsksOr c front (Err NoMemory) old new heard = MayHave (DidCommand c) old.end.server new.end.server
+
+-- the front of a command is sent, up to where its literal is asked for
+abbrev pub AsksFor : (front : List ℕ) → Result Told FarFault → (old : Line) (old_heard : List ℕ) (new : Line) (new_heard : List ℕ) → Type 0
+AsksFor front result old old_heard new new_heard =
+    (c : Command) (rest : List ℕ) (n : ℕ) → IsText c (front ++ rest) → (rest ≡ [] → ⊥) → AsksAtEnd front n → IsIdle (ends_of old old_heard)
+    → AsksOr c front result old new new_heard
+
+-- ---- a new connection
+
+-- the server is as it was, before login
+abbrev pub Restarts : Server → Server → Type 0
+Restarts old new = Quiet (record old { condition = NotAuthenticated }) new

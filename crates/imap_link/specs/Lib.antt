@@ -1,0 +1,5 @@
+pub mod Faults
+pub mod ReplyKinds
+pub mod Buffers
+pub mod Outcomes
+pub mod Exchanges

@@ -1,0 +1,66 @@
+//! A link to a server.
+
+ghost use Rattle.std.specs.Prelude.{◌≡◌, ◌<◌, ◌≤◌, ℕ, length, take, IfOk, OnOk, OnErr, IsErrOf, Ok};
+ghost use Rattle.imap_session.specs.Servers.{Quiet};
+ghost use Rattle.imap_session.specs.Serving.{FeedsSome};
+ghost use Rattle.imap_session.specs.Lines.{Line, Sends, Receives, Starts};
+
+use thiserror::Error;
+
+/// Why a call of a link has no answer.
+#[derive(Clone, Copy, Debug, PartialEq, Eq, Error)]
+pub enum LinkFault {
+    /// The connection broke, or cannot be made.
+    #[error("stopped")]
+    Stopped,
+    /// A growth was refused.
+    #[error("no memory")]
+    NoMemory,
+}
+
+/// A link to a server, over one connection at a time.
+///
+/// Its law is said by three ghost members. Where the link is honest, the server saw a beginning of what was sent, what
+/// came back begins the server's replies to it, and after `reconnect` no byte of an earlier connection is read at either
+/// end (docs/SESSION.md, "Both ends"). A link that cannot know that of the other end is not honest, and promises its
+/// counts of stops alone.
+pub trait Link {
+    /// The server and what lies between have kept their word so far.
+    ghost honest: { Self → Type 0 };
+
+    /// Both ends of the connection.
+    ghost line: { Self → Line };
+
+    /// How often a call was stopped or met the end of the bytes.
+    ghost stops: { Self → ℕ };
+
+    /// Sends the bytes.
+    fn send(&mut self, bytes: &[u8]) -> Result<(), LinkFault>
+        ensures was_honest { honest self.new → honest self.old }
+        ensures ok { OnOk result (honest self.new → Sends bytes.now (line self.old) (line self.new)) }
+        ensures err { OnErr result (honest self.new → FeedsSome (line self.old).end bytes.now (line self.new).end.server) }
+        ensures counts { stops self.old ≤ stops self.new }
+        ensures steady { OnOk result (stops self.new ≡ stops self.old) }
+        ensures stopped { IsErrOf result LinkFault.Stopped → stops self.old < stops self.new };
+
+    /// Writes the next bytes to the front of the piece, and tells how many; none at their end.
+    fn recv(&mut self, piece: &mut [u8]) -> Result<usize, LinkFault>
+        requires { 0 < length piece.old }
+        ensures within { IfOk result (λ n. n ≤ length piece.new) }
+        ensures was_honest { honest self.new → honest self.old }
+        ensures ok { IfOk result (λ n. honest self.new → Receives (take n piece.new) (line self.old) (line self.new)) }
+        ensures err { OnErr result (honest self.new → Quiet (line self.old).end.server (line self.new).end.server) }
+        ensures counts { stops self.old ≤ stops self.new }
+        ensures steady { IfOk result (λ n. 0 < n → stops self.new ≡ stops self.old) }
+        ensures stopped { IsErrOf result LinkFault.Stopped → stops self.old < stops self.new }
+        ensures ended { result ≡ Ok 0 → stops self.old < stops self.new };
+
+    /// Starts a new connection to the same server.
+    fn reconnect(&mut self) -> Result<(), LinkFault>
+        ensures was_honest { honest self.new → honest self.old }
+        ensures ok { OnOk result (honest self.new → Starts (line self.old) (line self.new)) }
+        ensures err { OnErr result (honest self.new → Quiet (line self.old).end.server (line self.new).end.server) }
+        ensures counts { stops self.old ≤ stops self.new }
+        ensures steady { OnOk result (stops self.new ≡ stops self.old) }
+        ensures stopped { IsErrOf result LinkFault.Stopped → stops self.old < stops self.new };
+}

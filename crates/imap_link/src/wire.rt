@@ -1,0 +1,201 @@
+//! What is heard over a link, kept in a buffer, and commands that are sent over it.
+
+ghost use Rattle.std.specs.Prelude.{◌≡◌, ◌<◌, ◌≤◌, ◌⊎◌, ◌++◌, ℕ, List, [], length, take, drop, IfOk, IfErr, OnOk, OnErr, IsErrOf};
+ghost use Rattle.imap_session.specs.Servers.{Quiet};
+ghost use Rattle.exchange_laws.specs.Ends.{ends_of, IsIdle};
+ghost use Rattle.imap_link.specs.Faults.{IsStop};
+ghost use Rattle.imap_link.specs.Buffers.{Begins, IsFaulty, Tells, SaysBye, Expects, Keeps, IsAnswerText};
+ghost use Rattle.imap_link.specs.Outcomes.{Outcome, Never};
+ghost use Rattle.imap_link.specs.Exchanges.{Exchanges, StaysIdle, AsksFor, Restarts};
+
+use crate::fault::FarFault;
+use crate::front::{Front, Kind};
+use crate::link::Link;
+use crate::place::Search;
+use imap_replies::word::Status;
+use std::alloc::Global;
+use wire_tokens::tag::Tag;
+
+/// The number of bytes that are asked of a link at once.
+const PIECE: usize = 4096;
+
+/// What a sender waits for, at the front of the buffer behind replies that are passed over. The length counts them in.
+#[derive(Clone, Copy, Debug, PartialEq, Eq)]
+pub enum Told {
+    /// The tagged reply to the command.
+    Answer(usize, Status),
+    /// `+`: the literal of the command is asked for.
+    Go(usize),
+}
+
+/// The replies to a command, at the front of the buffer.
+#[derive(Clone, Copy, Debug, PartialEq, Eq)]
+pub struct Answered {
+    /// The number of their bytes.
+    pub len: usize,
+    /// How the command ended.
+    pub status: Status,
+}
+
+/// A link, and what came over it that was not dropped yet.
+///
+/// Replies lie in the buffer and are read where they lie. Each byte is scanned once, whatever the pieces are in which it
+/// comes.
+#[derive(Drop)]
+pub struct Wire<L: Link> {
+    /// The link.
+    pub link: L,
+    /// What came.
+    pub heard: Vec<u8>,
+    /// Where the buffer grows.
+    pub alloc: Global,
+}
+
+impl<L: Link> Wire<L> {
+    /// Waits for more bytes.
+    fn more(&mut self) -> Result<(), FarFault>
+        ensures was_honest { L.honest self.new.link → L.honest self.old.link }
+        ensures counts { L.stops self.old.link ≤ L.stops self.new.link }
+        ensures steady { OnOk result (L.stops self.new.link ≡ L.stops self.old.link) }
+        ensures quiet { L.honest self.new.link → Quiet (L.line self.old.link).end.server (L.line self.new.link).end.server }
+        ensures same { OnOk result (L.honest self.new.link → Keeps (ends_of (L.line self.old.link) self.old.heard.items) (ends_of (L.line self.new.link) self.new.heard.items)) }
+        ensures grows { OnOk result ((bytes : List ℕ) × (self.new.heard.items ≡ self.old.heard.items ++ bytes)) }
+        ensures fault { IfErr result IsStop }
+        ensures stopped { IsErrOf result FarFault.Stopped → L.stops self.old.link < L.stops self.new.link }
+    {
+        let mut piece = [0u8; PIECE];
+        let count = self.link.recv(&mut piece)?;
+        if count == 0 {
+            return Err(FarFault::Stopped);
+        }
+        self.heard.extend_from_slice(&piece[..count])?;
+        Ok(())
+    }
+
+    /// Waits until a whole reply stands in the buffer behind so many bytes; tells its kind and its length.
+    fn hear(&mut self, read: usize, tag: &Tag) -> Result<(Kind, usize), FarFault>
+        requires { read ≤ length self.old.heard.items }
+        ensures was_honest { L.honest self.new.link → L.honest self.old.link }
+        ensures counts { L.stops self.old.link ≤ L.stops self.new.link }
+        ensures steady { OnOk result (L.stops self.new.link ≡ L.stops self.old.link) }
+        ensures quiet { L.honest self.new.link → Quiet (L.line self.old.link).end.server (L.line self.new.link).end.server }
+        ensures same { OnOk result (L.honest self.new.link → Keeps (ends_of (L.line self.old.link) self.old.heard.items) (ends_of (L.line self.new.link) self.new.heard.items)) }
+        ensures grows { OnOk result ((bytes : List ℕ) × (self.new.heard.items ≡ self.old.heard.items ++ bytes)) }
+        ensures heard { IfOk result (λ r. Begins tag.now r.0 (drop read self.new.heard.items) r.1) }
+        ensures fault { IfErr result (λ fault. L.honest self.new.link → IsStop fault ⊎ IsFaulty (drop read (ends_of (L.line self.old.link) self.old.heard.items).coming)) }
+        ensures stopped { IsErrOf result FarFault.Stopped → L.stops self.old.link < L.stops self.new.link }
+    {
+        let mut search = Search::new();
+        for _ in 0..u64::MAX {
+            match search.look(self.alloc, &self.heard[read..], tag)? {
+                Front::Begun => self.more()?,
+                Front::Whole(kind, len) => return Ok((kind, len)),
+            }
+        }
+        Err(FarFault::NoMemory)
+    }
+
+    /// Waits until the buffer begins with what a sender waits for. `* BYE` is passed over where the command ends the
+    /// connection, and else is a stop.
+    fn wait(&mut self, tag: &Tag, ends: bool) -> Result<Told, FarFault>
+        ensures was_honest { L.honest self.new.link → L.honest self.old.link }
+        ensures counts { L.stops self.old.link ≤ L.stops self.new.link }
+        ensures steady { OnOk result (L.stops self.new.link ≡ L.stops self.old.link) }
+        ensures quiet { L.honest self.new.link → Quiet (L.line self.old.link).end.server (L.line self.new.link).end.server }
+        ensures told { IfOk result (λ told. Tells tag.now self.new.heard.items told) }
+        ensures same { OnOk result (L.honest self.new.link → Keeps (ends_of (L.line self.old.link) self.old.heard.items) (ends_of (L.line self.new.link) self.new.heard.items)) }
+        ensures fault { IfErr result (λ fault. L.honest self.new.link → Expects tag.now (ends_of (L.line self.old.link) self.old.heard.items).coming → IsStop fault) }
+        ensures stopped { IsErrOf result FarFault.Stopped → (L.stops self.old.link < L.stops self.new.link) ⊎ SaysBye tag.now self.new.heard.items }
+    {
+        let mut read = 0;
+        for _ in 0..u64::MAX {
+            let (kind, len) = self.hear(read, tag)?;
+            match kind {
+                Kind::Hello | Kind::Passed => read += len,
+                Kind::Bye => {
+                    if !ends {
+                        return Err(FarFault::Stopped);
+                    }
+                    read += len;
+                }
+                Kind::Go => return Ok(Told::Go(read + len)),
+                Kind::Mine(status) => return Ok(Told::Answer(read + len, status)),
+                Kind::Stray => return Err(FarFault::Protocol),
+            }
+        }
+        Err(FarFault::NoMemory)
+    }
+
+    /// Sends what is missing of a command, and waits for the replies to it. They stand at the front of the buffer then.
+    ///
+    /// `Protocol`: the server asks for a literal where none waits, too.
+    pub fn finish(&mut self, tag: &Tag, rest: &[u8], ends: bool) -> Result<Answered, FarFault>
+        ensures was_honest { L.honest self.new.link → L.honest self.old.link }
+        ensures counts { L.stops self.old.link ≤ L.stops self.new.link }
+        ensures steady { OnOk result (L.stops self.new.link ≡ L.stops self.old.link) }
+        ensures outcome { L.honest self.new.link → Exchanges tag.now rest.now result
+            (L.line self.old.link) self.old.heard.items (L.line self.new.link) self.new.heard.items }
+        ensures idle { IfOk result (λ a. L.honest self.new.link → StaysIdle tag.now rest.now a.len
+            (L.line self.old.link) self.old.heard.items (L.line self.new.link) self.new.heard.items) }
+        ensures answer { IfOk result (λ a. (a.len ≤ length self.new.heard.items) × IsAnswerText tag.now a.status (take a.len self.new.heard.items)) }
+        ensures stopped { IsErrOf result FarFault.Stopped → (L.stops self.old.link < L.stops self.new.link) ⊎ SaysBye tag.now self.new.heard.items }
+    {
+        self.link.send(rest)?;
+        match self.wait(tag, ends)? {
+            Told::Answer(len, status) => Ok(Answered { len, status }),
+            Told::Go(_) => Err(FarFault::Protocol),
+        }
+    }
+
+    /// Sends the front of a command, up to where its literal is asked for, and waits for `+`, or for the reply to the
+    /// command.
+    pub fn ask(&mut self, tag: &Tag, front: &[u8]) -> Result<Told, FarFault>
+        ensures was_honest { L.honest self.new.link → L.honest self.old.link }
+        ensures counts { L.stops self.old.link ≤ L.stops self.new.link }
+        ensures steady { OnOk result (L.stops self.new.link ≡ L.stops self.old.link) }
+        ensures outcome { L.honest self.new.link → AsksFor front.now result
+            (L.line self.old.link) self.old.heard.items (L.line self.new.link) self.new.heard.items }
+        ensures told { IfOk result (λ told. Tells tag.now self.new.heard.items told) }
+        ensures stopped { IsErrOf result FarFault.Stopped → (L.stops self.old.link < L.stops self.new.link) ⊎ SaysBye tag.now self.new.heard.items }
+    {
+        self.link.send(front)?;
+        self.wait(tag, false)
+    }
+
+    /// Starts a new connection and hears its greeting, `* OK`. What an earlier connection left is dropped.
+    ///
+    /// The tag is one that the connection has not used. `Stopped`: the server greets with `* BYE`, too. `Protocol`: it
+    /// greets with something else (RFC 9051, section 7.1; `* PREAUTH` is refused too).
+    pub fn connect(&mut self, tag: &Tag) -> Result<(), FarFault>
+        ensures was_honest { L.honest self.new.link → L.honest self.old.link }
+        ensures counts { L.stops self.old.link ≤ L.stops self.new.link }
+        ensures steady { OnOk result (L.stops self.new.link ≡ L.stops self.old.link) }
+        ensures outcome { L.honest self.new.link → Outcome (λ _. Restarts) Never Restarts result
+            (L.line self.old.link).end.server (L.line self.new.link).end.server }
+        ensures idle { OnOk result (L.honest self.new.link → IsIdle (ends_of (L.line self.new.link) self.new.heard.items)) }
+        ensures stopped { IsErrOf result FarFault.Stopped → (L.stops self.old.link < L.stops self.new.link) ⊎ SaysBye tag.now self.new.heard.items }
+    {
+        self.heard.clear();
+        self.link.reconnect()?;
+        let (kind, len) = self.hear(0, tag)?;
+        match kind {
+            Kind::Hello => {
+                self.forget(len);
+                Ok(())
+            }
+            Kind::Bye => Err(FarFault::Stopped),
+            _ => Err(FarFault::Protocol),
+        }
+    }
+
+    /// Drops so many bytes from the front of the buffer.
+    pub fn forget(&mut self, len: usize)
+        requires { len ≤ length self.old.heard.items }
+        ensures heard { self.new.heard.items ≡ drop len self.old.heard.items }
+        ensures link { self.new.link ≡ self.old.link }
+    {
+        let left = self.heard.len() - len;
+        self.heard.copy_within(len.., 0);
+        self.heard.truncate(left);
+    }
+}
