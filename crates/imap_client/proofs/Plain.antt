@@ -102,7 +102,7 @@ pub tame_calm : (t : List ℕ) → list_all tame t ≡ true → IsCalm t
 tame_calm t h = let two = tame_parts t h in record { calm = two.0; plain = braceless-phase t two.1 }
 
 -- of a class that has neither
-lacks : (class : ℕ → Bool) (n : ℕ) → class n ≡ false → (b : ℕ) → class b ≡ true → not (b == n) ≡ true
+pub lacks : (class : ℕ → Bool) (n : ℕ) → class n ≡ false → (b : ℕ) → class b ≡ true → not (b == n) ≡ true
 lacks class n none b h =
     elim (cases_Bool (eqb b n)) [
       | inl e ↦ absurd (false≢true (sym none ∙ ap class (sym (eqb-true b n e)) ∙ h))

@@ -5,7 +5,7 @@ use Rattle.imap_link.specs.declared.fault.FarFault.{FarFault}
 use Rattle.imap_link.specs.declared.fault.FarFault.TheVariants as faults
 use Rattle.imap_link.specs.declared.link.LinkFault.{LinkFault}
 use Rattle.imap_link.specs.declared.link.LinkFault.TheVariants as links
-use Rattle.imap_link.specs.Faults.{link_fault, IsStop}
+use Rattle.imap_link.specs.Faults.{link_fault, IsStop, IsHearing}
 use Rattle.imap_link.specs.Buffers.{IsFaulty, IsBreach}
 use Rattle.imap_link.proofs.Text.{faulty_coming}
 
@@ -58,3 +58,23 @@ if_ok Q (Err y) h = tt
 pub or_faulty : (f : FarFault) (read : ℕ) (heard more coming : List ℕ) → read ≤ length heard → heard ++ more ≡ coming → IsStop f ⊎ IsFaulty (drop read heard) → IsStop f ⊎ IsFaulty (drop read coming)
 or_faulty f read heard more coming h e (inl s) = inl s
 or_faulty f read heard more coming h e (inr x) = inr (subst (λ (l : List ℕ). IsFaulty (drop read l)) e (faulty_coming read heard more h x))
+
+-- ---- what hearing tells
+
+pub hearing_stop : (f : FarFault) → IsStop f → IsHearing f
+hearing_stop faults.Stopped h = tt
+hearing_stop faults.Refused h = absurd h
+hearing_stop faults.Protocol h = absurd h
+hearing_stop faults.TooLong h = absurd h
+hearing_stop faults.NoRev2 h = absurd h
+hearing_stop faults.ReadOnly h = absurd h
+hearing_stop faults.NoMemory h = tt
+
+pub hearing_breach : (f : FarFault) (bytes : List ℕ) → IsBreach f bytes → IsHearing f
+hearing_breach faults.Stopped bytes h = absurd h
+hearing_breach faults.Refused bytes h = absurd h
+hearing_breach faults.Protocol bytes h = tt
+hearing_breach faults.TooLong bytes h = tt
+hearing_breach faults.NoRev2 bytes h = absurd h
+hearing_breach faults.ReadOnly bytes h = absurd h
+hearing_breach faults.NoMemory bytes h = tt

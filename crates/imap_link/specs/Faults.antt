@@ -25,3 +25,13 @@ IsStop TooLong = ⊥
 IsStop NoRev2 = ⊥
 IsStop ReadOnly = ⊥
 IsStop NoMemory = Unit {0}
+
+-- what hearing replies tells; a refusal, and what a server lacks, are for the session to tell
+abbrev pub IsHearing : FarFault → Type 0
+IsHearing Stopped = Unit {0}
+IsHearing Refused = ⊥
+IsHearing Protocol = Unit {0}
+IsHearing TooLong = Unit {0}
+IsHearing NoRev2 = ⊥
+IsHearing ReadOnly = ⊥
+IsHearing NoMemory = Unit {0}

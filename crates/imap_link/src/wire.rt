@@ -3,7 +3,7 @@
 ghost use Rattle.std.specs.Prelude.{◌≡◌, ◌<◌, ◌≤◌, ◌⊎◌, ◌++◌, ℕ, List, [], length, take, drop, IfOk, IfErr, OnOk, OnErr, IsErrOf};
 ghost use Rattle.imap_session.specs.Servers.{Quiet};
 ghost use Rattle.exchange_laws.specs.Ends.{ends_of, IsIdle};
-ghost use Rattle.imap_link.specs.Faults.{IsStop};
+ghost use Rattle.imap_link.specs.Faults.{IsStop, IsHearing};
 ghost use Rattle.imap_link.specs.Buffers.{Begins, IsFaulty, Tells, SaysBye, Expects, Keeps, IsAnswerText};
 ghost use Rattle.imap_link.specs.Outcomes.{Outcome, Never};
 ghost use Rattle.imap_link.specs.Exchanges.{Exchanges, StaysIdle, AsksFor, Restarts};
@@ -83,6 +83,7 @@ impl<L: Link> Wire<L> {
         ensures grows { OnOk result ((bytes : List ℕ) × (self.new.heard.items ≡ self.old.heard.items ++ bytes)) }
         ensures heard { IfOk result (λ r. Begins tag.now r.0 (drop read self.new.heard.items) r.1) }
         ensures fault { IfErr result (λ fault. L.honest self.new.link → IsStop fault ⊎ IsFaulty (drop read (ends_of (L.line self.old.link) self.old.heard.items).coming)) }
+        ensures known { IfErr result IsHearing }
         ensures stopped { IsErrOf result FarFault.Stopped → L.stops self.old.link < L.stops self.new.link }
     {
         let mut search = Search::new();
@@ -105,6 +106,7 @@ impl<L: Link> Wire<L> {
         ensures told { IfOk result (λ told. Tells tag.now self.new.heard.items told) }
         ensures same { OnOk result (L.honest self.new.link → Keeps (ends_of (L.line self.old.link) self.old.heard.items) (ends_of (L.line self.new.link) self.new.heard.items)) }
         ensures fault { IfErr result (λ fault. L.honest self.new.link → Expects tag.now (ends_of (L.line self.old.link) self.old.heard.items).coming → IsStop fault) }
+        ensures known { IfErr result IsHearing }
         ensures stopped { IsErrOf result FarFault.Stopped → (L.stops self.old.link < L.stops self.new.link) ⊎ SaysBye tag.now self.new.heard.items }
     {
         let mut read = 0;
@@ -138,6 +140,7 @@ impl<L: Link> Wire<L> {
         ensures idle { IfOk result (λ a. L.honest self.new.link → StaysIdle tag.now rest.now a.len
             (L.line self.old.link) self.old.heard.items (L.line self.new.link) self.new.heard.items) }
         ensures answer { IfOk result (λ a. (a.len ≤ length self.new.heard.items) × IsAnswerText tag.now a.status (take a.len self.new.heard.items)) }
+        ensures known { IfErr result IsHearing }
         ensures stopped { IsErrOf result FarFault.Stopped → (L.stops self.old.link < L.stops self.new.link) ⊎ SaysBye tag.now self.new.heard.items }
     {
         self.link.send(rest)?;
@@ -156,6 +159,7 @@ impl<L: Link> Wire<L> {
         ensures outcome { L.honest self.new.link → AsksFor front.now result
             (L.line self.old.link) self.old.heard.items (L.line self.new.link) self.new.heard.items }
         ensures told { IfOk result (λ told. Tells tag.now self.new.heard.items told) }
+        ensures known { IfErr result IsHearing }
         ensures stopped { IsErrOf result FarFault.Stopped → (L.stops self.old.link < L.stops self.new.link) ⊎ SaysBye tag.now self.new.heard.items }
     {
         self.link.send(front)?;
@@ -173,6 +177,7 @@ impl<L: Link> Wire<L> {
         ensures outcome { L.honest self.new.link → Outcome (λ _. Restarts) Never Restarts result
             (L.line self.old.link).end.server (L.line self.new.link).end.server }
         ensures idle { OnOk result (L.honest self.new.link → IsIdle (ends_of (L.line self.new.link) self.new.heard.items)) }
+        ensures known { IfErr result IsHearing }
         ensures stopped { IsErrOf result FarFault.Stopped → (L.stops self.old.link < L.stops self.new.link) ⊎ SaysBye tag.now self.new.heard.items }
     {
         self.heard.clear();

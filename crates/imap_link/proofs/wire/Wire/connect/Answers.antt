@@ -53,5 +53,6 @@ returns-in_default g c = record {
       (g.L.Link.line c.hear.new.self.link) c.hear.new.self.heard.items c.in_ok-kind.len c.in_ok-kind.ensures.heard
       (subst (λ (x : List ℕ). Keeps (ends_of (g.L.Link.line c.reconnect.new.self) x) (ends_of (g.L.Link.line c.hear.new.self.link) c.hear.new.self.heard.items)) c.clear.ensures.items (c.in_ok-kind.ensures.same honest))));
   idle = tt;
+  known = tt;
   stopped = λ e. absurd (apart e);
 }

@@ -1,0 +1,143 @@
+-- What became of a command of which it is known what the server does with it.
+use Rattle.std.proofs.Common.{◌≡◌, ◌⊎◌, inl, inr, ℕ, Bool, true, false, List, [], ◌∷◌, ◌++◌, refl, sym, ◌∙◌, ap, subst, append-nil, take, Option, Some, None, Result, Ok, Err}
+use Rattle.std.specs.Prelude.{nat_eq, if◌then◌else◌}
+use Rattle.std.specs.Cmp.Lexicographic.{pointwise}
+use Rattle.imap_commands.specs.declared.command.Command.{Command}
+use Rattle.imap_replies.specs.declared.word.Status.{Status}
+use Rattle.imap_replies.specs.declared.word.Status.TheVariants as statuses
+use Rattle.imap_replies.specs.declared.word.NoticeKind.TheVariants as notices
+use Rattle.imap_replies.specs.declared.reply.Reply.{Reply}
+use Rattle.imap_replies.specs.declared.reply.Reply.TheVariants.{Continue, Tagged, Notice, Capability, Enabled, List as Listed, Flags, Exists, Expunge, Fetch, Other, OtherNumbered}
+use Rattle.imap_session.specs.Servers.{Server}
+use Rattle.imap_session.specs.Steps.{Step}
+use Rattle.imap_session.specs.Heard.{AreReplies, LeavesOut, WithoutUid}
+use Rattle.exchange_laws.specs.Ends.{Did, DidCommand, MayHave}
+use Rattle.exchange_laws.proofs.Answering.{did_answer, leaves_answer}
+use Rattle.imap_link.specs.declared.fault.FarFault.{FarFault}
+use Rattle.imap_link.specs.declared.fault.FarFault.TheVariants as faults
+use Rattle.imap_link.specs.declared.front.Kind.{Kind}
+use Rattle.imap_link.specs.declared.front.Kind.TheVariants.{Mine, Stray}
+use Rattle.imap_link.specs.ReplyKinds.{kind_of, IsAwaited}
+use Rattle.imap_link.specs.Outcomes.{Outcome, Never}
+use Rattle.imap_link.specs.Exchanges.{Replied}
+use Rattle.imap_link.proofs.KindLemmas.{awaited_stays, tagged_awaited}
+use Rattle.imap_link.proofs.Astray.{ends_apart, closed_of}
+use Rattle.imap_client.specs.Exchanged.{Exchanged, RepliedWith}
+use Rattle.imap_client.specs.Saying.{status_of, final_status, HeardOf}
+
+-- ---- the status
+
+mine_status : (now status : Status) (b : Bool) → (if b then Mine now else Stray) ≡ Mine status → now ≡ status
+mine_status now status true e = cc
+mine_status now status false e = cc
+
+kind_status : (tag : List ℕ) (r : Reply) (status : Status) → kind_of tag r ≡ Mine status → status_of r ≡ Some status
+kind_status tag (Tagged other now text) status e = ap (λ (s : Status). Some s) (mine_status now status (pointwise nat_eq other tag) e)
+kind_status tag (Continue text) status e = cc
+kind_status tag (Notice notices.Ok text) status e = cc
+kind_status tag (Notice notices.No text) status e = cc
+kind_status tag (Notice notices.Bad text) status e = cc
+kind_status tag (Notice notices.Bye text) status e = cc
+kind_status tag (Notice notices.Preauth text) status e = cc
+kind_status tag (Capability names) status e = cc
+kind_status tag (Enabled names) status e = cc
+kind_status tag (Listed attributes delimiter name) status e = cc
+kind_status tag (Flags flags) status e = cc
+kind_status tag (Exists n) status e = cc
+kind_status tag (Expunge n) status e = cc
+kind_status tag (Fetch n items) status e = cc
+kind_status tag (Other word text) status e = cc
+kind_status tag (OtherNumbered n event text) status e = cc
+
+pub final_last : (xs : List Reply) (r : Reply) → final_status (xs ++ r ∷ []) ≡ status_of r
+final_last [] r = refl
+final_last (x ∷ []) r = refl
+final_last (x ∷ y ∷ xs) r = final_last (y ∷ xs) r
+
+same_status : (h s : Reply) → (h ≡ s) ⊎ WithoutUid h s → status_of h ≡ status_of s
+same_status h s (inl e) = ap status_of e
+same_status h s (inr w) = ap status_of w.heard_is ∙ sym (ap status_of w.said_is)
+
+leaves_final : (hs ss : List Reply) → LeavesOut hs ss → final_status hs ≡ final_status ss
+leaves_final [] [] l = refl
+leaves_final [] (s ∷ ss) l = absurd l
+leaves_final (h ∷ hs) [] l = absurd l
+leaves_final (h ∷ []) (s ∷ []) l = same_status h s l.0
+leaves_final (h ∷ []) (s ∷ t ∷ ss) l = absurd l.1
+leaves_final (h ∷ i ∷ hs) (s ∷ []) l = absurd l.1
+leaves_final (h ∷ i ∷ hs) (s ∷ t ∷ ss) l = leaves_final (i ∷ hs) (t ∷ ss) l.1
+
+-- ---- what was done
+
+pub did_step : (c : Command) (old : Server) (said : List Reply) (new : Server) → Did c [] old said new → Step old c said new
+did_step c old said new d =
+    subst (λ (s : Server). Step s c said new) d.quiet
+    (subst (λ (s : Server). Step d.before c said s) (sym d.later)
+    (subst (λ (rs : List Reply). Step d.before c rs d.after) (sym d.replies_are) d.step))
+
+pub record Said (c : Command) (status : Status) (bytes : List ℕ) (old new : Server) : Type 0 where
+  pub said : List Reply
+  pub step : Step old c said new
+  pub heard : HeardOf said bytes
+  pub status_is : final_status said ≡ Some status
+
+pub said_of : (c : Command) (status : Status) (bytes : List ℕ) (old new : Server) → Replied c status bytes old new → Said c status bytes old new
+said_of c status bytes old new r =
+    let said = r.did.said in
+    let answer = leaves_answer c.tag r.replies said r.did.left_out (did_answer c old said new r.did.did) in
+    let closed = closed_of c.tag r.replies answer in
+    let mine : IsAwaited (kind_of c.tag r.text.last) = subst IsAwaited (sym r.text.is) tt in
+    let same = ends_apart r.text.last closed.last (awaited_stays c.tag r.text.last mine) (awaited_stays c.tag closed.last (tagged_awaited c.tag closed.last closed.is))
+    r.text.passed closed.passed bytes bytes [] r.text.untagged closed.untagged r.text.spelled (subst (λ (l : List Reply). AreReplies l bytes) closed.all r.spelled) (append-nil bytes) in
+    record {
+      said = said;
+      step = did_step c old said new r.did.did;
+      heard = record { replies = r.replies; spelled = r.spelled; left_out = r.did.left_out };
+      status_is = sym (leaves_final r.replies said r.did.left_out) ∙ ap final_status closed.all ∙ final_last closed.passed closed.last ∙ ap status_of (sym same.1) ∙ kind_status c.tag r.text.last status r.text.is;
+    }
+
+-- ---- a command with one answer
+
+-- the server answers the command with these replies, of which the last is tagged, and is so then
+pub record Sure (c : Command) (old : Server) (xs : List Reply) (last : Reply) (after : Server) : Type 0 where
+  pub each : (said : List Reply) (new : Server) → Step old c said new → (said ≡ xs ++ last ∷ []) × (new ≡ after)
+
+module _ (c : Command) (old : Server) (xs : List Reply) (last : Reply) (after : Server) (sure : Sure c old xs last after) where
+  status_so : (status : Status) (bytes : List ℕ) (new : Server) → Replied c status bytes old new → status_of last ≡ Some status
+  status_so status bytes new r =
+      let s = said_of c status bytes old new r in
+      sym (final_last xs last) ∙ ap final_status (sym (sure.each s.said new s.step).0) ∙ s.status_is
+
+  pub after_so : (new : Server) → MayHave (DidCommand c) old new → MayHave (λ (s t : Server). t ≡ after) old new
+  after_so new (inl q) = inl q
+  after_so new (inr d) = inr (sure.each d.said new (did_step c old d.said new d.did)).1
+
+  heard_so : (status : Status) (bytes : List ℕ) (new : Server) → Replied c status bytes old new → HeardOf (xs ++ last ∷ []) bytes × (new ≡ after)
+  heard_so status bytes new r =
+      let s = said_of c status bytes old new r in
+      let is = sure.each s.said new s.step in
+      (subst (λ (rs : List Reply). HeardOf rs bytes) is.0 s.heard, is.1)
+
+  -- where it is OK
+  pub answered : status_of last ≡ Some statuses.Ok → (result : Result ℕ FarFault) (heard : List ℕ) (new : Server) → Exchanged c result heard old new
+      → Outcome {T = ℕ} (λ len s t. HeardOf (xs ++ last ∷ []) (take len heard) × (t ≡ after)) Never (λ s t. t ≡ after) result old new
+  answered ok (Ok len) heard new h = heard_so statuses.Ok (take len heard) new h
+  answered ok (Err faults.Stopped) heard new h = after_so new h
+  answered ok (Err faults.Refused) heard new h = let no = status_so statuses.No h.bytes new h.replied in let both : (let x : Option Status = Some statuses.Ok in x) ≡ Some statuses.No = sym ok ∙ no in cc
+  answered ok (Err faults.Protocol) heard new h = let bad = status_so statuses.Bad h.bytes new h.replied in let both : (let x : Option Status = Some statuses.Ok in x) ≡ Some statuses.Bad = sym ok ∙ bad in cc
+  answered ok (Err faults.TooLong) heard new h = h
+  answered ok (Err faults.NoRev2) heard new h = h
+  answered ok (Err faults.ReadOnly) heard new h = h
+  answered ok (Err faults.NoMemory) heard new h = after_so new h
+
+  -- where it is NO
+  pub refused : status_of last ≡ Some statuses.No → (does : ℕ → Server → Server → Type 0) (result : Result ℕ FarFault) (heard : List ℕ) (new : Server) → Exchanged c result heard old new
+      → Outcome {T = ℕ} does (λ s t. t ≡ after) (λ s t. t ≡ after) result old new
+  refused says does (Ok len) heard new h = let ok = status_so statuses.Ok (take len heard) new h in let both : (let x : Option Status = Some statuses.No in x) ≡ Some statuses.Ok = sym says ∙ ok in cc
+  refused says does (Err faults.Stopped) heard new h = after_so new h
+  refused says does (Err faults.Refused) heard new h = (heard_so statuses.No h.bytes new h.replied).1
+  refused says does (Err faults.Protocol) heard new h = let bad = status_so statuses.Bad h.bytes new h.replied in let both : (let x : Option Status = Some statuses.No in x) ≡ Some statuses.Bad = sym says ∙ bad in cc
+  refused says does (Err faults.TooLong) heard new h = h
+  refused says does (Err faults.NoRev2) heard new h = h
+  refused says does (Err faults.ReadOnly) heard new h = h
+  refused says does (Err faults.NoMemory) heard new h = after_so new h

@@ -1,0 +1,9 @@
+pub mod Tags
+pub mod Stillness
+pub mod Spoken
+pub mod Requests
+pub mod Exchanged
+pub mod States
+pub mod Saying
+pub mod Calls
+pub mod Sessions

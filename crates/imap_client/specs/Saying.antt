@@ -1,0 +1,36 @@
+-- What the replies to a command say.
+use Rattle.std.specs.Prelude.{◌≡◌, ℕ, Bool, true, false, List, [], ◌∷◌, Option, None, Some}
+use Rattle.imap_replies.specs.declared.word.Status.{Status}
+use Rattle.imap_replies.specs.declared.response.Code.{Code}
+use Rattle.imap_replies.specs.declared.response.Code.TheVariants as codes_of
+use Rattle.imap_replies.specs.declared.response.ResponseText.{ResponseText}
+use Rattle.imap_replies.specs.declared.response.ResponseText.TheVariants.{Plain, Coded}
+use Rattle.imap_replies.specs.declared.reply.Reply.{Reply}
+use Rattle.imap_replies.specs.declared.reply.Reply.TheVariants.{Continue, Tagged, Notice, Capability, Enabled, List as Listed, Flags, Exists, Expunge, Fetch, Other, OtherNumbered}
+use Rattle.imap_session.specs.Heard.{AreReplies, LeavesOut}
+
+abbrev pub status_of : Reply → Option Status
+status_of (Continue text) = None
+status_of (Tagged tag status text) = Some status
+status_of (Notice kind text) = None
+status_of (Capability names) = None
+status_of (Enabled names) = None
+status_of (Listed attributes delimiter name) = None
+status_of (Flags flags) = None
+status_of (Exists n) = None
+status_of (Expunge n) = None
+status_of (Fetch n items) = None
+status_of (Other word text) = None
+status_of (OtherNumbered n event text) = None
+
+-- the status of the last reply
+abbrev pub final_status : List Reply → Option Status
+final_status [] = None
+final_status (r ∷ []) = status_of r
+final_status (r ∷ q ∷ rs) = final_status (q ∷ rs)
+
+-- the bytes are these replies, but that a code may be left out
+pub record HeardOf (said : List Reply) (bytes : List ℕ) : Type 0 where
+  pub replies : List Reply
+  pub spelled : AreReplies replies bytes
+  pub left_out : LeavesOut replies said

@@ -1,0 +1,19 @@
+-- A session as the clauses of its calls name it.
+use Rattle.std.specs.Prelude.{ℕ}
+use Rattle.imap_session.specs.Servers.{Server}
+use Rattle.imap_session.specs.Lines.{Line}
+use Rattle.imap_link.specs.declared.link.Link as link
+use Rattle.imap_client.specs.declared.session.Session.{Session}
+use Rattle.imap_client.specs.States.{State}
+
+module _ {L : Type 0} {links : link.Ghosts L} where
+  abbrev pub state_of : Session L links → State
+  state_of s = record { is_ready = s.is_ready; tags = s.tags; stops = links.stops s.wire.link; heard = s.wire.heard.items }
+
+  -- both ends of its connection
+  abbrev pub line_of : Session L links → Line
+  line_of s = links.line s.wire.link
+
+  -- the server behind its link
+  abbrev pub server_of : Session L links → Server
+  server_of s = (line_of s).end.server

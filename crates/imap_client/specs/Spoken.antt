@@ -1,0 +1,14 @@
+-- Bytes that are replies.
+use Rattle.std.specs.Prelude.{◌≡◌, ℕ, List, ◌++◌}
+use Rattle.imap_replies.specs.declared.reply.Reply.{Reply}
+use Rattle.imap_session.specs.Heard.{AreReplies}
+
+pub record Speaks (bytes : List ℕ) : Type 0 where
+  pub replies : List Reply
+  pub spelled : AreReplies replies bytes
+
+-- of these replies the first were read, and the others are left, in these bytes
+pub record IsLeft (read : List Reply) (rest : List ℕ) (rs : List Reply) : Type 0 where
+  pub left : List Reply
+  pub spelled : AreReplies left rest
+  pub all : rs ≡ read ++ left

@@ -1,0 +1,8 @@
+//! A session with an IMAP server, and the far mailbox, over any link.
+#![tactic(auto)]
+
+mod call;
+mod reading;
+mod sending;
+pub mod session;
+mod tags;

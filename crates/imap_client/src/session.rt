@@ -1,0 +1,210 @@
+//! A session with a server.
+
+ghost use Rattle.std.specs.Prelude.{◌≡◌, ◌≤◌, ◌⊎◌, ◌+◌, ◌++◌, [], true, false, length, take, drop, IfOk, IfErr, OnOk, OnErr, IsErrOf};
+ghost use Rattle.imap_replies.specs.declared.word.Status.TheVariants as statuses;
+ghost use Rattle.exchange_laws.specs.Ends.{ends_of, is_logout};
+ghost use Rattle.imap_client.specs.Stillness.{IsStill};
+ghost use Rattle.imap_link.specs.Buffers.{IsAnswerText};
+ghost use Rattle.imap_client.specs.Tags.{tag_text};
+ghost use Rattle.imap_client.specs.Requests.{IsPlain};
+ghost use Rattle.imap_client.specs.Exchanged.{command_at, Exchanged};
+ghost use Rattle.imap_client.specs.Calls.{request_of, CanAsk};
+ghost use Rattle.imap_client.specs.States.{Opened, SendStops, EndsSo, SentSo, Judged, ExchangedSo, AskedSo};
+ghost use Rattle.imap_link.specs.Faults.{IsHearing};
+ghost use Rattle.imap_link.specs.Outcomes.{Outcome, Never};
+ghost use Rattle.imap_link.specs.Exchanges.{Restarts};
+
+use crate::call::Call;
+use crate::sending::text_of;
+use crate::tags::tag_of;
+use imap_commands::command::{Command, Request};
+use imap_link::fault::FarFault;
+use imap_link::link::Link;
+use imap_link::wire::{Answered, Wire};
+use imap_replies::word::Status;
+use std::alloc::Global;
+
+/// A session with a server, over a link.
+///
+/// After `Refused` and `ReadOnly` it goes on. After every other fault each call answers `Stopped` and sends nothing,
+/// until `reconnect`.
+#[derive(Drop)]
+pub struct Session<L: Link> {
+    wire: Wire<L>,
+    // How many tags were used on this connection.
+    tags: u64,
+    is_ready: bool,
+    pub ghost idle: { is_ready ≡ true → L.honest wire.link → IsStill (ends_of (L.line wire.link) wire.heard.items) },
+}
+
+impl<L: Link> Session<L> {
+    ghost use Rattle.imap_client.specs.Sessions.{state_of, line_of, server_of};
+
+    /// A session over the link, in a new connection, whose greeting was heard. Beside a fault the link comes back.
+    ///
+    /// `Stopped`: the link stops, the bytes end, or the server greets with `* BYE`. `Protocol`: it greets with anything
+    /// else than `* OK`. `TooLong`, `NoMemory`.
+    pub fn open(alloc: Global, link: L) -> Result<Session<L>, (FarFault, L)>
+        ensures ok { IfOk result (λ s. (L.honest s.wire.link → L.honest link) × Opened (L.stops link) (state_of s)) }
+        ensures server { IfOk result (λ s. L.honest s.wire.link → Restarts (L.line link).end.server (server_of s)) }
+        ensures err { IfErr result (λ e. (L.honest e.1 → L.honest link) × IsHearing e.0 × (L.stops link ≤ L.stops e.1)) }
+        ensures left { IfErr result (λ e. L.honest e.1 → Outcome (λ (_ : Unit {0}). Restarts) Never Restarts (Err e.0) (L.line link).end.server (L.line e.1).end.server) }
+    {
+        let mut session = Session {
+            wire: Wire {
+                link,
+                heard: Vec::new(alloc),
+                alloc,
+            },
+            tags: 0,
+            is_ready: false,
+        };
+        match session.reconnect() {
+            Ok(()) => Ok(session),
+            Err(fault) => Err((fault, session.into_link())),
+        }
+    }
+
+    /// Starts a new connection and hears its greeting. Tags begin anew, and nobody is logged in.
+    ///
+    /// Faults as of `open`. After each the session has failed.
+    pub fn reconnect(&mut self) -> Result<(), FarFault>
+        ensures was_honest { L.honest self.new.wire.link → L.honest self.old.wire.link }
+        ensures ready { OnOk result (Opened (L.stops self.old.wire.link) (state_of self.new)) }
+        ensures outcome { L.honest self.new.wire.link → Outcome (λ _. Restarts) Never Restarts result (server_of self.old) (server_of self.new) }
+        ensures known { IfErr result IsHearing }
+        ensures failed { OnErr result (self.new.is_ready ≡ false) }
+        ensures counts { L.stops self.old.wire.link ≤ L.stops self.new.wire.link }
+        ensures stopped { IsErrOf result FarFault.Stopped → SendStops (tag_text 1) (state_of self.old) (state_of self.new) }
+    {
+        self.is_ready = false;
+        self.tags = 0;
+        let tag = tag_of(self.wire.alloc, 1)?;
+        self.wire.connect(&tag)?;
+        self.is_ready = true;
+        Ok(())
+    }
+
+    /// Gives the link back, without taking memory.
+    pub fn into_link(self) -> L
+        ensures { result ≡ self.wire.link }
+    {
+        let Session { wire, .. } = self;
+        let Wire { link, .. } = wire;
+        link
+    }
+
+    // A call begins: the session counts as failed until it has ended well.
+    fn begin(&mut self) -> Result<(), FarFault>
+        ensures same { (self.new.wire ≡ self.old.wire) × (self.new.tags ≡ self.old.tags) }
+        ensures begun { self.new.is_ready ≡ false }
+        ensures stuck { self.old.is_ready ≡ false → self.new ≡ self.old }
+        ensures ready { OnOk result (self.old.is_ready ≡ true) }
+        ensures failed { IfErr result (λ fault. (fault ≡ FarFault.Stopped) × (self.old.is_ready ≡ false)) }
+        ensures idle { OnOk result (L.honest self.new.wire.link → IsStill (ends_of (L.line self.new.wire.link) self.new.wire.heard.items)) }
+    {
+        if !self.is_ready {
+            return Err(FarFault::Stopped);
+        }
+        self.is_ready = false;
+        Ok(())
+    }
+
+    // The command with the next tag. `Stopped`: there is none left.
+    fn command(&mut self, request: Request) -> Result<Command, FarFault>
+        ensures same { (self.new.wire ≡ self.old.wire) × (self.new.is_ready ≡ self.old.is_ready) }
+        ensures command { IfOk result (λ c. (c ≡ command_at (self.old.tags + 1) request) × (self.new.tags ≡ self.old.tags + 1)) }
+        ensures stopped { IsErrOf result FarFault.Stopped → (self.old.tags ≡ 18446744073709551615) × (self.new.tags ≡ self.old.tags) }
+        ensures err { IfErr result (λ fault. (fault ≡ FarFault.Stopped) ⊎ (fault ≡ FarFault.NoMemory)) }
+    {
+        let Some(tags) = self.tags.checked_add(1) else {
+            return Err(FarFault::Stopped);
+        };
+        self.tags = tags;
+        let tag = tag_of(self.wire.alloc, tags)?;
+        Ok(Command { tag, request })
+    }
+
+    // Sends a command of one line and waits for its answer, which stands in the buffer then.
+    fn send(&mut self, command: &Command) -> Result<usize, FarFault>
+        requires plain { IsPlain command.now.request }
+        requires stays { is_logout command.now.request ≡ false }
+        requires begun { self.old.is_ready ≡ false }
+        requires idle { L.honest self.old.wire.link → IsStill (ends_of (L.line self.old.wire.link) self.old.wire.heard.items) }
+        ensures was_honest { L.honest self.new.wire.link → L.honest self.old.wire.link }
+        ensures tags { self.new.tags ≡ self.old.tags }
+        ensures sent { SentSo command.now.tag (state_of self.old) (state_of self.new) result }
+        ensures outcome { L.honest self.new.wire.link → Exchanged command.now result self.new.wire.heard.items (server_of self.old) (server_of self.new) }
+        ensures idle { IfOk result (λ len. L.honest self.new.wire.link → IsStill (ends_of (L.line self.new.wire.link) (drop len self.new.wire.heard.items))) }
+        ensures answer { IfOk result (λ len. (len ≤ length self.new.wire.heard.items) × IsAnswerText command.now.tag statuses.Ok (take len self.new.wire.heard.items)) }
+    {
+        let text = text_of(self.wire.alloc, command)?;
+        let answered = self.wire.finish(&command.tag, &text, false)?;
+        self.judge(answered)
+    }
+
+    // What the status of an answer makes of it: after NO it is dropped, and the session goes on.
+    fn judge(&mut self, answered: Answered) -> Result<usize, FarFault>
+        requires begun { self.old.is_ready ≡ false }
+        requires within { answered.len ≤ length self.old.wire.heard.items }
+        requires idle { L.honest self.old.wire.link → IsStill (ends_of (L.line self.old.wire.link) (drop answered.len self.old.wire.heard.items)) }
+        ensures link { self.new.wire.link ≡ self.old.wire.link }
+        ensures tags { self.new.tags ≡ self.old.tags }
+        ensures judged { Judged answered.status answered.len self.new.is_ready result }
+        ensures heard { OnOk result (self.new.wire.heard.items ≡ self.old.wire.heard.items) }
+    {
+        match answered.status {
+            Status::Ok => Ok(answered.len),
+            Status::No => {
+                self.wire.forget(answered.len);
+                self.is_ready = true;
+                Err(FarFault::Refused)
+            }
+            Status::Bad => Err(FarFault::Protocol),
+        }
+    }
+
+    // Sends the command with the next tag, and waits for its answer.
+    fn exchange(&mut self, request: Request) -> Result<usize, FarFault>
+        requires plain { IsPlain request }
+        requires stays { is_logout request ≡ false }
+        requires begun { self.old.is_ready ≡ false }
+        requires idle { L.honest self.old.wire.link → IsStill (ends_of (L.line self.old.wire.link) self.old.wire.heard.items) }
+        ensures was_honest { L.honest self.new.wire.link → L.honest self.old.wire.link }
+        ensures asked { ExchangedSo (state_of self.old) (state_of self.new) result }
+        ensures outcome { L.honest self.new.wire.link → Exchanged (command_at (self.old.tags + 1) request) result self.new.wire.heard.items (server_of self.old) (server_of self.new) }
+        ensures idle { IfOk result (λ len. L.honest self.new.wire.link → IsStill (ends_of (L.line self.new.wire.link) (drop len self.new.wire.heard.items))) }
+        ensures answer { IfOk result (λ len. (len ≤ length self.new.wire.heard.items) × IsAnswerText (tag_text self.new.tags) statuses.Ok (take len self.new.wire.heard.items)) }
+    {
+        let command = self.command(request)?;
+        self.send(&command)
+    }
+
+    /// Begins a call that sends this: sends it and waits for its answer, which stands in the buffer then. The session
+    /// counts as failed until `done`.
+    pub(crate) fn ask(&mut self, call: &Call<'_>) -> Result<usize, FarFault>
+        requires { CanAsk call.now }
+        ensures was_honest { L.honest self.new.wire.link → L.honest self.old.wire.link }
+        ensures stuck { self.old.is_ready ≡ false → self.new ≡ self.old }
+        ensures asked { AskedSo (state_of self.old) (state_of self.new) result }
+        ensures outcome { L.honest self.new.wire.link → Exchanged (command_at (self.old.tags + 1) (request_of call.now)) result self.new.wire.heard.items (server_of self.old) (server_of self.new) }
+        ensures idle { IfOk result (λ len. L.honest self.new.wire.link → IsStill (ends_of (L.line self.new.wire.link) (drop len self.new.wire.heard.items))) }
+        ensures answer { IfOk result (λ len. (len ≤ length self.new.wire.heard.items) × IsAnswerText (tag_text self.new.tags) statuses.Ok (take len self.new.wire.heard.items)) }
+    {
+        self.begin()?;
+        let request = call.request(self.wire.alloc)?;
+        self.exchange(request)
+    }
+
+    /// Ends a call: drops its answer, of this length.
+    pub(crate) fn done(&mut self, len: usize)
+        requires within { len ≤ length self.old.wire.heard.items }
+        requires idle { L.honest self.old.wire.link → IsStill (ends_of (L.line self.old.wire.link) (drop len self.old.wire.heard.items)) }
+        ensures link { self.new.wire.link ≡ self.old.wire.link }
+        ensures ready { self.new.is_ready ≡ true }
+        ensures tags { self.new.tags ≡ self.old.tags }
+    {
+        self.wire.forget(len);
+        self.is_ready = true;
+    }
+}
