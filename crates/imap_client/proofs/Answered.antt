@@ -103,7 +103,7 @@ pub record Sure (c : Command) (old : Server) (xs : List Reply) (last : Reply) (a
   pub each : (said : List Reply) (new : Server) → Step old c said new → (said ≡ xs ++ last ∷ []) × (new ≡ after)
 
 module _ (c : Command) (old : Server) (xs : List Reply) (last : Reply) (after : Server) (sure : Sure c old xs last after) where
-  status_so : (status : Status) (bytes : List ℕ) (new : Server) → Replied c status bytes old new → status_of last ≡ Some status
+  pub status_so : (status : Status) (bytes : List ℕ) (new : Server) → Replied c status bytes old new → status_of last ≡ Some status
   status_so status bytes new r =
       let s = said_of c status bytes old new r in
       sym (final_last xs last) ∙ ap final_status (sym (sure.each s.said new s.step).0) ∙ s.status_is

@@ -15,7 +15,8 @@ use Rattle.imap_replies.specs.Replies.{ReplyText, seen}
 use Rattle.imap_session.specs.Heard.{AreReplies}
 use Rattle.exchange_laws.proofs.Apart.{apart, replies_apart}
 use Rattle.exchange_laws.proofs.AnswersApart.{reply_some}
-use Rattle.imap_link.specs.Faults.{heard_fault, IsStop}
+use Rattle.imap_link.specs.declared.fault.FarFault.TheVariants.{NoMemory}
+use Rattle.imap_link.specs.Faults.{heard_fault}
 use Rattle.imap_client.specs.Spoken.{Speaks, IsLeft}
 
 pub left_all : (bytes : List ℕ) (rs : List Reply) → AreReplies rs bytes → IsLeft [] bytes rs
@@ -70,11 +71,11 @@ pub must_take : (bytes rest : List ℕ) (read : List Reply) (result : Result (Re
     → ((rs : List Reply) → AreReplies rs bytes → IsLeft read rest rs) → (rest ≡ [] → ⊥) → TakesEach seen ReplyText rest result → MustTake result
 must_take bytes rest read result s l n t = let left = l s.replies s.spelled in must_of rest left.left result left.spelled n t
 
-pub stops_at : (f : WireFault) → MustTake (Err f) → IsStop (heard_fault f)
+pub stops_at : (f : WireFault) → MustTake (Err f) → heard_fault f ≡ NoMemory
 stops_at (faults.Syntax at) m = absurd m.takes
 stops_at faults.LineTooLong m = absurd m.takes
 stops_at (faults.LiteralTooLong at) m = absurd m.takes
-stops_at faults.NoMemory m = tt
+stops_at faults.NoMemory m = refl
 
 pub some_rest : (rest : List ℕ) → (length rest == 0) ≡ false → rest ≡ [] → ⊥
 some_rest [] h e = cc
@@ -90,7 +91,7 @@ waits_not result read n e f m = (subst MustTake (e ∙ ap Ok f) m).takes
 pub partial_not : (result : Result (Read Reply) WireFault) (read : Read Reply) → result ≡ Ok read → read ≡ Partial → MustTake result → ⊥
 partial_not result read e f m = (subst MustTake (e ∙ ap Ok f) m).takes
 
-pub err_stops : (result : Result (Read Reply) WireFault) (f : WireFault) → result ≡ Err f → MustTake result → IsStop (heard_fault f)
+pub err_stops : (result : Result (Read Reply) WireFault) (f : WireFault) → result ≡ Err f → MustTake result → heard_fault f ≡ NoMemory
 err_stops result f e m = stops_at f (subst MustTake e m)
 
 pub whole_text : (rest : List ℕ) (result : Result (Read Reply) WireFault) (read : Read Reply) (r : Reply) (len : ℕ) → result ≡ Ok read → read ≡ Whole r len → Answers Replies seen ReplyText rest result → ReplyText r (take len rest)

@@ -6,3 +6,5 @@ pub mod Still
 pub mod Exchanging
 pub mod Asking
 pub mod Answered
+pub mod Changed
+pub mod Selecting

@@ -5,5 +5,7 @@ pub mod Requests
 pub mod Exchanged
 pub mod States
 pub mod Saying
+pub mod Openings
+pub mod Boxes
 pub mod Calls
 pub mod Sessions

@@ -2,6 +2,8 @@
 #![tactic(auto)]
 
 mod call;
+pub mod far_box;
+mod opening;
 mod reading;
 mod sending;
 pub mod session;

@@ -3,7 +3,6 @@
 ghost use Rattle.std.specs.Prelude.{◌≡◌, IfOk, IfErr, List};
 ghost use Rattle.imap_replies.specs.declared.reply.Reply.{Reply};
 ghost use Rattle.imap_session.specs.Heard.{AreReplies};
-ghost use Rattle.imap_link.specs.Faults.{IsStop};
 ghost use Rattle.imap_client.specs.Spoken.{Speaks};
 
 use imap_link::fault::FarFault;
@@ -18,7 +17,7 @@ use wire_reader::answer::Read;
 pub(crate) fn read_replies(alloc: Global, bytes: &[u8]) -> Result<Vec<Reply<'_>>, FarFault>
     requires { Speaks bytes.now }
     ensures replies { IfOk result (λ v. (rs : List Reply) → AreReplies rs bytes.now → v.items ≡ rs) }
-    ensures err { IfErr result IsStop }
+    ensures err { IfErr result (λ fault. fault ≡ FarFault.NoMemory) }
 {
     let mut replies = Vec::new(alloc);
     let mut rest = bytes;

@@ -30,10 +30,10 @@ use std::alloc::Global;
 /// until `reconnect`.
 #[derive(Drop)]
 pub struct Session<L: Link> {
-    wire: Wire<L>,
+    pub(crate) wire: Wire<L>,
     // How many tags were used on this connection.
     tags: u64,
-    is_ready: bool,
+    pub(crate) is_ready: bool,
     pub ghost idle: { is_ready ≡ true → L.honest wire.link → IsStill (ends_of (L.line wire.link) wire.heard.items) },
 }
 

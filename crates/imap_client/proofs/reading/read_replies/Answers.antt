@@ -1,5 +1,4 @@
 use Rattle.std.proofs.Common.{sym, ◌∙◌, subst, refl}
-use Rattle.imap_link.specs.Faults.{IsStop}
 use Rattle.imap_link.proofs.Exits.{slice_is}
 use Rattle.imap_client.proofs.Left.{all_read, left_next, must_take, some_rest, none_rest, waits_not, partial_not, err_stops, whole_text}
 use Rattle.imap_client.proofs.reading.read_replies.Goals as goal
@@ -16,16 +15,15 @@ loop-preserved c rs h =
 
 pub returns-in-Ok-WantsLiteral-clause-err : goal.returns-in-Ok-WantsLiteral-clause-err
 returns-in-Ok-WantsLiteral-clause-err c =
-    waits_not c.read_reply.result c.in-Ok-WantsLiteral.field-0 c.in-Ok-WantsLiteral.field-0-0 c.in-Ok-WantsLiteral.is c.in-Ok-WantsLiteral.field-0-is
-    (must_take c.args.bytes.now c.loop.rest.now c.loop.replies.items c.read_reply.result c.requires c.loop.invariant (some_rest c.loop.rest.now (sym c.is_empty.ensures ∙ c.if-is_empty.false)) c.read_reply.ensures.takes)
+    absurd (waits_not c.read_reply.result c.in-Ok-WantsLiteral.field-0 c.in-Ok-WantsLiteral.field-0-0 c.in-Ok-WantsLiteral.is c.in-Ok-WantsLiteral.field-0-is
+    (must_take c.args.bytes.now c.loop.rest.now c.loop.replies.items c.read_reply.result c.requires c.loop.invariant (some_rest c.loop.rest.now (sym c.is_empty.ensures ∙ c.if-is_empty.false)) c.read_reply.ensures.takes))
 
 pub returns-in-Ok-Partial-clause-err : goal.returns-in-Ok-Partial-clause-err
 returns-in-Ok-Partial-clause-err c =
-    partial_not c.read_reply.result c.in-Ok-Partial.field-0 c.in-Ok-Partial.is c.in-Ok-Partial.field-0-is
-    (must_take c.args.bytes.now c.loop.rest.now c.loop.replies.items c.read_reply.result c.requires c.loop.invariant (some_rest c.loop.rest.now (sym c.is_empty.ensures ∙ c.if-is_empty.false)) c.read_reply.ensures.takes)
+    absurd (partial_not c.read_reply.result c.in-Ok-Partial.field-0 c.in-Ok-Partial.is c.in-Ok-Partial.field-0-is
+    (must_take c.args.bytes.now c.loop.rest.now c.loop.replies.items c.read_reply.result c.requires c.loop.invariant (some_rest c.loop.rest.now (sym c.is_empty.ensures ∙ c.if-is_empty.false)) c.read_reply.ensures.takes))
 
 pub returns-in-Err-clause-err : goal.returns-in-Err-clause-err
 returns-in-Err-clause-err c =
-    subst IsStop (sym c.from.ensures)
-    (err_stops c.read_reply.result c.in-Err.fault c.in-Err.is
+    c.from.ensures ∙ (err_stops c.read_reply.result c.in-Err.fault c.in-Err.is
     (must_take c.args.bytes.now c.loop.rest.now c.loop.replies.items c.read_reply.result c.requires c.loop.invariant (some_rest c.loop.rest.now (sym c.is_empty.ensures ∙ c.if-is_empty.false)) c.read_reply.ensures.takes))

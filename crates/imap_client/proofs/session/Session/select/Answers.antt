@@ -1,0 +1,13 @@
+use Rattle.std.proofs.Common.{List, ℕ, sym, subst}
+use Rattle.imap_client.specs.Boxes.{IsSelected}
+use Rattle.imap_client.proofs.Selecting.{selected_so}
+use Rattle.imap_client.proofs.session.Session.select.Goals as goal
+
+pub invariant_of-result : goal.invariant_of-result
+invariant_of-result g c = record {
+  selected = λ ready honest.
+      let old = (g.L.Link.line c.args.self.wire.link).end.server in
+      let new = (g.L.Link.line c.choose.new.self.wire.link).end.server in
+      subst (λ (name : List ℕ). IsSelected name c.in-Ok.chosen.validity c.in-Ok.chosen.next new) (sym c.in-Ok.ensures.name)
+      (selected_so c.args.name.now c.in-Ok.chosen.validity c.in-Ok.chosen.next old new (c.in-Ok.ensures.chosen honest));
+}

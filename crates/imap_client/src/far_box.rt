@@ -1,0 +1,182 @@
+//! A far mailbox: a session in which it is selected.
+
+ghost use Rattle.std.specs.Prelude.{◌≡◌, ◌≤◌, true, false, List, Some, length, take, IfOk, IfErr, Ok, Err};
+ghost use Rattle.imap_commands.specs.declared.command.StoreMode.TheVariants as modes;
+ghost use Rattle.imap_replies.specs.declared.reply.Reply.{Reply};
+ghost use Rattle.imap_session.specs.Heard.{AreReplies};
+ghost use Rattle.imap_session.specs.Mailboxes.{FarMailbox};
+ghost use Rattle.imap_session.specs.Servers.{Server, is_logged_in, selected, with_selected};
+ghost use Rattle.imap_session.specs.NamedMessages.{stored, swept};
+ghost use Rattle.imap_link.specs.Outcomes.{Outcome, Never};
+ghost use Rattle.mailcore.specs.Stores.{Store};
+ghost use Rattle.imap_client.specs.Calls.{CanAsk, each_one};
+ghost use Rattle.imap_client.specs.Boxes.{IsSelected, Selects, Chooses, NoMailbox, Becomes, Changing, one_uid};
+ghost use Rattle.imap_client.specs.Openings.{opening_of};
+ghost use Rattle.imap_client.specs.Requests.{IsWord};
+ghost use Rattle.imap_client.specs.Spoken.{Speaks};
+ghost use Rattle.imap_client.specs.States.{EndsSo};
+ghost use Rattle.std.proofs.Props.{props};
+
+use crate::call::Call;
+use crate::opening::Opening;
+use crate::reading::read_replies;
+use crate::session::Session;
+use imap_commands::command::StoreMode;
+use imap_link::fault::FarFault;
+use imap_link::link::Link;
+use mailcore::flags::Flags;
+use mailcore::uid::Uid;
+
+/// A far mailbox: a session in which it is selected.
+///
+/// After `Refused` it goes on. After every other fault each call answers `Stopped` and sends nothing: `into_session`
+/// gives the session back, which can be connected anew.
+#[derive(Drop)]
+pub struct FarBox<L: Link> {
+    session: Session<L>,
+    name: Vec<u8>,
+    validity: u32,
+    // A UID that is above those of all messages that were there when the mailbox was selected.
+    next: u32,
+    pub ghost selected: { session.is_ready ≡ true → L.honest session.wire.link
+        → IsSelected name.items validity next (L.line session.wire.link).end.server } by { Prim.hlevel props },
+}
+
+/// What is known of a mailbox that was selected.
+#[derive(Debug, Drop)]
+pub(crate) struct Chosen {
+    name: Vec<u8>,
+    validity: u32,
+    next: u32,
+}
+
+impl<L: Link> Session<L> {
+    ghost use Rattle.imap_client.specs.Sessions.{state_of, server_of};
+
+    /// Selects the mailbox of this name, and moves the session into it. Beside a fault the session comes back.
+    ///
+    /// `Refused`: there is no such mailbox. `ReadOnly`: it cannot be changed, or cannot keep each of the six flags.
+    /// `Protocol`: UIDNEXT or UIDVALIDITY was not told, too.
+    pub fn select(self, name: &[u8]) -> Result<FarBox<L>, (FarFault, Session<L>)>
+        requires { IsWord name.now }
+        ensures was_honest { IfOk result (λ b. L.honest b.session.wire.link → L.honest self.wire.link) }
+        ensures still_honest { IfErr result (λ e. L.honest e.1.wire.link → L.honest self.wire.link) }
+        ensures ok { IfOk result (λ b. EndsSo 1 (state_of self) (state_of b.session) (Ok b)) }
+        ensures err { IfErr result (λ e. EndsSo {T = FarBox L L.Link} 1 (state_of self) (state_of e.1) (Err e.0)) }
+        ensures selects { IfOk result (λ b. L.honest b.session.wire.link → Selects name.now b.validity b.next (server_of self) (server_of b.session)) }
+        ensures fails { IfErr result (λ e. L.honest e.1.wire.link → is_logged_in (server_of self).condition ≡ true
+            → Outcome {T = FarBox L L.Link} (λ b. Never) (NoMailbox name.now) (Chooses name.now) (Err e.0) (server_of self) (server_of e.1)) }
+    {
+        let mut session = self;
+        match session.choose(name) {
+            Ok(chosen) => {
+                let Chosen {
+                    name,
+                    validity,
+                    next,
+                } = chosen;
+                Ok(FarBox {
+                    session,
+                    name,
+                    validity,
+                    next,
+                })
+            }
+            Err(fault) => Err((fault, session)),
+        }
+    }
+
+    // Selects the mailbox of this name.
+    fn choose(&mut self, name: &[u8]) -> Result<Chosen, FarFault>
+        requires { IsWord name.now }
+        ensures was_honest { L.honest self.new.wire.link → L.honest self.old.wire.link }
+        ensures stuck { self.old.is_ready ≡ false → self.new ≡ self.old }
+        ensures ends { EndsSo 1 (state_of self.old) (state_of self.new) result }
+        ensures name { IfOk result (λ c. c.name.items ≡ name.now) }
+        ensures chosen { IfOk result (λ c. L.honest self.new.wire.link → Selects name.now c.validity c.next (server_of self.old) (server_of self.new)) }
+        ensures outcome { L.honest self.new.wire.link → is_logged_in (server_of self.old).condition ≡ true
+            → Outcome (λ c. Selects name.now c.validity c.next) (NoMailbox name.now) (Chooses name.now) result (server_of self.old) (server_of self.new) }
+    {
+        let len = self.ask(&Call::Select(name))?;
+        let opening = self.opening(len)?;
+        let Some(next) = opening.next else {
+            return Err(FarFault::Protocol);
+        };
+        let Some(validity) = opening.validity else {
+            return Err(FarFault::Protocol);
+        };
+        let name = Vec::from_slice(self.wire.alloc, name)?;
+        self.done(len);
+        if opening.is_read_only {
+            return Err(FarFault::ReadOnly);
+        }
+        Ok(Chosen {
+            name,
+            validity,
+            next,
+        })
+    }
+
+    // What the replies at the front of the buffer say of a mailbox.
+    fn opening(&self, len: usize) -> Result<Opening, FarFault>
+        requires within { len ≤ length self.now.wire.heard.items }
+        requires speaks { Speaks (take len self.now.wire.heard.items) }
+        ensures told { IfOk result (λ o. (rs : List Reply) → AreReplies rs (take len self.now.wire.heard.items) → o ≡ opening_of rs) }
+        ensures err { IfErr result (λ fault. fault ≡ FarFault.NoMemory) }
+    {
+        let replies = read_replies(self.wire.alloc, &self.wire.heard[..len])?;
+        Ok(Opening::of(&replies))
+    }
+
+    // Sends this, and waits until it was done.
+    pub(crate) fn change(&mut self, call: &Call<'_>) -> Result<(), FarFault>
+        requires { CanAsk call.now }
+        ensures was_honest { L.honest self.new.wire.link → L.honest self.old.wire.link }
+        ensures stuck { self.old.is_ready ≡ false → self.new ≡ self.old }
+        ensures ends { EndsSo 1 (state_of self.old) (state_of self.new) result }
+        ensures outcome { L.honest self.new.wire.link → (m : FarMailbox) → selected (server_of self.old) ≡ Some m → (change : Store → Store)
+            → Changing call.now change → Outcome (λ _. Becomes change) Never (Becomes change) result (server_of self.old) (server_of self.new) }
+    {
+        let len = self.ask(call)?;
+        self.done(len);
+        Ok(())
+    }
+}
+
+impl<L: Link> FarBox<L> {
+    ghost use Rattle.imap_client.specs.Sessions.{state_of, server_of};
+
+    /// Gives the session back, without taking memory.
+    pub fn into_session(self) -> Session<L>
+        ensures { result ≡ self.session }
+    {
+        let FarBox { session, .. } = self;
+        session
+    }
+
+    /// Sets these flags of a message. A message that is not there is passed over.
+    pub fn add_flags(&mut self, uid: Uid, flags: Flags) -> Result<(), FarFault>
+        ensures was_honest { L.honest self.new.session.wire.link → L.honest self.old.session.wire.link }
+        ensures stuck { self.old.session.is_ready ≡ false → self.new.session ≡ self.old.session }
+        ensures ends { EndsSo 1 (state_of self.old.session) (state_of self.new.session) result }
+        ensures outcome { L.honest self.new.session.wire.link → (m : FarMailbox) → selected (server_of self.old.session) ≡ Some m
+            → Outcome (λ _. Becomes (stored modes.Add flags (one_uid uid))) Never (Becomes (stored modes.Add flags (one_uid uid))) result
+            (server_of self.old.session) (server_of self.new.session) }
+    {
+        self.session
+            .change(&Call::Store(uid, StoreMode::Add, flags))
+    }
+
+    /// Clears these flags of a message, as `add_flags` sets them.
+    pub fn remove_flags(&mut self, uid: Uid, flags: Flags) -> Result<(), FarFault>
+        ensures was_honest { L.honest self.new.session.wire.link → L.honest self.old.session.wire.link }
+        ensures stuck { self.old.session.is_ready ≡ false → self.new.session ≡ self.old.session }
+        ensures ends { EndsSo 1 (state_of self.old.session) (state_of self.new.session) result }
+        ensures outcome { L.honest self.new.session.wire.link → (m : FarMailbox) → selected (server_of self.old.session) ≡ Some m
+            → Outcome (λ _. Becomes (stored modes.Remove flags (one_uid uid))) Never (Becomes (stored modes.Remove flags (one_uid uid))) result
+            (server_of self.old.session) (server_of self.new.session) }
+    {
+        self.session
+            .change(&Call::Store(uid, StoreMode::Remove, flags))
+    }
+}

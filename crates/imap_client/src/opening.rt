@@ -1,0 +1,99 @@
+//! What the replies to SELECT say of a mailbox (RFC 9051, section 6.3.2).
+
+ghost use Rattle.std.specs.Prelude.{◌≡◌, true};
+ghost use Rattle.imap_client.specs.Openings.{permits_all, code_more, opening_more, nothing_told, opening_of};
+
+use imap_replies::reply::Reply;
+use imap_replies::response::{Code, ResponseText};
+use imap_replies::word::NoticeKind;
+use mailcore::flags::{Flag, Flags};
+
+/// What was said of a mailbox so far.
+#[derive(Clone, Copy, Debug, PartialEq, Eq)]
+pub(crate) struct Opening {
+    /// Its UIDNEXT.
+    pub(crate) next: Option<u32>,
+    /// Its UIDVALIDITY.
+    pub(crate) validity: Option<u32>,
+    /// It cannot be changed, or one of the six flags cannot be kept in it.
+    pub(crate) is_read_only: bool,
+}
+
+impl Opening {
+    /// What these replies say.
+    pub(crate) fn of(replies: &[Reply<'_>]) -> Opening
+        ensures { result ≡ opening_of replies.now }
+    {
+        replies
+            .iter()
+            .fold(Opening::none(), |opening, reply| opening.with(reply))
+    }
+
+    /// Nothing.
+    fn none() -> Opening
+        ensures { result ≡ nothing_told }
+    {
+        Opening {
+            next: None,
+            validity: None,
+            is_read_only: false,
+        }
+    }
+
+    /// The same with one reply more.
+    fn with(self, reply: &Reply<'_>) -> Opening
+        ensures { result ≡ opening_more self reply.now }
+    {
+        match reply {
+            Reply::Notice(NoticeKind::Ok, ResponseText::Coded(code, _)) => self.with_code(code),
+            Reply::Tagged(_, _, ResponseText::Coded(code, _)) => self.with_code(code),
+            _ => self,
+        }
+    }
+
+    /// The same with one code more.
+    fn with_code(self, code: &Code<'_>) -> Opening
+        ensures { result ≡ code_more self code.now }
+    {
+        match code {
+            Code::UidNext(next) => Opening {
+                next: Some(next.get()),
+                ..self
+            },
+            Code::UidValidity(validity) => Opening {
+                validity: Some(validity.get()),
+                ..self
+            },
+            Code::PermanentFlags(flags, others) => {
+                if permits_all(flags.flags(), *others) {
+                    self
+                } else {
+                    self.read_only()
+                }
+            }
+            Code::ReadOnly => self.read_only(),
+            _ => self,
+        }
+    }
+
+    fn read_only(self) -> Opening
+        ensures { result ≡ record self { is_read_only = true } }
+    {
+        Opening {
+            is_read_only: true,
+            ..self
+        }
+    }
+}
+
+/// Whether each of the six flags can be kept; `\*` stands for `$Forwarded`.
+fn permits_all(flags: Flags, others: bool) -> bool
+    ensures { result ≡ permits_all flags others }
+{
+    let kept = if others {
+        flags.union(Flags::only(Flag::Forwarded))
+    } else {
+        flags
+    };
+    kept.bits() == 63
+}
