@@ -8,3 +8,4 @@ pub mod Asking
 pub mod Answered
 pub mod Changed
 pub mod Selecting
+pub mod LoggingIn

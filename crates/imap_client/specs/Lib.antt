@@ -7,5 +7,6 @@ pub mod States
 pub mod Saying
 pub mod Openings
 pub mod Boxes
+pub mod Logins
 pub mod Calls
 pub mod Sessions

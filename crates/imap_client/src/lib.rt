@@ -3,6 +3,7 @@
 
 mod call;
 pub mod far_box;
+mod login;
 mod opening;
 mod reading;
 mod sending;

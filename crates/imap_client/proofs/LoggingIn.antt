@@ -1,0 +1,211 @@
+-- Capabilities are asked for, somebody logs in, and the revision is enabled.
+use Rattle.std.proofs.Common.{◌≡◌, ◌⊎◌, ◌≤◌, ◌<◌, inl, inr, ℕ, ◌+◌, Bool, true, false, List, [], ◌∷◌, ◌++◌, refl, sym, ◌∙◌, ap, subst, arith, take, Option, Some, None, Result, Ok, Err}
+use Rattle.std.specs.Prelude.{codes, ◌||◌, if◌then◌else◌}
+use Rattle.std.specs.List.{list_any}
+use Rattle.imap_commands.specs.declared.command.Request.TheVariants as requests
+use Rattle.imap_replies.specs.declared.reply.Reply.{Reply}
+use Rattle.imap_replies.specs.declared.reply.Reply.TheVariants.{Capability, Enabled}
+use Rattle.wire_tokens.specs.Names.{has_name}
+use Rattle.imap_session.specs.Servers.{Server, Authenticated, is_before_login, is_logged_in}
+use Rattle.imap_session.specs.Answering.{Gives, done, refused_with, out_of_place}
+use Rattle.imap_session.specs.SessionCommands.{REV2, lets_in, logs_in, enables}
+use Rattle.imap_session.specs.Heard.{AreReplies, LeavesOut, WithoutUid}
+use Rattle.exchange_laws.specs.Ends.{MayHave}
+use Rattle.imap_link.specs.declared.fault.FarFault.{FarFault}
+use Rattle.imap_link.specs.declared.fault.FarFault.TheVariants as faults
+use Rattle.imap_link.specs.Outcomes.{Outcome, Never}
+use Rattle.imap_client.specs.Tags.{tag_text}
+use Rattle.imap_client.specs.Exchanged.{command_at, Exchanged}
+use Rattle.imap_client.specs.Saying.{HeardOf}
+use Rattle.imap_client.specs.States.{State, StopCause, Failed, Broken, Bye, UsedUp, Goes, GoesRefused, Halts, Fails, EndsSo, AskedSo}
+use Rattle.imap_client.specs.Logins.{tells_rev2, is_known, Authenticates, Rejects, Remains}
+use Rattle.imap_client.proofs.Answered.{Sure, answered, refused}
+
+-- ---- CAPABILITY
+
+abbrev pub abilities : List Reply
+abilities = Capability (Some (REV2 ∷ [])) ∷ []
+
+module _ (n : ℕ) (old : Server) where
+  ability_sure : Sure (command_at n requests.Capability) old abilities (done (tag_text n)) old
+  ability_sure = record { each = λ said new step. step }
+
+  ability_by : (heard : List ℕ) (new : Server) (result : Result ℕ FarFault)
+      → Outcome {T = ℕ} (λ len s t. HeardOf (abilities ++ done (tag_text n) ∷ []) (take len heard) × (t ≡ old)) Never (λ s t. t ≡ old) result old new
+      → Outcome {T = ℕ} (λ len s t. HeardOf (abilities ++ done (tag_text n) ∷ []) (take len heard) × Remains s t) Never Remains result old new
+  ability_by heard new (Ok len) h = h
+  ability_by heard new (Err faults.Stopped) h = h
+  ability_by heard new (Err faults.Refused) h = h
+  ability_by heard new (Err faults.Protocol) h = h
+  ability_by heard new (Err faults.TooLong) h = h
+  ability_by heard new (Err faults.NoRev2) h = h
+  ability_by heard new (Err faults.ReadOnly) h = h
+  ability_by heard new (Err faults.NoMemory) h = h
+
+  pub ability_exchanged : (result : Result ℕ FarFault) (heard : List ℕ) (new : Server) → Exchanged (command_at n requests.Capability) result heard old new
+      → Outcome {T = ℕ} (λ len s t. HeardOf (abilities ++ done (tag_text n) ∷ []) (take len heard) × Remains s t) Never Remains result old new
+  ability_exchanged result heard new h =
+      ability_by heard new result (answered (command_at n requests.Capability) old abilities (done (tag_text n)) old ability_sure refl result heard new h)
+
+same_tells : (h s : Reply) → (h ≡ s) ⊎ WithoutUid h s → tells_rev2 h ≡ tells_rev2 s
+same_tells h s (inl e) = ap tells_rev2 e
+same_tells h s (inr w) = ap tells_rev2 w.heard_is ∙ sym (ap tells_rev2 w.said_is)
+
+leaves_tells : (hs ss : List Reply) → LeavesOut hs ss → list_any tells_rev2 hs ≡ list_any tells_rev2 ss
+leaves_tells [] [] l = refl
+leaves_tells [] (s ∷ ss) l = absurd l
+leaves_tells (h ∷ hs) [] l = absurd l
+leaves_tells (h ∷ hs) (s ∷ ss) l = ap (λ (b : Bool). b || list_any tells_rev2 hs) (same_tells h s l.0) ∙ ap (λ (b : Bool). tells_rev2 s || b) (leaves_tells hs ss l.1)
+
+-- an honest server names the revision
+pub named_so : (tag bytes : List ℕ) (told : Bool) → HeardOf (abilities ++ done tag ∷ []) bytes → ((rs : List Reply) → AreReplies rs bytes → told ≡ list_any tells_rev2 rs) → told ≡ true
+named_so tag bytes told h t = t h.replies h.spelled ∙ leaves_tells h.replies (abilities ++ done tag ∷ []) h.left_out
+
+-- ---- LOGIN
+
+module _ (n : ℕ) (user password : List ℕ) (old : Server) (before : is_before_login old.condition ≡ true) where
+  stepped : (b : Bool) → is_known user password old ≡ b → (said : List Reply) (new : Server) → Gives (logs_in old (tag_text n) user password) said new
+      → Gives (if b then record { replies = done (tag_text n) ∷ []; after = record old { condition = Authenticated } } else record { replies = refused_with (tag_text n) (codes "AUTHENTICATIONFAILED") (codes "login") ∷ []; after = old }) said new
+  stepped b is said new step =
+      subst (λ (k : Bool). Gives (if k then record { replies = done (tag_text n) ∷ []; after = record old { condition = Authenticated } } else record { replies = refused_with (tag_text n) (codes "AUTHENTICATIONFAILED") (codes "login") ∷ []; after = old }) said new) is
+      (subst (λ (k : Bool). Gives (if k then lets_in old (tag_text n) user password else out_of_place old (tag_text n)) said new) before step)
+
+  in_sure : is_known user password old ≡ true → Sure (command_at n (requests.Login user password)) old [] (done (tag_text n)) (record old { condition = Authenticated })
+  in_sure is = record { each = λ said new step. stepped true is said new step }
+
+  out_sure : is_known user password old ≡ false → Sure (command_at n (requests.Login user password)) old [] (refused_with (tag_text n) (codes "AUTHENTICATIONFAILED") (codes "login")) old
+  out_sure is = record { each = λ said new step. stepped false is said new step }
+
+  in_by : is_known user password old ≡ true → (heard : List ℕ) (new : Server) (result : Result ℕ FarFault)
+      → Outcome {T = ℕ} (λ len s t. HeardOf (done (tag_text n) ∷ []) (take len heard) × (t ≡ record old { condition = Authenticated })) Never (λ s t. t ≡ record old { condition = Authenticated }) result old new
+      → Outcome {T = ℕ} (λ len. Authenticates user password) (Rejects user password) (Authenticates user password) result old new
+  in_by is heard new (Ok len) h = (is, h.1)
+  in_by is heard new (Err faults.Stopped) (inl q) = inl q
+  in_by is heard new (Err faults.Stopped) (inr e) = inr (is, e)
+  in_by is heard new (Err faults.Refused) h = absurd h
+  in_by is heard new (Err faults.Protocol) h = h
+  in_by is heard new (Err faults.TooLong) h = h
+  in_by is heard new (Err faults.NoRev2) h = h
+  in_by is heard new (Err faults.ReadOnly) h = h
+  in_by is heard new (Err faults.NoMemory) (inl q) = inl q
+  in_by is heard new (Err faults.NoMemory) (inr e) = inr (is, e)
+
+  out_by : is_known user password old ≡ false → (heard : List ℕ) (new : Server) (result : Result ℕ FarFault)
+      → Outcome {T = ℕ} (λ len s t. ⊥) (λ s t. t ≡ old) (λ s t. t ≡ old) result old new
+      → Outcome {T = ℕ} (λ len. Authenticates user password) (Rejects user password) (Authenticates user password) result old new
+  out_by is heard new (Ok len) h = absurd h
+  out_by is heard new (Err faults.Stopped) (inl q) = inl q
+  out_by is heard new (Err faults.Stopped) (inr e) = inl e
+  out_by is heard new (Err faults.Refused) h = (is, h)
+  out_by is heard new (Err faults.Protocol) h = h
+  out_by is heard new (Err faults.TooLong) h = h
+  out_by is heard new (Err faults.NoRev2) h = h
+  out_by is heard new (Err faults.ReadOnly) h = h
+  out_by is heard new (Err faults.NoMemory) (inl q) = inl q
+  out_by is heard new (Err faults.NoMemory) (inr e) = inl e
+
+  by_known : (b : Bool) → is_known user password old ≡ b → (result : Result ℕ FarFault) (heard : List ℕ) (new : Server) → Exchanged (command_at n (requests.Login user password)) result heard old new
+      → Outcome {T = ℕ} (λ len. Authenticates user password) (Rejects user password) (Authenticates user password) result old new
+  by_known true is result heard new h =
+      in_by is heard new result (answered (command_at n (requests.Login user password)) old [] (done (tag_text n)) (record old { condition = Authenticated }) (in_sure is) refl result heard new h)
+  by_known false is result heard new h =
+      out_by is heard new result (refused (command_at n (requests.Login user password)) old [] (refused_with (tag_text n) (codes "AUTHENTICATIONFAILED") (codes "login")) old (out_sure is) refl (λ len s t. ⊥) result heard new h)
+
+  pub login_exchanged : (result : Result ℕ FarFault) (heard : List ℕ) (new : Server) → Exchanged (command_at n (requests.Login user password)) result heard old new
+      → Outcome {T = ℕ} (λ len. Authenticates user password) (Rejects user password) (Authenticates user password) result old new
+  login_exchanged = by_known (is_known user password old) refl
+
+-- ---- ENABLE
+
+module _ (n : ℕ) (old : Server) (logged : is_logged_in old.condition ≡ true) where
+  enable_sure : Sure (command_at n (requests.Enable (REV2 ∷ []))) old (Enabled (Some (REV2 ∷ [])) ∷ []) (done (tag_text n)) old
+  enable_sure = record {
+    each = λ said new step.
+        subst (λ (b : Bool). Gives (if b then record { replies = Enabled (if has_name REV2 (REV2 ∷ []) then Some (REV2 ∷ []) else None) ∷ done (tag_text n) ∷ []; after = old } else out_of_place old (tag_text n)) said new) logged step;
+  }
+
+  enable_by : (heard : List ℕ) (new : Server) (result : Result ℕ FarFault)
+      → Outcome {T = ℕ} (λ len s t. HeardOf (Enabled (Some (REV2 ∷ [])) ∷ done (tag_text n) ∷ []) (take len heard) × (t ≡ old)) Never (λ s t. t ≡ old) result old new
+      → Outcome {T = ℕ} (λ len. Remains) Never Remains result old new
+  enable_by heard new (Ok len) h = h.1
+  enable_by heard new (Err faults.Stopped) h = h
+  enable_by heard new (Err faults.Refused) h = h
+  enable_by heard new (Err faults.Protocol) h = h
+  enable_by heard new (Err faults.TooLong) h = h
+  enable_by heard new (Err faults.NoRev2) h = h
+  enable_by heard new (Err faults.ReadOnly) h = h
+  enable_by heard new (Err faults.NoMemory) h = h
+
+  pub enable_exchanged : (result : Result ℕ FarFault) (heard : List ℕ) (new : Server) → Exchanged (command_at n (requests.Enable (REV2 ∷ []))) result heard old new
+      → Outcome {T = ℕ} (λ len. Remains) Never Remains result old new
+  enable_exchanged result heard new h =
+      enable_by heard new result (answered (command_at n (requests.Enable (REV2 ∷ []))) old (Enabled (Some (REV2 ∷ [])) ∷ []) (done (tag_text n)) old enable_sure refl result heard new h)
+
+-- ---- one after another
+
+module _ (user password : List ℕ) where
+  abbrev Ends : Result (Unit {0}) FarFault → Server → Server → Type 0
+  Ends = Outcome (λ x. Authenticates user password) (Rejects user password) (Authenticates user password)
+
+  -- before anybody was let in
+  pub not_yet : (f : FarFault) (old new : Server) → Outcome {T = Unit {0}} (λ x. Remains) Never Remains (Err f) old new → Ends (Err f) old new
+  not_yet faults.Stopped old new (inl q) = inl q
+  not_yet faults.Stopped old new (inr e) = inl e
+  not_yet faults.Refused old new h = absurd h
+  not_yet faults.Protocol old new h = h
+  not_yet faults.TooLong old new h = h
+  not_yet faults.NoRev2 old new h = h
+  not_yet faults.ReadOnly old new h = h
+  not_yet faults.NoMemory old new (inl q) = inl q
+  not_yet faults.NoMemory old new (inr e) = inl e
+
+  -- behind that
+  pub let_in : (result : Result (Unit {0}) FarFault) (old mid new : Server) → Authenticates user password old mid → Outcome (λ x. Remains) Never Remains result mid new → Ends result old new
+  let_in (Ok x) old mid new a h = (a.0, h ∙ a.1)
+  let_in (Err faults.Stopped) old mid new a (inl q) = inr (a.0, q ∙ a.1)
+  let_in (Err faults.Stopped) old mid new a (inr e) = inr (a.0, e ∙ a.1)
+  let_in (Err faults.Refused) old mid new a h = absurd h
+  let_in (Err faults.Protocol) old mid new a h = h
+  let_in (Err faults.TooLong) old mid new a h = h
+  let_in (Err faults.NoRev2) old mid new a h = h
+  let_in (Err faults.ReadOnly) old mid new a h = h
+  let_in (Err faults.NoMemory) old mid new a (inl q) = inr (a.0, q ∙ a.1)
+  let_in (Err faults.NoMemory) old mid new a (inr e) = inr (a.0, e ∙ a.1)
+
+-- ---- how calls of several commands end
+
+goes_cause : (k : ℕ) (old mid new : State) → Goes k old mid → StopCause mid new → StopCause old new
+goes_cause k old mid new g (Failed f) = let both : false ≡ true = sym f ∙ g.is_ready in cc
+goes_cause k old mid new g (Broken b) = let same = g.stops in Broken (omega (arith, same, b))
+goes_cause k old mid new g (Bye b) = Bye b
+goes_cause k old mid new g (UsedUp r u) = UsedUp g.was_ready u
+
+-- so many commands were done, and then so many more
+pub then_ends : (T : Type 0) (j k : ℕ) (old mid new : State) (result : Result T FarFault) → Goes j old mid → EndsSo {T = T} k mid new result → EndsSo {T = T} (j + k) old new result
+then_ends T j k old mid new (Ok x) g e = let a = g.tags in let b = e.tags in record { was_ready = g.was_ready; is_ready = e.is_ready; stops = e.stops ∙ g.stops; tags = omega (arith, a, b) }
+then_ends T j k old mid new (Err faults.Stopped) g e = record { is_ready = e.is_ready; cause = goes_cause j old mid new g e.cause }
+then_ends T j k old mid new (Err faults.Refused) g e = let a = g.tags in let b = e.some in let c = e.most in record { was_ready = g.was_ready; is_ready = e.is_ready; stops = e.stops ∙ g.stops; some = omega (arith, a, b); most = omega (arith, a, c) }
+then_ends T j k old mid new (Err faults.Protocol) g e = record { was_ready = g.was_ready; is_ready = e.is_ready }
+then_ends T j k old mid new (Err faults.TooLong) g e = record { was_ready = g.was_ready; is_ready = e.is_ready }
+then_ends T j k old mid new (Err faults.NoRev2) g e = record { was_ready = g.was_ready; is_ready = e.is_ready }
+then_ends T j k old mid new (Err faults.ReadOnly) g e = let a = g.tags in let b = e.some in let c = e.most in record { was_ready = g.was_ready; is_ready = e.is_ready; stops = e.stops ∙ g.stops; some = omega (arith, a, b); most = omega (arith, a, c) }
+then_ends T j k old mid new (Err faults.NoMemory) g e = record { was_ready = g.was_ready; is_ready = e.is_ready }
+
+-- a call that failed, as one of more commands
+pub ends_more : (T U : Type 0) (j k : ℕ) (old new : State) (f : FarFault) → j ≤ k → EndsSo {T = T} j old new (Err f) → EndsSo {T = U} k old new (Err f)
+ends_more T U j k old new faults.Stopped le e = e
+ends_more T U j k old new faults.Refused le e = let c = e.most in record { was_ready = e.was_ready; is_ready = e.is_ready; stops = e.stops; some = e.some; most = omega (arith, le, c) }
+ends_more T U j k old new faults.Protocol le e = e
+ends_more T U j k old new faults.TooLong le e = e
+ends_more T U j k old new faults.NoRev2 le e = e
+ends_more T U j k old new faults.ReadOnly le e = let c = e.most in record { was_ready = e.was_ready; is_ready = e.is_ready; stops = e.stops; some = e.some; most = omega (arith, le, c) }
+ends_more T U j k old new faults.NoMemory le e = e
+
+pub asked_ends : (T U : Type 0) (old new : State) (f : FarFault) → AskedSo {T = T} old new (Err f) → EndsSo {T = U} 1 old new (Err f)
+asked_ends T U old new faults.Stopped e = e
+asked_ends T U old new faults.Refused e = let a = e.tags in record { was_ready = e.was_ready; is_ready = e.is_ready; stops = e.stops; some = omega (arith, a); most = omega (arith, a) }
+asked_ends T U old new faults.Protocol e = e
+asked_ends T U old new faults.TooLong e = e
+asked_ends T U old new faults.NoRev2 e = absurd e
+asked_ends T U old new faults.ReadOnly e = absurd e
+asked_ends T U old new faults.NoMemory e = e

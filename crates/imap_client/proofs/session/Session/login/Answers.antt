@@ -1,0 +1,85 @@
+use Rattle.std.proofs.Common.{◌≡◌, ◌≤◌, Bool, true, sym, ◌∙◌, ap, subst, arith, Result, Ok, Err}
+use Rattle.std.proofs.lemmas.Result.{err_from_is_err_and}
+use Rattle.imap_session.specs.Servers.{Server, is_before_login, is_logged_in}
+use Rattle.imap_link.specs.declared.fault.FarFault.{FarFault}
+use Rattle.imap_link.specs.Outcomes.{Outcome}
+use Rattle.imap_client.specs.Logins.{Authenticates, Rejects}
+use Rattle.imap_client.specs.States.{EndsSo}
+use Rattle.imap_client.proofs.Changed.{state_of_parts}
+use Rattle.imap_client.proofs.LoggingIn.{not_yet, let_in, then_ends, ends_more}
+use Rattle.imap_client.proofs.session.Session.login.Goals as goal
+
+pub returns-in_err-ask_abilities-clause-outcome : goal.returns-in_err-ask_abilities-clause-outcome
+returns-in_err-ask_abilities-clause-outcome g c honest before =
+    let p = err_from_is_err_and c.from_residual.result c.from_residual.ensures.1 in
+    let f = c.in_err-ask_abilities.field-0.0 in
+    let user = c.args.user.now in
+    let password = c.args.password.now in
+    let old = (g.L.Link.line c.args.self.now.wire.link).end.server in
+    let new = (g.L.Link.line c.ask_abilities.new.self.wire.link).end.server in
+    subst (λ (r : Result (Unit {0}) FarFault). Outcome (λ x. Authenticates user password) (Rejects user password) (Authenticates user password) r old new) (sym (p.1 ∙ ap Err p.2))
+    (not_yet user password f old new (c.in_err-ask_abilities.ensures.outcome honest))
+
+pub returns-in_err-ask_abilities-clause-ends : goal.returns-in_err-ask_abilities-clause-ends
+returns-in_err-ask_abilities-clause-ends g c =
+    let p = err_from_is_err_and c.from_residual.result c.from_residual.ensures.1 in
+    let f = c.in_err-ask_abilities.field-0.0 in
+    let was = c.args.self.now in
+    let now = c.ask_abilities.new.self in
+    let old = state_of_parts was.is_ready was.tags (g.L.Link.stops was.wire.link) was.wire.heard.items in
+    let new = state_of_parts now.is_ready now.tags (g.L.Link.stops now.wire.link) now.wire.heard.items in
+    subst (λ (r : Result (Unit {0}) FarFault). EndsSo 3 old new r) (sym (p.1 ∙ ap Err p.2)) (ends_more (Unit {0}) (Unit {0}) 1 3 old new f (omega arith) c.in_err-ask_abilities.ensures.ends)
+
+pub returns-in_err-authenticate-clause-outcome : goal.returns-in_err-authenticate-clause-outcome
+returns-in_err-authenticate-clause-outcome g c honest before =
+    let p = err_from_is_err_and c.from_residual-in_err-authenticate.result c.from_residual-in_err-authenticate.ensures.1 in
+    let f = c.in_err-authenticate.field-0.0 in
+    let user = c.args.user.now in
+    let password = c.args.password.now in
+    let old = (g.L.Link.line c.args.self.now.wire.link).end.server in
+    let mid = (g.L.Link.line c.ask_abilities.new.self.wire.link).end.server in
+    let new = (g.L.Link.line c.authenticate.new.self.wire.link).end.server in
+    let same = c.in_ok-ask_abilities.ensures.outcome (c.in_err-authenticate.ensures.was_honest honest) in
+    let still = ap (λ (s : Server). is_before_login s.condition) same ∙ before in
+    subst (λ (r : Result (Unit {0}) FarFault). Outcome (λ x. Authenticates user password) (Rejects user password) (Authenticates user password) r old new) (sym (p.1 ∙ ap Err p.2))
+    (subst (λ (s : Server). Outcome {T = Unit {0}} (λ x. Authenticates user password) (Rejects user password) (Authenticates user password) (Err f) s new) same (c.in_err-authenticate.ensures.outcome honest still))
+
+pub returns-in_err-authenticate-clause-ends : goal.returns-in_err-authenticate-clause-ends
+returns-in_err-authenticate-clause-ends g c =
+    let p = err_from_is_err_and c.from_residual-in_err-authenticate.result c.from_residual-in_err-authenticate.ensures.1 in
+    let f = c.in_err-authenticate.field-0.0 in
+    let was = c.args.self.now in
+    let then = c.ask_abilities.new.self in
+    let now = c.authenticate.new.self in
+    let old = state_of_parts was.is_ready was.tags (g.L.Link.stops was.wire.link) was.wire.heard.items in
+    let mid = state_of_parts then.is_ready then.tags (g.L.Link.stops then.wire.link) then.wire.heard.items in
+    let new = state_of_parts now.is_ready now.tags (g.L.Link.stops now.wire.link) now.wire.heard.items in
+    subst (λ (r : Result (Unit {0}) FarFault). EndsSo 3 old new r) (sym (p.1 ∙ ap Err p.2))
+    (ends_more (Unit {0}) (Unit {0}) 2 3 old new f (omega arith) (then_ends (Unit {0}) 1 1 old mid new (Err f) c.in_ok-ask_abilities.ensures.ends c.in_err-authenticate.ensures.ends))
+
+pub returns-clause-outcome : goal.returns-clause-outcome
+returns-clause-outcome g c honest before =
+    let user = c.args.user.now in
+    let password = c.args.password.now in
+    let old = (g.L.Link.line c.args.self.now.wire.link).end.server in
+    let mid = (g.L.Link.line c.ask_abilities.new.self.wire.link).end.server in
+    let late = (g.L.Link.line c.authenticate.new.self.wire.link).end.server in
+    let new = (g.L.Link.line c.enable.new.self.wire.link).end.server in
+    let was = c.enable.ensures.was_honest honest in
+    let same = c.in_ok-ask_abilities.ensures.outcome (c.in_ok-authenticate.ensures.was_honest was) in
+    let still = ap (λ (s : Server). is_before_login s.condition) same ∙ before in
+    let known = subst (λ (s : Server). Authenticates user password s late) same (c.in_ok-authenticate.ensures.outcome was still) in
+    let logged = ap (λ (s : Server). is_logged_in s.condition) known.1 in
+    let_in user password c.enable.result old late new known (c.enable.ensures.outcome honest logged)
+
+pub returns-clause-ends : goal.returns-clause-ends
+returns-clause-ends g c =
+    let was = c.args.self.now in
+    let then = c.ask_abilities.new.self in
+    let late = c.authenticate.new.self in
+    let now = c.enable.new.self in
+    let old = state_of_parts was.is_ready was.tags (g.L.Link.stops was.wire.link) was.wire.heard.items in
+    let mid = state_of_parts then.is_ready then.tags (g.L.Link.stops then.wire.link) then.wire.heard.items in
+    let last = state_of_parts late.is_ready late.tags (g.L.Link.stops late.wire.link) late.wire.heard.items in
+    let new = state_of_parts now.is_ready now.tags (g.L.Link.stops now.wire.link) now.wire.heard.items in
+    then_ends (Unit {0}) 1 2 old mid new c.enable.result c.in_ok-ask_abilities.ensures.ends (then_ends (Unit {0}) 1 1 mid last new c.enable.result c.in_ok-authenticate.ensures.ends c.enable.ensures.ends)

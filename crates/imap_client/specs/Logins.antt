@@ -1,0 +1,28 @@
+-- What happens at login.
+use Rattle.std.specs.Prelude.{◌≡◌, ℕ, Bool, true, false, ◌&&◌, nat_eq, List, Option, None, Some}
+use Rattle.std.specs.Cmp.Lexicographic.{pointwise}
+use Rattle.wire_tokens.specs.Names.{has_name}
+use Rattle.imap_replies.specs.declared.reply.Reply.{Reply}
+use Rattle.imap_replies.specs.declared.reply.Reply.TheVariants.{Capability}
+use Rattle.imap_session.specs.Servers.{Server, Authenticated}
+use Rattle.imap_session.specs.SessionCommands.{REV2}
+
+abbrev pub tells_rev2 : Reply → Bool
+tells_rev2 (Capability (Some names)) = has_name REV2 names
+tells_rev2 _ = false
+
+-- the user has this password
+abbrev pub is_known : (user password : List ℕ) → Server → Bool
+is_known user password s = pointwise nat_eq user s.user && pointwise nat_eq password s.password
+
+-- the user was let in
+abbrev pub Authenticates : (user password : List ℕ) → Server → Server → Type 0
+Authenticates user password old new = (is_known user password old ≡ true) × (new ≡ record old { condition = Authenticated })
+
+-- the user was not
+abbrev pub Rejects : (user password : List ℕ) → Server → Server → Type 0
+Rejects user password old new = (is_known user password old ≡ false) × (new ≡ old)
+
+-- nothing changed
+abbrev pub Remains : Server → Server → Type 0
+Remains old new = new ≡ old

@@ -1,0 +1,124 @@
+//! What a session sends before its calls: CAPABILITY, LOGIN, ENABLE (RFC 9051, sections 6.1.1, 6.2.3 and 6.3.1).
+
+ghost use Rattle.std.specs.Prelude.{◌≡◌, ◌≤◌, List, true, false, length, take, IfOk, IfErr};
+ghost use Rattle.std.specs.List.{list_any};
+ghost use Rattle.imap_replies.specs.declared.reply.Reply.{Reply};
+ghost use Rattle.imap_session.specs.Heard.{AreReplies};
+ghost use Rattle.imap_session.specs.Servers.{is_before_login, is_logged_in};
+ghost use Rattle.imap_link.specs.Outcomes.{Outcome, Never};
+ghost use Rattle.imap_client.specs.Logins.{tells_rev2, Authenticates, Rejects, Remains};
+ghost use Rattle.imap_client.specs.Requests.{IsWord};
+ghost use Rattle.imap_client.specs.Spoken.{Speaks};
+ghost use Rattle.imap_client.specs.States.{EndsSo};
+
+use crate::call::Call;
+use crate::reading::read_replies;
+use crate::session::Session;
+use imap_link::fault::FarFault;
+use imap_link::link::Link;
+use imap_replies::reply::Reply;
+
+impl<L: Link> Session<L> {
+    ghost use Rattle.imap_client.specs.Sessions.{state_of, server_of};
+
+    /// Asks what the server can do, logs in, and enables IMAP4rev2. User and password are bytes that can be quoted, at
+    /// most 1024 each.
+    ///
+    /// `Refused`: the server does not take the user with this password; the session goes on. `NoRev2`: the server does not
+    /// name IMAP4rev2 among what it can do, or does not enable it.
+    pub fn login(&mut self, user: &[u8], password: &[u8]) -> Result<(), FarFault>
+        requires user { IsWord user.now }
+        requires password { IsWord password.now }
+        ensures was_honest { L.honest self.new.wire.link → L.honest self.old.wire.link }
+        ensures stuck { self.old.is_ready ≡ false → self.new ≡ self.old }
+        ensures ends { EndsSo 3 (state_of self.old) (state_of self.new) result }
+        ensures outcome { L.honest self.new.wire.link → is_before_login (server_of self.old).condition ≡ true
+            → Outcome (λ _. Authenticates user.now password.now) (Rejects user.now password.now) (Authenticates user.now password.now) result
+            (server_of self.old) (server_of self.new) }
+    {
+        self.ask_abilities()?;
+        self.authenticate(user, password)?;
+        self.enable()
+    }
+
+    // Asks what the server can do.
+    fn ask_abilities(&mut self) -> Result<(), FarFault>
+        ensures was_honest { L.honest self.new.wire.link → L.honest self.old.wire.link }
+        ensures stuck { self.old.is_ready ≡ false → self.new ≡ self.old }
+        ensures ends { EndsSo 1 (state_of self.old) (state_of self.new) result }
+        ensures outcome { L.honest self.new.wire.link → Outcome (λ _. Remains) Never Remains result (server_of self.old) (server_of self.new) }
+    {
+        let len = self.ask(&Call::Capability)?;
+        let speaks = self.speaks_rev2(len)?;
+        if !speaks {
+            return Err(FarFault::NoRev2);
+        }
+        self.done(len);
+        Ok(())
+    }
+
+    // Whether the replies at the front of the buffer name IMAP4rev2.
+    fn speaks_rev2(&self, len: usize) -> Result<bool, FarFault>
+        requires within { len ≤ length self.now.wire.heard.items }
+        requires speaks { Speaks (take len self.now.wire.heard.items) }
+        ensures told { IfOk result (λ told. (rs : List Reply) → AreReplies rs (take len self.now.wire.heard.items) → told ≡ list_any tells_rev2 rs) }
+        ensures err { IfErr result (λ fault. fault ≡ FarFault.NoMemory) }
+    {
+        let replies = read_replies(self.wire.alloc, &self.wire.heard[..len])?;
+        Ok(any_tells_rev2(&replies))
+    }
+
+    // Logs in.
+    fn authenticate(&mut self, user: &[u8], password: &[u8]) -> Result<(), FarFault>
+        requires user { IsWord user.now }
+        requires password { IsWord password.now }
+        ensures was_honest { L.honest self.new.wire.link → L.honest self.old.wire.link }
+        ensures stuck { self.old.is_ready ≡ false → self.new ≡ self.old }
+        ensures ends { EndsSo 1 (state_of self.old) (state_of self.new) result }
+        ensures outcome { L.honest self.new.wire.link → is_before_login (server_of self.old).condition ≡ true
+            → Outcome (λ _. Authenticates user.now password.now) (Rejects user.now password.now) (Authenticates user.now password.now) result
+            (server_of self.old) (server_of self.new) }
+    {
+        let len = self.ask(&Call::Login(user, password))?;
+        self.done(len);
+        Ok(())
+    }
+
+    // Enables IMAP4rev2.
+    fn enable(&mut self) -> Result<(), FarFault>
+        ensures was_honest { L.honest self.new.wire.link → L.honest self.old.wire.link }
+        ensures stuck { self.old.is_ready ≡ false → self.new ≡ self.old }
+        ensures ends { EndsSo 1 (state_of self.old) (state_of self.new) result }
+        ensures outcome { L.honest self.new.wire.link → is_logged_in (server_of self.old).condition ≡ true
+            → Outcome (λ _. Remains) Never Remains result (server_of self.old) (server_of self.new) }
+    {
+        match self.ask(&Call::Enable) {
+            Ok(len) => {
+                self.done(len);
+                Ok(())
+            }
+            Err(FarFault::Refused) => {
+                self.is_ready = false;
+                Err(FarFault::NoRev2)
+            }
+            Err(fault) => Err(fault),
+        }
+    }
+}
+
+/// Whether one of the replies names IMAP4rev2 among what the server can do.
+fn any_tells_rev2(replies: &[Reply<'_>]) -> bool
+    ensures { result ≡ list_any tells_rev2 replies.now }
+{
+    replies.iter().any(|reply| tells_rev2(reply))
+}
+
+/// Whether the reply names IMAP4rev2 among what the server can do.
+fn tells_rev2(reply: &Reply<'_>) -> bool
+    ensures { result ≡ tells_rev2 reply.now }
+{
+    match reply {
+        Reply::Capability(Some(names)) => names.contains(b"IMAP4rev2"),
+        _ => false,
+    }
+}
