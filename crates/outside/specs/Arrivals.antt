@@ -1,0 +1,36 @@
+-- What others may do while a run is at work: people file mail, and other programs deliver it.
+use Rattle.std.specs.Prelude.{◌≡◌, ◌<◌, ◌^◌, ◌++◌, ℕ, Bool, true, false, List, [], ◌∷◌, All, map, Option, None, Some}
+use Rattle.device.specs.Calls.{Effect}
+use Rattle.mailcore.specs.declared.mailbox.Message.{Message}
+use Rattle.mailcore.specs.Content.{mark_of}
+use Rattle.mailcore.specs.Rise.{Rise}
+use Rattle.mailcore.specs.Stores.{Waiting}
+use Rattle.outside.specs.Devices.{Device}
+
+-- no mark, or one that is none of the run's
+abbrev pub IsForeign : (ours : List ℕ → Bool) → Option (List ℕ) → Type 0
+IsForeign ours None = Unit {0}
+IsForeign ours (Some mark) = ours mark ≡ false
+
+-- one list with the elements of two, those of each in their order
+pub data IsMerge {A : Type 0} : List A → List A → List A → Type 0 where
+  none : IsMerge [] [] []
+  left : (x : A) (xs ys zs : List A) → IsMerge xs ys zs → IsMerge (x ∷ xs) ys (x ∷ zs)
+  right : (y : A) (xs ys zs : List A) → IsMerge xs ys zs → IsMerge xs (y ∷ ys) (y ∷ zs)
+
+-- Others add far messages, under UIDs of at least the next one, and near files, which wait for their UIDs. None of them bears a
+-- mark of the run. Where a run is alone, nobody adds any.
+pub record Arrives (ours : List ℕ → Bool) (alone : Bool) (d d' : Device) : Type 0 where
+  pub messages : List Message
+  pub next : ℕ
+  pub files : List Waiting
+  pub waiting : List Waiting
+  pub rise : Rise d.far.next (map (λ m. m.uid) messages) next
+  pub merged : IsMerge d.near.waiting files waiting
+  pub far_foreign : All (λ m. IsForeign ours (mark_of m.bytes)) messages
+  pub near_foreign : All (λ f. IsForeign ours (mark_of f.bytes)) files
+  pub now : d' ≡ record d {
+    far = record d.far { next = next; messages = d.far.messages ++ messages };
+    near = record d.near { waiting = waiting };
+  }
+  pub nobody : alone ≡ true → d' ≡ d

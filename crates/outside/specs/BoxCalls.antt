@@ -1,0 +1,96 @@
+-- What the calls of the boxes do to both mailboxes, and what they tell.
+use Rattle.std.specs.Prelude.{◌≡◌, ◌<◌, ◌≤◌, ℕ, true, false, List, [], ◌∷◌, ◌++◌, Option, None, Some}
+use Rattle.device.specs.Calls.{Effect}
+use Rattle.mailcore.specs.declared.side.Side.{Side}
+use Rattle.mailcore.specs.declared.side.Side.TheVariants.{Far, Near}
+use Rattle.mailcore.specs.declared.side.Direction.{Direction}
+use Rattle.mailcore.specs.declared.mailbox.Message.{Message}
+use Rattle.mailcore.specs.declared.listing.Listing.{Listing}
+use Rattle.mailcore.specs.Content.{fit}
+use Rattle.mailcore.specs.Operations.{Shows, ShowsAbove, bytes_of}
+use Rattle.mailcore.specs.Sides.{source, target}
+use Rattle.mailcore.specs.Stores.{Store}
+use Rattle.near_box.specs.Mailboxes.{admitted_near}
+use Rattle.near_box.specs.NearContracts.{AdmitsSome}
+use Rattle.rules.specs.Copies.{copy_of}
+use Rattle.outside.specs.declared.outside.Carried.{Carried}
+use Rattle.outside.specs.declared.outside.Carried.TheVariants.{Absent, Unfit, Made}
+use Rattle.outside.specs.Devices.{Device, box, on_box}
+
+-- ---- listings
+
+-- what the far mailbox lists; a UIDVALIDITY and a UIDNEXT are above 0
+pub record ListsFar (listing : Listing) (d : Device) : Type 0 where
+  pub shows : Shows Far d.far listing
+  pub validity : 0 < listing.validity
+  pub next : 0 < listing.next
+
+-- what the near mailbox lists, where fitness is asked of messages above a UID alone
+pub record ListsNear (from : ℕ) (listing : Listing) (d : Device) : Type 0 where
+  pub shows : ShowsAbove Near from d.near.store listing
+  pub validity : 0 < listing.validity
+  pub next : 0 < listing.next
+
+-- ---- changes
+
+-- the mailbox of a side changes so
+abbrev pub Turns : Side → (Store → Store) → Effect Device
+Turns side change d d' = d' ≡ on_box side change d
+
+-- all waiting files have the UIDs from next on
+abbrev pub Admits : Effect Device
+Admits d d' = d' ≡ record d { near = admitted_near d.near }
+
+-- the UIDs of all are set aside, and some of the files have theirs
+pub record AdmitsPart (d d' : Device) : Type 0 where
+  pub far : d'.far ≡ d.far
+  pub files : d'.files ≡ d.files
+  pub near : AdmitsSome d.near d'.near
+
+-- ---- copies
+
+-- this message stands behind the others, and `next` is given then
+abbrev pub with_copy : Message → (next : ℕ) → Store → Store
+with_copy copy next s = record s { next = next; messages = s.messages ++ copy ∷ [] }
+
+-- the target has a copy with these flags and this mark of the source's message, under a UID of at least the next one
+pub record MakesCopy (direction : Direction) (uid flags : ℕ) (mark : List ℕ) (d d' : Device) : Type 0 where
+  pub bytes : List ℕ
+  pub is_there : bytes_of uid (box d (source direction)) ≡ Some bytes
+  pub is_fit : fit (source direction) bytes ≡ true
+  pub copy : ℕ
+  pub next : ℕ
+  pub least : (box d (target direction)).next ≤ copy
+  pub below : copy < next
+  pub now : d' ≡ on_box (target direction) (with_copy (copy_of (target direction) copy flags mark bytes) next) d
+
+-- the UID that was told, if one was, is that of the copy
+abbrev pub Tells : Option ℕ → (copy : ℕ) → Type 0
+Tells None copy = Unit {0}
+Tells (Some told) copy = told ≡ copy
+
+pub record Carries (direction : Direction) (uid flags : ℕ) (mark : List ℕ) (told : Option ℕ) (d d' : Device) : Type 0 where
+  pub makes : MakesCopy direction uid flags mark d d'
+  pub tells : Tells told makes.copy
+
+-- the source's message is there, but not fit
+pub record IsUnfit (direction : Direction) (uid : ℕ) (d : Device) : Type 0 where
+  pub bytes : List ℕ
+  pub is_there : bytes_of uid (box d (source direction)) ≡ Some bytes
+  pub is_unfit : fit (source direction) bytes ≡ false
+
+abbrev pub Carry : Direction → (uid flags : ℕ) → (mark : List ℕ) → Carried → Effect Device
+Carry direction uid flags mark Absent d d' = (d' ≡ d) × (bytes_of uid (box d (source direction)) ≡ None)
+Carry direction uid flags mark Unfit d d' = (d' ≡ d) × IsUnfit direction uid d
+Carry direction uid flags mark (Made told) d d' = Carries direction uid flags mark told d d'
+
+abbrev pub copies_made : Carried → ℕ
+copies_made Absent = 0
+copies_made Unfit = 0
+copies_made (Made told) = 1
+
+-- the next UID of a side may be raised
+pub record SetsAside (side : Side) (d d' : Device) : Type 0 where
+  pub next : ℕ
+  pub least : (box d side).next ≤ next
+  pub now : d' ≡ on_box side (λ s. record s { next = next }) d

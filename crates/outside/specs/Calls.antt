@@ -1,0 +1,118 @@
+-- What a call of the outside does, whether it stops or not, and what it counts.
+use Rattle.std.specs.Prelude.{◌≡◌, ◌<◌, ◌≤◌, ◌+◌, ℕ, Bool, true, Result, Ok, Err}
+use Rattle.device.specs.Calls.{Seen as DeviceSeen, Effect, Between, Acts, Leaves, Stays, Answers}
+use Rattle.outside.specs.declared.fault.OutsideFault.{OutsideFault}
+use Rattle.outside.specs.declared.fault.OutsideFault.TheVariants.{Stopped, Refused, Box, BadState, BadJournal, NoMemory}
+use Rattle.outside.specs.Devices.{Device}
+
+-- an outside as a contract sees it: the device, whether a call has failed since it was opened, and how many calls have
+-- stopped, were refused, had another fault of a box, and have made a copy; no number is the greatest
+pub record Seen : Type 0 where
+  pub device : Device
+  pub is_broken : Bool
+  pub stops : ℕ
+  pub refusals : ℕ
+  pub faults : ℕ
+  pub appends : ℕ
+
+-- the same as any device is seen
+abbrev pub as_device : Seen → DeviceSeen Device
+as_device seen = record { stored = seen.device; is_broken = seen.is_broken; stops = seen.stops }
+
+-- which of the faults is a stop
+abbrev pub IsStop : OutsideFault → Type 0
+IsStop fault = fault ≡ Stopped
+
+-- ---- counts
+
+-- a call that answered has made so many copies
+pub record CountsCopies (copies : ℕ) (old new : Seen) : Type 0 where
+  pub refusals : new.refusals ≡ old.refusals
+  pub faults : new.faults ≡ old.faults
+  pub appends : new.appends ≡ old.appends + copies
+
+-- a refusal and another fault of a box are counted
+abbrev pub IsCounted : OutsideFault → Seen → Seen → Type 0
+IsCounted Stopped old new = Unit {0}
+IsCounted Refused old new = old.refusals < new.refusals
+IsCounted (Box side number) old new = old.faults < new.faults
+IsCounted (BadState line) old new = Unit {0}
+IsCounted (BadJournal line) old new = Unit {0}
+IsCounted NoMemory old new = Unit {0}
+
+-- a call that ended with a fault, which is one that it may tell; where the outside was broken nothing is counted
+pub record CountsFault (may_tell : OutsideFault → Type 0) (fault : OutsideFault) (old new : Seen) : Type 0 where
+  pub told : may_tell fault
+  pub counted : IsCounted fault old new
+  pub refusals : old.refusals ≤ new.refusals
+  pub faults : old.faults ≤ new.faults
+  pub appends : old.appends ≤ new.appends
+  pub stuck : old.is_broken ≡ true → new ≡ old
+
+abbrev pub Counts : {T : Type 0} → (copies : T → ℕ) → (may_tell : OutsideFault → Type 0) → Seen → Seen → Result T OutsideFault → Type 0
+Counts copies may_tell old new (Ok answer) = CountsCopies (copies answer) old new
+Counts copies may_tell old new (Err fault) = CountsFault may_tell fault old new
+
+-- ---- which faults a call may tell
+
+-- a call of a box
+abbrev pub FromBox : OutsideFault → Type 0
+FromBox Stopped = Unit {0}
+FromBox Refused = Unit {0}
+FromBox (Box side number) = Unit {0}
+FromBox (BadState line) = ⊥
+FromBox (BadJournal line) = ⊥
+FromBox NoMemory = Unit {0}
+
+-- a call of the book that was read
+abbrev pub FromBook : OutsideFault → Type 0
+FromBook Stopped = Unit {0}
+FromBook Refused = ⊥
+FromBook (Box side number) = ⊥
+FromBook (BadState line) = ⊥
+FromBook (BadJournal line) = ⊥
+FromBook NoMemory = Unit {0}
+
+-- the reading of the shelf
+abbrev pub FromShelf : OutsideFault → Type 0
+FromShelf Stopped = Unit {0}
+FromShelf Refused = ⊥
+FromShelf (Box side number) = ⊥
+FromShelf (BadState line) = Unit {0}
+FromShelf (BadJournal line) = Unit {0}
+FromShelf NoMemory = Unit {0}
+
+-- ---- calls
+
+-- Others may act first. A call that answers has its effect; one that does not leaves what its fault says, and from then on the
+-- outside is broken. It is said where server, folder and shelf have kept their word; what is counted holds without that.
+pub record Call {T : Type 0} (honest : Type 0) (others : Effect Device) (copies : T → ℕ) (may_tell : OutsideFault → Type 0)
+    (does : T → Effect Device) (leaves : OutsideFault → Effect Device) (old new : Seen) (result : Result T OutsideFault) : Type 0 where
+  pub acts : Acts honest IsStop (Between others) does leaves (as_device old) (as_device new) result
+  pub counts : Counts copies may_tell old new result
+
+-- the effect, with some answer
+pub record DoesSome {T : Type 0} (does : T → Effect Device) (d d' : Device) : Type 0 where
+  pub answer : T
+  pub done : does answer d d'
+
+-- a call that stopped or wanted memory has had its effect, or a part of it, or none; another fault changed nothing
+abbrev pub LeavesBy : {T : Type 0} → (does : T → Effect Device) → (part : Effect Device) → OutsideFault → Effect Device
+LeavesBy does part Stopped d d' = Leaves (DoesSome does) part d d'
+LeavesBy does part Refused d d' = Stays d d'
+LeavesBy does part (Box side number) d d' = Stays d d'
+LeavesBy does part (BadState line) d d' = Stays d d'
+LeavesBy does part (BadJournal line) d d' = Stays d d'
+LeavesBy does part NoMemory d d' = Leaves (DoesSome does) part d d'
+
+-- a call of a box that changes it
+abbrev pub Changes : {T : Type 0} → (honest : Type 0) → (others : Effect Device) → (does : T → Effect Device) → (part : Effect Device) → Seen → Seen → Result T OutsideFault → Type 0
+Changes honest others does part old new result = Call honest others (λ _. 0) FromBox does (LeavesBy does part) old new result
+
+-- a call of a box that changes nothing and answers what is so
+abbrev pub Reads : {T : Type 0} → (honest : Type 0) → (others : Effect Device) → (tells : T → Device → Type 0) → Seen → Seen → Result T OutsideFault → Type 0
+Reads honest others tells old new result = Call honest others (λ _. 0) FromBox (Answers tells) (λ fault. Stays) old new result
+
+-- a call of the book that changes the files
+abbrev pub Writes : (honest : Type 0) → (others : Effect Device) → (may_tell : OutsideFault → Type 0) → (does part : Effect Device) → Seen → Seen → Result (Unit {0}) OutsideFault → Type 0
+Writes honest others may_tell does part old new result = Call honest others (λ _. 0) may_tell (λ _. does) (LeavesBy {T = Unit {0}} (λ _. does) part) old new result

@@ -1,0 +1,6 @@
+pub mod Devices
+pub mod Arrivals
+pub mod Calls
+pub mod Opened
+pub mod BookCalls
+pub mod BoxCalls

@@ -1,0 +1,197 @@
+//! All that a run calls: the calls of both boxes and of the book.
+
+ghost use Rattle.std.specs.Prelude.{◌≡◌, ℕ, List, ◌∷◌, [], Bool, Option, None, Some, Ok, false, true, MatchOption, OnOk, Result};
+ghost use Rattle.std.specs.Option.{option_map};
+
+use crate::fault::OutsideFault;
+use mailcore::flags::Flags;
+use mailcore::listing::Listing;
+use mailcore::side::{Direction, Side};
+use mailcore::tuid::Tuid;
+use mailcore::uid::Uid;
+use rules::plan::Plan;
+use rules::state::SyncState;
+use sync_state::journal::Journal;
+
+/// What became of a message that was to be copied.
+#[derive(Clone, Copy, Debug, PartialEq, Eq)]
+pub enum Carried {
+    /// It is not there.
+    Absent,
+    /// It is there, but not fit to be copied.
+    Unfit,
+    /// A copy was made. Its UID, if the box told it.
+    Made(Option<Uid>),
+}
+
+/// Both boxes and the book. After a fault each call answers `Stopped` and changes nothing, until `reopen`.
+///
+/// What its calls do is said where server, folder and shelf keep their word; which faults they count holds of each outside.
+pub trait Outside {
+    ghost use Rattle.device.specs.Calls.{Nothing};
+    ghost use Rattle.mailcore.specs.Operations.{expunged, flags_added, flags_removed, marked_from};
+    ghost use Rattle.mailcore.specs.Sides.{target};
+    ghost use Rattle.sync_state.specs.declared.journal.Logged.TheVariants.{Void};
+    ghost use Rattle.book.specs.declared.book.Pending.TheVariants.{Missing, Useless};
+    ghost use Rattle.book.specs.Books.{IsSound, mended, torn, Turns as TurnsJournal, TurnsHalf};
+    ghost use Rattle.book.specs.BookLogs.{begun, as_done, logged_more};
+    ghost use Rattle.book.specs.Commits.{CommitsHalf, CommitsTo};
+    ghost use Rattle.outside.specs.Arrivals.{Arrives};
+    ghost use Rattle.outside.specs.Devices.{box};
+    ghost use Rattle.outside.specs.Calls.{Call, Changes, FromBook, FromBox, FromShelf, LeavesBy, Reads, Seen, Writes};
+    ghost use Rattle.outside.specs.Opened.{IsBook, IsHeld, IsOpen, IsRead, Opened, AreCommitted, TakesCommit, TakesLog, TakesPlan, journal_of, state_of, turned, with_box};
+    ghost use Rattle.outside.specs.BookCalls.{FromLog, LeavesUnread, OfBook, ReadsBook};
+    ghost use Rattle.outside.specs.BoxCalls.{Admits, AdmitsPart, Carry, ListsFar, ListsNear, SetsAside, Turns, copies_made};
+
+    /// Server, folder and shelf have kept their word so far.
+    ghost honest: { Self → Type 0 };
+
+    /// The marks that nobody else writes.
+    ghost ours: { List ℕ → Bool };
+
+    /// Nobody else adds messages.
+    ghost alone: { Bool };
+
+    /// The device, whether a call has failed since it was opened, and what was counted.
+    ghost seen: { Self → Seen };
+
+    /// What was read of the shelf, once it was, and which boxes are open.
+    ghost opened: { Self → Option Opened };
+
+    /// Reads the shelf. `BadState` and `BadJournal`: its files hold no book, and this is the first line that shows it.
+    fn open_book(&mut self) -> Result<(), OutsideFault>
+        ensures was_honest { honest self.new → honest self.old }
+        ensures book { OnOk result (IsBook (opened self.new)) }
+        ensures call { Call (honest self.new) (Arrives ours alone) (λ _. 0) FromShelf (λ _. ReadsBook (opened self.new)) LeavesUnread (seen self.old) (seen self.new) result };
+
+    /// What the last run recorded.
+    fn state(&self) -> &SyncState
+        requires read { IsRead (opened self.now) }
+        ensures state { state_of (opened self.now) ≡ Some result.now }
+        ensures sound { IsSound result.now };
+
+    /// The plan of the next run and which of its steps are logged, if it is pending.
+    fn pending(&self) -> Option<&Journal>
+        requires read { IsRead (opened self.now) }
+        ensures { option_map (λ journal. journal.now) result ≡ journal_of (opened self.now) };
+
+    /// Removes the journal, if there is one.
+    fn discard(&mut self) -> Result<(), OutsideFault>
+        requires read { IsRead (opened self.old) }
+        ensures was_honest { honest self.new → honest self.old }
+        ensures opened { OnOk result (opened self.new ≡ turned (λ _. Missing) (opened self.old)) }
+        ensures call { Writes (honest self.new) (Arrives ours alone) FromBook (OfBook (λ p. TurnsJournal p Missing) (opened self.old)) (OfBook (λ p. TurnsHalf p Missing) (opened self.old)) (seen self.old) (seen self.new) result };
+
+    /// Takes a torn last line off the journal, if there is one.
+    fn mend(&mut self) -> Result<(), OutsideFault>
+        requires read { IsRead (opened self.old) }
+        ensures was_honest { honest self.new → honest self.old }
+        ensures opened { OnOk result (opened self.new ≡ turned mended (opened self.old)) }
+        ensures call { Writes (honest self.new) (Arrives ours alone) FromBook (OfBook (λ p. TurnsJournal p (mended p)) (opened self.old)) (OfBook (λ p. TurnsHalf p p) (opened self.old)) (seen self.old) (seen self.new) result };
+
+    /// Writes the whole plan of the next run, of which no step is logged.
+    fn begin(&mut self, plan: Plan) -> Result<(), OutsideFault>
+        requires takes { TakesPlan (opened self.old) plan }
+        ensures was_honest { honest self.new → honest self.old }
+        ensures opened { OnOk result (opened self.new ≡ turned (λ _. begun plan) (opened self.old)) }
+        ensures call { Writes (honest self.new) (Arrives ours alone) FromBook (OfBook (λ _. TurnsJournal Missing (begun plan)) (opened self.old)) (OfBook (λ _. TurnsHalf Missing Useless) (opened self.old)) (seen self.old) (seen self.new) result };
+
+    /// Logs the step of this number, counted from 1, as done. A new message has a copy, whose UID this is.
+    ///
+    /// `BadState(0)`: that UID is taken.
+    fn done(&mut self, step: usize, copy: Option<Uid>) -> Result<(), OutsideFault>
+        requires takes { TakesLog (opened self.old) step (as_done copy) }
+        ensures was_honest { honest self.new → honest self.old }
+        ensures opened { OnOk result (opened self.new ≡ turned (λ p. logged_more p (as_done copy)) (opened self.old)) }
+        ensures call { Writes (honest self.new) (Arrives ours alone) (FromLog (opened self.old) (as_done copy)) (OfBook (λ p. TurnsJournal p (logged_more p (as_done copy))) (opened self.old)) (OfBook (λ p. TurnsHalf p (torn p)) (opened self.old)) (seen self.old) (seen self.new) result };
+
+    /// Logs the step of this number, counted from 1, as void.
+    fn void(&mut self, step: usize) -> Result<(), OutsideFault>
+        requires takes { TakesLog (opened self.old) step Void }
+        ensures was_honest { honest self.new → honest self.old }
+        ensures opened { OnOk result (opened self.new ≡ turned (λ p. logged_more p Void) (opened self.old)) }
+        ensures call { Writes (honest self.new) (Arrives ours alone) FromBook (OfBook (λ p. TurnsJournal p (logged_more p Void)) (opened self.old)) (OfBook (λ p. TurnsHalf p (torn p)) (opened self.old)) (seen self.old) (seen self.new) result };
+
+    /// Puts the state that the finished plan makes in place of the old one, and then removes the journal.
+    fn commit(&mut self) -> Result<(), OutsideFault>
+        requires takes { TakesCommit (opened self.old) }
+        ensures was_honest { honest self.new → honest self.old }
+        ensures opened { OnOk result (AreCommitted (opened self.old) (opened self.new)) }
+        ensures held { result ≡ Ok tt → honest self.new → IsHeld (opened self.new) (seen self.new).device }
+        ensures call { Writes (honest self.new) (Arrives ours alone) FromBook (OfBook CommitsTo (opened self.old)) (OfBook CommitsHalf (opened self.old)) (seen self.old) (seen self.new) result };
+
+    /// Selects the far mailbox, or opens the near one, and tells its UIDVALIDITY.
+    fn open_box(&mut self, side: Side) -> Result<u32, OutsideFault>
+        ensures was_honest { honest self.new → honest self.old }
+        ensures opened { OnOk result (opened self.new ≡ with_box side (opened self.old)) }
+        ensures call { Reads (honest self.new) (Arrives ours alone) (λ validity d. validity ≡ (box d side).validity) (seen self.old) (seen self.new) result };
+
+    /// Gives the waiting near files their UIDs.
+    fn admit(&mut self) -> Result<(), OutsideFault>
+        requires open { IsOpen Side.Near (opened self.old) }
+        ensures was_honest { honest self.new → honest self.old }
+        ensures opened { opened self.new ≡ opened self.old }
+        ensures call { Changes {T = Unit {0}} (honest self.new) (Arrives ours alone) (λ _. Admits) AdmitsPart (seen self.old) (seen self.new) result };
+
+    /// What the far mailbox lists.
+    fn list_far(&mut self) -> Result<Listing, OutsideFault>
+        requires open { IsOpen Side.Far (opened self.old) }
+        ensures was_honest { honest self.new → honest self.old }
+        ensures opened { opened self.new ≡ opened self.old }
+        ensures call { Reads (honest self.new) (Arrives ours alone) ListsFar (seen self.old) (seen self.new) result };
+
+    /// What the near mailbox lists. Messages up to this UID are said to be fit, and are not read.
+    fn list_near(&mut self, from: u32) -> Result<Listing, OutsideFault>
+        requires open { IsOpen Side.Near (opened self.old) }
+        ensures was_honest { honest self.new → honest self.old }
+        ensures opened { opened self.new ≡ opened self.old }
+        ensures call { Reads (honest self.new) (Arrives ours alone) (ListsNear from) (seen self.old) (seen self.new) result };
+
+    /// The least UID of at least `from` whose message has the mark.
+    fn find_mark(&mut self, side: Side, mark: Tuid, from: u32) -> Result<Option<Uid>, OutsideFault>
+        requires open { IsOpen side (opened self.old) }
+        ensures was_honest { honest self.new → honest self.old }
+        ensures opened { opened self.new ≡ opened self.old }
+        ensures call { Reads (honest self.new) (Arrives ours alone) (λ found d. found ≡ marked_from mark from (box d side)) (seen self.old) (seen self.new) result };
+
+    /// Copies the message of the direction's source with this UID to its target, under this mark and with these flags.
+    fn carry(
+        &mut self,
+        direction: Direction,
+        uid: Uid,
+        mark: Tuid,
+        flags: Flags,
+    ) -> Result<Carried, OutsideFault>
+        requires far { IsOpen Side.Far (opened self.old) }
+        requires near { IsOpen Side.Near (opened self.old) }
+        ensures was_honest { honest self.new → honest self.old }
+        ensures opened { opened self.new ≡ opened self.old }
+        ensures call { Call (honest self.new) (Arrives ours alone) copies_made FromBox (Carry direction uid flags mark) (LeavesBy (Carry direction uid flags mark) (SetsAside (target direction))) (seen self.old) (seen self.new) result };
+
+    /// Sets these flags of a message. Nothing is done where it is not there.
+    fn add_flags(&mut self, side: Side, uid: Uid, flags: Flags) -> Result<(), OutsideFault>
+        requires open { IsOpen side (opened self.old) }
+        ensures was_honest { honest self.new → honest self.old }
+        ensures opened { opened self.new ≡ opened self.old }
+        ensures call { Changes {T = Unit {0}} (honest self.new) (Arrives ours alone) (λ _. Turns side (flags_added uid flags)) Nothing (seen self.old) (seen self.new) result };
+
+    /// Clears these flags of a message. Nothing is done where it is not there.
+    fn remove_flags(&mut self, side: Side, uid: Uid, flags: Flags) -> Result<(), OutsideFault>
+        requires open { IsOpen side (opened self.old) }
+        ensures was_honest { honest self.new → honest self.old }
+        ensures opened { opened self.new ≡ opened self.old }
+        ensures call { Changes {T = Unit {0}} (honest self.new) (Arrives ours alone) (λ _. Turns side (flags_removed uid flags)) Nothing (seen self.old) (seen self.new) result };
+
+    /// Removes a message, if it is there.
+    fn expunge(&mut self, side: Side, uid: Uid) -> Result<(), OutsideFault>
+        requires open { IsOpen side (opened self.old) }
+        ensures was_honest { honest self.new → honest self.old }
+        ensures opened { opened self.new ≡ opened self.old }
+        ensures call { Changes {T = Unit {0}} (honest self.new) (Arrives ours alone) (λ _. Turns side (expunged (uid ∷ []))) Nothing (seen self.old) (seen self.new) result };
+
+    /// Opens all again, so that calls are answered again. It keeps both mailboxes and the shelf, and nothing else.
+    fn reopen(&mut self)
+        ensures seen { seen self.new ≡ record (seen self.old) { is_broken = false } }
+        ensures was_honest { honest self.new → honest self.old }
+        ensures opened { opened self.new ≡ None };
+}
