@@ -1,5 +1,5 @@
 -- What the calls of the book do to the files, and what they tell.
-use Rattle.std.specs.Prelude.{◌≡◌, ℕ, true, Option, None, Some}
+use Rattle.std.specs.Prelude.{◌≡◌, true, Option, None, Some}
 use Rattle.device.specs.Calls.{Effect}
 use Rattle.sync_state.specs.declared.fault.BookFault.TheVariants as book
 use Rattle.sync_state.specs.declared.journal.Logged.{Logged}

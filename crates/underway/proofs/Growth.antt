@@ -1,0 +1,82 @@
+-- What others add to a device, before there is a plan.
+use Rattle.std.proofs.Common.{◌≡◌, ◌<◌, ◌+◌, ℕ, Bool, true, false, List, [], ◌∷◌, ◌++◌, map, refl, sym, ◌∙◌, ap, subst, arith, append-nil, append_assoc}
+use Rattle.std.proofs.lemmas.Bool.{both_ways}
+use Rattle.std.proofs.lemmas.List.Elements.{All-append, All-cons, All-nil}
+use Rattle.std.proofs.lemmas.List.Quantifiers.{all_pairs_push}
+use Rattle.mailcore.specs.declared.mailbox.Message.{Message}
+use Rattle.mailcore.specs.declared.side.Side.TheVariants.{Far, Near as NearSide}
+use Rattle.mailcore.specs.Rise.{Rise}
+use Rattle.mailcore.specs.Stores.{IsStore}
+use Rattle.mailcore.proofs.RiseLemmas.{rise-ends}
+use Rattle.rules.specs.declared.state.SyncState.{SyncState}
+use Rattle.rules.specs.World.{World, store}
+use Rattle.book.specs.declared.book.Pending.{Pending}
+use Rattle.book.specs.Books.{Holds}
+use Rattle.outside.specs.Arrivals.{Arrives}
+use Rattle.outside.specs.Devices.{Device}
+use Rattle.underway.specs.Openings.{Opening, Grows, IsIdle, Since, Unplanned, world_at}
+use Rattle.underway.proofs.Foreign.{two}
+use Rattle.underway.proofs.Merges.{merge_more, merge_behind}
+
+-- messages that rise behind a store's
+store_more : (validity next bound : ℕ) (xs ys : List Message) → IsStore (record { validity = validity; next = next; messages = xs }) → Rise next (map (λ m. m.uid) ys) bound → IsStore (record { validity = validity; next = bound; messages = xs ++ ys })
+store_more validity next bound xs [] s r = rw append-nil (record { rising = s.rising; below = λ i d lt. let k = s.below i d lt in omega (arith, r) })
+store_more validity next bound xs (y ∷ ys) s r =
+    let one : IsStore (record { validity = validity; next = y.uid + 1; messages = xs ++ y ∷ [] }) = record {
+      rising = all_pairs_push (λ (a b : Message). a.uid < b.uid) xs y s.rising (λ k d lt. let h = s.below k d lt in let j = r.0 in omega arith);
+      below = All-append (λ (m : Message). m.uid < y.uid + 1) xs (y ∷ []) (λ i d lt. let h = s.below i d lt in let j = r.0 in omega arith) (All-cons (λ (m : Message). m.uid < y.uid + 1) y [] (omega arith) (All-nil (λ (m : Message). m.uid < y.uid + 1)));
+    } in
+    subst (λ (l : List Message). IsStore (record { validity = validity; next = bound; messages = l })) (append_assoc xs (y ∷ []) ys) (store_more validity (y.uid + 1) bound (xs ++ y ∷ []) ys one r.1)
+
+module _ (ours : List ℕ → Bool) where
+  pub grows_arrives : (alone : Bool) (w : World) (s : SyncState) (d m : Device) → Grows alone w (world_at d s) → Arrives ours alone d m → Grows alone w (world_at m s)
+  grows_arrives true w s d m g a = subst (λ (x : Device). Grows true w (world_at x s)) (sym (a.nobody refl)) g
+  grows_arrives false w s d m g a =
+      let now : Device = record d { far = record d.far { next = a.next; messages = d.far.messages ++ a.messages }; near = record d.near { waiting = a.waiting } } in
+      let low = rise-ends d.far.next (map (λ (x : Message). x.uid) a.messages) a.next a.rise in
+      let merge = merge_more w.waiting g.arrived (g.named ++ d.near.waiting) a.files (g.named ++ a.waiting) g.merged (merge_behind g.named d.near.waiting a.files a.waiting a.merged) in
+      let v = g.validity in
+      subst (λ (x : Device). Grows false w (world_at x s)) (sym a.now) (record {
+        in_order = record { far = store_more d.far.validity d.far.next a.next d.far.messages a.messages g.in_order.far a.rise; near = g.in_order.near; pairs = g.in_order.pairs };
+        state = g.state;
+        validity = two (λ side. (store (world_at now s) side).validity ≡ (store w side).validity) (v Far) (v NearSide);
+        far_next = let k = g.far_next in omega arith;
+        far_added = g.far_added ++ a.messages;
+        far = ap (λ (l : List Message). l ++ a.messages) g.far ∙ append_assoc w.far.messages g.far_added a.messages;
+        uids = g.uids;
+        rise = g.rise;
+        arrived = merge.0;
+        named = g.named;
+        merged = merge.1;
+        each = g.each;
+        near = g.near;
+        nobody = λ e. absurd (both_ways false refl e);
+      })
+
+  pub files_same : (alone : Bool) (d m : Device) → Arrives ours alone d m → m.files ≡ d.files
+  files_same alone d m a = ap (λ (x : Device). x.files) a.now
+
+  pub unplanned_arrives : (alone : Bool) (opening : Opening) (d m : Device) → Arrives ours alone d m → Unplanned alone opening d → Unplanned alone opening m
+  unplanned_arrives alone opening d m a u = record {
+    pending = u.pending;
+    idle = u.idle;
+    files = rw (files_same alone d m a) u.files;
+    chosen = u.chosen;
+    below = u.below;
+    grows = grows_arrives alone opening.world opening.world.state d m u.grows a;
+  }
+
+-- another journal, and both mailboxes as they were
+pub unplanned_filed : (alone : Bool) (opening : Opening) (pending : Pending) (d d' : Device) → IsIdle pending → d'.far ≡ d.far → d'.near ≡ d.near → Holds d'.files opening.world.state pending → Unplanned alone opening d → Unplanned alone opening d'
+unplanned_filed alone opening pending d d' idle far near holds u = record {
+  pending = pending;
+  idle = idle;
+  files = holds;
+  chosen = u.chosen;
+  below = u.below;
+  grows = rw (far, near) u.grows;
+}
+
+-- what is so of some world since the opening is so with all that is known of the world
+pub since_map : (alone : Bool) (opening : Opening) (P Q : World → Type 0) → ((w : World) → Grows alone opening.world w → P w → Q w) → Since alone opening P → Since alone opening Q
+since_map alone opening P Q f s = record { world = s.world; grows = s.grows; admitted = s.admitted; below = s.below; holds = f s.world s.grows s.holds }

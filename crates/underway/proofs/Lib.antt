@@ -1,0 +1,16 @@
+pub mod Merges
+pub mod NextSteps
+pub mod FlagFacts
+pub mod Flagged
+pub mod ApartFlags
+pub mod Sources
+pub mod Foreign
+pub mod Moves
+pub mod Plain
+pub mod Flagging
+pub mod Copies
+pub mod Growth
+pub mod Arrived
+pub mod Admitting
+pub mod Listings
+pub mod Ends

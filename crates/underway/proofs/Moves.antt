@@ -1,0 +1,116 @@
+-- How what others add, a change of one mailbox, and another journal move a device that is midway in a plan.
+use Rattle.std.proofs.Common.{◌≡◌, ◌≤◌, ℕ, Bool, List, [], ◌++◌, refl, sym, ◌∙◌, ap, subst}
+use Rattle.mailcore.specs.declared.side.Side.{Side}
+use Rattle.mailcore.specs.declared.side.Side.TheVariants.{Far, Near as NearSide}
+use Rattle.mailcore.specs.declared.mailbox.Message.{Message}
+use Rattle.mailcore.specs.Operations.{with_messages}
+use Rattle.mailcore.proofs.RiseLemmas.{rise-ends}
+use Rattle.near_box.specs.Mailboxes.{Near}
+use Rattle.rules.specs.declared.options.Options.{Options}
+use Rattle.rules.specs.declared.plan.Plan.{Plan}
+use Rattle.rules.specs.World.{World, store}
+use Rattle.sync_state.specs.declared.journal.Logged.{Logged}
+use Rattle.book.specs.Books.{Holds}
+use Rattle.step_laws.specs.Steps.{Boxes, Rises, given, own, box as messages_in, with_box as with_messages_in}
+use Rattle.step_laws.specs.OwnLaws.{is_own}
+use Rattle.step_laws.proofs.Fold.{rise-raised}
+use Rattle.run_laws.specs.CommitLaws.{results_of}
+use Rattle.outside.specs.Arrivals.{Arrives}
+use Rattle.outside.specs.Devices.{Device, box, on_box}
+use Rattle.outside.specs.BoxCalls.{Turns, SetsAside}
+use Rattle.underway.specs.Moments.{Midway, boxes_at, with_log}
+use Rattle.underway.proofs.Foreign.{two, own_arrived}
+
+-- a device with others of its messages
+pub record IsMoved (d d' : Device) (b : Boxes) : Type 0 where
+  pub validity : (side : Side) → (box d' side).validity ≡ (box d side).validity
+  pub next : (side : Side) → (box d' side).next ≡ (box d side).next
+  pub boxes : boxes_at d' ≡ b
+  pub waiting : d'.near.waiting ≡ d.near.waiting
+  pub files : d'.files ≡ d.files
+
+moved_to : (side : Side) (change : List Message → List Message) (d : Device) → IsMoved d (on_box side (with_messages change) d) (with_messages_in (boxes_at d) side (change (messages_in (boxes_at d) side)))
+moved_to Far change d = record {
+  validity = two (λ k. (box (on_box Far (with_messages change) d) k).validity ≡ (box d k).validity) refl refl;
+  next = two (λ k. (box (on_box Far (with_messages change) d) k).next ≡ (box d k).next) refl refl;
+  boxes = refl;
+  waiting = refl;
+  files = refl;
+}
+moved_to NearSide change d = record {
+  validity = two (λ k. (box (on_box NearSide (with_messages change) d) k).validity ≡ (box d k).validity) refl refl;
+  next = two (λ k. (box (on_box NearSide (with_messages change) d) k).next ≡ (box d k).next) refl refl;
+  boxes = refl;
+  waiting = refl;
+  files = refl;
+}
+
+pub moved : (side : Side) (change : List Message → List Message) (d d' : Device) → Turns side (with_messages change) d d' → IsMoved d d' (with_messages_in (boxes_at d) side (change (messages_in (boxes_at d) side)))
+moved side change d d' is = subst (λ (x : Device). IsMoved d x (with_messages_in (boxes_at d) side (change (messages_in (boxes_at d) side)))) (sym is) (moved_to side change d)
+
+pub same_boxes : (d d' : Device) → d'.far ≡ d.far → d'.near ≡ d.near → (side : Side) → box d' side ≡ box d side
+same_boxes d d' far near Far = far
+same_boxes d d' far near NearSide = ap (λ (n : Near). n.store) near
+
+module _ (ours : List ℕ → Bool) (alone : Bool) (w : World) (options : Options) (plan : Plan) where
+  -- ---- others
+
+  pub midway_arrives : (log : List Logged) (torn : Bool) (results : List Logged) (is_half : Bool) (d m : Device) → Arrives ours alone d m → Midway ours alone w options plan log torn results is_half d → Midway ours alone w options plan log torn results is_half m
+  midway_arrives log torn results is_half d m a at =
+      let now : Device = record d { far = record d.far { next = a.next; messages = d.far.messages ++ a.messages }; near = record d.near { waiting = a.waiting } } in
+      let far_next = rise-ends w.far.next (given Far plan.steps (results_of results)) d.far.next (at.rises Far) in
+      subst (λ (x : Device). Midway ours alone w options plan log torn results is_half x) (sym a.now) (record {
+        planned = at.planned;
+        files = at.files;
+        fit = at.fit;
+        validity = two (λ side. (box now side).validity ≡ (store w side).validity) (at.validity Far) (at.validity NearSide);
+        rises = two (λ side. Rises side (store w side).next plan.steps (results_of results) (box now side).next)
+            (rise-raised w.far.next (given Far plan.steps (results_of results)) d.far.next a.next (at.rises Far) (rise-ends d.far.next _ a.next a.rise))
+            (at.rises NearSide);
+        boxes = own_arrived ours w at.planned.marks d.far.messages d.near.store.messages a.messages d.far.next a.next at.planned.are_ours far_next a.rise a.far_foreign ∙ at.boxes;
+        nobody = λ e. subst (λ (x : Device). (own (is_own w at.planned.marks) (boxes_at x) ≡ boxes_at x) × (x.near.waiting ≡ [])) (sym (a.nobody e) ∙ a.now) (at.nobody e);
+      })
+
+  -- ---- the journal
+
+  -- both mailboxes as they were, and another journal
+  pub midway_filed : (log now : List Logged) (torn torn' : Bool) (results : List Logged) (is_half : Bool) (d d' : Device) → d'.far ≡ d.far → d'.near ≡ d.near → Holds d'.files w.state (with_log plan now torn') → Midway ours alone w options plan log torn results is_half d → Midway ours alone w options plan now torn' results is_half d'
+  midway_filed log now torn torn' results is_half d d' far near holds at =
+      let same = same_boxes d d' far near in
+      let boxes : boxes_at d' ≡ boxes_at d = rw (far, near) refl in
+      record {
+        planned = at.planned;
+        files = holds;
+        fit = at.fit;
+        validity = λ side. rw (same side) (at.validity side);
+        rises = λ side. rw (same side) (at.rises side);
+        boxes = ap (λ (b : Boxes). own (is_own w at.planned.marks) b) boxes ∙ at.boxes;
+        nobody = λ e. rw (far, near) (at.nobody e);
+      }
+
+  -- ---- a next UID
+
+  set_aside_to : (side : Side) (log : List Logged) (torn : Bool) (results : List Logged) (is_half : Bool) (d : Device) (next : ℕ) → (box d side).next ≤ next → Midway ours alone w options plan log torn results is_half d → Midway ours alone w options plan log torn results is_half (on_box side (λ s. record s { next = next }) d)
+  set_aside_to Far log torn results is_half d next le at = record {
+    planned = at.planned;
+    files = at.files;
+    fit = at.fit;
+    validity = two (λ k. (box (on_box Far (λ s. record s { next = next }) d) k).validity ≡ (store w k).validity) (at.validity Far) (at.validity NearSide);
+    rises = two (λ k. Rises k (store w k).next plan.steps (results_of results) (box (on_box Far (λ s. record s { next = next }) d) k).next)
+        (rise-raised w.far.next (given Far plan.steps (results_of results)) d.far.next next (at.rises Far) le) (at.rises NearSide);
+    boxes = at.boxes;
+    nobody = at.nobody;
+  }
+  set_aside_to NearSide log torn results is_half d next le at = record {
+    planned = at.planned;
+    files = at.files;
+    fit = at.fit;
+    validity = two (λ k. (box (on_box NearSide (λ s. record s { next = next }) d) k).validity ≡ (store w k).validity) (at.validity Far) (at.validity NearSide);
+    rises = two (λ k. Rises k (store w k).next plan.steps (results_of results) (box (on_box NearSide (λ s. record s { next = next }) d) k).next)
+        (at.rises Far) (rise-raised w.near.next (given NearSide plan.steps (results_of results)) d.near.store.next next (at.rises NearSide) le);
+    boxes = at.boxes;
+    nobody = at.nobody;
+  }
+
+  pub midway_set_aside : (side : Side) (log : List Logged) (torn : Bool) (results : List Logged) (is_half : Bool) (d d' : Device) → SetsAside side d d' → Midway ours alone w options plan log torn results is_half d → Midway ours alone w options plan log torn results is_half d'
+  midway_set_aside side log torn results is_half d d' s at = subst (λ (x : Device). Midway ours alone w options plan log torn results is_half x) (sym s.now) (set_aside_to side log torn results is_half d s.next s.least at)

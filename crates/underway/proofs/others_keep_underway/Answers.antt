@@ -1,0 +1,6 @@
+use Rattle.underway.proofs.Arrived.{pending_arrives, underway_arrives}
+use Rattle.underway.proofs.Growth.{unplanned_arrives}
+use Rattle.underway.proofs.others_keep_underway.Goals as goal
+
+pub returns : goal.returns
+returns c = record { all = underway_arrives; unplanned = unplanned_arrives; pending = pending_arrives }

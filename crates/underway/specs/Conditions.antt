@@ -1,0 +1,15 @@
+-- When a run is underway: it has no plan yet, or it has one and some of its steps are done, or it is done.
+use Rattle.std.specs.Prelude.{◌⊎◌, ℕ, Bool, List}
+use Rattle.outside.specs.Devices.{Device}
+use Rattle.underway.specs.Openings.{Opening, Since, Unplanned}
+use Rattle.underway.specs.Moments.{PlannedAt}
+use Rattle.underway.specs.Endings.{DoneAt}
+
+abbrev pub IsPending : (List ℕ → Bool) → Bool → Opening → Device → Type 0
+IsPending ours alone opening d = Since alone opening (λ w. PlannedAt ours alone w opening.options d)
+
+abbrev pub IsOver : (List ℕ → Bool) → Bool → Opening → Device → Type 0
+IsOver ours alone opening d = Since alone opening (λ w. DoneAt ours alone w opening.options d)
+
+abbrev pub Underway : (List ℕ → Bool) → Bool → Opening → Device → Type 0
+Underway ours alone opening d = Unplanned alone opening d ⊎ (IsPending ours alone opening d ⊎ IsOver ours alone opening d)

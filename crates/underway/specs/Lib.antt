@@ -1,0 +1,6 @@
+pub mod Openings
+pub mod Plans
+pub mod Moments
+pub mod Endings
+pub mod Conditions
+pub mod Laws
