@@ -1,5 +1,5 @@
 -- A server and its connection.
-use Rattle.std.proofs.Common.{◌≡◌, List, [], ◌∷◌, ◌++◌, ℕ, true, Option, Some, None, refl, sym, ap, subst, ◌∙◌}
+use Rattle.std.proofs.Common.{◌≡◌, List, [], ◌∷◌, ◌++◌, ℕ, true, Option, Some, None, refl, sym, ap, subst, ◌∙◌, append_assoc}
 use Rattle.std.specs.List.{list_all}
 use Rattle.std.specs.Option.{option_map}
 use Rattle.std.proofs.lemmas.Bool.{and_parts}
@@ -25,6 +25,17 @@ replies_there [] text w h = w
 replies_there (r ∷ rs) text w h =
     let p = and_parts (is_short r) (list_all is_short rs) h in
     record { front = w.front; back = w.back; parts = w.parts; first = written_spelled r w.front w.first; fits = short_fits r w.front w.first p.0; others = replies_there rs w.back w.second p.1 }
+
+pub replies-append : (rs qs : List Reply) (x y : List ℕ) → AreReplies rs x → AreReplies qs y → AreReplies (rs ++ qs) (x ++ y)
+replies-append [] qs x y h k = subst (λ (l : List ℕ). AreReplies qs (l ++ y)) (sym h) k
+replies-append (r ∷ rs) qs x y h k = record {
+  front = h.front;
+  back = h.back ++ y;
+  parts = ap (λ (l : List ℕ). l ++ y) h.parts ∙ append_assoc h.front h.back y;
+  first = h.first;
+  fits = h.fits;
+  others = replies-append rs qs h.back y h.others k;
+}
 
 module _ (old : Host) (server : Server) (unread taken : Option Unread) (first : Unread) (host : record { server = server; connection = option_map kept_of unread } ≡ old) (value : taken ≡ unread) (there : taken ≡ Some first) where
   was : old.connection ≡ Some (kept_of first)

@@ -9,9 +9,9 @@ use Rattle.imap_session.specs.Serving.{End, Runs, FeedsFrom, Feeds, ServesSome, 
 use Rattle.session_laws.proofs.Joins.{runs-join, feeds-join}
 use Rattle.imap_server.specs.Taking.{Host, Fed, Lost}
 use Rattle.imap_session.specs.Lines.{greeting}
-use Rattle.imap_server.specs.Writing.{AreWritten}
+use Rattle.imap_session.specs.Heard.{AreReplies}
 use Rattle.imap_server.proofs.Feeding.{feeds_none, feeds_some}
-use Rattle.imap_server.proofs.WritingLemmas.{written-append}
+use Rattle.imap_server.proofs.HostLemmas.{replies-append}
 use Rattle.imap_replies.specs.declared.reply.Reply.{Reply}
 use Rattle.serve.specs.Connections.{connected, AnswersSome, Converses, BreaksOff, IsEnd, Serves}
 
@@ -32,7 +32,7 @@ fed_none h kept is = record {
   is = is;
   said = [];
   feeds = feeds_none (record { server = h.server; kept = kept });
-  written = refl;
+  spelled = refl;
 }
 
 pub fed_join : (a b c : Host) (p q x y : List ℕ) → Fed a p x b → Fed b q y c → Fed a (p ++ q) (x ++ y) c
@@ -44,7 +44,7 @@ fed_join a b c p q x y f g = record {
   said = f.said ++ g.said;
   feeds = feeds-join (record { server = a.server; kept = f.before }) (record { server = b.server; kept = f.after }) (record { server = c.server; kept = g.after }) p q f.said g.said f.feeds
       (subst (λ (k : Kept). Feeds (record { server = b.server; kept = k }) q g.said (record { server = c.server; kept = g.after })) (same_kept g.before f.after (sym g.was ∙ f.is)) g.feeds);
-  written = written-append f.said g.said x y f.written g.written;
+  spelled = replies-append f.said g.said x y f.spelled g.spelled;
 }
 
 -- ---- some of it was answered
@@ -131,7 +131,7 @@ is_there h p x old f = subst IsSome (sym f.is) refl
 at_rest : (h : Host) (kept : Kept) → h.connection ≡ Some kept → h ≡ record { server = h.server; connection = Some kept }
 at_rest h kept is = let of : Option Kept → Host = λ c. record { server = h.server; connection = c } in ap of is
 
-pub serves : (h n : Host) (i j o p q : Option (List ℕ)) (hello : List ℕ) → h ≡ connected h.server → AreWritten greeting hello → Appends o p hello → Converses h i j p q n → IsEnd j n.server
+pub serves : (h n : Host) (i j o p q : Option (List ℕ)) (hello : List ℕ) → h ≡ connected h.server → AreReplies greeting hello → Appends o p hello → Converses h i j p q n → IsEnd j n.server
     → Serves h.server i j o q n.server
 serves h n i j o p q hello new greets greeted c end = record {
   hello = hello;

@@ -6,7 +6,7 @@ use Rattle.imap_session.specs.Unread.{Kept, Whole}
 use Rattle.imap_session.specs.Serving.{FeedsSome}
 use Rattle.imap_session.specs.Lines.{greeting}
 use Rattle.imap_server.specs.Taking.{Host, Fed}
-use Rattle.imap_server.specs.Writing.{AreWritten}
+use Rattle.imap_session.specs.Heard.{AreReplies}
 use Rattle.serve.specs.declared.stream.Turn.{Turn}
 use Rattle.serve.specs.declared.stream.Turn.TheVariants.{GoesOn, Ends}
 
@@ -59,7 +59,7 @@ IsOverOn Ends s = is_over s.condition ≡ true
 -- The greeting was written, and then what was read up to the end was answered.
 pub record Serves (old : Server) (in_old in_new out_old out_new : Option (List ℕ)) (new : Server) : Type 0 where
   pub hello : List ℕ
-  pub greets : AreWritten greeting hello
+  pub greets : AreReplies greeting hello
   pub out_greeted : Option (List ℕ)
   pub greeted : Appends out_old out_greeted hello
   pub kept : Kept

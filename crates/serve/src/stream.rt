@@ -3,7 +3,7 @@
 ghost use Rattle.std.specs.Prelude.{◌≡◌, ◌<◌, length, None, IsSome, OnOk, OnErr, IfOk};
 ghost use Rattle.std.specs.Io.KnownBytes.{Appends};
 ghost use Rattle.imap_session.specs.Lines.{greeting};
-ghost use Rattle.imap_server.specs.Writing.{AreWritten};
+ghost use Rattle.imap_session.specs.Heard.{AreReplies};
 ghost use Rattle.serve.specs.Connections.{connected, Answers, AnswersSome, Converses, BreaksOff, IsEnd, IsEndOn, IsOverOn, Serves};
 
 use crate::fault::ServeFault;
@@ -50,7 +50,7 @@ fn greet_and_answer<R: Read, W: Write>(
     output: &mut W,
 ) -> Result<(), ServeFault>
     requires new { server.old ≡ connected server.old.server }
-    requires greets { AreWritten greeting hello.now }
+    requires greets { AreReplies greeting hello.now }
     ensures ok { OnOk result (Serves server.old.server (R.remaining input.old) (R.remaining input.new) (W.contents output.old) (W.contents output.new) server.new.server) }
     ensures err { OnErr result (BreaksOff server.old (R.remaining input.old) (R.remaining input.new) server.new.server) }
 {
