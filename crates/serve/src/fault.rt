@@ -1,5 +1,7 @@
 //! Why a connection was not served to its end.
 
+use std::io;
+use std::io::ErrorKind;
 use thiserror::Error;
 
 /// Why a connection was not served to its end. It is hung up.
@@ -11,4 +13,13 @@ pub enum ServeFault {
     /// Memory ran out.
     #[error("no memory")]
     NoMemory,
+}
+
+impl From<io::Error> for ServeFault {
+    fn from(fault: io::Error) -> ServeFault {
+        match fault.kind() {
+            ErrorKind::OutOfMemory => ServeFault::NoMemory,
+            _ => ServeFault::Connection,
+        }
+    }
 }

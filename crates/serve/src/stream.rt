@@ -92,7 +92,7 @@ fn answer_next<R: Read, W: Write>(
     let mut piece = [0; PIECE_BYTES];
     let count = match input.read(&mut piece) {
         Ok(count) => count,
-        Err(fault) => return behind_fault(&fault),
+        Err(fault) => return behind_fault(fault),
     };
     if count == 0 {
         return Ok(Turn::Ends);
@@ -101,12 +101,12 @@ fn answer_next<R: Read, W: Write>(
 }
 
 /// Goes on where reading was interrupted.
-fn behind_fault(fault: &io::Error) -> Result<Turn, ServeFault>
+fn behind_fault(fault: io::Error) -> Result<Turn, ServeFault>
     ensures { IfOk result (λ turn. turn ≡ Turn.GoesOn) }
 {
     match fault.kind() {
         ErrorKind::Interrupted => Ok(Turn::GoesOn),
-        _ => Err(ServeFault::Connection),
+        _ => Err(ServeFault::from(fault)),
     }
 }
 
@@ -134,11 +134,7 @@ fn answer<W: Write>(server: &mut Server, piece: &[u8], output: &mut W) -> Result
 fn send<W: Write>(bytes: &[u8], output: &mut W) -> Result<(), ServeFault>
     ensures { OnOk result (Appends (W.contents output.old) (W.contents output.new) bytes.now) }
 {
-    let Ok(()) = output.write_all(bytes) else {
-        return Err(ServeFault::Connection);
-    };
-    let Ok(()) = output.flush() else {
-        return Err(ServeFault::Connection);
-    };
+    output.write_all(bytes)?;
+    output.flush()?;
     Ok(())
 }

@@ -1,0 +1,42 @@
+//! What is told on a terminal: where the server listens, and each connection.
+
+use serve::fault::ServeFault;
+use std::io::{IsTerminal, Write};
+
+/// Notes on standard error, where that is a terminal.
+#[derive(Drop)]
+pub struct Notes<'a> {
+    rt: &'a HostRuntime,
+    is_told: bool,
+}
+
+impl<'a> Notes<'a> {
+    /// Notes on this standard error.
+    pub fn new(rt: &'a HostRuntime) -> Notes<'a> {
+        Notes {
+            rt,
+            is_told: rt.stderr().is_terminal(),
+        }
+    }
+
+    /// Tells where the server listens. That nobody reads it is no fault.
+    pub fn listening(&self, address: &str) {
+        if self.is_told {
+            let _ = writeln!(self.rt.stderr(), "trial-imapd: listens on {address}");
+        }
+    }
+
+    /// Tells how a connection ended; the first has the number 1.
+    pub fn served(&self, number: u32, ended: Result<(), ServeFault>) {
+        if !self.is_told {
+            return;
+        }
+        let _ = match ended {
+            Ok(()) => writeln!(self.rt.stderr(), "trial-imapd: connection {number} served"),
+            Err(fault) => writeln!(
+                self.rt.stderr(),
+                "trial-imapd: connection {number}: {fault}"
+            ),
+        };
+    }
+}

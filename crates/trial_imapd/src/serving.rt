@@ -1,0 +1,79 @@
+//! Connections to the server of a world's far mailbox.
+
+use crate::arguments::Task;
+use crate::failure::Failure;
+use crate::notes::Notes;
+use imap_server::served::are_served;
+use imap_server::server::Server;
+use serve::fault::ServeFault;
+use serve::stream::serve_stream;
+use std::fs;
+use std::net::{Shutdown, TcpListener, TcpStream};
+use worlds::read::read_world;
+use worlds::world::Waiting;
+
+/// The one user, and the password.
+const USER: &[u8] = b"u";
+
+const PASSWORD: &[u8] = b"p";
+
+/// Serves so many connections, one after another.
+pub fn serve(rt: &HostRuntime, task: Task) -> Result<(), Failure> {
+    let mut server = open_server(rt, &task.file)?;
+    let address = task.address.as_str();
+    let listener = match TcpListener::bind(rt, address) {
+        Ok(listener) => listener,
+        Err(fault) => return Err(Failure::of_opening(&fault, address, rt.alloc())),
+    };
+    let notes = Notes::new(rt);
+    notes.listening(address);
+    serve_all(&mut server, &listener, task.count, &notes)
+}
+
+/// A server with the far mailbox of the world in this file.
+fn open_server(rt: &HostRuntime, file: &str) -> Result<Server, Failure> {
+    let alloc = rt.alloc();
+    let text = match fs::read(rt, file) {
+        Ok(text) => text,
+        Err(fault) => return Err(Failure::of_opening(&fault, file, alloc)),
+    };
+    let world = read_world(alloc, &text, Waiting::Kept)?;
+    let mut mailboxes = Vec::new(alloc);
+    mailboxes.push(world.far)?;
+    // What a world says of a far mailbox, a server can tell.
+    if !are_served(&mailboxes) {
+        return Err(Failure::cannot_open(file, alloc));
+    }
+    let user = Vec::from_slice(alloc, USER)?;
+    let password = Vec::from_slice(alloc, PASSWORD)?;
+    Ok(Server::new(alloc, mailboxes, user, password))
+}
+
+/// Serves the next connections, so many. One that cannot be taken, or that fails, counts too.
+fn serve_all(
+    server: &mut Server,
+    listener: &TcpListener,
+    count: u32,
+    notes: &Notes<'_>,
+) -> Result<(), Failure> {
+    for number in 0..count {
+        let ended = match listener.accept() {
+            Ok((stream, _address)) => serve_one(server, &stream),
+            Err(_) => Err(ServeFault::Connection),
+        };
+        notes.served(number + 1, ended);
+        if ended == Err(ServeFault::NoMemory) {
+            return Err(Failure::NoMemory);
+        }
+    }
+    Ok(())
+}
+
+/// Serves a connection, and tells the client that no more comes.
+fn serve_one(server: &mut Server, stream: &TcpStream) -> Result<(), ServeFault> {
+    let mut input = stream;
+    let mut output = stream;
+    let ended = serve_stream(server, &mut input, &mut output);
+    let _ = stream.shutdown(Shutdown::Write);
+    ended
+}
