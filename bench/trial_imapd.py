@@ -1,0 +1,109 @@
+"""Starts trial-imapd on a world of its own, for the scripts that talk to it."""
+import os
+import socket
+import subprocess
+import sys
+import time
+
+TOP = os.path.dirname(os.path.dirname(os.path.abspath(__file__)))
+PROGRAM = os.path.join(TOP, "crates", "trial_imapd", "out", "trial_imapd")
+
+
+def build():
+    """Proves and builds the program, if it is not there yet or is older than its sources."""
+    subprocess.run([os.path.join(TOP, "bin", "trial-imapd"), "-h"], stdout=subprocess.DEVNULL, check=True)
+
+
+def world(messages):
+    """The text of a world whose far mailbox has these messages, with the UIDs from 1 on."""
+    lines = [b"sync Full", b"expunge None", b"far 1 %d" % (len(messages) + 1)]
+    for uid, message in enumerate(messages, 1):
+        lines.append(b'f %d - "%s"' % (uid, escaped(message)))
+    return b"\n".join(lines + [b"near 1 1", b"state 0 0 0 0 0", b"end", b""])
+
+
+def escaped(message):
+    return b"".join(PLAIN[byte] for byte in message)
+
+
+PLAIN = [bytes([b]) if 32 <= b <= 126 and b not in b'"\\' else b"\\%02x" % b for b in range(256)]
+
+
+class Server:
+    """The program, which listens at a free port of this machine."""
+
+    def __init__(self, file, count):
+        with socket.socket() as free:
+            free.bind(("127.0.0.1", 0))
+            self.port = free.getsockname()[1]
+        self.process = subprocess.Popen([PROGRAM, f"127.0.0.1:{self.port}", file, str(count)], stderr=subprocess.PIPE)
+
+    def connect(self):
+        """A connection, once the server listens."""
+        for _ in range(6000):
+            if self.process.poll() is not None:
+                sys.exit(f"trial-imapd ended: {self.process.stderr.read().decode()}")
+            try:
+                return Connection(socket.create_connection(("127.0.0.1", self.port), timeout=600))
+            except ConnectionRefusedError:
+                time.sleep(0.05)
+        sys.exit("trial-imapd does not listen")
+
+    def ended(self):
+        """Its status, once it has ended."""
+        status = self.process.wait()
+        self.process.stderr.close()
+        return status
+
+    def peak(self):
+        """Its greatest memory so far in MB."""
+        with open(f"/proc/{self.process.pid}/status", encoding="ascii") as lines:
+            return next(int(line.split()[1]) for line in lines if line.startswith("VmHWM:")) / 1024
+
+    def stop(self):
+        self.process.kill()
+        self.process.wait()
+        self.process.stderr.close()
+
+
+class Connection:
+    """One end of a connection, which sends commands and waits for their replies."""
+
+    def __init__(self, stream):
+        self.stream = stream
+        self.stream.setsockopt(socket.IPPROTO_TCP, socket.TCP_NODELAY, 1)
+        self.tag = 0
+        self.until(b"* OK ready\r\n")
+
+    def until(self, end):
+        """What comes, up to these bytes, which have to come last; only the last bytes are kept and how many came."""
+        last, count = b"", 0
+        while not last.endswith(end):
+            bytes_ = self.stream.recv(1 << 20)
+            if not bytes_:
+                sys.exit(f"the connection ended before {end}: {last}")
+            count += len(bytes_)
+            last = (last + bytes_)[-200:]
+        return last, count
+
+    def ask(self, command, answer=b"OK done"):
+        """Sends a command, and waits for its answer; gives how many bytes came."""
+        self.tag += 1
+        self.stream.sendall(b"A%d %s\r\n" % (self.tag, command))
+        return self.until(b"A%d %s\r\n" % (self.tag, answer))[1]
+
+    def append(self, message, uid, piece=None):
+        """Appends a message, once its literal is asked for, in pieces of this size."""
+        self.tag += 1
+        self.stream.sendall(b"A%d APPEND INBOX () {%d}\r\n" % (self.tag, len(message)))
+        self.until(b"+ go\r\n")
+        for start in range(0, len(message), piece or len(message)):
+            self.stream.sendall(message[start:start + (piece or len(message))])
+        self.stream.sendall(b"\r\n")
+        self.until(b"A%d OK [APPENDUID 1 %d] done\r\n" % (self.tag, uid))
+
+    def logout(self):
+        self.tag += 1
+        self.stream.sendall(b"A%d LOGOUT\r\n" % self.tag)
+        self.until(b"* BYE bye\r\nA%d OK done\r\n" % self.tag)
+        self.stream.close()
