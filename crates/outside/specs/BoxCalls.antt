@@ -19,17 +19,17 @@ use Rattle.outside.specs.Devices.{Device, box, on_box}
 
 -- ---- listings
 
--- what the far mailbox lists; a UIDVALIDITY and a UIDNEXT are above 0
-pub record ListsFar (listing : Listing) (d : Device) : Type 0 where
-  pub shows : Shows Far d.far listing
-  pub validity : 0 < listing.validity
-  pub next : 0 < listing.next
+-- what the far mailbox lists
+abbrev pub ListsFar : Listing → Device → Type 0
+ListsFar listing d = Shows Far d.far listing
 
 -- what the near mailbox lists, where fitness is asked of messages above a UID alone
-pub record ListsNear (from : ℕ) (listing : Listing) (d : Device) : Type 0 where
-  pub shows : ShowsAbove Near from d.near.store listing
-  pub validity : 0 < listing.validity
-  pub next : 0 < listing.next
+abbrev pub ListsNear : (from : ℕ) → Listing → Device → Type 0
+ListsNear from listing d = ShowsAbove Near from d.near.store listing
+
+-- a UIDVALIDITY and a UIDNEXT are above 0
+abbrev pub HasNumbers : Listing → Type 0
+HasNumbers listing = (0 < listing.validity) × (0 < listing.next)
 
 -- ---- changes
 

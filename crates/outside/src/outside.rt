@@ -1,6 +1,6 @@
 //! All that a run calls: the calls of both boxes and of the book.
 
-ghost use Rattle.std.specs.Prelude.{◌≡◌, ℕ, List, ◌∷◌, [], Bool, Option, None, Some, Ok, false, true, MatchOption, OnOk, Result};
+ghost use Rattle.std.specs.Prelude.{◌≡◌, ℕ, List, ◌∷◌, [], Bool, Option, None, Some, Ok, IfOk, OnOk, false};
 ghost use Rattle.std.specs.Option.{option_map};
 
 use crate::fault::OutsideFault;
@@ -41,7 +41,7 @@ pub trait Outside {
     ghost use Rattle.outside.specs.Calls.{Call, Changes, FromBook, FromBox, FromShelf, LeavesBy, Reads, Seen, Writes};
     ghost use Rattle.outside.specs.Opened.{IsBook, IsHeld, IsOpen, IsRead, Opened, AreCommitted, TakesCommit, TakesLog, TakesPlan, journal_of, state_of, turned, with_box};
     ghost use Rattle.outside.specs.BookCalls.{FromLog, LeavesUnread, OfBook, ReadsBook};
-    ghost use Rattle.outside.specs.BoxCalls.{Admits, AdmitsPart, Carry, ListsFar, ListsNear, SetsAside, Turns, copies_made};
+    ghost use Rattle.outside.specs.BoxCalls.{Admits, AdmitsPart, Carry, HasNumbers, ListsFar, ListsNear, SetsAside, Turns, copies_made};
 
     /// Server, folder and shelf have kept their word so far.
     ghost honest: { Self → Type 0 };
@@ -128,28 +128,30 @@ pub trait Outside {
 
     /// Gives the waiting near files their UIDs.
     fn admit(&mut self) -> Result<(), OutsideFault>
-        requires open { IsOpen Side.Near (opened self.old) }
+        requires is_open { IsOpen Side.Near (opened self.old) }
         ensures was_honest { honest self.new → honest self.old }
         ensures opened { opened self.new ≡ opened self.old }
         ensures call { Changes {T = Unit {0}} (honest self.new) (Arrives ours alone) (λ _. Admits) AdmitsPart (seen self.old) (seen self.new) result };
 
     /// What the far mailbox lists.
     fn list_far(&mut self) -> Result<Listing, OutsideFault>
-        requires open { IsOpen Side.Far (opened self.old) }
+        requires is_open { IsOpen Side.Far (opened self.old) }
         ensures was_honest { honest self.new → honest self.old }
         ensures opened { opened self.new ≡ opened self.old }
+        ensures numbers { IfOk result HasNumbers }
         ensures call { Reads (honest self.new) (Arrives ours alone) ListsFar (seen self.old) (seen self.new) result };
 
     /// What the near mailbox lists. Messages up to this UID are said to be fit, and are not read.
     fn list_near(&mut self, from: u32) -> Result<Listing, OutsideFault>
-        requires open { IsOpen Side.Near (opened self.old) }
+        requires is_open { IsOpen Side.Near (opened self.old) }
         ensures was_honest { honest self.new → honest self.old }
         ensures opened { opened self.new ≡ opened self.old }
+        ensures numbers { IfOk result HasNumbers }
         ensures call { Reads (honest self.new) (Arrives ours alone) (ListsNear from) (seen self.old) (seen self.new) result };
 
     /// The least UID of at least `from` whose message has the mark.
     fn find_mark(&mut self, side: Side, mark: Tuid, from: u32) -> Result<Option<Uid>, OutsideFault>
-        requires open { IsOpen side (opened self.old) }
+        requires is_open { IsOpen side (opened self.old) }
         ensures was_honest { honest self.new → honest self.old }
         ensures opened { opened self.new ≡ opened self.old }
         ensures call { Reads (honest self.new) (Arrives ours alone) (λ found d. found ≡ marked_from mark from (box d side)) (seen self.old) (seen self.new) result };
@@ -162,29 +164,29 @@ pub trait Outside {
         mark: Tuid,
         flags: Flags,
     ) -> Result<Carried, OutsideFault>
-        requires far { IsOpen Side.Far (opened self.old) }
-        requires near { IsOpen Side.Near (opened self.old) }
+        requires far_open { IsOpen Side.Far (opened self.old) }
+        requires near_open { IsOpen Side.Near (opened self.old) }
         ensures was_honest { honest self.new → honest self.old }
         ensures opened { opened self.new ≡ opened self.old }
         ensures call { Call (honest self.new) (Arrives ours alone) copies_made FromBox (Carry direction uid flags mark) (LeavesBy (Carry direction uid flags mark) (SetsAside (target direction))) (seen self.old) (seen self.new) result };
 
     /// Sets these flags of a message. Nothing is done where it is not there.
     fn add_flags(&mut self, side: Side, uid: Uid, flags: Flags) -> Result<(), OutsideFault>
-        requires open { IsOpen side (opened self.old) }
+        requires is_open { IsOpen side (opened self.old) }
         ensures was_honest { honest self.new → honest self.old }
         ensures opened { opened self.new ≡ opened self.old }
         ensures call { Changes {T = Unit {0}} (honest self.new) (Arrives ours alone) (λ _. Turns side (flags_added uid flags)) Nothing (seen self.old) (seen self.new) result };
 
     /// Clears these flags of a message. Nothing is done where it is not there.
     fn remove_flags(&mut self, side: Side, uid: Uid, flags: Flags) -> Result<(), OutsideFault>
-        requires open { IsOpen side (opened self.old) }
+        requires is_open { IsOpen side (opened self.old) }
         ensures was_honest { honest self.new → honest self.old }
         ensures opened { opened self.new ≡ opened self.old }
         ensures call { Changes {T = Unit {0}} (honest self.new) (Arrives ours alone) (λ _. Turns side (flags_removed uid flags)) Nothing (seen self.old) (seen self.new) result };
 
     /// Removes a message, if it is there.
     fn expunge(&mut self, side: Side, uid: Uid) -> Result<(), OutsideFault>
-        requires open { IsOpen side (opened self.old) }
+        requires is_open { IsOpen side (opened self.old) }
         ensures was_honest { honest self.new → honest self.old }
         ensures opened { opened self.new ≡ opened self.old }
         ensures call { Changes {T = Unit {0}} (honest self.new) (Arrives ours alone) (λ _. Turns side (expunged (uid ∷ []))) Nothing (seen self.old) (seen self.new) result };
