@@ -1,0 +1,113 @@
+-- Admission, two listings and the writing of the plan.
+use Rattle.std.proofs.Common.{◌≡◌, ◌⊎◌, inl, inr, ℕ, Bool, true, false, List, Option, Some, None, refl, ap, subst}
+use Rattle.std.proofs.lemmas.Bool.{both_ways}
+use Rattle.mailcore.specs.declared.side.Side.TheVariants.{Far, Near as NearSide}
+use Rattle.mailcore.specs.declared.listing.Listing.{Listing}
+use Rattle.mailcore.specs.Operations.{Shows, ShowsAbove}
+use Rattle.rules.specs.declared.plan.Plan.{Plan}
+use Rattle.book.specs.declared.book.Pending.TheVariants.{Missing, Useless}
+use Rattle.book.specs.Books.{Holds, Turns as TurnsJournal, TurnsHalf}
+use Rattle.book.specs.BookLogs.{begun}
+use Rattle.outside.specs.Arrivals.{Arrives}
+use Rattle.outside.specs.BookCalls.{OfBook}
+use Rattle.outside.specs.BoxCalls.{Admits, AdmitsPart}
+use Rattle.outside.specs.Devices.{Device}
+use Rattle.outside.specs.Opened.{Opened, turned}
+use Rattle.underway.specs.Conditions.{Underway}
+use Rattle.underway.specs.Moments.{Listed}
+use Rattle.underway.specs.Openings.{Opening, Since, Unplanned}
+use Rattle.underway.proofs.Admitting.{drop_whole, grows_numbered}
+use Rattle.underway.proofs.Growth.{files_same, since_map, unplanned_arrives, unplanned_filed}
+use Rattle.underway.proofs.Listings.{listed_arrives, listed_grows, listed_here, listed_world, names_below, plan_written as written_midway}
+use Rattle.runner.specs.Before.{AreShown, BothListed, FarListed, IsClear, IsMade}
+use Rattle.runner.specs.Going.{AtReady}
+
+module _ (ours : List ℕ → Bool) (alone : Bool) (opening : Opening) where
+  pub clear_unplanned : (opened : Option Opened) (is_admitted : Bool) (d : Device) → IsClear alone opening opened is_admitted d → Unplanned alone opening d
+  clear_unplanned opened is_admitted d c = record { pending = Missing; idle = tt; files = c.files; chosen = c.chosen; below = c.below; grows = c.grows }
+
+  pub clear_underway : (opened : Option Opened) (is_admitted : Bool) (d : Device) → IsClear alone opening opened is_admitted d → Underway ours alone opening d
+  clear_underway opened is_admitted d c = inl (clear_unplanned opened is_admitted d c)
+
+  pub clear_arrives : (opened : Option Opened) (is_admitted : Bool) (d m : Device) → Arrives ours alone d m → IsClear alone opening opened is_admitted d → IsClear alone opening opened is_admitted m
+  clear_arrives opened is_admitted d m a c =
+      let n = unplanned_arrives ours alone opening d m a (clear_unplanned opened is_admitted d c) in
+      record {
+        state = c.state;
+        files = rw (files_same ours alone d m a) c.files;
+        chosen = c.chosen;
+        below = c.below;
+        grows = n.grows;
+        admitted = λ is e. rw (a.nobody e) (c.admitted is e);
+      }
+
+  -- ---- admission
+
+  pub admitted_all : (opened : Option Opened) (d m d' : Device) → Arrives ours alone d m → IsClear alone opening opened false d → Admits m d' → IsClear alone opening opened true d'
+  admitted_all opened d m d' a c is =
+      let k = clear_arrives opened false d m a c in
+      let far : d'.far ≡ m.far = rw is refl in
+      let near = ap (λ (x : Device). x.near) is in
+      record {
+        state = k.state;
+        files = rw is k.files;
+        chosen = k.chosen;
+        below = k.below;
+        grows = grows_numbered alone opening.world opening.world.state _ m d' far near k.grows;
+        admitted = λ t e. rw is (drop_whole m.near.waiting);
+      }
+
+  pub admitted_part : (opened : Option Opened) (d m d' : Device) → Arrives ours alone d m → IsClear alone opening opened false d → AdmitsPart m d' → IsClear alone opening opened false d'
+  admitted_part opened d m d' a c t =
+      let k = clear_arrives opened false d m a c in
+      record {
+        state = k.state;
+        files = rw t.files k.files;
+        chosen = k.chosen;
+        below = k.below;
+        grows = grows_numbered alone opening.world opening.world.state t.near.count m d' t.far t.near.now k.grows;
+        admitted = λ e. absurd (both_ways false refl e);
+      }
+
+  -- ---- the listings
+
+  pub far_listed : (opened : Option Opened) (far : Listing) (d m d' : Device) → Arrives ours alone d m → IsClear alone opening opened true d → d' ≡ m → Shows Far m.far far → FarListed alone opening opened far d'
+  far_listed opened far d m d' a c is l = rw is (record { clear = clear_arrives opened true d m a c; shows = l })
+
+  pub near_listed : (opened : Option Opened) (far near : Listing) (from : ℕ) (d m d' : Device) → from ≡ opening.world.state.max_pushed → Arrives ours alone d m → FarListed alone opening opened far d → d' ≡ m → ShowsAbove NearSide from m.near.store near → BothListed ours alone opening opened far near d'
+  near_listed opened far near from d m d' pushed a f is l =
+      let c = clear_arrives opened true d m a f.clear in
+      let s = opening.world.state in
+      let grows = listed_grows alone opening.world s d m f.clear.grows c.grows in
+      let since : Since alone opening (λ w. AreShown w.state.max_pushed w far near × Listed ours alone w m) = record {
+        world = listed_world s d m;
+        grows = grows;
+        admitted = λ e. c.admitted refl e;
+        below = names_below alone opening.world (listed_world s d m) grows c.below;
+        holds = (record { far_is = f.shows; near_is = subst (λ (x : ℕ). ShowsAbove NearSide x m.near.store near) pushed l }, listed_here ours alone opening.world s d m grows (λ e. c.admitted refl e) a c.files);
+      } in
+      rw is (record { clear = c; since = since })
+
+  -- ---- the plan
+
+  pub made_arrives : (opened : Option Opened) (plan : Plan) (d m : Device) → Arrives ours alone d m → IsMade ours alone opening opened plan d → IsMade ours alone opening opened plan m
+  made_arrives opened plan d m a p = record { clear = clear_arrives opened true d m a p.clear; since = since_map alone opening _ _ (λ w g k. (k.0, listed_arrives ours alone w d m a k.1)) p.since }
+
+  pub plan_written : (opened : Option Opened) (plan : Plan) (d m d' : Device) → Arrives ours alone d m → IsMade ours alone opening opened plan d → OfBook (λ _. TurnsJournal Missing (begun plan)) opened m d' → AtReady ours alone opening (turned (λ _. begun plan) opened) false d'
+  plan_written None plan d m d' a p t = absurd t
+  plan_written (Some o) plan d m d' a p t =
+      let now = made_arrives (Some o) plan d m a p in
+      record {
+        state = now.clear.state;
+        since = since_map alone opening _ _ (λ w g k. let l = k.1 in written_midway ours alone w opening.options plan m d' k.0 l t.far t.near (t.files w.state l.files)) now.since;
+      }
+
+  pub half_written : (opened : Option Opened) (plan : Plan) (d m d' : Device) → Arrives ours alone d m → IsMade ours alone opening opened plan d → OfBook (λ _. TurnsHalf Missing Useless) opened m d' → Underway ours alone opening d'
+  half_written None plan d m d' a p t = absurd t
+  half_written (Some o) plan d m d' a p t =
+      let c = clear_arrives (Some o) true d m a p.clear in
+      by_files (clear_unplanned (Some o) true m c) t.far t.near (t.files opening.world.state c.files)
+    where
+      by_files : Unplanned alone opening m → d'.far ≡ m.far → d'.near ≡ m.near → Holds d'.files opening.world.state Missing ⊎ Holds d'.files opening.world.state Useless → Underway ours alone opening d'
+      by_files n far near (inl held) = inl (unplanned_filed alone opening Missing m d' tt far near held n)
+      by_files n far near (inr held) = inl (unplanned_filed alone opening Useless m d' tt far near held n)

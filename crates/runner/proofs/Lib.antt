@@ -1,0 +1,12 @@
+pub mod PartCalls
+pub mod Stages
+pub mod Wholes
+pub mod NextSteps
+pub mod LoopLemmas
+pub mod FreeCopies
+pub mod Logging
+pub mod Readings
+pub mod Begun
+pub mod Fitness
+pub mod PlanFacts
+pub mod Passes

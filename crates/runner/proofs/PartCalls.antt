@@ -1,0 +1,241 @@
+-- From the calls of the outside to parts, and from parts to longer ones.
+use Rattle.std.proofs.Common.{◌≡◌, ◌⊎◌, ◌≤◌, ◌<◌, ◌+◌, inl, inr, ⊎_elim, ℕ, true, false, Result, Ok, Err, refl, ◌∙◌, arith}
+use Rattle.device.specs.Calls.{Effect}
+use Rattle.mailcore.specs.declared.side.Side.{Side}
+use Rattle.outside.specs.declared.fault.OutsideFault.{OutsideFault}
+use Rattle.outside.specs.declared.fault.OutsideFault.TheVariants as out
+use Rattle.outside.specs.Calls.{Call, FromBook, FromBox, IsCounted, Seen}
+use Rattle.outside.specs.Devices.{Device}
+use Rattle.runner.specs.declared.fault.RunFault.{RunFault}
+use Rattle.runner.specs.declared.fault.RunFault.TheVariants as run
+use Rattle.runner.specs.Faults.{IsCaused, IsLost, LeavesRun, call_fault, step_fault}
+use Rattle.runner.specs.Parts.{Left, NoLess, Part, Passed}
+
+-- ---- why a fault is told
+
+abbrev StopCount : OutsideFault → Seen → Seen → Type 0
+StopCount e old new = e ≡ out.Stopped → (old.is_broken ≡ true) ⊎ (old.stops < new.stops)
+
+caused_by : (e : OutsideFault) (number : ℕ) (s0 s1 : Seen) → StopCount e s0 s1 → IsCounted e s0 s1 → IsCaused (step_fault e number) s0 s1
+caused_by out.Stopped number s0 s1 stop h = stop refl
+caused_by out.Refused number s0 s1 stop h = h
+caused_by (out.Box side code) number s0 s1 stop h = inl h
+caused_by (out.BadState line) number s0 s1 stop h = tt
+caused_by (out.BadJournal line) number s0 s1 stop h = tt
+caused_by out.NoMemory number s0 s1 stop h = tt
+
+called_by : (e : OutsideFault) (s0 s1 : Seen) → StopCount e s0 s1 → IsCounted e s0 s1 → IsCaused (call_fault e) s0 s1
+called_by out.Stopped s0 s1 stop h = stop refl
+called_by out.Refused s0 s1 stop h = inr (inl h)
+called_by (out.Box side code) s0 s1 stop h = inl h
+called_by (out.BadState line) s0 s1 stop h = tt
+called_by (out.BadJournal line) s0 s1 stop h = tt
+called_by out.NoMemory s0 s1 stop h = tt
+
+-- ---- what a fault leaves
+
+-- a fault that tells nothing of the state or the journal
+abbrev pub TellsNoBook : OutsideFault → Type 0
+TellsNoBook out.Stopped = Unit {0}
+TellsNoBook out.Refused = Unit {0}
+TellsNoBook (out.Box side number) = Unit {0}
+TellsNoBook (out.BadState line) = ⊥
+TellsNoBook (out.BadJournal line) = ⊥
+TellsNoBook out.NoMemory = Unit {0}
+
+pub from_box : (e : OutsideFault) → FromBox e → TellsNoBook e
+from_box out.Stopped h = tt
+from_box out.Refused h = tt
+from_box (out.Box side number) h = tt
+from_box (out.BadState line) h = h
+from_box (out.BadJournal line) h = h
+from_box out.NoMemory h = tt
+
+pub from_book : (e : OutsideFault) → FromBook e → TellsNoBook e
+from_book out.Stopped h = tt
+from_book out.Refused h = tt
+from_book (out.Box side number) h = tt
+from_book (out.BadState line) h = h
+from_book (out.BadJournal line) h = h
+from_book out.NoMemory h = tt
+
+pub after_step : (u : Device → Type 0) (e : OutsideFault) (number : ℕ) (s0 s1 : Seen) → IsCounted e s0 s1 → TellsNoBook e → u s1.device → LeavesRun u (step_fault e number) s0 s1
+after_step u out.Stopped number s0 s1 h t k = k
+after_step u out.Refused number s0 s1 h t k = k
+after_step u (out.Box side code) number s0 s1 h t k = (k, inl h)
+after_step u (out.BadState line) number s0 s1 h t k = t
+after_step u (out.BadJournal line) number s0 s1 h t k = t
+after_step u out.NoMemory number s0 s1 h t k = k
+
+pub after_call : (u : Device → Type 0) (e : OutsideFault) (s0 s1 : Seen) → IsCounted e s0 s1 → TellsNoBook e → u s1.device → LeavesRun u (call_fault e) s0 s1
+after_call u out.Stopped s0 s1 h t k = k
+after_call u out.Refused s0 s1 h t k = (k, inr h)
+after_call u (out.Box side code) s0 s1 h t k = (k, inl h)
+after_call u (out.BadState line) s0 s1 h t k = t
+after_call u (out.BadJournal line) s0 s1 h t k = t
+after_call u out.NoMemory s0 s1 h t k = k
+
+-- the same for a weaker condition
+pub leaves_map : (u v : Device → Type 0) (f : RunFault) (s0 s1 : Seen) → (u s1.device → v s1.device) → LeavesRun u f s0 s1 → LeavesRun v f s0 s1
+leaves_map u v run.Stopped s0 s1 g k = g k
+leaves_map u v (run.Refused step) s0 s1 g k = g k
+leaves_map u v (run.StoreFault side code) s0 s1 g k = (g k.0, k.1)
+leaves_map u v (run.ValidityChanged side) s0 s1 g k = g k
+leaves_map u v (run.BadState line) s0 s1 g k = k
+leaves_map u v (run.BadJournal line) s0 s1 g k = k
+leaves_map u v run.MarksRepeat s0 s1 g k = g k
+leaves_map u v run.NoMemory s0 s1 g k = g k
+
+pub leaves_any : (u : Device → Type 0) (f : RunFault) (s0 s1 : Seen) → LeavesRun u f s0 s1 → u s1.device
+leaves_any u run.Stopped s0 s1 k = k
+leaves_any u (run.Refused step) s0 s1 k = k
+leaves_any u (run.StoreFault side code) s0 s1 k = k.0
+leaves_any u (run.ValidityChanged side) s0 s1 k = k
+leaves_any u (run.BadState line) s0 s1 k = absurd k
+leaves_any u (run.BadJournal line) s0 s1 k = absurd k
+leaves_any u run.MarksRepeat s0 s1 k = k
+leaves_any u run.NoMemory s0 s1 k = k
+
+-- ---- one call
+
+module _ {T : Type 0} (honest : Type 0) (from : Device → Type 0) (others : Effect Device) (copies : T → ℕ) (tells : OutsideFault → Type 0) (does : T → Effect Device) (leaves : OutsideFault → Effect Device) (s0 s1 : Seen) where
+  -- that went
+  pub passed_call : (to : Device → Type 0) (x : T) → Call honest others copies tells does leaves s0 s1 (Ok x) → ((m : Device) → from s0.device → others s0.device m → does x m s1.device → to s1.device) → Passed honest from to (copies x) s0 s1
+  passed_call to x c f =
+      let a = c.acts in
+      let n = c.counts in
+      record {
+        is_whole = a.is_whole;
+        stops = a.stops;
+        refusals = n.refusals;
+        faults = n.faults;
+        appends = n.appends;
+        reaches = λ h at. let e = a.effect h in f e.mid at e.before e.behind;
+      }
+
+  no_less : (e : OutsideFault) → Call honest others copies tells does leaves s0 s1 (Err e) → NoLess s0 s1
+  no_less e c = let a = c.acts in let n = c.counts in record { stops = a.no_less; refusals = n.refusals; faults = n.faults; appends = n.appends }
+
+  -- that had a fault while a step was performed
+  pub left_step : (underway : Device → Type 0) (number : ℕ) (e : OutsideFault) → Call honest others copies tells does leaves s0 s1 (Err e) → ((m : Device) → from s0.device → others s0.device m → leaves e m s1.device → tells e → TellsNoBook e × underway s1.device) → Left honest from underway (step_fault e number) s0 s1
+  left_step underway number e c f =
+      let a = c.acts in
+      let n = c.counts in
+      record {
+        caused = caused_by e number s0 s1 a.counted n.counted;
+        no_less = no_less e c;
+        left = λ h at. let k = a.left h in let r = f k.mid at k.before k.behind n.told in after_step underway e number s0 s1 n.counted r.0 r.1;
+      }
+
+  -- that had one else
+  pub left_call : (underway : Device → Type 0) (e : OutsideFault) → Call honest others copies tells does leaves s0 s1 (Err e) → ((m : Device) → from s0.device → others s0.device m → leaves e m s1.device → tells e → TellsNoBook e × underway s1.device) → Left honest from underway (call_fault e) s0 s1
+  left_call underway e c f =
+      let a = c.acts in
+      let n = c.counts in
+      record {
+        caused = called_by e s0 s1 a.counted n.counted;
+        no_less = no_less e c;
+        left = λ h at. let k = a.left h in let r = f k.mid at k.before k.behind n.told in after_call underway e s0 s1 n.counted r.0 r.1;
+      }
+
+-- ---- no call
+
+pub passed_none : (honest : Type 0) (from to : Device → Type 0) (s : Seen) → s.is_broken ≡ false → (from s.device → to s.device) → Passed honest from to 0 s s
+passed_none honest from to s whole f = record { is_whole = whole; stops = refl; refusals = refl; faults = refl; appends = omega arith; reaches = λ h at. f at }
+
+-- ---- one part after another
+
+pub passed_after : (h0 h1 : Type 0) (a b c : Device → Type 0) (m n : ℕ) (s0 s1 s2 : Seen) → (h1 → h0) → Passed h0 a b m s0 s1 → Passed h1 b c n s1 s2 → Passed h1 a c (m + n) s0 s2
+passed_after h0 h1 a b c m n s0 s1 s2 honest p q = record {
+  is_whole = q.is_whole;
+  stops = q.stops ∙ p.stops;
+  refusals = q.refusals ∙ p.refusals;
+  faults = q.faults ∙ p.faults;
+  appends = omega (arith, p.appends, q.appends);
+  reaches = λ h at. q.reaches h (p.reaches (honest h) at);
+}
+
+-- what may be told once the counts before it stood still
+later : (f : RunFault) (s0 s1 s2 : Seen) → s1.is_broken ≡ false → s1.stops ≡ s0.stops → s1.refusals ≡ s0.refusals → s1.faults ≡ s0.faults → s0.appends ≤ s1.appends → IsCaused f s1 s2 → IsCaused f s0 s2
+later run.Stopped s0 s1 s2 w s r b a h = ⊎_elim (λ k. cc) (λ k. inr (omega arith)) h
+later (run.Refused step) s0 s1 s2 w s r b a h = omega arith
+later (run.StoreFault side code) s0 s1 s2 w s r b a (inl h) = inl (omega arith)
+later (run.StoreFault side code) s0 s1 s2 w s r b a (inr (inl h)) = inr (inl (omega arith))
+later (run.StoreFault side code) s0 s1 s2 w s r b a (inr (inr h)) = inr (inr (record { far = h.far; protocol = h.protocol; copied = let k = h.copied in omega arith }))
+later (run.ValidityChanged side) s0 s1 s2 w s r b a h = tt
+later (run.BadState line) s0 s1 s2 w s r b a h = tt
+later (run.BadJournal line) s0 s1 s2 w s r b a h = tt
+later run.MarksRepeat s0 s1 s2 w s r b a h = tt
+later run.NoMemory s0 s1 s2 w s r b a h = tt
+
+leaves_later : (u : Device → Type 0) (f : RunFault) (s0 s1 s2 : Seen) → s1.refusals ≡ s0.refusals → s1.faults ≡ s0.faults → LeavesRun u f s1 s2 → LeavesRun u f s0 s2
+leaves_later u run.Stopped s0 s1 s2 r b k = k
+leaves_later u (run.Refused step) s0 s1 s2 r b k = k
+leaves_later u (run.StoreFault side code) s0 s1 s2 r b (k, inl h) = (k, inl (omega arith))
+leaves_later u (run.StoreFault side code) s0 s1 s2 r b (k, inr h) = (k, inr (omega arith))
+leaves_later u (run.ValidityChanged side) s0 s1 s2 r b k = k
+leaves_later u (run.BadState line) s0 s1 s2 r b k = k
+leaves_later u (run.BadJournal line) s0 s1 s2 r b k = k
+leaves_later u run.MarksRepeat s0 s1 s2 r b k = k
+leaves_later u run.NoMemory s0 s1 s2 r b k = k
+
+pub left_after : (h0 h1 : Type 0) (a b underway : Device → Type 0) (m : ℕ) (f : RunFault) (s0 s1 s2 : Seen) → (h1 → h0) → Passed h0 a b m s0 s1 → Left h1 b underway f s1 s2 → Left h1 a underway f s0 s2
+left_after h0 h1 a b underway m f s0 s1 s2 honest p q = record {
+  caused = later f s0 s1 s2 p.is_whole p.stops p.refusals p.faults (omega (arith, p.appends)) q.caused;
+  no_less = let n = q.no_less in record { stops = omega (arith, p.stops, n.stops); refusals = omega (arith, p.refusals, n.refusals); faults = omega (arith, p.faults, n.faults); appends = omega (arith, p.appends, n.appends) };
+  left = λ h at. leaves_later underway f s0 s1 s2 p.refusals p.faults (q.left h (p.reaches (honest h) at));
+}
+
+-- a fault of the run's own, behind a part that went
+pub left_here : (h : Type 0) (a b underway : Device → Type 0) (m : ℕ) (f : RunFault) (s0 s1 : Seen) → Passed h a b m s0 s1 → IsCaused f s1 s1 → (b s1.device → LeavesRun underway f s0 s1) → Left h a underway f s0 s1
+left_here h a b underway m f s0 s1 p caused g = record {
+  caused = later f s0 s1 s1 p.is_whole p.stops p.refusals p.faults (omega (arith, p.appends)) caused;
+  no_less = record { stops = omega (arith, p.stops); refusals = omega (arith, p.refusals); faults = omega (arith, p.faults); appends = omega (arith, p.appends) };
+  left = λ honest at. g (p.reaches honest at);
+}
+
+-- a copy that was made and not found
+pub left_lost : (h : Type 0) (a underway : Device → Type 0) (m : ℕ) (s0 s1 : Seen) → 0 < m → Passed h a (λ d. ⊥) m s0 s1 → (side : Side) (number : ℕ) → ((s0.appends < s1.appends) → IsLost side number s0 s1) → Left h a underway (run.StoreFault side number) s0 s1
+left_lost h a underway m s0 s1 some p side number lost = record {
+  caused = inr (inr (lost (omega (arith, some, p.appends))));
+  no_less = record { stops = omega (arith, p.stops); refusals = omega (arith, p.refusals); faults = omega (arith, p.faults); appends = omega (arith, p.appends) };
+  left = λ honest at. absurd (p.reaches honest at);
+}
+
+-- ---- the same part between other conditions
+
+pub passed_weaker : (h : Type 0) (a a' b b' : Device → Type 0) (m n : ℕ) (s0 s1 : Seen) → m ≡ n → ((d : Device) → a' d → a d) → ((d : Device) → b d → b' d) → Passed h a b m s0 s1 → Passed h a' b' n s0 s1
+passed_weaker h a a' b b' m n s0 s1 same f g p = record {
+  is_whole = p.is_whole;
+  stops = p.stops;
+  refusals = p.refusals;
+  faults = p.faults;
+  appends = omega (arith, p.appends);
+  reaches = λ honest at. g s1.device (p.reaches honest (f s0.device at));
+}
+
+pub left_weaker : (h : Type 0) (a a' underway : Device → Type 0) (f : RunFault) (s0 s1 : Seen) → ((d : Device) → a' d → a d) → Left h a underway f s0 s1 → Left h a' underway f s0 s1
+left_weaker h a a' underway f s0 s1 g l = record { caused = l.caused; no_less = l.no_less; left = λ honest at. l.left honest (g s0.device at) }
+
+pub part_weaker : {T : Type 0} (h : Type 0) (a a' underway : Device → Type 0) (copies : T → ℕ) (reaches reaches' : T → Device → Type 0) (s0 s1 : Seen) (r : Result T RunFault) → ((d : Device) → a' d → a d) → ((x : T) (d : Device) → reaches x d → reaches' x d) → Part h a underway copies reaches s0 s1 r → Part h a' underway copies reaches' s0 s1 r
+part_weaker h a a' underway copies reaches reaches' s0 s1 (Ok x) f g p = passed_weaker h a a' (reaches x) (reaches' x) (copies x) (copies x) s0 s1 refl f (g x) p
+part_weaker h a a' underway copies reaches reaches' s0 s1 (Err e) f g p = left_weaker h a a' underway e s0 s1 f p
+
+-- a part after one that made no copy
+pub part_after : {T : Type 0} (h0 h1 : Type 0) (a b underway : Device → Type 0) (copies : T → ℕ) (reaches : T → Device → Type 0) (s0 s1 s2 : Seen) (r : Result T RunFault) → (h1 → h0) → Passed h0 a b 0 s0 s1 → Part h1 b underway copies reaches s1 s2 r → Part h1 a underway copies reaches s0 s2 r
+part_after h0 h1 a b underway copies reaches s0 s1 s2 (Ok x) honest p q = passed_weaker h1 a a (reaches x) (reaches x) (0 + copies x) (copies x) s0 s2 (omega arith) (λ d k. k) (λ d k. k) (passed_after h0 h1 a b (reaches x) 0 (copies x) s0 s1 s2 honest p q)
+part_after h0 h1 a b underway copies reaches s0 s1 s2 (Err e) honest p q = left_after h0 h1 a b underway 0 e s0 s1 s2 honest p q
+
+-- beside what does not change
+pub passed_with : (p h : Type 0) (a b : Device → Type 0) (n : ℕ) (s0 s1 : Seen) → Passed h a b n s0 s1 → Passed h (λ d. p × a d) (λ d. p × b d) n s0 s1
+passed_with p h a b n s0 s1 k = record {
+  is_whole = k.is_whole;
+  stops = k.stops;
+  refusals = k.refusals;
+  faults = k.faults;
+  appends = k.appends;
+  reaches = λ honest at. (at.0, k.reaches honest at.1);
+}
+
+pub add_none : (n : ℕ) → n + 0 ≡ n
+add_none n = omega arith

@@ -1,0 +1,355 @@
+-- How the parts of a run join.
+use Rattle.std.proofs.Common.{◌≡◌, ◌⊎◌, ◌≤◌, ◌+◌, ◌-◌, inl, inr, ℕ, Bool, true, List, [], ◌∷◌, All, length, drop, Option, Some, None, unwrap_or, Result, Ok, Err, IfOk, Vec, refl, sym, ◌∙◌, ap, subst, arith, length-append}
+use Rattle.std.proofs.lemmas.List.{length-drop, length-map}
+use Rattle.std.specs.Global.{Global}
+use Rattle.rand_core.specs.Stream.{Stream}
+use Rattle.mailcore.specs.declared.side.Side.{Side}
+use Rattle.mailcore.specs.declared.listing.Listing.{Listing}
+use Rattle.mailcore.specs.Draws.{Draws}
+use Rattle.rules.specs.declared.options.Options.{Options}
+use Rattle.rules.specs.declared.plan.Plan.{Plan}
+use Rattle.rules.specs.declared.plan.Step.{Step}
+use Rattle.rules.specs.declared.state.SyncState.{SyncState}
+use Rattle.rules.specs.Outcome.{count_new}
+use Rattle.rules.specs.Scene.{scene}
+use Rattle.rules.specs.World.{World, IsInOrder}
+use Rattle.planner.specs.Written.{marks_of}
+use Rattle.sync_state.specs.JournalText.{IsLog}
+use Rattle.sync_state.specs.declared.journal.Logged.{Logged}
+use Rattle.book.specs.declared.book.Pending.{Pending}
+use Rattle.book.specs.declared.book.Pending.TheVariants.{Missing, Useless, Planned}
+use Rattle.book.specs.Books.{Fits, Holds, IsPlanned as HasPlanned, mended}
+use Rattle.book.specs.BookLogs.{begun}
+use Rattle.book.specs.Commits.{CommitsHalf, CommitsTo, IsFinished}
+use Rattle.book.proofs.KnownBooks.{book_known}
+use Rattle.outside.specs.Arrivals.{Arrives}
+use Rattle.outside.specs.BookCalls.{OfBook}
+use Rattle.outside.specs.Devices.{Device}
+use Rattle.outside.specs.Calls.{Seen}
+use Rattle.outside.specs.Opened.{IsBook, IsHeld, IsRead, Opened, TakesCommit, journal_in, state_of, turned, with_box}
+use Rattle.mailcore.specs.declared.side.Side.TheVariants.{Far, Near}
+use Rattle.underway.specs.Conditions.{IsOver, IsPending, Underway}
+use Rattle.underway.specs.Endings.{DoneAt}
+use Rattle.underway.specs.Moments.{PlannedAt}
+use Rattle.underway.specs.Openings.{Grows, IsIdle, Opening, Since, Unplanned}
+use Rattle.underway.specs.Plans.{IsPlanned}
+use Rattle.underway.proofs.Ends.{ended, ended_done, half_ended}
+use Rattle.underway.proofs.Growth.{since_map}
+use Rattle.runner.specs.declared.fault.RunFault.{RunFault}
+use Rattle.runner.specs.declared.fault.RunFault.TheVariants as run
+use Rattle.runner.specs.declared.pass.Pass.{Pass}
+use Rattle.runner.specs.declared.pass.Pass.TheVariants.{Already, Ran, Finished}
+use Rattle.runner.specs.declared.performed.Performed.{Performed}
+use Rattle.runner.specs.Faults.{IsCaused, LeavesRun}
+use Rattle.runner.specs.Answers.{Answers, AnswersTo, AreUnfit, AtEnd, IsAsked, IsDrawn, IsPlanFault, IsRest, IsRestOf, IsRun, Reaches, RunsBy, as_read, run_of}
+use Rattle.runner.specs.Before.{AreShown, BothListed, HasNoJournal, HasNoPlan, HasNone, HasPlan, IsKnown, IsMade, IsTakenUp}
+use Rattle.runner.specs.Going.{AreOpen, AtReady, HasLogged, HasUntorn, IsGoing, IsUntorn, log_at, logged_of, logs_of, next_at, no_journal, plan_at, steps_of}
+use Rattle.runner.proofs.Logging.{of_book}
+use Rattle.runner.proofs.PlanFacts.{no_pairs}
+use Rattle.runner.proofs.Readings.{planned_files, turned_open, turned_state}
+use Rattle.runner.proofs.Stages.{ready_arrives, stands_of}
+
+-- ---- what was read
+
+pub run_same : (old new : Option Opened) → state_of new ≡ state_of old → run_of new ≡ run_of old
+run_same None None e = refl
+run_same None (Some o) e = cc
+run_same (Some o) None e = cc
+run_same (Some o) (Some p) e = let s : p.state ≡ o.state = cc in ap (λ (x : SyncState). x.run) s
+
+pub run_of_state : (opened : Option Opened) (s : SyncState) → state_of opened ≡ Some s → run_of opened ≡ s.run
+run_of_state None s e = cc
+run_of_state (Some o) s e = let same : o.state ≡ s = cc in ap (λ (x : SyncState). x.run) same
+
+pub turned_run : (f : Pending → Pending) (opened : Option Opened) → run_of (turned f opened) ≡ run_of opened
+turned_run f None = refl
+turned_run f (Some o) = refl
+
+pub boxed_run : (opened : Option Opened) → run_of (with_box Near (with_box Far opened)) ≡ run_of opened
+boxed_run None = refl
+boxed_run (Some o) = refl
+
+pub boxed_book : (opened : Option Opened) → IsBook opened → IsBook (with_box Near (with_box Far opened))
+boxed_book None b = b
+boxed_book (Some o) b = b
+
+pub boxed_answers : (run : ℕ) (opened : Option Opened) (r : Result Pass RunFault) → IfOk r (AnswersTo run (with_box Near (with_box Far opened))) → IfOk r (AnswersTo run opened)
+boxed_answers run None r a = a
+boxed_answers run (Some o) (Ok pass) a = a
+boxed_answers run (Some o) (Err e) a = tt
+
+same_run : (a b : Option Opened) (options : Options) (stream : Stream) (steps : List Step) (unfit : List (Side × ℕ)) → state_of a ≡ state_of b → IsRun a options stream steps unfit → IsRun b options stream steps unfit
+same_run None b options stream steps unfit e k = absurd k.drawn
+same_run (Some o) None options stream steps unfit e k = cc
+same_run (Some o) (Some p) options stream steps unfit e k =
+    let s : o.state ≡ p.state = cc in
+    record { far = k.far; near = k.near; drawn = rw (← s) k.drawn; unfit_are = rw (← s) k.unfit_are }
+
+same_runs : (a b : Option Opened) (options : Options) (stream : Stream) (pass : Pass) → state_of a ≡ state_of b → RunsBy a options stream pass → RunsBy b options stream pass
+same_runs a b options stream Already e k = tt
+same_runs a b options stream (Ran performed unfit) e k = same_run a b options stream (steps_of performed.items) unfit.items e k
+same_runs a b options stream (Finished performed) e k = tt
+
+boxed_state : (opened : Option Opened) → state_of (with_box Near (with_box Far opened)) ≡ state_of opened
+boxed_state None = refl
+boxed_state (Some o) = refl
+
+pub boxed_runs : (opened : Option Opened) (options : Options) (stream : Stream) (r : Result Pass RunFault) → IfOk r (RunsBy (with_box Near (with_box Far opened)) options stream) → IfOk r (RunsBy opened options stream)
+boxed_runs opened options stream (Ok pass) k = same_runs (with_box Near (with_box Far opened)) opened options stream pass (boxed_state opened) k
+boxed_runs opened options stream (Err e) k = tt
+
+pub run_here : (opened now : Option Opened) (options : Options) (stream : Stream) (far near : Listing) (plan : Plan) (steps : List Step) (unfit : List (Side × ℕ)) → now ≡ turned (λ _. Missing) opened → steps ≡ plan.steps → IsDrawn now stream far near options plan.steps → AreUnfit now far near options unfit → IsRun opened options stream steps unfit
+run_here opened now options stream far near plan steps unfit e s d u =
+    same_run now opened options stream steps unfit (ap state_of e ∙ turned_state (λ _. Missing) opened) (record { far = far; near = near; drawn = rw s d; unfit_are = u })
+
+-- ---- the log is as long as the plan
+
+log_few : (steps : List Step) (log : List Logged) → IsLog steps log → length log ≤ length steps
+log_few steps [] f = omega arith
+log_few [] (l ∷ ls) f = absurd f
+log_few (s ∷ ss) (l ∷ ls) f = omega (arith, log_few ss ls f.1)
+
+pub book_few : (opened : Option Opened) → IsBook opened → length (log_at opened) ≤ length (plan_at opened).steps
+book_few None b = absurd b
+book_few (Some o) b = of_pending o.pending b.1
+  where
+    of_pending : (p : Pending) → Fits o.state p → length (unwrap_or (journal_in p) no_journal).log ≤ length (unwrap_or (journal_in p) no_journal).plan.steps
+    of_pending Missing f = omega arith
+    of_pending Useless f = omega arith
+    of_pending (Planned written) f = let h = f.has_text in log_few written.journal.plan.steps written.journal.log h.log
+
+takes_all : (opened : Option Opened) → HasUntorn opened → length (log_at opened) ≡ length (plan_at opened).steps → TakesCommit opened
+takes_all None g e = g
+takes_all (Some o) g e = of_pending o.pending g e
+  where
+    of_pending : (p : Pending) → IsUntorn p → length (unwrap_or (journal_in p) no_journal).log ≡ length (unwrap_or (journal_in p) no_journal).plan.steps → IsFinished p
+    of_pending Missing g e = g
+    of_pending Useless g e = g
+    of_pending (Planned written) g e = e
+
+pub takes_commit : (old new : Option Opened) (performed : List Performed) → length (log_at old) ≤ length (plan_at old).steps → HasLogged old new (logs_of performed) → steps_of performed ≡ drop (length (log_at old)) (plan_at old).steps → TakesCommit new
+takes_commit old new performed few h steps =
+    let g = h.going in
+    let logs : length (logs_of performed) ≡ length performed = length-map performed (λ p. logged_of p.result) in
+    let many : length (steps_of performed) ≡ length performed = length-map performed (λ p. p.step) in
+    let left : length (steps_of performed) ≡ length (plan_at old).steps - length (log_at old) = ap (λ (l : List Step). length l) steps ∙ length-drop (length (log_at old)) (plan_at old).steps in
+    let log : length (log_at new) ≡ length (log_at old) + length (logs_of performed) = ap (λ (l : List Logged). length l) h.log ∙ length-append {A = Logged} (log_at old) (logs_of performed) in
+    let plan : length (plan_at new).steps ≡ length (plan_at old).steps = ap (λ (p : Plan). length p.steps) h.plan in
+    takes_all new g.untorn (omega (arith, logs, many, left, log, plan, few))
+
+-- ---- the journal after a plan is written, or after a torn line goes
+
+pub begun_going : (opened : Option Opened) (plan : Plan) → IsRead opened → AreOpen opened → IsGoing (turned (λ _. begun plan) opened)
+begun_going None plan read are = absurd read
+begun_going (Some o) plan read are = record { untorn = refl; boxes = turned_open (λ _. begun plan) (Some o) are }
+
+pub begun_log : (opened : Option Opened) (plan : Plan) → IsRead opened → log_at (turned (λ _. begun plan) opened) ≡ []
+begun_log None plan read = absurd read
+begun_log (Some o) plan read = refl
+
+pub begun_plan : (opened : Option Opened) (plan : Plan) → IsRead opened → plan_at (turned (λ _. begun plan) opened) ≡ plan
+begun_plan None plan read = absurd read
+begun_plan (Some o) plan read = refl
+
+pub mended_going : (opened : Option Opened) → HasPlan opened → AreOpen opened → IsGoing (turned mended opened)
+mended_going None plan are = absurd plan
+mended_going (Some o) plan are = of_pending o.pending plan (turned_open mended (Some o) are)
+  where
+    of_pending : (p : Pending) → HasPlanned p → AreOpen (Some (record o { pending = mended p })) → IsGoing (Some (record o { pending = mended p }))
+    of_pending Missing h k = absurd h
+    of_pending Useless h k = absurd h
+    of_pending (Planned written) h k = record { untorn = refl; boxes = k }
+
+pub mended_book : (opened : Option Opened) → IsBook opened → IsBook (turned mended opened)
+mended_book None b = b
+mended_book (Some o) b = (b.0, of_pending o.pending b.1)
+  where
+    of_pending : (p : Pending) → Fits o.state p → Fits o.state (mended p)
+    of_pending Missing f = f
+    of_pending Useless f = f
+    of_pending (Planned written) f = f
+
+pub mended_rest : (opened : Option Opened) (performed : List Performed) → HasPlan opened → steps_of performed ≡ drop (length (log_at (turned mended opened))) (plan_at (turned mended opened)).steps → IsRestOf opened performed
+mended_rest None performed h e = h
+mended_rest (Some o) performed h e = of_pending o.pending h e
+  where
+    of_pending : (p : Pending) → HasPlanned p → steps_of performed ≡ drop (length (unwrap_or (journal_in (mended p)) no_journal).log) (unwrap_or (journal_in (mended p)) no_journal).plan.steps → IsRest p performed
+    of_pending Missing h e = h
+    of_pending Useless h e = h
+    of_pending (Planned written) h e = e
+
+pub ran_answers : (opened : Option Opened) (performed : Vec Performed Global) (unfit : Vec (Side × ℕ) Global) → HasNoPlan opened → AnswersTo (run_of opened + 1) opened (Ran performed unfit)
+ran_answers None performed unfit h = h
+ran_answers (Some o) performed unfit h = (refl, h)
+
+pub finished_answers : (opened : Option Opened) (performed : Vec Performed Global) → IsRestOf opened performed.items → AnswersTo (run_of opened + 1) opened (Finished performed)
+finished_answers None performed h = h
+finished_answers (Some o) performed h = (refl, h)
+
+-- ---- the answers by the files
+
+pub answers_held : (run : ℕ) (opened : Option Opened) (d : Device) (h0 h1 : Type 0) (r : Result Pass RunFault) → IfOk r (AnswersTo run opened) → (h1 → h0) → (h0 → IsHeld opened d) → IfOk r (λ pass. h1 → (s : SyncState) → (p : Pending) → Holds d.files s p → Answers run s p pass)
+answers_held run opened d h0 h1 (Err e) a f g = tt
+answers_held run opened d h0 h1 (Ok pass) a f g = λ h s p k. by_opened opened a (g (f h)) s p k
+  where
+    by_opened : (opened : Option Opened) → AnswersTo run opened pass → IsHeld opened d → (s : SyncState) (p : Pending) → Holds d.files s p → Answers run s p pass
+    by_opened None a held s p k = absurd a
+    by_opened (Some o) a held s p k =
+        let e = book_known d.files o.state s o.pending p held k in
+        subst (λ (x : SyncState). Answers run x p pass) e.0 (subst (λ (q : Pending). Answers run o.state q pass) e.1 a)
+
+pub runs_held : (opened : Option Opened) (options : Options) (stream : Stream) (d : Device) (h0 h1 : Type 0) (r : Result Pass RunFault) → IfOk r (RunsBy opened options stream) → (h1 → h0) → (h0 → IsHeld opened d) → IfOk r (λ pass. h1 → (s : SyncState) → (p : Pending) → Holds d.files s p → RunsBy (as_read s p) options stream pass)
+runs_held opened options stream d h0 h1 (Err e) a f g = tt
+runs_held opened options stream d h0 h1 (Ok pass) a f g = λ h s p k. by_opened opened a (g (f h)) s p k
+  where
+    by_opened : (opened : Option Opened) → RunsBy opened options stream pass → IsHeld opened d → (s : SyncState) (p : Pending) → Holds d.files s p → RunsBy (as_read s p) options stream pass
+    by_opened None a held s p k = absurd held
+    by_opened (Some o) a held s p k =
+        let e = book_known d.files o.state s o.pending p held k in
+        same_runs (Some o) (as_read s p) options stream pass (ap (λ (x : SyncState). Some x) e.0) a
+
+pub stores_joined : (alone : Bool) (h0 h1 : Type 0) (d0 d1 d2 : Device) (r : Result Pass RunFault) → IfOk r (λ p. p ≡ Already → h1 → alone ≡ true → (d2.far ≡ d1.far) × (d2.near ≡ d1.near)) → (h1 → h0) → (h0 → alone ≡ true → d1 ≡ d0) → IfOk r (λ p. p ≡ Already → h1 → alone ≡ true → (d2.far ≡ d0.far) × (d2.near ≡ d0.near))
+stores_joined alone h0 h1 d0 d1 d2 (Ok p) k f g = λ is h e. let x = k is h e in let same = g (f h) e in (x.0 ∙ ap (λ (d : Device). d.far) same, x.1 ∙ ap (λ (d : Device). d.near) same)
+stores_joined alone h0 h1 d0 d1 d2 (Err e) k f g = tt
+
+module _ (ours : List ℕ → Bool) (alone : Bool) (opening : Opening) where
+  -- ---- the plan of two listings
+
+  pub plan_made : (opened : Option Opened) (options : Options) (stream : Stream) (far near : Listing) (plan : Plan) → IsDrawn opened stream far near options plan.steps
+      → ((w : World) → IsInOrder w → state_of opened ≡ Some w.state → AreShown w.state.max_pushed w far near → All (λ mark. ours mark ≡ true) (marks_of plan.steps) → IsPlanned ours w options plan)
+      → (d : Device) → IsAsked ours opening options stream → BothListed ours alone opening opened far near d → IsMade ours alone opening opened plan d
+  plan_made None options stream far near plan drawn is d asked both = absurd drawn
+  plan_made (Some o) options stream far near plan drawn is d asked both =
+      let c = both.clear in
+      let draws = drawn.0 in
+      let mine : All (λ mark. ours mark ≡ true) (marks_of plan.steps) = asked.are_ours 0 (count_new (scene far near o.state options)) (marks_of plan.steps) (subst (λ (x : Stream). Draws x (count_new (scene far near o.state options)) (marks_of plan.steps)) (sym (no_pairs stream)) draws.drawn) in
+      record {
+        clear = c;
+        since = since_map alone opening _ _ (λ w g k. (subst (λ (x : Options). IsPlanned ours w x plan) (sym asked.called ∙ c.chosen) (is w g.in_order (c.state ∙ ap (λ (x : SyncState). Some x) (sym g.state)) k.0 mine), k.1)) both.since;
+      }
+
+  -- ---- the end
+
+  pub ended_at : (opened : Option Opened) (is_taken_up : Bool) (d m d' : Device) → IsGoing opened → next_at opened ≡ None → Arrives ours alone d m → AtReady ours alone opening opened is_taken_up d → OfBook CommitsTo opened m d' → AtEnd ours alone opening d'
+  ended_at opened is_taken_up d m d' g none a k t =
+      let r = ready_arrives ours alone opening opened is_taken_up d m a k in
+      let does = of_book CommitsTo opened m d' g.untorn t in
+      since_map alone opening _ _ (λ w grows at. ended ours alone w opening.options (plan_at opened) (log_at opened) none m d' grows.in_order (stands_of ours alone opening opened w is_taken_up m at) does) r.since
+
+  split_done : (d : Device) → Since alone opening (λ w. PlannedAt ours alone w opening.options d ⊎ DoneAt ours alone w opening.options d) → Underway ours alone opening d
+  split_done d s = by_world s.holds
+    where
+      by_world : PlannedAt ours alone s.world opening.options d ⊎ DoneAt ours alone s.world opening.options d → Underway ours alone opening d
+      by_world (inl p) = inr (inl (record { world = s.world; grows = s.grows; admitted = s.admitted; below = s.below; holds = p }))
+      by_world (inr x) = inr (inr (record { world = s.world; grows = s.grows; admitted = s.admitted; below = s.below; holds = x }))
+
+  pub half_ended_at : (opened : Option Opened) (is_taken_up : Bool) (d m d' : Device) → IsGoing opened → next_at opened ≡ None → Arrives ours alone d m → AtReady ours alone opening opened is_taken_up d → OfBook CommitsHalf opened m d' → Underway ours alone opening d'
+  half_ended_at opened is_taken_up d m d' g none a k t =
+      let r = ready_arrives ours alone opening opened is_taken_up d m a k in
+      let does = of_book CommitsHalf opened m d' g.untorn t in
+      split_done d' (since_map alone opening _ _ (λ w grows at. half_ended ours alone w opening.options (plan_at opened) (log_at opened) none m d' grows.in_order (stands_of ours alone opening opened w is_taken_up m at) does) r.since)
+
+  end_over : (d : Device) → AtEnd ours alone opening d → IsOver ours alone opening d
+  end_over d s = since_map alone opening _ _ (λ w g k. ended_done ours alone w opening.options d k) s
+
+  pub end_underway : (d : Device) → AtEnd ours alone opening d → Underway ours alone opening d
+  end_underway d s = inr (inr (end_over d s))
+
+  pub end_reaches : (run : ℕ) (d : Device) → AtEnd ours alone opening d → Reaches ours alone opening run d
+  end_reaches run d s = record { underway = end_underway d s; done = λ e. end_over d s }
+
+  -- ---- which condition a run that is underway is in, by what was read
+
+  done_run : (w : World) (d : Device) → Grows alone opening.world w → (x : DoneAt ours alone w opening.options d) → x.state.run ≡ opening.world.state.run + 1
+  done_run w d g x = let a = x.alike in let k = a.alike in let st = k.state in st.run ∙ ap (λ (s : SyncState). s.run + 1) g.state
+
+  planned_state : (o : Opened) (w : World) (d : Device) → Grows alone opening.world w → IsHeld (Some o) d → (p : PlannedAt ours alone w opening.options d) → (o.state ≡ opening.world.state) × HasPlanned o.pending
+  planned_state o w d g held p =
+      let e = book_known d.files o.state w.state o.pending _ held (planned_files ours alone opening w d p) in
+      (e.0 ∙ g.state, subst HasPlanned (sym e.1) tt)
+
+  done_state : (o : Opened) (w : World) (d : Device) → Grows alone opening.world w → IsHeld (Some o) d → DoneAt ours alone w opening.options d → o.state.run ≡ opening.world.state.run + 1
+  done_state o w d g held x =
+      let e = book_known d.files o.state x.state o.pending x.pending held x.files in
+      ap (λ (s : SyncState). s.run) e.0 ∙ done_run w d g x
+
+  unplanned_state : (o : Opened) (d : Device) → IsHeld (Some o) d → Unplanned alone opening d → (o.state ≡ opening.world.state) × IsIdle o.pending
+  unplanned_state o d held n =
+      let e = book_known d.files o.state opening.world.state o.pending n.pending held n.files in
+      (e.0, subst IsIdle (sym e.1) n.idle)
+
+  idle_planned : (p : Pending) → IsIdle p → HasPlanned p → ⊥
+  idle_planned Missing i p = p
+  idle_planned Useless i p = p
+  idle_planned (Planned written) i p = i
+
+  -- a run that is not done yet: its plan is pending, or there is none
+  pub known_planned : (opened : Option Opened) (d : Device) → HasPlan opened → run_of opened + 1 ≤ opening.world.state.run + 1 → IsKnown ours alone opening opened d → IsTakenUp ours alone opening opened d
+  known_planned None d plan le k = absurd plan
+  known_planned (Some o) d plan le k = record { pending = by_case k.underway; held = k.held }
+    where
+      by_case : Underway ours alone opening d → IsPending ours alone opening d
+      by_case (inl u) = absurd (idle_planned o.pending (unplanned_state o d k.held u).1 plan)
+      by_case (inr (inl s)) = s
+      by_case (inr (inr s)) = let e = done_state o s.world d s.grows k.held s.holds in absurd (omega arith)
+
+  pub known_unplanned : (opened : Option Opened) (d : Device) → HasNoPlan opened → run_of opened + 1 ≤ opening.world.state.run + 1 → IsKnown ours alone opening opened d → HasNone alone opening opened d
+  known_unplanned None d none le k = absurd none
+  known_unplanned (Some o) d none le k = record { unplanned = by_case k.underway; held = k.held }
+    where
+      by_case : Underway ours alone opening d → Unplanned alone opening d
+      by_case (inl u) = u
+      by_case (inr (inl s)) = absurd (idle_planned o.pending none (planned_state o s.world d s.grows k.held s.holds).1)
+      by_case (inr (inr s)) = let e = done_state o s.world d s.grows k.held s.holds in absurd (omega arith)
+
+  -- what was read is of the opening's run or of the one behind it
+  pub known_least : (opened : Option Opened) (d : Device) → IsKnown ours alone opening opened d → opening.world.state.run ≤ run_of opened
+  known_least None d k = absurd k.held
+  known_least (Some o) d k = by_case k.underway
+    where
+      by_case : Underway ours alone opening d → opening.world.state.run ≤ o.state.run
+      by_case (inl u) = let e = ap (λ (s : SyncState). s.run) (unplanned_state o d k.held u).0 in omega arith
+      by_case (inr (inl s)) = let e = ap (λ (s : SyncState). s.run) (planned_state o s.world d s.grows k.held s.holds).0 in omega arith
+      by_case (inr (inr s)) = let e = done_state o s.world d s.grows k.held s.holds in omega arith
+
+  -- a state of the run, or of a later one, is that of its end
+  pub known_reaches : (opened : Option Opened) (run : ℕ) (d : Device) → run ≤ run_of opened → IsKnown ours alone opening opened d → Reaches ours alone opening run d
+  known_reaches None run d le k = absurd k.held
+  known_reaches (Some o) run d le k = record { underway = k.underway; done = λ e. by_case e k.underway }
+    where
+      by_case : opening.world.state.run + 1 ≤ run → Underway ours alone opening d → IsOver ours alone opening d
+      by_case e (inl u) = let s = ap (λ (s : SyncState). s.run) (unplanned_state o d k.held u).0 in absurd (omega arith)
+      by_case e (inr (inl x)) = let s = ap (λ (s : SyncState). s.run) (planned_state o x.world d x.grows k.held x.holds).0 in absurd (omega arith)
+      by_case e (inr (inr x)) = x
+
+-- ---- a fault of the planner
+
+pub caused_plan : (f : RunFault) (s0 s1 : Seen) → IsPlanFault f → IsCaused f s0 s1
+caused_plan run.Stopped s0 s1 h = absurd h
+caused_plan (run.Refused step) s0 s1 h = absurd h
+caused_plan (run.ValidityChanged side) s0 s1 h = tt
+caused_plan (run.BadState line) s0 s1 h = tt
+caused_plan (run.BadJournal line) s0 s1 h = tt
+caused_plan (run.StoreFault side number) s0 s1 h = absurd h
+caused_plan run.MarksRepeat s0 s1 h = tt
+caused_plan run.NoMemory s0 s1 h = tt
+
+pub after_plan : (u : Device → Type 0) (f : RunFault) (s0 s1 : Seen) → IsPlanFault f → u s1.device → LeavesRun u f s0 s1
+after_plan u run.Stopped s0 s1 h k = absurd h
+after_plan u (run.Refused step) s0 s1 h k = absurd h
+after_plan u (run.ValidityChanged side) s0 s1 h k = k
+after_plan u (run.BadState line) s0 s1 h k = h
+after_plan u (run.BadJournal line) s0 s1 h k = h
+after_plan u (run.StoreFault side number) s0 s1 h k = absurd h
+after_plan u run.MarksRepeat s0 s1 h k = k
+after_plan u run.NoMemory s0 s1 h k = k
+
+pub missing_here : (opened : Option Opened) → HasNoPlan opened → HasNoJournal (turned (λ _. Missing) opened)
+missing_here None h = h
+missing_here (Some o) h = refl
+
+pub none_few : (opened : Option Opened) → log_at opened ≡ [] → length (log_at opened) ≤ length (plan_at opened).steps
+none_few opened e = rw e (omega arith)
+
+pub whole_steps : (opened : Option Opened) (performed : List Performed) → log_at opened ≡ [] → steps_of performed ≡ drop (length (log_at opened)) (plan_at opened).steps → steps_of performed ≡ (plan_at opened).steps
+whole_steps opened performed e s = s ∙ ap (λ (l : List Logged). drop (length l) (plan_at opened).steps) e

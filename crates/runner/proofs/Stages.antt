@@ -1,0 +1,192 @@
+-- Where the next step stands on some world since the opening, and what calls make of that.
+use Rattle.std.proofs.Common.{◌≡◌, ◌⊎◌, inl, inr, ℕ, Bool, true, false, List, [], ◌∷◌, ◌++◌, Option, Some, None, sym, ◌∙◌, subst}
+use Rattle.mailcore.specs.declared.side.Direction.{Direction}
+use Rattle.mailcore.specs.Operations.{flags_added, flags_removed, marked_from}
+use Rattle.mailcore.specs.Sides.{target}
+use Rattle.rules.specs.declared.plan.Plan.{Plan}
+use Rattle.rules.specs.declared.plan.Step.{Step}
+use Rattle.rules.specs.declared.plan.Step.TheVariants as step
+use Rattle.rules.specs.World.{World, NamesBelow}
+use Rattle.sync_state.specs.declared.journal.Logged.{Logged}
+use Rattle.sync_state.specs.declared.journal.Logged.TheVariants.{Copied, Done}
+use Rattle.step_laws.specs.Steps.{Boxes, changed_uid, step_after, box as messages_in, with_box as with_messages_in}
+use Rattle.outside.specs.declared.fault.OutsideFault.{OutsideFault}
+use Rattle.outside.specs.declared.fault.OutsideFault.TheVariants as out
+use Rattle.outside.specs.declared.outside.Carried.{Carried}
+use Rattle.outside.specs.declared.outside.Carried.TheVariants.{Absent, Unfit, Made}
+use Rattle.outside.specs.Arrivals.{Arrives}
+use Rattle.outside.specs.BoxCalls.{Carry, SetsAside, Tells, Turns}
+use Rattle.outside.specs.Calls.{DoesSome, LeavesBy}
+use Rattle.outside.specs.Devices.{Device, box}
+use Rattle.outside.specs.Opened.{Opened}
+use Rattle.underway.specs.Conditions.{Underway}
+use Rattle.underway.specs.Moments.{HasBegun, Midway, PlannedAt, Stands, boxes_at}
+use Rattle.underway.specs.Openings.{Grows, Opening}
+use Rattle.underway.specs.Plans.{first_uid}
+use Rattle.underway.proofs.Arrived.{stands_arrives}
+use Rattle.underway.proofs.Copies.{brought, copy_found, not_absent, not_unfit, sought}
+use Rattle.underway.proofs.Flagging.{clear_made, clear_none, none_made, set_made}
+use Rattle.underway.proofs.Moves.{IsMoved, midway_arrives, midway_set_aside, moved}
+use Rattle.underway.proofs.Plain.{any_whole}
+use Rattle.runner.specs.Going.{AtBegun, AtCopied, AtDone, AtMoment, AtReady, AtSought, CopiesUnder, FoundCopy, Ready, log_at, next_at, plan_at}
+
+-- what is known of the world is known of it again
+pub moment_map : (alone : Bool) (opening : Opening) (opened : Option Opened) (P Q : World → Type 0) → ((w : World) → Grows alone opening.world w → NamesBelow w → P w → Q w) → AtMoment alone opening opened P → AtMoment alone opening opened Q
+moment_map alone opening opened P Q f k =
+    let s = k.since in
+    record { state = k.state; since = record { world = s.world; grows = s.grows; admitted = s.admitted; below = s.below; holds = f s.world s.grows s.below s.holds } }
+
+-- a call that stopped or had another fault: with no effect, with a part of it, or with it
+pub left_by : {T : Type 0} (q : Device → Type 0) (does : T → Device → Device → Type 0) (part : Device → Device → Type 0) (e : OutsideFault) (m d' : Device) → LeavesBy does part e m d' → q m → (part m d' → q d') → ((x : T) → does x m d' → q d') → q d'
+left_by {T} q does part e m d' l here half made = by_fault e l
+  where
+    same : d' ≡ m → q d'
+    same is = subst q (sym is) here
+
+    any : (d' ≡ m) ⊎ (DoesSome does m d' ⊎ part m d') → q d'
+    any (inl is) = same is
+    any (inr (inl k)) = made k.answer k.done
+    any (inr (inr k)) = half k
+
+    by_fault : (e : OutsideFault) → LeavesBy does part e m d' → q d'
+    by_fault out.Stopped l = any l
+    by_fault out.NoMemory l = any l
+    by_fault out.Refused l = same l
+    by_fault (out.Box side number) l = same l
+    by_fault (out.BadState line) l = same l
+    by_fault (out.BadJournal line) l = same l
+
+module _ (ours : List ℕ → Bool) (alone : Bool) (opening : Opening) (opened : Option Opened) where
+  abbrev plan : Plan
+  plan = plan_at opened
+
+  abbrev log : List Logged
+  log = log_at opened
+
+  -- ---- what others add
+
+  ready_one : (w : World) (is_taken_up : Bool) (d m : Device) → Arrives ours alone d m → Ready ours alone w opening.options plan log is_taken_up d → Ready ours alone w opening.options plan log is_taken_up m
+  ready_one w false d m a at = midway_arrives ours alone w opening.options plan log false log false d m a at
+  ready_one w true d m a at = stands_arrives ours alone w opening.options plan log false d m a at
+
+  pub ready_arrives : (is_taken_up : Bool) (d m : Device) → Arrives ours alone d m → AtReady ours alone opening opened is_taken_up d → AtReady ours alone opening opened is_taken_up m
+  ready_arrives is_taken_up d m a = moment_map alone opening opened _ _ (λ w g b at. ready_one w is_taken_up d m a at)
+
+  begun_one : (w : World) (is_made : Bool) (d m : Device) → Arrives ours alone d m → HasBegun ours alone w opening.options plan log is_made d → HasBegun ours alone w opening.options plan log is_made m
+  begun_one w is_made d m a (inl k) = inl (k.0, midway_arrives ours alone w opening.options plan log false log k.0 d m a k.1, k.2)
+  begun_one w is_made d m a (inr k) = inr (k.0, midway_arrives ours alone w opening.options plan log false (log ++ k.0 ∷ []) false d m a k.1)
+
+  pub begun_arrives : (is_made : Bool) (d m : Device) → Arrives ours alone d m → AtBegun ours alone opening opened is_made d → AtBegun ours alone opening opened is_made m
+  begun_arrives is_made d m a = moment_map alone opening opened _ _ (λ w g b at. begun_one w is_made d m a at)
+
+  pub done_arrives : (logged : Logged) (d m : Device) → Arrives ours alone d m → AtDone ours alone opening opened logged d → AtDone ours alone opening opened logged m
+  done_arrives logged d m a = moment_map alone opening opened _ _ (λ w g b at. midway_arrives ours alone w opening.options plan log false (log ++ logged ∷ []) false d m a at)
+
+  pub copied_arrives : (d m : Device) → Arrives ours alone d m → AtCopied ours alone opening opened d → AtCopied ours alone opening opened m
+  copied_arrives d m a = moment_map alone opening opened _ _ (λ w g b at. (at.0, midway_arrives ours alone w opening.options plan log false (log ++ Copied at.0 ∷ []) false d m a at.1))
+
+  -- ---- each leaves a run underway
+
+  pub planned : (P : World → Type 0) (d : Device) → ((w : World) → P w → PlannedAt ours alone w opening.options d) → AtMoment alone opening opened P → Underway ours alone opening d
+  planned P d f k = let s = k.since in inr (inl (record { world = s.world; grows = s.grows; admitted = s.admitted; below = s.below; holds = f s.world s.holds }))
+
+  stands_at : (w : World) (d : Device) → Stands ours alone w opening.options plan log false d → PlannedAt ours alone w opening.options d
+  stands_at w d s = record { plan = plan; log = log; is_torn = false; stands = s }
+
+  pub stands_of : (w : World) (is_taken_up : Bool) (d : Device) → Ready ours alone w opening.options plan log is_taken_up d → Stands ours alone w opening.options plan log false d
+  stands_of w false d at = inl (false, at)
+  stands_of w true d at = at
+
+  pub ready_underway : (is_taken_up : Bool) (d : Device) → AtReady ours alone opening opened is_taken_up d → Underway ours alone opening d
+  ready_underway is_taken_up d = planned _ d (λ w at. stands_at w d (stands_of w is_taken_up d at))
+
+  begun_stands : (w : World) (is_made : Bool) (d : Device) → HasBegun ours alone w opening.options plan log is_made d → Stands ours alone w opening.options plan log false d
+  begun_stands w is_made d (inl k) = inl (k.0, k.1)
+  begun_stands w is_made d (inr k) = inr k
+
+  pub begun_underway : (is_made : Bool) (d : Device) → AtBegun ours alone opening opened is_made d → Underway ours alone opening d
+  begun_underway is_made d = planned _ d (λ w at. stands_at w d (begun_stands w is_made d at))
+
+  pub done_underway : (logged : Logged) (d : Device) → AtDone ours alone opening opened logged d → Underway ours alone opening d
+  done_underway logged d = planned _ d (λ w at. stands_at w d (inr (logged, at)))
+
+  pub copied_underway : (d : Device) → AtCopied ours alone opening opened d → Underway ours alone opening d
+  copied_underway d = planned _ d (λ w at. stands_at w d (inr (Copied at.0, at.1)))
+
+  -- a plan that was just made stands where its log says, and may be taken up
+  pub either_ready : (is_taken_up : Bool) (d : Device) → AtReady ours alone opening opened false d → AtReady ours alone opening opened is_taken_up d
+  either_ready false d k = k
+  either_ready true d k = moment_map alone opening opened _ _ (λ w g b at. inl (false, at)) k
+
+  pub taken_up : (is_taken_up : Bool) (d : Device) → AtReady ours alone opening opened is_taken_up d → AtReady ours alone opening opened true d
+  taken_up is_taken_up d k = moment_map alone opening opened _ _ (λ w g b at. stands_of w is_taken_up d at) k
+
+  -- ---- copies
+
+  pub sought_told : (dir : Direction) (mark : List ℕ) → CopiesUnder opened dir mark → (d m : Device) → Arrives ours alone d m → AtReady ours alone opening opened true d → (found : Option ℕ) → found ≡ marked_from mark (first_uid plan (target dir)) (box m (target dir)) → AtSought ours alone opening opened found m
+  sought_told dir mark next d m a r found told = moment_map alone opening opened _ _ (λ w g b at. sought ours alone w opening.options plan log g.in_order dir next.uid next.flags mark next.is m at found told) (ready_arrives true d m a r)
+
+  pub sought_none : (d : Device) → AtSought ours alone opening opened None d → AtReady ours alone opening opened false d
+  sought_none d k = k
+
+  pub sought_some : (copy : ℕ) (d : Device) → AtSought ours alone opening opened (Some copy) d → AtDone ours alone opening opened (Copied copy) d
+  sought_some copy d k = k
+
+  pub copy_told : (dir : Direction) (mark : List ℕ) → CopiesUnder opened dir mark → (d m : Device) → Arrives ours alone d m → AtCopied ours alone opening opened d → (found : Option ℕ) → found ≡ marked_from mark (first_uid plan (target dir)) (box m (target dir)) → FoundCopy ours alone opening opened found m
+  copy_told dir mark next d m a r found told = by_found found (λ w g at. told ∙ copy_found ours alone w opening.options plan log g.in_order dir next.uid next.flags mark next.is false at.0 m at.1) (copied_arrives d m a r)
+    where
+      by_found : (found : Option ℕ) → ((w : World) → Grows alone opening.world w → (at : (copy : ℕ) × Midway ours alone w opening.options plan log false (log ++ Copied copy ∷ []) false m) → found ≡ Some at.0) → AtCopied ours alone opening opened m → FoundCopy ours alone opening opened found m
+      by_found None f k = let s = k.since in let e = f s.world s.grows s.holds in cc
+      by_found (Some copy) f k = moment_map alone opening opened _ _ (λ w g b at. let e = f w g at in let same : at.0 ≡ copy = cc in subst (λ (x : ℕ). Midway ours alone w opening.options plan log false (log ++ Copied x ∷ []) false m) same at.1) k
+
+  module _ (dir : Direction) (uid flags : ℕ) (mark : List ℕ) (is : next_at opened ≡ Some (step.New dir uid flags mark)) where
+    pub carry_made : (told : Option ℕ) (d m d' : Device) → Arrives ours alone d m → AtReady ours alone opening opened false d → Carry dir uid flags mark (Made told) m d' → AtMoment alone opening opened (λ w. (copy : ℕ) × Midway ours alone w opening.options plan log false (log ++ Copied copy ∷ []) false d' × Tells told copy)
+    carry_made told d m d' a r c = moment_map alone opening opened _ _ (λ w g b at. brought ours alone w opening.options plan log g.in_order dir uid flags mark is false told m d' at c) (ready_arrives false d m a r)
+
+    pub carry_untold : (told : Option ℕ) (d m d' : Device) → Arrives ours alone d m → AtReady ours alone opening opened false d → Carry dir uid flags mark (Made told) m d' → AtCopied ours alone opening opened d'
+    carry_untold told d m d' a r c = moment_map alone opening opened _ _ (λ w g b at. (at.0, at.1)) (carry_made told d m d' a r c)
+
+    pub carry_told : (copy : ℕ) (d m d' : Device) → Arrives ours alone d m → AtReady ours alone opening opened false d → Carry dir uid flags mark (Made (Some copy)) m d' → AtDone ours alone opening opened (Copied copy) d'
+    carry_told copy d m d' a r c = moment_map alone opening opened _ _ (λ w g b at. subst (λ (x : ℕ). Midway ours alone w opening.options plan log false (log ++ Copied x ∷ []) false d') (sym at.2) at.1) (carry_made (Some copy) d m d' a r c)
+
+    pub never_absent : (d m d' : Device) → Arrives ours alone d m → AtReady ours alone opening opened false d → Carry dir uid flags mark Absent m d' → ⊥
+    never_absent d m d' a r c = let k = ready_arrives false d m a r in let s = k.since in not_absent ours alone s.world opening.options plan log s.grows.in_order dir uid flags mark is false m s.holds c.1
+
+    pub never_unfit : (d m d' : Device) → Arrives ours alone d m → AtReady ours alone opening opened false d → Carry dir uid flags mark Unfit m d' → ⊥
+    never_unfit d m d' a r c = let k = ready_arrives false d m a r in let s = k.since in not_unfit ours alone s.world opening.options plan log s.grows.in_order dir uid flags mark is false m s.holds c.1
+
+    set_aside : (d m d' : Device) → Arrives ours alone d m → AtReady ours alone opening opened false d → SetsAside (target dir) m d' → AtReady ours alone opening opened false d'
+    set_aside d m d' a r c = moment_map alone opening opened _ _ (λ w g b at. midway_set_aside ours alone w opening.options plan (target dir) log false log false m d' c at) (ready_arrives false d m a r)
+
+    -- whatever a copy that had a fault left
+    pub carry_left : (e : OutsideFault) (d m d' : Device) → Arrives ours alone d m → AtReady ours alone opening opened false d → LeavesBy (Carry dir uid flags mark) (SetsAside (target dir)) e m d' → Underway ours alone opening d'
+    carry_left e d m d' a r l =
+        left_by (Underway ours alone opening) (Carry dir uid flags mark) (SetsAside (target dir)) e m d' l
+        (ready_underway false m (ready_arrives false d m a r))
+        (λ c. ready_underway false d' (set_aside d m d' a r c))
+        done
+      where
+        done : (x : Carried) → Carry dir uid flags mark x m d' → Underway ours alone opening d'
+        done Absent c = rw c.0 (ready_underway false m (ready_arrives false d m a r))
+        done Unfit c = rw c.0 (ready_underway false m (ready_arrives false d m a r))
+        done (Made told) c = copied_underway d' (carry_untold told d m d' a r c)
+
+  -- ---- a call that is a whole step
+
+  pub whole_made : (s : Step) → next_at opened ≡ Some s → Rattle.step_laws.specs.Steps.makes_copy s ≡ false → (d m d' : Device) → Arrives ours alone d m → AtReady ours alone opening opened true d → IsMoved m d' (step_after (boxes_at m) s None) → AtDone ours alone opening opened Done d'
+  whole_made s is plain d m d' a r c = moment_map alone opening opened _ _ (λ w g b at. any_whole ours alone w opening.options plan log s is plain false m d' at c) (ready_arrives true d m a r)
+
+  -- ---- flags
+
+  module _ (dir : Direction) (far near set cleared : ℕ) (is : next_at opened ≡ Some (step.Flags dir far near set cleared)) where
+    pub set_called : (is_made : Bool) (d m d' : Device) → Arrives ours alone d m → AtReady ours alone opening opened true d → Turns (target dir) (flags_added (changed_uid dir far near) set) m d' → AtBegun ours alone opening opened is_made d'
+    set_called is_made d m d' a r t = moment_map alone opening opened _ _ (λ w g b at. set_made ours alone w opening.options plan log dir far near set cleared is is_made m d' at (moved (target dir) _ m d' t)) (ready_arrives true d m a r)
+
+    pub set_none : (d : Device) → AtReady ours alone opening opened true d → AtBegun ours alone opening opened false d
+    set_none d r = moment_map alone opening opened _ _ (λ w g b at. none_made ours alone w opening.options plan log dir far near set cleared is d at) r
+
+    pub clear_called : (is_made : Bool) → (is_made ≡ false → set ≡ 0) → (d m d' : Device) → Arrives ours alone d m → AtBegun ours alone opening opened is_made d → Turns (target dir) (flags_removed (changed_uid dir far near) cleared) m d' → AtDone ours alone opening opened Done d'
+    clear_called is_made f d m d' a r t = moment_map alone opening opened _ _ (λ w g b at. clear_made ours alone w opening.options plan log dir far near set cleared is is_made f m d' at (moved (target dir) _ m d' t)) (begun_arrives is_made d m a r)
+
+    pub clear_uncalled : cleared ≡ 0 → (d : Device) → AtBegun ours alone opening opened true d → AtDone ours alone opening opened Done d
+    clear_uncalled none d r = moment_map alone opening opened _ _ (λ w g b at. clear_none ours alone w opening.options plan log dir far near set cleared is none d at) r

@@ -1,0 +1,59 @@
+-- Calls that are a whole step.
+use Rattle.std.proofs.Common.{◌≡◌, ℕ, Bool, true, false, not, ◌||◌, ◌==◌, List, [], ◌∷◌, None, refl, ap, subst, ◌∙◌, ◌^◌}
+use Rattle.std.specs.Prelude.{filter}
+use Rattle.std.specs.List.{list_any}
+use Rattle.std.proofs.lemmas.Bool.{both_ways, eqb-true}
+use Rattle.mailcore.specs.declared.side.Side.{Side}
+use Rattle.mailcore.specs.declared.side.Direction.{Direction}
+use Rattle.mailcore.specs.declared.mailbox.Message.{Message}
+use Rattle.mailcore.specs.FlagSet.{DELETED, union}
+use Rattle.mailcore.specs.Operations.{expunged, flags_added}
+use Rattle.mailcore.specs.Sides.{target}
+use Rattle.rules.specs.declared.plan.Step.TheVariants as step
+use Rattle.rules.specs.FlagRule.{with_deleted}
+use Rattle.step_laws.specs.Steps.{Boxes, changed_uid, step_after, without, box as messages_in, with_box as with_messages_in}
+use Rattle.outside.specs.BoxCalls.{Turns}
+use Rattle.outside.specs.Devices.{Device}
+use Rattle.underway.specs.Moments.{boxes_at}
+use Rattle.underway.proofs.Flagged.{flagged_same}
+use Rattle.underway.proofs.Moves.{IsMoved, moved}
+use Rattle.runner.specs.Going.{sets_first}
+
+or_false : (b : Bool) → (b || false) ≡ b
+or_false true = refl
+or_false false = refl
+
+without_one : (uid : ℕ) (ms : List Message) → filter (λ m. not (list_any (λ u. m.uid == u) (uid ∷ []))) ms ≡ without uid ms
+without_one uid [] = refl
+without_one uid (m ∷ ms) = rw (or_false (m.uid == uid), without_one uid ms) refl
+
+pub removed : (side : Side) (uid : ℕ) (d d' : Device) → Turns side (expunged (uid ∷ [])) d d' → IsMoved d d' (step_after (boxes_at d) (step.Expunge side uid) None)
+removed side uid d d' t = subst (λ (b : Boxes). IsMoved d d' b) (ap (λ (ms : List Message). with_messages_in (boxes_at d) side ms) (without_one uid (messages_in (boxes_at d) side))) (moved side (filter (λ m. not (list_any (λ u. m.uid == u) (uid ∷ [])))) d d' t)
+
+deleted_is : (x : ℕ) → union x (2 ^ DELETED) ≡ with_deleted x
+unfolding with_deleted
+deleted_is x = refl
+
+pub marked : (direction : Direction) (far near flags : ℕ) (d d' : Device) → flags ≡ 2 ^ DELETED → Turns (target direction) (flags_added (changed_uid direction far near) flags) d d' → IsMoved d d' (step_after (boxes_at d) (step.Gone direction far near) None)
+marked direction far near flags d d' e t =
+    subst (λ (b : Boxes). IsMoved d d' b) (flagged_same (boxes_at d) (target direction) (changed_uid direction far near) (λ x. union x flags) with_deleted (λ x. ap (λ (f : ℕ). union x f) e ∙ deleted_is x))
+    (moved (target direction) _ d d' t)
+
+-- ---- which of the two calls of a flags step are made
+
+pub sets_none : (set cleared : ℕ) → sets_first set cleared ≡ false → set ≡ 0
+sets_none set cleared e = by_tests (set == 0) (cleared == 0) refl e
+  where
+    by_tests : (a b : Bool) → (set == 0) ≡ a → (not a || b) ≡ false → set ≡ 0
+    by_tests true b is e = eqb-true set 0 is
+    by_tests false b is e = absurd (both_ways true e refl)
+
+pub sets_where_none : (set cleared : ℕ) → (cleared == 0) ≡ true → sets_first set cleared ≡ true
+sets_where_none set cleared e = rw e (either (not (set == 0)))
+  where
+    either : (b : Bool) → (b || true) ≡ true
+    either true = refl
+    either false = refl
+
+pub sets_later : (set cleared : ℕ) → (set == 0) ≡ true → (cleared == 0) ≡ false → sets_first set cleared ≡ false
+sets_later set cleared e f = rw (e, f) refl

@@ -1,0 +1,50 @@
+use Rattle.std.proofs.Common.{◌≡◌, ◌==◌, ◌∙◌, true, sym, subst, Bool}
+use Rattle.std.proofs.lemmas.Bool.{eqb-true}
+use Rattle.sync_state.specs.declared.journal.Logged.TheVariants.{Done}
+use Rattle.underway.specs.Conditions.{Underway}
+use Rattle.runner.specs.Going.{AtBegun, sets_first}
+use Rattle.runner.proofs.PartCalls.{from_box, left_step, passed_call, passed_none}
+use Rattle.runner.proofs.Stages.{begun_arrives, begun_underway, clear_called, clear_uncalled, done_underway, left_by}
+use Rattle.runner.proofs.Wholes.{sets_none, sets_where_none}
+use Rattle.runner.proofs.changing.clear_flags.Goals as goal
+
+pub returns-then-is_empty-clause-part : goal.returns-then-is_empty-clause-part
+returns-then-is_empty-clause-part g c =
+    let ours = g.O.Outside.ours in
+    let alone = g.O.Outside.alone in
+    let opened = g.O.Outside.opened c.args.outside.now in
+    let f = c.args.flags.now in
+    let s0 = g.O.Outside.seen c.args.outside.now in
+    let none : (f.cleared == 0) ≡ true = sym c.is_empty.ensures ∙ c.if-is_empty.true in
+    passed_none _ _ _ _ c.requires.1.1.1 (λ at. clear_uncalled ours alone g.opening opened f.direction f.far f.near f.set f.cleared c.requires.1.1.0 (eqb-true f.cleared 0 none) _
+    (subst (λ (b : Bool). AtBegun ours alone g.opening opened b s0.device) (sets_where_none f.set f.cleared none) at))
+
+pub remove_flags-requires : goal.remove_flags-requires
+remove_flags-requires g c = record { is_open = c.requires.1.0.boxes c.target-side.result }
+
+pub returns-in-Ok-clause-part : goal.returns-in-Ok-clause-part
+returns-in-Ok-clause-part g c =
+    let ours = g.O.Outside.ours in
+    let alone = g.O.Outside.alone in
+    let opened = g.O.Outside.opened c.args.outside.now in
+    let f = c.args.flags.now in
+    let s1 = g.O.Outside.seen c.remove_flags.new.self in
+    passed_call _ _ _ _ _ _ _ _ _ _ _ c.in-Ok.ensures.call
+    (λ m at a own. clear_called ours alone g.opening opened f.direction f.far f.near f.set f.cleared c.requires.1.1.0 (sets_first f.set f.cleared) (sets_none f.set f.cleared) _ m s1.device a at (rw (c.target-side.ensures, c.changed_uid-uid.ensures) at own))
+
+pub returns-in-Err-clause-part : goal.returns-in-Err-clause-part
+returns-in-Err-clause-part g c =
+    let ours = g.O.Outside.ours in
+    let alone = g.O.Outside.alone in
+    let opened = g.O.Outside.opened c.args.outside.now in
+    let f = c.args.flags.now in
+    let made = sets_first f.set f.cleared in
+    let s1 = g.O.Outside.seen c.remove_flags.new.self in
+    rw c.step_fault.ensures (left_step _ _ _ _ _ _ _ _ _ _ c.args.number _ c.in-Err.ensures.call
+    (λ m at a own told. (
+      from_box c.in-Err.fault told,
+      left_by (Underway ours alone g.opening) _ _ c.in-Err.fault m s1.device own
+          (begun_underway ours alone g.opening opened made m (begun_arrives ours alone g.opening opened made _ m a at))
+          absurd
+          (λ x does. done_underway ours alone g.opening opened Done s1.device (clear_called ours alone g.opening opened f.direction f.far f.near f.set f.cleared c.requires.1.1.0 made (sets_none f.set f.cleared) _ m s1.device a at (rw (c.target-side.ensures, c.changed_uid-uid.ensures) at does))),
+    )))

@@ -1,0 +1,41 @@
+use Rattle.std.proofs.Common.{refl, true}
+use Rattle.rules.specs.declared.plan.Step.TheVariants as step
+use Rattle.sync_state.specs.declared.journal.Logged.TheVariants.{Done}
+use Rattle.underway.specs.Conditions.{Underway}
+use Rattle.runner.proofs.PartCalls.{from_box, left_step, passed_call}
+use Rattle.runner.proofs.Stages.{left_by, done_underway, ready_arrives, ready_underway, whole_made}
+use Rattle.runner.proofs.Wholes.{marked}
+use Rattle.runner.proofs.changing.mark_deleted.Goals as goal
+
+pub add_flags-requires : goal.add_flags-requires
+add_flags-requires g c = record { is_open = c.requires.1.0.boxes c.target-side.result }
+
+pub returns-in-Ok-clause-part : goal.returns-in-Ok-clause-part
+returns-in-Ok-clause-part g c =
+    let ours = g.O.Outside.ours in
+    let alone = g.O.Outside.alone in
+    let opened = g.O.Outside.opened c.args.outside.now in
+    let d = c.args.direction in
+    let far = c.args.far in
+    let near = c.args.near in
+    let s1 = g.O.Outside.seen c.add_flags.new.self in
+    passed_call _ _ _ _ _ _ _ _ _ _ _ c.in-Ok.ensures.call
+    (λ m at a own. whole_made ours alone g.opening opened (step.Gone d far near) c.requires.1.1 refl _ m s1.device a at (marked d far near c.only.result m s1.device c.only.ensures (rw (c.target-side.ensures, c.changed_uid-uid.ensures) at own)))
+
+pub returns-in-Err-clause-part : goal.returns-in-Err-clause-part
+returns-in-Err-clause-part g c =
+    let ours = g.O.Outside.ours in
+    let alone = g.O.Outside.alone in
+    let opened = g.O.Outside.opened c.args.outside.now in
+    let d = c.args.direction in
+    let far = c.args.far in
+    let near = c.args.near in
+    let s1 = g.O.Outside.seen c.add_flags.new.self in
+    rw c.step_fault.ensures (left_step _ _ _ _ _ _ _ _ _ _ c.args.number _ c.in-Err.ensures.call
+    (λ m at a own told. (
+      from_box c.in-Err.fault told,
+      left_by (Underway ours alone g.opening) _ _ c.in-Err.fault m s1.device own
+          (ready_underway ours alone g.opening opened true m (ready_arrives ours alone g.opening opened true _ m a at))
+          absurd
+          (λ x does. done_underway ours alone g.opening opened Done s1.device (whole_made ours alone g.opening opened (step.Gone d far near) c.requires.1.1 refl _ m s1.device a at (marked d far near c.only.result m s1.device c.only.ensures (rw (c.target-side.ensures, c.changed_uid-uid.ensures) at does)))),
+    )))

@@ -1,0 +1,11 @@
+use Rattle.std.proofs.Common.{◌≡◌, true, arith}
+use Rattle.std.proofs.lemmas.Grind.{common_steps}
+use Rattle.runner.proofs.PartCalls.{part_after}
+use Rattle.runner.proofs.copying.bring.Goals as goal
+
+pub returns-in-None-clause-part : goal.returns-in-None-clause-part
+returns-in-None-clause-part g c =
+    let s1 = g.O.Outside.seen c.seek.new.outside in
+    let rest = rw c.seek.ensures.opened at c.copy-in-None.ensures.part in
+    let up : c.args.is_taken_up ≡ true = grind (arith, common_steps) in
+    rw up (part_after _ _ _ _ _ _ _ _ s1 _ _ c.copy-in-None.ensures.was_honest (rw c.in-None.is at c.in_ok-copy.ensures.part) rest)

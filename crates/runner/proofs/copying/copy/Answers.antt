@@ -1,0 +1,95 @@
+use Rattle.std.proofs.Common.{None, refl, rules, arith}
+use Rattle.std.proofs.lemmas.Result.{err_from_is_err_and}
+use Rattle.mailcore.specs.declared.side.Side.TheVariants.{Far, Near}
+use Rattle.runner.specs.Going.{AtCopied, CopiesUnder}
+use Rattle.runner.proofs.PartCalls.{from_box, left_after, left_lost, left_step, passed_after, passed_call}
+use Rattle.runner.proofs.Stages.{carry_left, carry_told, carry_untold, never_absent, never_unfit}
+use Rattle.runner.proofs.copying.copy.Goals as goal
+
+pub carry-requires-clause-far_open : goal.carry-requires-clause-far_open
+carry-requires-clause-far_open g c = c.requires.1.0.boxes Far
+
+pub carry-requires-clause-near_open : goal.carry-requires-clause-near_open
+carry-requires-clause-near_open g c = c.requires.1.0.boxes Near
+
+pub find_copy-requires : goal.find_copy-requires
+find_copy-requires g c κs within =
+    let next : CopiesUnder (g.O.Outside.opened c.args.outside.now) c.args.direction c.args.mark = record { uid = c.args.uid; flags = c.args.flags; is = c.requires.1.1 } in
+    (search rules, rw c.carry.ensures.opened (c.requires.1.0, next))
+
+pub returns-in-Err-clause-part : goal.returns-in-Err-clause-part
+returns-in-Err-clause-part g c =
+    let ours = g.O.Outside.ours in
+    let alone = g.O.Outside.alone in
+    let opened = g.O.Outside.opened c.args.outside.now in
+    let s1 = g.O.Outside.seen c.carry.new.self in
+    rw c.step_fault.ensures (left_step _ _ _ _ _ _ _ _ _ _ c.args.number _ c.in-Err.ensures.call
+    (λ m at a own told. (from_box c.in-Err.fault told, carry_left ours alone g.opening opened c.args.direction c.args.uid c.args.flags c.args.mark c.requires.1.1 c.in-Err.fault _ m s1.device a at own)))
+
+pub returns-in-Absent-clause-part : goal.returns-in-Absent-clause-part
+returns-in-Absent-clause-part g c =
+    let ours = g.O.Outside.ours in
+    let alone = g.O.Outside.alone in
+    let opened = g.O.Outside.opened c.args.outside.now in
+    let s1 = g.O.Outside.seen c.carry.new.self in
+    passed_call _ _ _ _ _ _ _ _ _ _ _ (rw c.in-Absent.is at c.in-Ok.ensures.call)
+    (λ m at a own. absurd (never_absent ours alone g.opening opened c.args.direction c.args.uid c.args.flags c.args.mark c.requires.1.1 _ m s1.device a at own))
+
+pub returns-in-Unfit-clause-part : goal.returns-in-Unfit-clause-part
+returns-in-Unfit-clause-part g c =
+    let ours = g.O.Outside.ours in
+    let alone = g.O.Outside.alone in
+    let opened = g.O.Outside.opened c.args.outside.now in
+    let s1 = g.O.Outside.seen c.carry.new.self in
+    passed_call _ _ _ _ _ _ _ _ _ _ _ (rw c.in-Unfit.is at c.in-Ok.ensures.call)
+    (λ m at a own. absurd (never_unfit ours alone g.opening opened c.args.direction c.args.uid c.args.flags c.args.mark c.requires.1.1 _ m s1.device a at own))
+
+pub returns-in-Some-clause-part : goal.returns-in-Some-clause-part
+returns-in-Some-clause-part g c =
+    let ours = g.O.Outside.ours in
+    let alone = g.O.Outside.alone in
+    let opened = g.O.Outside.opened c.args.outside.now in
+    let s1 = g.O.Outside.seen c.carry.new.self in
+    passed_call _ _ _ _ _ _ _ _ _ _ _ (rw (c.in-Made.is, c.in-Some.is) at c.in-Ok.ensures.call)
+    (λ m at a own. carry_told ours alone g.opening opened c.args.direction c.args.uid c.args.flags c.args.mark c.requires.1.1 c.in-Some.copy _ m s1.device a at own)
+
+pub returns-in_err-copy-in-None-clause-part : goal.returns-in_err-copy-in-None-clause-part
+returns-in_err-copy-in-None-clause-part g c =
+    let ours = g.O.Outside.ours in
+    let alone = g.O.Outside.alone in
+    let opened = g.O.Outside.opened c.args.outside.now in
+    let s1 = g.O.Outside.seen c.carry.new.self in
+    let e = err_from_is_err_and c.from_residual.result c.from_residual.ensures.1 in
+    let rest = rw c.carry.ensures.opened at c.in_err-copy-in-None.ensures.part in
+    rw (e.1, e.2) (left_after _ _ _ (AtCopied ours alone g.opening opened) _ 1 _ _ s1 _ c.in_err-copy-in-None.ensures.was_honest
+    (passed_call _ _ _ _ _ _ _ _ _ _ _ (rw (c.in-Made.is, c.in-None.is) at c.in-Ok.ensures.call)
+    (λ m at a own. carry_untold ours alone g.opening opened c.args.direction c.args.uid c.args.flags c.args.mark c.requires.1.1 None _ m s1.device a at own))
+    rest)
+
+pub returns-in-Some-2-clause-part : goal.returns-in-Some-2-clause-part
+returns-in-Some-2-clause-part g c =
+    let ours = g.O.Outside.ours in
+    let alone = g.O.Outside.alone in
+    let opened = g.O.Outside.opened c.args.outside.now in
+    let s1 = g.O.Outside.seen c.carry.new.self in
+    let rest = rw (c.carry.ensures.opened, c.in-Some-2.is) at c.in_ok-copy-in-None.ensures.part in
+    passed_after _ _ _ (AtCopied ours alone g.opening opened) _ 1 0 _ s1 _ c.in_ok-copy-in-None.ensures.was_honest
+    (passed_call _ _ _ _ _ _ _ _ _ _ _ (rw (c.in-Made.is, c.in-None.is) at c.in-Ok.ensures.call)
+    (λ m at a own. carry_untold ours alone g.opening opened c.args.direction c.args.uid c.args.flags c.args.mark c.requires.1.1 None _ m s1.device a at own))
+    rest
+
+pub returns-in-None-2-clause-part : goal.returns-in-None-2-clause-part
+returns-in-None-2-clause-part g c =
+    let ours = g.O.Outside.ours in
+    let alone = g.O.Outside.alone in
+    let opened = g.O.Outside.opened c.args.outside.now in
+    let s0 = g.O.Outside.seen c.args.outside.now in
+    let s1 = g.O.Outside.seen c.carry.new.self in
+    let s2 = g.O.Outside.seen c.find_copy.new.outside in
+    let rest = rw (c.carry.ensures.opened, c.in-None-2.is) at c.in_ok-copy-in-None.ensures.part in
+    left_lost _ _ _ 1 s0 s2 (omega arith)
+    (passed_after _ _ _ (AtCopied ours alone g.opening opened) _ 1 0 _ s1 _ c.in_ok-copy-in-None.ensures.was_honest
+    (passed_call _ _ _ _ _ _ _ _ _ _ _ (rw (c.in-Made.is, c.in-None.is) at c.in-Ok.ensures.call)
+    (λ m at a own. carry_untold ours alone g.opening opened c.args.direction c.args.uid c.args.flags c.args.mark c.requires.1.1 None _ m s1.device a at own))
+    rest)
+    Far 3 (λ more. record { far = refl; protocol = refl; copied = more })

@@ -1,0 +1,31 @@
+use Rattle.std.proofs.Common.{false}
+use Rattle.book.specs.declared.book.Pending.TheVariants.{Missing}
+use Rattle.outside.specs.Opened.{turned}
+use Rattle.underway.specs.Conditions.{Underway}
+use Rattle.runner.proofs.PartCalls.{from_book, left_call, passed_call}
+use Rattle.runner.proofs.Begun.{clear_underway}
+use Rattle.runner.proofs.Readings.{emptied, half_forgot, known_arrives, none_known, none_read}
+use Rattle.runner.proofs.Stages.{left_by}
+use Rattle.runner.proofs.opening.empty.Goals as goal
+
+pub discard-requires : goal.discard-requires
+discard-requires g c = record { read = none_read (g.O.Outside.opened c.args.outside.now) c.requires.1 }
+
+pub returns-in-Ok-clause-part : goal.returns-in-Ok-clause-part
+returns-in-Ok-clause-part g c =
+    let s1 = g.O.Outside.seen c.discard.new.self in
+    rw c.in-Ok.ensures.opened (passed_call _ _ _ _ _ _ _ _ _ _ _ c.in-Ok.ensures.call (λ m at a own. emptied g.O.Outside.ours g.O.Outside.alone g.opening _ _ m s1.device c.requires.1 a at own))
+
+pub returns-in-Err-clause-part : goal.returns-in-Err-clause-part
+returns-in-Err-clause-part g c =
+    let ours = g.O.Outside.ours in
+    let alone = g.O.Outside.alone in
+    let opened = g.O.Outside.opened c.args.outside.now in
+    let s1 = g.O.Outside.seen c.discard.new.self in
+    rw c.call_fault.ensures (left_call _ _ _ _ _ _ _ _ _ _ _ c.in-Err.ensures.call (λ m at a own told. (
+      from_book c.in-Err.fault told,
+      left_by (Underway ours alone g.opening) _ _ c.in-Err.fault m s1.device own
+          (let k = known_arrives ours alone g.opening opened _ m a (none_known ours alone g.opening opened _ at) in k.underway)
+          (half_forgot ours alone g.opening opened _ m s1.device c.requires.1 a (none_known ours alone g.opening opened _ at))
+          (λ x t. clear_underway ours alone g.opening (turned (λ _. Missing) opened) false s1.device (emptied ours alone g.opening opened _ m s1.device c.requires.1 a at t)),
+    )))

@@ -1,0 +1,36 @@
+use Rattle.std.proofs.Common.{◌≡◌, false, is_some, arith}
+use Rattle.std.proofs.lemmas.Grind.{common_steps}
+use Rattle.underway.specs.Conditions.{Underway}
+use Rattle.underway.proofs.Arrived.{underway_arrives}
+use Rattle.runner.specs.Before.{HasNoPlan}
+use Rattle.runner.proofs.PartCalls.{from_book, left_call, passed_call}
+use Rattle.runner.proofs.Readings.{forgot, half_forgot, has_none, none_of, stores_kept}
+use Rattle.runner.proofs.Stages.{left_by}
+use Rattle.runner.proofs.opening.forget.Goals as goal
+
+pub returns-in-Ok-clause-part : goal.returns-in-Ok-clause-part
+returns-in-Ok-clause-part g c =
+    let s1 = g.O.Outside.seen c.discard.new.self in
+    let opened = g.O.Outside.opened c.args.outside.now in
+    let i : is_some c.pending.result ≡ false = grind (arith, common_steps) in
+    let none : HasNoPlan opened = has_none opened c.requires.1.0 (none_of _ c.pending.result _ c.pending.ensures i) in
+    rw c.in-Ok.ensures.opened (passed_call _ _ _ _ _ _ _ _ _ _ _ c.in-Ok.ensures.call (λ m at a own. forgot g.O.Outside.ours g.O.Outside.alone g.opening opened _ m s1.device none a at own))
+
+pub returns-in-Err-clause-part : goal.returns-in-Err-clause-part
+returns-in-Err-clause-part g c =
+    let ours = g.O.Outside.ours in
+    let alone = g.O.Outside.alone in
+    let s1 = g.O.Outside.seen c.discard.new.self in
+    let opened = g.O.Outside.opened c.args.outside.now in
+    let i : is_some c.pending.result ≡ false = grind (arith, common_steps) in
+    let none : HasNoPlan opened = has_none opened c.requires.1.0 (none_of _ c.pending.result _ c.pending.ensures i) in
+    rw c.call_fault.ensures (left_call _ _ _ _ _ _ _ _ _ _ _ c.in-Err.ensures.call (λ m at a own told. (
+      from_book c.in-Err.fault told,
+      left_by (Underway ours alone g.opening) _ _ c.in-Err.fault m s1.device own
+          (underway_arrives ours alone g.opening _ m a at.underway)
+          (half_forgot ours alone g.opening opened _ m s1.device none a at)
+          (λ x t. let k = forgot ours alone g.opening opened _ m s1.device none a at t in k.underway),
+    )))
+
+pub returns-in-Ok-clause-stores : goal.returns-in-Ok-clause-stores
+returns-in-Ok-clause-stores g c = λ honest alone. let w = c.in-Ok.ensures.call in let acts = w.acts in let e = acts.effect honest in stores_kept g.O.Outside.ours g.O.Outside.alone g.opening _ _ e.mid _ c.requires.1.0 e.before e.behind alone

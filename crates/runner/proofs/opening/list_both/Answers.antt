@@ -1,0 +1,14 @@
+use Rattle.std.proofs.Common.{rules}
+use Rattle.std.proofs.lemmas.Result.{err_from_is_err_and}
+use Rattle.runner.proofs.PartCalls.{left_after}
+use Rattle.runner.proofs.opening.list_both.Goals as goal
+
+pub returns-in_err-near-clause-part : goal.returns-in_err-near-clause-part
+returns-in_err-near-clause-part g c =
+    let e = err_from_is_err_and c.from_residual-in_err-near.result c.from_residual-in_err-near.ensures.1 in
+    let s1 = g.O.Outside.seen c.list_far.new.outside in
+    let rest = rw c.list_far.ensures.opened at c.in_err-near.ensures.part in
+    rw (e.1, e.2) (left_after _ _ _ _ _ _ _ _ s1 _ c.in_err-near.ensures.was_honest c.in_ok-far.ensures.part rest)
+
+pub list_near-requires : goal.list_near-requires
+list_near-requires g c κs within = (search rules, rw c.list_far.ensures.opened (c.requires.1.0, c.requires.1.1))

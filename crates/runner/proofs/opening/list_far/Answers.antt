@@ -1,0 +1,18 @@
+use Rattle.std.proofs.Common.{true}
+use Rattle.mailcore.specs.declared.side.Side.TheVariants.{Far}
+use Rattle.runner.proofs.PartCalls.{from_box, left_call, passed_call}
+use Rattle.runner.proofs.Begun.{clear_arrives, clear_underway, far_listed}
+use Rattle.runner.proofs.opening.list_far.Goals as goal
+
+pub list_far-requires : goal.list_far-requires
+list_far-requires g c = record { is_open = c.requires.1 Far }
+
+pub returns-in-Ok-clause-part : goal.returns-in-Ok-clause-part
+returns-in-Ok-clause-part g c =
+    let s1 = g.O.Outside.seen c.list_far.new.self in
+    passed_call _ _ _ _ _ _ _ _ _ _ _ c.in-Ok.ensures.call (λ m at a own. far_listed g.O.Outside.ours g.O.Outside.alone g.opening _ _ _ m s1.device a at own.0 own.1)
+
+pub returns-in-Err-clause-part : goal.returns-in-Err-clause-part
+returns-in-Err-clause-part g c =
+    let opened = g.O.Outside.opened c.args.outside.now in
+    rw c.call_fault.ensures (left_call _ _ _ _ _ _ _ _ _ _ _ c.in-Err.ensures.call (λ m at a own told. (from_box c.in-Err.fault told, rw own (clear_underway g.O.Outside.ours g.O.Outside.alone g.opening opened true m (clear_arrives g.O.Outside.ours g.O.Outside.alone g.opening opened true _ m a at)))))

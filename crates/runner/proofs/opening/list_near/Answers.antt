@@ -1,0 +1,22 @@
+use Rattle.std.proofs.Common.{◌≡◌, ◌∙◌, Some, sym, ap, true}
+use Rattle.mailcore.specs.declared.side.Side.TheVariants.{Near}
+use Rattle.rules.specs.declared.state.SyncState.{SyncState}
+use Rattle.runner.proofs.PartCalls.{from_box, left_call, passed_call}
+use Rattle.runner.proofs.Begun.{clear_arrives, clear_underway, near_listed}
+use Rattle.runner.proofs.opening.list_near.Goals as goal
+
+pub list_near-requires : goal.list_near-requires
+list_near-requires g c = record { is_open = c.requires.1.1 Near }
+
+same_pushed : (s t : SyncState) → Some s ≡ Some t → s.max_pushed ≡ t.max_pushed
+same_pushed s t e = let k : s ≡ t = cc in ap (λ (x : SyncState). x.max_pushed) k
+
+pub returns-in-Ok-clause-part : goal.returns-in-Ok-clause-part
+returns-in-Ok-clause-part g c =
+    let s1 = g.O.Outside.seen c.list_near.new.self in
+    passed_call _ _ _ _ _ _ _ _ _ _ _ c.in-Ok.ensures.call (λ m at a own. near_listed g.O.Outside.ours g.O.Outside.alone g.opening _ _ _ _ _ m s1.device (same_pushed c.state.result.now g.opening.world.state (sym c.state.ensures.state ∙ at.clear.state)) a at own.0 own.1)
+
+pub returns-in-Err-clause-part : goal.returns-in-Err-clause-part
+returns-in-Err-clause-part g c =
+    let opened = g.O.Outside.opened c.args.outside.now in
+    rw c.call_fault.ensures (left_call _ _ _ _ _ _ _ _ _ _ _ c.in-Err.ensures.call (λ m at a own told. (from_box c.in-Err.fault told, rw own (clear_underway g.O.Outside.ours g.O.Outside.alone g.opening opened true m (clear_arrives g.O.Outside.ours g.O.Outside.alone g.opening opened true _ m a at.clear)))))

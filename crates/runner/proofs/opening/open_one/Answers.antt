@@ -1,0 +1,24 @@
+use Rattle.underway.proofs.Arrived.{underway_arrives}
+use Rattle.runner.specs.Before.{IsKnown}
+use Rattle.runner.proofs.PartCalls.{from_box, left_call, left_here, passed_call}
+use Rattle.runner.proofs.Readings.{known_arrives, opened_known}
+use Rattle.runner.proofs.opening.open_one.Goals as goal
+
+pub returns-then-before-validity-clause-part : goal.returns-then-before-validity-clause-part
+returns-then-before-validity-clause-part g c =
+    let s1 = g.O.Outside.seen c.open_box.new.self in
+    passed_call _ _ _ _ _ _ _ _ _ _ _ c.in-Ok.ensures.call (λ m at a own. opened_known g.O.Outside.ours g.O.Outside.alone g.opening c.args.side (g.O.Outside.opened c.args.outside.now) _ _ m s1.device c.in-Ok.ensures.opened at a own.0)
+
+pub returns-in-None-clause-part : goal.returns-in-None-clause-part
+returns-in-None-clause-part g c =
+    let s1 = g.O.Outside.seen c.open_box.new.self in
+    passed_call _ _ _ _ _ _ _ _ _ _ _ c.in-Ok.ensures.call (λ m at a own. opened_known g.O.Outside.ours g.O.Outside.alone g.opening c.args.side (g.O.Outside.opened c.args.outside.now) _ _ m s1.device c.in-Ok.ensures.opened at a own.0)
+
+pub returns-else-before-validity-clause-part : goal.returns-else-before-validity-clause-part
+returns-else-before-validity-clause-part g c =
+    let opened = g.O.Outside.opened c.args.outside.now in
+    left_here _ _ (IsKnown g.O.Outside.ours g.O.Outside.alone g.opening opened) _ _ _ _ _ (passed_call _ _ _ _ _ _ _ _ _ _ _ c.in-Ok.ensures.call (λ m at a own. rw own.0 (known_arrives g.O.Outside.ours g.O.Outside.alone g.opening opened _ m a at))) tt (λ k. k.underway)
+
+pub returns-in-Err-clause-part : goal.returns-in-Err-clause-part
+returns-in-Err-clause-part g c =
+    rw c.call_fault.ensures (left_call _ _ _ _ _ _ _ _ _ _ _ c.in-Err.ensures.call (λ m at a own told. (from_box c.in-Err.fault told, rw own (underway_arrives g.O.Outside.ours g.O.Outside.alone g.opening _ m a at.underway))))

@@ -1,0 +1,22 @@
+use Rattle.runner.proofs.PartCalls.{left_call, passed_call}
+use Rattle.runner.proofs.Readings.{held_before, nobody_before, read_known, unread_left}
+use Rattle.underway.proofs.Arrived.{underway_arrives}
+use Rattle.runner.proofs.opening.recall.Goals as goal
+
+pub returns-in-Ok-clause-part : goal.returns-in-Ok-clause-part
+returns-in-Ok-clause-part g c =
+    let s1 = g.O.Outside.seen c.open_book.new.self in
+    passed_call _ _ _ _ _ _ _ _ _ _ _ c.in-Ok.ensures.call (λ m at a own. read_known g.O.Outside.ours g.O.Outside.alone g.opening _ _ m s1.device at a own.0 own.1)
+
+pub returns-in-Err-clause-part : goal.returns-in-Err-clause-part
+returns-in-Err-clause-part g c =
+    let ours = g.O.Outside.ours in
+    let alone = g.O.Outside.alone in
+    let s1 = g.O.Outside.seen c.open_book.new.self in
+    rw c.call_fault.ensures (left_call _ _ _ _ _ _ _ _ _ _ _ c.in-Err.ensures.call (λ m at a own told. unread_left ours alone g.opening c.in-Err.fault m s1.device (underway_arrives ours alone g.opening _ m a at) own.0 own.1 told))
+
+pub returns-in-Ok-clause-held : goal.returns-in-Ok-clause-held
+returns-in-Ok-clause-held g c = λ honest. let w = c.in-Ok.ensures.call in let acts = w.acts in let e = acts.effect honest in held_before g.O.Outside.ours g.O.Outside.alone g.opening _ _ e.mid e.before e.behind.1
+
+pub returns-in-Ok-clause-same : goal.returns-in-Ok-clause-same
+returns-in-Ok-clause-same g c = λ honest alone. let w = c.in-Ok.ensures.call in let acts = w.acts in let e = acts.effect honest in nobody_before g.O.Outside.ours g.O.Outside.alone g.opening _ e.mid _ e.before e.behind.0 alone

@@ -1,0 +1,30 @@
+use Rattle.std.proofs.Common.{true}
+use Rattle.book.specs.Books.{mended}
+use Rattle.outside.specs.Opened.{turned}
+use Rattle.underway.specs.Conditions.{Underway}
+use Rattle.runner.proofs.PartCalls.{from_book, left_call, passed_call}
+use Rattle.runner.proofs.Readings.{half_untorn, known_arrives, plan_read, taken_known, untorn}
+use Rattle.runner.proofs.Stages.{left_by, ready_underway}
+use Rattle.runner.proofs.opening.untear.Goals as goal
+
+pub mend-requires : goal.mend-requires
+mend-requires g c = record { read = plan_read (g.O.Outside.opened c.args.outside.now) c.requires.1 }
+
+pub returns-in-Ok-clause-part : goal.returns-in-Ok-clause-part
+returns-in-Ok-clause-part g c =
+    let s1 = g.O.Outside.seen c.mend.new.self in
+    rw c.in-Ok.ensures.opened (passed_call _ _ _ _ _ _ _ _ _ _ _ c.in-Ok.ensures.call (λ m at a own. untorn g.O.Outside.ours g.O.Outside.alone g.opening _ _ m s1.device c.requires.1 a at own))
+
+pub returns-in-Err-clause-part : goal.returns-in-Err-clause-part
+returns-in-Err-clause-part g c =
+    let ours = g.O.Outside.ours in
+    let alone = g.O.Outside.alone in
+    let opened = g.O.Outside.opened c.args.outside.now in
+    let s1 = g.O.Outside.seen c.mend.new.self in
+    rw c.call_fault.ensures (left_call _ _ _ _ _ _ _ _ _ _ _ c.in-Err.ensures.call (λ m at a own told. (
+      from_book c.in-Err.fault told,
+      left_by (Underway ours alone g.opening) _ _ c.in-Err.fault m s1.device own
+          (let k = known_arrives ours alone g.opening opened _ m a (taken_known ours alone g.opening opened _ at) in k.underway)
+          (half_untorn ours alone g.opening opened _ m s1.device c.requires.1 a at)
+          (λ x t. ready_underway ours alone g.opening (turned mended opened) true s1.device (untorn ours alone g.opening opened _ m s1.device c.requires.1 a at t)),
+    )))

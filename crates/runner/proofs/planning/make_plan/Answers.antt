@@ -1,0 +1,23 @@
+use Rattle.std.proofs.Common.{◌≡◌, sym, ◌∙◌}
+use Rattle.planner.specs.Written.{marks_of}
+use Rattle.runner.specs.Answers.{AreDrawn}
+use Rattle.runner.proofs.PlanFacts.{in_range, plan_run, planned_by, same_state, takes_plan}
+use Rattle.runner.proofs.planning.make_plan.Goals as goal
+
+pub returns-in-Ok-clause-takes : goal.returns-in-Ok-clause-takes
+returns-in-Ok-clause-takes g c =
+    let s = c.state-state.result.now in
+    let both = c.args.both.now in
+    let e = c.in-Ok.ensures in
+    takes_plan (g.O.Outside.opened c.args.outside.now) s c.in-Ok.plan c.state-state.ensures.state c.requires.journal (e.has_text (in_range both.far both.near s c.requires.far_numbers c.requires.near_numbers c.state-state.ensures.sound)) e.run c.requires.room e.agrees
+
+pub returns-in-Ok-clause-plan : goal.returns-in-Ok-clause-plan
+returns-in-Ok-clause-plan g c = λ w order is shown mine.
+    let s = c.state-state.result.now in
+    let both = c.args.both.now in
+    let e = c.in-Ok.ensures in
+    let opened = g.O.Outside.opened c.args.outside.now in
+    let given : c.in_ok-marks.marks.items ≡ marks_of c.in-Ok.plan.steps = sym (e.given ∙ c.deref.ensures.value) in
+    let drawn : AreDrawn (g.R.Rng.stream c.args.rng.now) both.far both.near s c.args.options.now (marks_of c.in-Ok.plan.steps) = rw (sym given) c.in_ok-marks.ensures.drawn in
+    planned_by g.O.Outside.ours w s c.args.options.now both.far both.near (same_state opened s w.state c.state-state.ensures.state is) shown c.in-Ok.plan _ drawn mine
+    (plan_run opened s c.in-Ok.plan c.state-state.ensures.state e.run c.requires.room) e.sides.0 e.sides.1 (rw (e.given) e.written.0) e.written.1

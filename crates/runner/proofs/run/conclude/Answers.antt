@@ -1,0 +1,25 @@
+use Rattle.underway.specs.Conditions.{Underway}
+use Rattle.runner.proofs.Passes.{end_underway, ended_at, half_ended_at}
+use Rattle.runner.proofs.PartCalls.{from_book, left_call, passed_call}
+use Rattle.runner.proofs.Stages.{left_by, ready_arrives, ready_underway}
+use Rattle.runner.proofs.run.conclude.Goals as goal
+
+pub returns-in-Ok-clause-part : goal.returns-in-Ok-clause-part
+returns-in-Ok-clause-part g c =
+    let s1 = g.O.Outside.seen c.commit.new.self in
+    passed_call _ _ _ _ _ _ _ _ _ _ _ c.in-Ok.ensures.call (λ m at a own. ended_at g.O.Outside.ours g.O.Outside.alone g.opening (g.O.Outside.opened c.args.outside.now) c.args.is_taken_up _ m s1.device c.requires.1.0 c.requires.1.1.1 a at own)
+
+pub returns-in-Err-clause-part : goal.returns-in-Err-clause-part
+returns-in-Err-clause-part g c =
+    let ours = g.O.Outside.ours in
+    let alone = g.O.Outside.alone in
+    let opened = g.O.Outside.opened c.args.outside.now in
+    let seek = c.args.is_taken_up in
+    let s1 = g.O.Outside.seen c.commit.new.self in
+    rw c.call_fault.ensures (left_call _ _ _ _ _ _ _ _ _ _ _ c.in-Err.ensures.call (λ m at a own told. (
+      from_book c.in-Err.fault told,
+      left_by (Underway ours alone g.opening) _ _ c.in-Err.fault m s1.device own
+          (ready_underway ours alone g.opening opened seek m (ready_arrives ours alone g.opening opened seek _ m a at))
+          (half_ended_at ours alone g.opening opened seek _ m s1.device c.requires.1.0 c.requires.1.1.1 a at)
+          (λ x t. end_underway ours alone g.opening s1.device (ended_at ours alone g.opening opened seek _ m s1.device c.requires.1.0 c.requires.1.1.1 a at t)),
+    )))

@@ -1,0 +1,112 @@
+use Rattle.std.proofs.Common.{◌≡◌, refl, rules, ap, ◌∙◌}
+use Rattle.std.proofs.lemmas.Result.{err_from_is_err_and}
+use Rattle.book.specs.declared.book.Pending.TheVariants.{Missing}
+use Rattle.outside.specs.Opened.{turned}
+use Rattle.rules.specs.declared.plan.Plan.{Plan}
+use Rattle.underway.specs.Conditions.{Underway}
+use Rattle.runner.specs.Answers.{IsAsked, IsChosen}
+use Rattle.runner.specs.Before.{IsMade}
+use Rattle.runner.specs.Going.{plan_at}
+use Rattle.runner.proofs.PartCalls.{left_after, left_here, left_weaker, passed_after, passed_weaker, passed_with}
+use Rattle.runner.proofs.Begun.{clear_underway}
+use Rattle.runner.proofs.Passes.{after_plan, begun_going, begun_log, begun_plan, caused_plan, missing_here, plan_made, run_here, turned_run}
+use Rattle.runner.proofs.Readings.{none_read, turned_open, turned_read}
+use Rattle.runner.proofs.run.propose.Goals as goal
+
+pub list_both-requires : goal.list_both-requires
+list_both-requires g c κs within =
+    let old = g.O.Outside.opened c.args.outside.now in
+    (search rules, rw c.in_ok-clear.ensures.opened (turned_read (λ _. Missing) old (none_read old c.requires.1.1.0), turned_open (λ _. Missing) old c.requires.1.1.1.0))
+
+pub make_plan-requires : goal.make_plan-requires
+make_plan-requires g c =
+    let old = g.O.Outside.opened c.args.outside.now in
+    record {
+      journal = rw (c.list_both.ensures.opened, c.in_ok-clear.ensures.opened) (missing_here old c.requires.1.1.0);
+      room = rw (c.list_both.ensures.opened, c.in_ok-clear.ensures.opened, turned_run (λ _. Missing) old) c.requires.1.1.1.1;
+      far_numbers = c.in_ok-both.ensures.far_numbers;
+      near_numbers = c.in_ok-both.ensures.near_numbers;
+    }
+
+pub passed_over-requires : goal.passed_over-requires
+passed_over-requires g c =
+    let old = g.O.Outside.opened c.args.outside.now in
+    record { read = rw (c.list_both.ensures.opened, c.in_ok-clear.ensures.opened) (turned_read (λ _. Missing) old (none_read old c.requires.1.1.0)) }
+
+pub write_plan-requires : goal.write_plan-requires
+write_plan-requires g c κs within = (search rules, c.in_ok-plan.ensures.takes)
+
+pub returns-in_err-clear-clause-part : goal.returns-in_err-clear-clause-part
+returns-in_err-clear-clause-part g c =
+    let e = err_from_is_err_and c.from_residual.result c.from_residual.ensures.1 in
+    rw (e.1, e.2) (left_weaker _ _ _ _ _ _ _ (λ d k. k.none) c.in_err-clear.ensures.part)
+
+pub returns-in_err-both-clause-part : goal.returns-in_err-both-clause-part
+returns-in_err-both-clause-part g c =
+    let e = err_from_is_err_and c.from_residual-in_err-both.result c.from_residual-in_err-both.ensures.1 in
+    let s1 = g.O.Outside.seen c.clear.new.outside in
+    rw (e.1, e.2) (left_weaker _ _ _ _ _ _ _ (λ d k. k.none) (left_after _ _ _ _ _ _ _ _ s1 _ c.in_err-both.ensures.was_honest c.in_ok-clear.ensures.part c.in_err-both.ensures.part))
+
+pub returns-in_err-plan-clause-part : goal.returns-in_err-plan-clause-part
+returns-in_err-plan-clause-part g c =
+    let e = err_from_is_err_and c.from_residual-in_err-plan.result c.from_residual-in_err-plan.ensures.1 in
+    let s1 = g.O.Outside.seen c.clear.new.outside in
+    let so_far = passed_after _ _ _ _ _ _ _ _ s1 _ c.in_ok-both.ensures.was_honest c.in_ok-clear.ensures.part c.in_ok-both.ensures.part in
+    rw (e.1, e.2) (left_weaker _ _ _ _ _ _ _ (λ d k. k.none) (left_here _ _ _ _ _ _ _ _ so_far (caused_plan _ _ _ c.in_err-plan.ensures.fault) (λ k. after_plan (Underway g.O.Outside.ours g.O.Outside.alone g.opening) _ _ _ c.in_err-plan.ensures.fault (clear_underway g.O.Outside.ours g.O.Outside.alone g.opening _ _ _ k.clear))))
+
+pub returns-in_err-unfit-clause-part : goal.returns-in_err-unfit-clause-part
+returns-in_err-unfit-clause-part g c =
+    let e = err_from_is_err_and c.from_residual-in_err-unfit.result c.from_residual-in_err-unfit.ensures.1 in
+    let s1 = g.O.Outside.seen c.clear.new.outside in
+    let so_far = passed_after _ _ _ _ _ _ _ _ s1 _ c.in_ok-both.ensures.was_honest c.in_ok-clear.ensures.part c.in_ok-both.ensures.part in
+    rw (e.1, e.2) (left_weaker _ _ _ _ _ _ _ (λ d k. k.none) (left_here _ _ _ _ _ _ _ _ so_far (caused_plan _ _ _ c.in_err-unfit.ensures.fault) (λ k. after_plan (Underway g.O.Outside.ours g.O.Outside.alone g.opening) _ _ _ c.in_err-unfit.ensures.fault (clear_underway g.O.Outside.ours g.O.Outside.alone g.opening _ _ _ k.clear))))
+
+pub returns-clause-going : goal.returns-clause-going
+returns-clause-going g c =
+    let old = g.O.Outside.opened c.args.outside.now in
+    rw (c.in_ok-write_plan.ensures.opened, c.list_both.ensures.opened, c.in_ok-clear.ensures.opened) (begun_going (turned (λ _. Missing) old) c.in_ok-plan.plan (turned_read (λ _. Missing) old (none_read old c.requires.1.1.0)) (turned_open (λ _. Missing) old c.requires.1.1.1.0))
+
+pub returns-clause-log : goal.returns-clause-log
+returns-clause-log g c =
+    let old = g.O.Outside.opened c.args.outside.now in
+    rw (c.in_ok-write_plan.ensures.opened, c.list_both.ensures.opened, c.in_ok-clear.ensures.opened) (begun_log (turned (λ _. Missing) old) c.in_ok-plan.plan (turned_read (λ _. Missing) old (none_read old c.requires.1.1.0)))
+
+pub returns-clause-run : goal.returns-clause-run
+returns-clause-run g c =
+    let old = g.O.Outside.opened c.args.outside.now in
+    let now = g.O.Outside.opened c.list_both.new.outside in
+    let both = c.in_ok-both.both in
+    let plan = c.in_ok-plan.plan in
+    let steps : (plan_at (g.O.Outside.opened c.write_plan.new.outside)).steps ≡ plan.steps = rw (c.in_ok-write_plan.ensures.opened, c.list_both.ensures.opened, c.in_ok-clear.ensures.opened) (ap (λ (p : Plan). p.steps) (begun_plan (turned (λ _. Missing) old) plan (turned_read (λ _. Missing) old (none_read old c.requires.1.1.0)))) in
+    run_here old now c.args.options.now _ both.far both.near plan _ _ (c.list_both.ensures.opened ∙ c.in_ok-clear.ensures.opened) steps c.in_ok-plan.ensures.drawn c.in_ok-unfit.ensures.unfit
+
+pub returns-in_err-write_plan-clause-part : goal.returns-in_err-write_plan-clause-part
+returns-in_err-write_plan-clause-part g c =
+    let e = err_from_is_err_and c.from_residual-in_err-write_plan.result c.from_residual-in_err-write_plan.ensures.1 in
+    let ours = g.O.Outside.ours in
+    let alone = g.O.Outside.alone in
+    let s1 = g.O.Outside.seen c.clear.new.outside in
+    let s2 = g.O.Outside.seen c.list_both.new.outside in
+    let both = c.in_ok-both.both in
+    let now = g.O.Outside.opened c.list_both.new.outside in
+    let options = c.args.options.now in
+    let stream = g.R.Rng.stream c.args.rng.now in
+    let so_far = passed_after _ _ _ _ _ _ _ _ s1 _ c.in_ok-both.ensures.was_honest c.in_ok-clear.ensures.part c.in_ok-both.ensures.part in
+    let asked = passed_with (IsAsked ours g.opening options stream) _ _ _ _ _ _ so_far in
+    let ready = passed_weaker _ _ (IsChosen ours alone g.opening (g.O.Outside.opened c.args.outside.now) options stream) _ (IsMade ours alone g.opening now c.in_ok-plan.plan) _ 0 _ s2 refl (λ d k. (k.asked, k.none)) (λ d k. plan_made ours alone g.opening now options stream both.far both.near c.in_ok-plan.plan c.in_ok-plan.ensures.drawn c.in_ok-plan.ensures.plan d k.0 (rw c.list_both.ensures.opened k.1)) asked in
+    rw (e.1, e.2) (left_after _ _ _ _ _ _ _ _ s2 _ c.in_err-write_plan.ensures.was_honest ready c.in_err-write_plan.ensures.part)
+
+pub returns-clause-part : goal.returns-clause-part
+returns-clause-part g c =
+    let ours = g.O.Outside.ours in
+    let alone = g.O.Outside.alone in
+    let s1 = g.O.Outside.seen c.clear.new.outside in
+    let s2 = g.O.Outside.seen c.list_both.new.outside in
+    let both = c.in_ok-both.both in
+    let now = g.O.Outside.opened c.list_both.new.outside in
+    let options = c.args.options.now in
+    let stream = g.R.Rng.stream c.args.rng.now in
+    let so_far = passed_after _ _ _ _ _ _ _ _ s1 _ c.in_ok-both.ensures.was_honest c.in_ok-clear.ensures.part c.in_ok-both.ensures.part in
+    let asked = passed_with (IsAsked ours g.opening options stream) _ _ _ _ _ _ so_far in
+    let ready = passed_weaker _ _ (IsChosen ours alone g.opening (g.O.Outside.opened c.args.outside.now) options stream) _ (IsMade ours alone g.opening now c.in_ok-plan.plan) _ 0 _ s2 refl (λ d k. (k.asked, k.none)) (λ d k. plan_made ours alone g.opening now options stream both.far both.near c.in_ok-plan.plan c.in_ok-plan.ensures.drawn c.in_ok-plan.ensures.plan d k.0 (rw c.list_both.ensures.opened k.1)) asked in
+    passed_after _ _ _ _ _ _ _ _ s2 _ c.in_ok-write_plan.ensures.was_honest ready c.in_ok-write_plan.ensures.part

@@ -1,0 +1,26 @@
+use Rattle.std.proofs.Common.{◌≡◌, true, false, is_some, arith}
+use Rattle.std.proofs.lemmas.Grind.{common_steps}
+use Rattle.runner.specs.Answers.{AtEnd}
+use Rattle.runner.specs.Before.{HasNoPlan}
+use Rattle.runner.proofs.PartCalls.{part_weaker}
+use Rattle.runner.proofs.Passes.{known_planned, known_unplanned}
+use Rattle.runner.proofs.Readings.{book_read, has_none, has_plan, none_of, some_of}
+use Rattle.runner.proofs.run.work.Goals as goal
+
+pub returns-then-is_some-clause-part : goal.returns-then-is_some-clause-part
+returns-then-is_some-clause-part g c =
+    let ours = g.O.Outside.ours in
+    let alone = g.O.Outside.alone in
+    let opened = g.O.Outside.opened c.args.outside.now in
+    let i : is_some c.pending.result ≡ true = grind (arith, common_steps) in
+    let j = some_of _ c.pending.result _ c.pending.ensures i in
+    part_weaker _ _ _ _ _ _ (λ x. AtEnd ours alone g.opening) _ _ _ (λ d k. known_planned ours alone g.opening opened d (has_plan opened j.0 j.1) k.most k.known) (λ x d k. k) c.resume.ensures.part
+
+pub returns-else-is_some-clause-part : goal.returns-else-is_some-clause-part
+returns-else-is_some-clause-part g c =
+    let ours = g.O.Outside.ours in
+    let alone = g.O.Outside.alone in
+    let opened = g.O.Outside.opened c.args.outside.now in
+    let i : is_some c.pending.result ≡ false = grind (arith, common_steps) in
+    let none : HasNoPlan opened = has_none opened (book_read opened c.requires.1.1.0) (none_of _ c.pending.result _ c.pending.ensures i) in
+    part_weaker _ _ _ _ _ _ (λ x. AtEnd ours alone g.opening) _ _ _ (λ d k. record { asked = k.asked; none = known_unplanned ours alone g.opening opened d none k.most k.known }) (λ x d k. k) c.begin.ensures.part

@@ -1,0 +1,50 @@
+use Rattle.std.proofs.Common.{◌≡◌, List, [], ◌∷◌, ◌++◌, sym, ◌∙◌, ap, append-nil, Some, None}
+use Rattle.std.proofs.lemmas.Result.{err_from_is_err_and}
+use Rattle.rules.specs.declared.plan.Step.{Step}
+use Rattle.underway.proofs.NextSteps.{drop_none}
+use Rattle.runner.specs.Going.{log_at, next_at, plan_at, steps_of}
+use Rattle.runner.proofs.PartCalls.{left_after, left_here, passed_after}
+use Rattle.runner.proofs.Stages.{ready_underway}
+use Rattle.runner.proofs.LoopLemmas.{made_more, logged_on, steps_on, less_left}
+use Rattle.runner.proofs.steps.carry_out.Goals as goal
+
+pub returns-in_default-try_reserve-clause-part : goal.returns-in_default-try_reserve-clause-part
+returns-in_default-try_reserve-clause-part g c =
+    left_here _ _ _ _ _ _ _ _ c.loop-number.invariant.part tt (ready_underway g.O.Outside.ours g.O.Outside.alone g.opening (g.O.Outside.opened c.loop-number.outside) c.args.is_taken_up _)
+
+pub returns-in_err-one-clause-part : goal.returns-in_err-one-clause-part
+returns-in_err-one-clause-part g c =
+    let e = err_from_is_err_and c.from_residual.result c.from_residual.ensures.1 in
+    let s1 = g.O.Outside.seen c.loop-number.outside in
+    rw (e.1, e.2) (left_after _ _ _ _ _ _ _ _ s1 _ c.in_err-one.ensures.was_honest c.loop-number.invariant.part c.in_err-one.ensures.part)
+
+pub loop-number-smaller : goal.loop-number-smaller
+loop-number-smaller g c =
+    let b = g.O.Outside.opened c.loop-number.outside in
+    let is : next_at b ≡ Some c.in_ok-one.one.step = rw c.in_ok-one.ensures.step c.in-Some.ensures.1 in
+    less_left b (g.O.Outside.opened c.advance.new.outside) c.in_ok-one.one c.in_ok-one.ensures.opened is
+
+pub loop-number-preserved : goal.loop-number-preserved
+loop-number-preserved g c =
+    let i = c.loop-number.invariant in
+    let one = c.in_ok-one.ensures in
+    let start = g.O.Outside.opened c.args.outside.now in
+    let b = g.O.Outside.opened c.loop-number.outside in
+    let s1 = g.O.Outside.seen c.loop-number.outside in
+    let ps = c.loop-number.performed.items in
+    let p = c.in_ok-one.one in
+    let is : next_at b ≡ Some p.step = rw one.step c.in-Some.ensures.1 in
+    let pushed : c.push.new.self.items ≡ ps ++ p ∷ [] = rw (← c.try_reserve.ensures.items) c.in-Ok-push.ensures.items in
+    rw pushed (record {
+      opened = logged_on start b _ ps p i.opened one.opened;
+      steps = steps_on b _ ps p _ one.opened is i.steps;
+      was_honest = λ h. i.was_honest (one.was_honest h);
+      part = rw (← made_more ps p) (passed_after _ _ _ _ _ _ _ _ s1 _ one.was_honest i.part one.part);
+    })
+
+pub returns-clause-steps : goal.returns-clause-steps
+returns-clause-steps g c =
+    let i = c.loop-number.invariant in
+    let o = g.O.Outside.opened c.loop-number.outside in
+    let none : next_at o ≡ None = c.in_default.ensures in
+    sym (append-nil _) ∙ ap (λ (l : List Step). steps_of c.loop-number.performed.items ++ l) (sym (drop_none (plan_at o).steps (log_at o) none)) ∙ i.steps

@@ -1,0 +1,21 @@
+use Rattle.std.proofs.Common.{◌≡◌, ◌-◌, ◌++◌, length, drop}
+use Rattle.runner.specs.Parts.{Passed}
+use Rattle.runner.specs.Going.{AtReady, HasLogged, log_at, logs_of, made, plan_at, steps_of}
+use Rattle.runner.proofs.steps.carry_out.Given as goal
+
+abbrev pub ghost-advance : goal.ghost-advance
+ghost-advance g a = g.opening
+
+abbrev pub invariant-loop-number : goal.invariant-loop-number
+invariant-loop-number g l =
+    let start = g.O.Outside.opened l.fn.outside in
+    let now = g.O.Outside.opened l.outside in
+    record {
+      opened : HasLogged start now (logs_of l.performed.items);
+      steps : steps_of l.performed.items ++ drop (length (log_at now)) (plan_at now).steps ≡ drop (length (log_at start)) (plan_at start).steps;
+      was_honest : g.O.Outside.honest l.outside → g.O.Outside.honest l.fn.outside;
+      part : Passed (g.O.Outside.honest l.outside) (AtReady g.O.Outside.ours g.O.Outside.alone g.opening start l.is_taken_up) (AtReady g.O.Outside.ours g.O.Outside.alone g.opening now l.is_taken_up) (made l.performed.items) (g.O.Outside.seen l.fn.outside) (g.O.Outside.seen l.outside);
+    }
+
+abbrev pub decreases-loop-number : goal.decreases-loop-number
+decreases-loop-number g l = let opened = g.O.Outside.opened l.outside in length (plan_at opened).steps - length (log_at opened)

@@ -1,0 +1,135 @@
+-- What a run answers, and where it leads.
+use Rattle.std.specs.Prelude.{◌≡◌, ◌≢◌, ◌≤◌, ◌+◌, All, AllPairs, ℕ, Bool, true, false, List, drop, length, Option, None, Some}
+use Rattle.rand_core.specs.Stream.{Stream}
+use Rattle.mailcore.specs.declared.side.Side.{Side}
+use Rattle.mailcore.specs.declared.listing.Listing.{Listing}
+use Rattle.mailcore.specs.Mark.{IsMark}
+use Rattle.mailcore.specs.Draws.{Draws, after_pairs}
+use Rattle.rules.specs.declared.options.Options.{Options}
+use Rattle.rules.specs.declared.plan.Step.{Step}
+use Rattle.rules.specs.declared.state.SyncState.{SyncState}
+use Rattle.rules.specs.Outcome.{count_new}
+use Rattle.rules.specs.Scene.{scene}
+use Rattle.planner.specs.Written.{all_steps, all_unfit, marks_of}
+use Rattle.book.specs.declared.book.Pending.{Pending}
+use Rattle.book.specs.declared.book.Pending.TheVariants.{Missing, Useless, Planned}
+use Rattle.outside.specs.Devices.{Device}
+use Rattle.outside.specs.Opened.{Opened}
+use Rattle.underway.specs.Conditions.{IsOver, Underway}
+use Rattle.underway.specs.Endings.{EndedAt}
+use Rattle.underway.specs.Openings.{IsIdle, Opening, Since}
+use Rattle.runner.specs.declared.fault.RunFault.{RunFault}
+use Rattle.runner.specs.declared.fault.RunFault.TheVariants as run
+use Rattle.runner.specs.declared.pass.Pass.{Pass}
+use Rattle.runner.specs.declared.pass.Pass.TheVariants.{Already, Ran, Finished}
+use Rattle.runner.specs.declared.performed.Performed.{Performed}
+use Rattle.runner.specs.Before.{HasNone, IsKnown}
+use Rattle.runner.specs.Going.{made, steps_of}
+
+-- ---- which answer, by what the files held at entry
+
+-- the steps of a plan that are not logged
+abbrev pub IsRest : Pending → List Performed → Type 0
+IsRest Missing performed = ⊥
+IsRest Useless performed = ⊥
+IsRest (Planned written) performed = steps_of performed ≡ drop (length written.journal.log) written.journal.plan.steps
+
+-- so many marks as there are new messages: the first ones of a generator, which differ
+pub record AreDrawn (stream : Stream) (far near : Listing) (state : SyncState) (options : Options) (marks : List (List ℕ)) : Type 0 where
+  pub drawn : Draws stream (count_new (scene far near state options)) marks
+  pub each : All IsMark marks
+  pub differ : AllPairs (λ a b. a ≢ b) marks
+
+-- all steps of the plan of two listings, under the first marks of a generator
+abbrev pub IsDrawn : Option Opened → Stream → (far near : Listing) → Options → List Step → Type 0
+IsDrawn None stream far near options steps = ⊥
+IsDrawn (Some o) stream far near options steps = AreDrawn stream far near o.state options (marks_of steps) × (steps ≡ all_steps (scene far near o.state options) (marks_of steps))
+
+-- the messages of two listings that only want fitness to be new
+abbrev pub AreUnfit : Option Opened → (far near : Listing) → Options → List (Side × ℕ) → Type 0
+AreUnfit None far near options unfit = ⊥
+AreUnfit (Some o) far near options unfit = unfit ≡ all_unfit (scene far near o.state options)
+
+-- the steps performed are those of the plan of two listings, and these messages of the same listings were passed over
+pub record IsRun (opened : Option Opened) (options : Options) (stream : Stream) (steps : List Step) (unfit : List (Side × ℕ)) : Type 0 where
+  pub far : Listing
+  pub near : Listing
+  pub drawn : IsDrawn opened stream far near options steps
+  pub unfit_are : AreUnfit opened far near options unfit
+
+abbrev pub Answers : (run : ℕ) → SyncState → Pending → Pass → Type 0
+Answers run s p Already = run ≤ s.run
+Answers run s p (Ran performed unfit) = (run ≡ s.run + 1) × IsIdle p
+Answers run s p (Finished performed) = (run ≡ s.run + 1) × IsRest p performed.items
+
+abbrev pub AnswersTo : (run : ℕ) → Option Opened → Pass → Type 0
+AnswersTo run None pass = ⊥
+AnswersTo run (Some o) pass = Answers run o.state o.pending pass
+
+-- what is run where no plan was pending
+abbrev pub RunsBy : Option Opened → Options → Stream → Pass → Type 0
+RunsBy opened options stream Already = Unit {0}
+RunsBy opened options stream (Ran performed unfit) = IsRun opened options stream (steps_of performed.items) unfit.items
+RunsBy opened options stream (Finished performed) = Unit {0}
+
+-- a fault of the marks, the planner, or memory
+abbrev pub IsPlanFault : RunFault → Type 0
+IsPlanFault run.Stopped = ⊥
+IsPlanFault (run.Refused step) = ⊥
+IsPlanFault (run.ValidityChanged side) = Unit {0}
+IsPlanFault (run.BadState line) = ⊥
+IsPlanFault (run.BadJournal line) = ⊥
+IsPlanFault (run.StoreFault side number) = ⊥
+IsPlanFault run.MarksRepeat = Unit {0}
+IsPlanFault run.NoMemory = Unit {0}
+
+abbrev pub IsRestOf : Option Opened → List Performed → Type 0
+IsRestOf None performed = ⊥
+IsRestOf (Some o) performed = IsRest o.pending performed
+
+-- what is read of files that hold this
+abbrev pub as_read : SyncState → Pending → Option Opened
+as_read s p = Some (record { state = s; pending = p; far = false; near = false })
+
+abbrev pub run_of : Option Opened → ℕ
+run_of None = 0
+run_of (Some o) = o.state.run
+
+-- how many copies a pass made
+abbrev pub made_in : Pass → ℕ
+made_in Already = 0
+made_in (Ran performed unfit) = made performed.items
+made_in (Finished performed) = made performed.items
+
+-- ---- where it leads
+
+-- the outcome, and no journal
+abbrev pub AtEnd : (List ℕ → Bool) → Bool → Opening → Device → Type 0
+AtEnd ours alone opening d = Since alone opening (λ w. EndedAt ours alone w opening.options d)
+
+-- what a pass for this run reaches
+pub record Reaches (ours : List ℕ → Bool) (alone : Bool) (opening : Opening) (run : ℕ) (d : Device) : Type 0 where
+  pub underway : Underway ours alone opening d
+  pub done : opening.world.state.run + 1 ≤ run → IsOver ours alone opening d
+
+-- the options of the call are the opening's, and whatever marks its generator gives, from now on or later, nobody else writes
+pub record IsAsked (ours : List ℕ → Bool) (opening : Opening) (options : Options) (stream : Stream) : Type 0 where
+  pub called : opening.called ≡ options
+  pub are_ours : (pairs count : ℕ) (marks : List (List ℕ)) → Draws (after_pairs stream pairs) count marks → All (λ mark. ours mark ≡ true) marks
+
+-- a plan may be made
+pub record IsChosen (ours : List ℕ → Bool) (alone : Bool) (opening : Opening) (opened : Option Opened) (options : Options) (stream : Stream) (d : Device) : Type 0 where
+  pub asked : IsAsked ours opening options stream
+  pub none : HasNone alone opening opened d
+
+-- where a pass for this run may begin
+pub record IsEntry (ours : List ℕ → Bool) (alone : Bool) (opening : Opening) (run : ℕ) (options : Options) (stream : Stream) (d : Device) : Type 0 where
+  pub most : run ≤ opening.world.state.run + 1
+  pub asked : IsAsked ours opening options stream
+  pub underway : Underway ours alone opening d
+
+-- the same once the shelf was read
+pub record IsKnownEntry (ours : List ℕ → Bool) (alone : Bool) (opening : Opening) (opened : Option Opened) (run : ℕ) (options : Options) (stream : Stream) (d : Device) : Type 0 where
+  pub most : run ≤ opening.world.state.run + 1
+  pub asked : IsAsked ours opening options stream
+  pub known : IsKnown ours alone opening opened d

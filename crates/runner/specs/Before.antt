@@ -1,0 +1,73 @@
+-- What is so before the steps of a plan: the shelf was read, the journal is cleared away, both mailboxes are listed, the plan is made.
+use Rattle.std.specs.Prelude.{◌≡◌, ℕ, Bool, true, List, [], Option, None, Some}
+use Rattle.mailcore.specs.declared.side.Side.TheVariants.{Far, Near}
+use Rattle.mailcore.specs.declared.listing.Listing.{Listing}
+use Rattle.mailcore.specs.Operations.{Shows, ShowsAbove}
+use Rattle.rules.specs.declared.plan.Plan.{Plan}
+use Rattle.rules.specs.World.{World, NamesBelow}
+use Rattle.book.specs.Books.{Holds, IsPlanned as HasPlanned}
+use Rattle.book.specs.declared.book.Pending.TheVariants.{Missing}
+use Rattle.outside.specs.Devices.{Device}
+use Rattle.outside.specs.Opened.{IsHeld, Opened, state_of}
+use Rattle.underway.specs.Conditions.{IsPending, Underway}
+use Rattle.underway.specs.Moments.{Listed}
+use Rattle.underway.specs.Openings.{Grows, IsIdle, Opening, Since, Unplanned, world_at}
+use Rattle.underway.specs.Plans.{IsPlanned}
+
+-- a plan of the next run is pending
+abbrev pub HasPlan : Option Opened → Type 0
+HasPlan None = ⊥
+HasPlan (Some o) = HasPlanned o.pending
+
+-- none is
+abbrev pub HasNoPlan : Option Opened → Type 0
+HasNoPlan None = ⊥
+HasNoPlan (Some o) = IsIdle o.pending
+
+-- there is no journal
+abbrev pub HasNoJournal : Option Opened → Type 0
+HasNoJournal None = ⊥
+HasNoJournal (Some o) = o.pending ≡ Missing
+
+-- the files hold what was read
+pub record IsKnown (ours : List ℕ → Bool) (alone : Bool) (opening : Opening) (opened : Option Opened) (d : Device) : Type 0 where
+  pub underway : Underway ours alone opening d
+  pub held : IsHeld opened d
+
+-- there is a plan, which will be taken up
+pub record IsTakenUp (ours : List ℕ → Bool) (alone : Bool) (opening : Opening) (opened : Option Opened) (d : Device) : Type 0 where
+  pub pending : IsPending ours alone opening d
+  pub held : IsHeld opened d
+
+-- there is none
+pub record HasNone (alone : Bool) (opening : Opening) (opened : Option Opened) (d : Device) : Type 0 where
+  pub unplanned : Unplanned alone opening d
+  pub held : IsHeld opened d
+
+-- there is no journal; once the waiting files are admitted, none waits where nobody adds any
+pub record IsClear (alone : Bool) (opening : Opening) (opened : Option Opened) (is_admitted : Bool) (d : Device) : Type 0 where
+  pub state : state_of opened ≡ Some opening.world.state
+  pub files : Holds d.files opening.world.state Missing
+  pub chosen : opening.called ≡ opening.options
+  pub below : NamesBelow opening.world
+  pub grows : Grows alone opening.world (world_at d opening.world.state)
+  pub admitted : is_admitted ≡ true → alone ≡ true → d.near.waiting ≡ []
+
+-- the far mailbox was listed; others may have added since
+pub record FarListed (alone : Bool) (opening : Opening) (opened : Option Opened) (far : Listing) (d : Device) : Type 0 where
+  pub clear : IsClear alone opening opened true d
+  pub shows : Shows Far d.far far
+
+-- both listings are those of this world, but that near messages up to this UID are said to be fit
+pub record AreShown (from : ℕ) (w : World) (far near : Listing) : Type 0 where
+  pub far_is : Shows Far w.far far
+  pub near_is : ShowsAbove Near from w.near near
+
+pub record BothListed (ours : List ℕ → Bool) (alone : Bool) (opening : Opening) (opened : Option Opened) (far near : Listing) (d : Device) : Type 0 where
+  pub clear : IsClear alone opening opened true d
+  pub since : Since alone opening (λ w. AreShown w.state.max_pushed w far near × Listed ours alone w d)
+
+-- the plan of that world is made
+pub record IsMade (ours : List ℕ → Bool) (alone : Bool) (opening : Opening) (opened : Option Opened) (plan : Plan) (d : Device) : Type 0 where
+  pub clear : IsClear alone opening opened true d
+  pub since : Since alone opening (λ w. IsPlanned ours w opening.options plan × Listed ours alone w d)

@@ -1,0 +1,60 @@
+-- How the faults of the outside are told by a run, and what a fault of a run says.
+use Rattle.std.specs.Prelude.{◌≡◌, ◌<◌, ◌⊎◌, ℕ, true}
+use Rattle.mailcore.specs.declared.side.Side.{Side}
+use Rattle.mailcore.specs.declared.side.Side.TheVariants.{Far}
+use Rattle.outside.specs.declared.fault.OutsideFault.{OutsideFault}
+use Rattle.outside.specs.declared.fault.OutsideFault.TheVariants as out
+use Rattle.outside.specs.Calls.{Seen}
+use Rattle.outside.specs.Devices.{Device}
+use Rattle.runner.specs.declared.fault.RunFault.{RunFault}
+use Rattle.runner.specs.declared.fault.RunFault.TheVariants as run
+
+-- how a fault of the outside is told while no step is performed: a refusal is a fault of the far box
+abbrev pub call_fault : OutsideFault → RunFault
+call_fault out.Stopped = run.Stopped
+call_fault out.Refused = run.StoreFault Far 2
+call_fault (out.Box side number) = run.StoreFault side number
+call_fault (out.BadState line) = run.BadState line
+call_fault (out.BadJournal line) = run.BadJournal line
+call_fault out.NoMemory = run.NoMemory
+
+-- how it is told while the step of this number is performed
+abbrev pub step_fault : OutsideFault → (number : ℕ) → RunFault
+step_fault out.Stopped number = run.Stopped
+step_fault out.Refused number = run.Refused number
+step_fault (out.Box side code) number = run.StoreFault side code
+step_fault (out.BadState line) number = run.BadState line
+step_fault (out.BadJournal line) number = run.BadJournal line
+step_fault out.NoMemory number = run.NoMemory
+
+-- ---- why a run may tell a fault
+
+-- a copy was made whose UID was not told, and it was not found
+pub record IsLost (side : Side) (number : ℕ) (old new : Seen) : Type 0 where
+  pub far : side ≡ Far
+  pub protocol : number ≡ 3
+  pub copied : old.appends < new.appends
+
+-- a call stopped, was refused or had another fault, by the counts
+abbrev pub IsCaused : RunFault → Seen → Seen → Type 0
+IsCaused run.Stopped old new = (old.is_broken ≡ true) ⊎ (old.stops < new.stops)
+IsCaused (run.Refused step) old new = old.refusals < new.refusals
+IsCaused (run.ValidityChanged side) old new = Unit {0}
+IsCaused (run.BadState line) old new = Unit {0}
+IsCaused (run.BadJournal line) old new = Unit {0}
+IsCaused (run.StoreFault side number) old new = (old.faults < new.faults) ⊎ ((old.refusals < new.refusals) ⊎ IsLost side number old new)
+IsCaused run.MarksRepeat old new = Unit {0}
+IsCaused run.NoMemory old new = Unit {0}
+
+-- ---- what a fault leaves of a run that is underway
+
+-- It is underway still. Neither the state nor the journal is found bad then, and a fault of a box is one that it told.
+abbrev pub LeavesRun : (underway : Device → Type 0) → RunFault → Seen → Seen → Type 0
+LeavesRun underway run.Stopped old new = underway new.device
+LeavesRun underway (run.Refused step) old new = underway new.device
+LeavesRun underway (run.ValidityChanged side) old new = underway new.device
+LeavesRun underway (run.BadState line) old new = ⊥
+LeavesRun underway (run.BadJournal line) old new = ⊥
+LeavesRun underway (run.StoreFault side number) old new = underway new.device × ((old.faults < new.faults) ⊎ (old.refusals < new.refusals))
+LeavesRun underway run.MarksRepeat old new = underway new.device
+LeavesRun underway run.NoMemory old new = underway new.device

@@ -1,0 +1,5 @@
+pub mod Faults
+pub mod Parts
+pub mod Going
+pub mod Before
+pub mod Answers

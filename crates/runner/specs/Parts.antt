@@ -1,0 +1,32 @@
+-- What a part of a run reaches, or leaves.
+use Rattle.std.specs.Prelude.{◌≡◌, ◌≤◌, ◌+◌, ℕ, false, Result, Ok, Err}
+use Rattle.outside.specs.Calls.{Seen}
+use Rattle.outside.specs.Devices.{Device}
+use Rattle.runner.specs.declared.fault.RunFault.{RunFault}
+use Rattle.runner.specs.Faults.{IsCaused, LeavesRun}
+
+-- none of the counts falls
+pub record NoLess (old new : Seen) : Type 0 where
+  pub stops : old.stops ≤ new.stops
+  pub refusals : old.refusals ≤ new.refusals
+  pub faults : old.faults ≤ new.faults
+  pub appends : old.appends ≤ new.appends
+
+-- a part that answered: no call of it had a fault, it has made so many copies, and it leads from one condition to another
+pub record Passed (honest : Type 0) (from to : Device → Type 0) (copies : ℕ) (old new : Seen) : Type 0 where
+  pub is_whole : new.is_broken ≡ false
+  pub stops : new.stops ≡ old.stops
+  pub refusals : new.refusals ≡ old.refusals
+  pub faults : new.faults ≡ old.faults
+  pub appends : new.appends ≡ old.appends + copies
+  pub reaches : honest → from old.device → to new.device
+
+-- a part that ended with a fault
+pub record Left (honest : Type 0) (from underway : Device → Type 0) (fault : RunFault) (old new : Seen) : Type 0 where
+  pub caused : IsCaused fault old new
+  pub no_less : NoLess old new
+  pub left : honest → from old.device → LeavesRun underway fault old new
+
+abbrev pub Part : {T : Type 0} → (honest : Type 0) → (from underway : Device → Type 0) → (copies : T → ℕ) → (reaches : T → Device → Type 0) → Seen → Seen → Result T RunFault → Type 0
+Part honest from underway copies reaches old new (Ok answer) = Passed honest from (reaches answer) (copies answer) old new
+Part honest from underway copies reaches old new (Err fault) = Left honest from underway fault old new

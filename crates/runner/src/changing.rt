@@ -1,0 +1,149 @@
+//! A step that changes flags of a message, or removes it.
+
+ghost use Rattle.std.specs.Prelude.{◌≡◌, Some, IfOk, true, false};
+ghost use Rattle.rules.specs.declared.plan.Step.TheVariants as step;
+ghost use Rattle.sync_state.specs.declared.journal.Logged.TheVariants.{Done};
+ghost use Rattle.step_laws.specs.Steps.{changed_uid};
+ghost use Rattle.underway.specs.Conditions.{Underway};
+ghost use Rattle.underway.specs.Openings.{Opening};
+ghost use Rattle.runner.specs.Parts.{Part};
+ghost use Rattle.runner.specs.Going.{IsGoing, AtBegun, AtDone, AtReady, logged_of, made_by, next_at, sets_first};
+
+use crate::fault::{RunFault, step_fault};
+use crate::performed::StepResult;
+use mailcore::flags::{Flag, Flags};
+use mailcore::side::{Direction, Side};
+use mailcore::uid::Uid;
+use outside::outside::Outside;
+
+/// Flags of a pair that go from one side to the other.
+#[derive(Clone, Copy, Debug, PartialEq, Eq)]
+pub(crate) struct FlagStep {
+    /// To the side whose message changes.
+    pub direction: Direction,
+    /// The far message.
+    pub far: Uid,
+    /// The near message.
+    pub near: Uid,
+    /// The flags that are set.
+    pub set: Flags,
+    /// The flags that are cleared.
+    pub cleared: Flags,
+}
+
+/// The message that changes.
+fn changed_uid(direction: Direction, far: Uid, near: Uid) -> Uid
+    ensures { result ≡ changed_uid direction far near }
+{
+    match direction {
+        Direction::Pull => near,
+        Direction::Push => far,
+    }
+}
+
+/// Sets the flags, if the step sets any.
+fn set_flags<O: Outside>(outside: &mut O, number: usize, flags: &FlagStep) -> Result<(), RunFault>
+    ghost opening: { Opening }
+    requires going { IsGoing (O.opened outside.old) }
+    requires next { next_at (O.opened outside.old) ≡ Some (step.Flags flags.now.direction flags.now.far flags.now.near flags.now.set flags.now.cleared) }
+    requires whole { (O.seen outside.old).is_broken ≡ false }
+    ensures was_honest { O.honest outside.new → O.honest outside.old }
+    ensures opened { O.opened outside.new ≡ O.opened outside.old }
+    ensures part { Part (O.honest outside.new) (AtReady O.ours O.alone opening (O.opened outside.old) true) (Underway O.ours O.alone opening) (λ _. 0) (λ _. AtBegun O.ours O.alone opening (O.opened outside.old) (sets_first flags.now.set flags.now.cleared)) (O.seen outside.old) (O.seen outside.new) result }
+{
+    if flags.set.is_empty() && !flags.cleared.is_empty() {
+        return Ok(());
+    }
+    let side = flags.direction.target();
+    let uid = changed_uid(flags.direction, flags.far, flags.near);
+    match outside.add_flags(side, uid, flags.set) {
+        Ok(()) => Ok(()),
+        Err(fault) => Err(step_fault(fault, number)),
+    }
+}
+
+/// Clears the flags, if the step clears any.
+fn clear_flags<O: Outside>(outside: &mut O, number: usize, flags: &FlagStep) -> Result<(), RunFault>
+    ghost opening: { Opening }
+    requires going { IsGoing (O.opened outside.old) }
+    requires next { next_at (O.opened outside.old) ≡ Some (step.Flags flags.now.direction flags.now.far flags.now.near flags.now.set flags.now.cleared) }
+    requires whole { (O.seen outside.old).is_broken ≡ false }
+    ensures was_honest { O.honest outside.new → O.honest outside.old }
+    ensures opened { O.opened outside.new ≡ O.opened outside.old }
+    ensures part { Part (O.honest outside.new) (AtBegun O.ours O.alone opening (O.opened outside.old) (sets_first flags.now.set flags.now.cleared)) (Underway O.ours O.alone opening) (λ _. 0) (λ _. AtDone O.ours O.alone opening (O.opened outside.old) Done) (O.seen outside.old) (O.seen outside.new) result }
+{
+    if flags.cleared.is_empty() {
+        return Ok(());
+    }
+    let side = flags.direction.target();
+    let uid = changed_uid(flags.direction, flags.far, flags.near);
+    match outside.remove_flags(side, uid, flags.cleared) {
+        Ok(()) => Ok(()),
+        Err(fault) => Err(step_fault(fault, number)),
+    }
+}
+
+/// Performs a step that carries flags over: one call for those that are set, and one for those that are cleared.
+pub(crate) fn carry_flags<O: Outside>(
+    outside: &mut O,
+    number: usize,
+    flags: &FlagStep,
+) -> Result<StepResult, RunFault>
+    ghost opening: { Opening }
+    requires going { IsGoing (O.opened outside.old) }
+    requires next { next_at (O.opened outside.old) ≡ Some (step.Flags flags.now.direction flags.now.far flags.now.near flags.now.set flags.now.cleared) }
+    requires whole { (O.seen outside.old).is_broken ≡ false }
+    ensures was_honest { O.honest outside.new → O.honest outside.old }
+    ensures opened { O.opened outside.new ≡ O.opened outside.old }
+    ensures fits { IfOk result (λ r. logged_of r ≡ Done) }
+    ensures part { Part (O.honest outside.new) (AtReady O.ours O.alone opening (O.opened outside.old) true) (Underway O.ours O.alone opening) made_by (λ r. AtDone O.ours O.alone opening (O.opened outside.old) (logged_of r)) (O.seen outside.old) (O.seen outside.new) result }
+{
+    set_flags(outside, number, flags)?;
+    clear_flags(outside, number, flags)?;
+    Ok(StepResult::Plain)
+}
+
+/// Marks the message on the direction's target as deleted, since its counterpart has gone.
+pub(crate) fn mark_deleted<O: Outside>(
+    outside: &mut O,
+    number: usize,
+    direction: Direction,
+    far: Uid,
+    near: Uid,
+) -> Result<StepResult, RunFault>
+    ghost opening: { Opening }
+    requires going { IsGoing (O.opened outside.old) }
+    requires next { next_at (O.opened outside.old) ≡ Some (step.Gone direction far near) }
+    ensures was_honest { O.honest outside.new → O.honest outside.old }
+    ensures opened { O.opened outside.new ≡ O.opened outside.old }
+    ensures fits { IfOk result (λ r. logged_of r ≡ Done) }
+    ensures part { Part (O.honest outside.new) (AtReady O.ours O.alone opening (O.opened outside.old) true) (Underway O.ours O.alone opening) made_by (λ r. AtDone O.ours O.alone opening (O.opened outside.old) (logged_of r)) (O.seen outside.old) (O.seen outside.new) result }
+{
+    let side = direction.target();
+    let uid = changed_uid(direction, far, near);
+    match outside.add_flags(side, uid, Flags::only(Flag::Deleted)) {
+        Ok(()) => Ok(StepResult::Plain),
+        Err(fault) => Err(step_fault(fault, number)),
+    }
+}
+
+/// Removes a message.
+pub(crate) fn remove<O: Outside>(
+    outside: &mut O,
+    number: usize,
+    side: Side,
+    uid: Uid,
+) -> Result<StepResult, RunFault>
+    ghost opening: { Opening }
+    requires going { IsGoing (O.opened outside.old) }
+    requires next { next_at (O.opened outside.old) ≡ Some (step.Expunge side uid) }
+    ensures was_honest { O.honest outside.new → O.honest outside.old }
+    ensures opened { O.opened outside.new ≡ O.opened outside.old }
+    ensures fits { IfOk result (λ r. logged_of r ≡ Done) }
+    ensures part { Part (O.honest outside.new) (AtReady O.ours O.alone opening (O.opened outside.old) true) (Underway O.ours O.alone opening) made_by (λ r. AtDone O.ours O.alone opening (O.opened outside.old) (logged_of r)) (O.seen outside.old) (O.seen outside.new) result }
+{
+    match outside.expunge(side, uid) {
+        Ok(()) => Ok(StepResult::Plain),
+        Err(fault) => Err(step_fault(fault, number)),
+    }
+}

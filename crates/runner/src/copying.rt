@@ -1,0 +1,124 @@
+//! A step that copies a message.
+
+ghost use Rattle.std.specs.Prelude.{◌≡◌, None, Some, IfOk, true, false};
+ghost use Rattle.rules.specs.declared.plan.Step.TheVariants as step;
+ghost use Rattle.sync_state.specs.JournalText.{LogsNew};
+ghost use Rattle.sync_state.specs.declared.journal.Logged.TheVariants.{Copied};
+ghost use Rattle.underway.specs.Conditions.{Underway};
+ghost use Rattle.underway.specs.Openings.{Opening};
+ghost use Rattle.runner.specs.Parts.{Part};
+ghost use Rattle.runner.specs.Going.{IsGoing, AtCopied, AtDone, AtReady, AtSought, CopiesUnder, FoundCopy, logged_of, made_by, next_at};
+
+use crate::fault::{RunFault, step_fault};
+use crate::pending::first_uid;
+use crate::performed::StepResult;
+use mailcore::flags::Flags;
+use mailcore::side::{Direction, Side};
+use mailcore::tuid::Tuid;
+use mailcore::uid::Uid;
+use outside::outside::{Carried, Outside};
+
+/// Looks for the copy that an earlier pass may have made: it has a UID that the target gave since the plan was made.
+fn seek<O: Outside>(
+    outside: &mut O,
+    number: usize,
+    direction: Direction,
+    mark: Tuid,
+) -> Result<Option<Uid>, RunFault>
+    ghost opening: { Opening }
+    requires going { IsGoing (O.opened outside.old) }
+    requires next { CopiesUnder (O.opened outside.old) direction mark }
+    ensures was_honest { O.honest outside.new → O.honest outside.old }
+    ensures opened { O.opened outside.new ≡ O.opened outside.old }
+    ensures part { Part (O.honest outside.new) (AtReady O.ours O.alone opening (O.opened outside.old) true) (Underway O.ours O.alone opening) (λ _. 0) (AtSought O.ours O.alone opening (O.opened outside.old)) (O.seen outside.old) (O.seen outside.new) result }
+{
+    let side = direction.target();
+    let from = first_uid(outside, side);
+    match outside.find_mark(side, mark, from) {
+        Ok(found) => Ok(found),
+        Err(fault) => Err(step_fault(fault, number)),
+    }
+}
+
+/// Looks for the copy that was just made, whose UID was not told.
+fn find_copy<O: Outside>(
+    outside: &mut O,
+    number: usize,
+    direction: Direction,
+    mark: Tuid,
+) -> Result<Option<Uid>, RunFault>
+    ghost opening: { Opening }
+    requires going { IsGoing (O.opened outside.old) }
+    requires next { CopiesUnder (O.opened outside.old) direction mark }
+    ensures was_honest { O.honest outside.new → O.honest outside.old }
+    ensures opened { O.opened outside.new ≡ O.opened outside.old }
+    ensures part { Part (O.honest outside.new) (AtCopied O.ours O.alone opening (O.opened outside.old)) (Underway O.ours O.alone opening) (λ _. 0) (FoundCopy O.ours O.alone opening (O.opened outside.old)) (O.seen outside.old) (O.seen outside.new) result }
+{
+    let side = direction.target();
+    let from = first_uid(outside, side);
+    match outside.find_mark(side, mark, from) {
+        Ok(found) => Ok(found),
+        Err(fault) => Err(step_fault(fault, number)),
+    }
+}
+
+/// Makes the copy. `StoreFault`, number 3 of the far box: its UID was not told, and no message bears its mark.
+fn copy<O: Outside>(
+    outside: &mut O,
+    number: usize,
+    direction: Direction,
+    uid: Uid,
+    flags: Flags,
+    mark: Tuid,
+) -> Result<StepResult, RunFault>
+    ghost opening: { Opening }
+    requires going { IsGoing (O.opened outside.old) }
+    requires next { next_at (O.opened outside.old) ≡ Some (step.New direction uid flags mark) }
+    ensures was_honest { O.honest outside.new → O.honest outside.old }
+    ensures opened { O.opened outside.new ≡ O.opened outside.old }
+    ensures fits { IfOk result (λ r. LogsNew (logged_of r)) }
+    ensures part { Part (O.honest outside.new) (AtReady O.ours O.alone opening (O.opened outside.old) false) (Underway O.ours O.alone opening) made_by (λ r. AtDone O.ours O.alone opening (O.opened outside.old) (logged_of r)) (O.seen outside.old) (O.seen outside.new) result }
+{
+    let carried = match outside.carry(direction, uid, mark, flags) {
+        Ok(carried) => carried,
+        Err(fault) => return Err(step_fault(fault, number)),
+    };
+    match carried {
+        Carried::Absent => Ok(StepResult::Void),
+        Carried::Unfit => Ok(StepResult::Void),
+        Carried::Made(told) => match told {
+            Some(copy) => Ok(StepResult::Made(copy)),
+            None => match find_copy(outside, number, direction, mark)? {
+                Some(copy) => Ok(StepResult::Made(copy)),
+                None => Err(RunFault::StoreFault(Side::Far, 3)),
+            },
+        },
+    }
+}
+
+/// Performs a step that copies a message. Where the plan was taken up again, a copy that is there is not made again.
+pub(crate) fn bring<O: Outside>(
+    outside: &mut O,
+    number: usize,
+    direction: Direction,
+    uid: Uid,
+    flags: Flags,
+    mark: Tuid,
+    is_taken_up: bool,
+) -> Result<StepResult, RunFault>
+    ghost opening: { Opening }
+    requires going { IsGoing (O.opened outside.old) }
+    requires next { next_at (O.opened outside.old) ≡ Some (step.New direction uid flags mark) }
+    ensures was_honest { O.honest outside.new → O.honest outside.old }
+    ensures opened { O.opened outside.new ≡ O.opened outside.old }
+    ensures fits { IfOk result (λ r. LogsNew (logged_of r)) }
+    ensures part { Part (O.honest outside.new) (AtReady O.ours O.alone opening (O.opened outside.old) is_taken_up) (Underway O.ours O.alone opening) made_by (λ r. AtDone O.ours O.alone opening (O.opened outside.old) (logged_of r)) (O.seen outside.old) (O.seen outside.new) result }
+{
+    if !is_taken_up {
+        return copy(outside, number, direction, uid, flags, mark);
+    }
+    match seek(outside, number, direction, mark)? {
+        Some(copy) => Ok(StepResult::Found(copy)),
+        None => copy(outside, number, direction, uid, flags, mark),
+    }
+}

@@ -1,0 +1,13 @@
+//! A run over two mailboxes and a book: what it does, call by call, so that it can be taken up again wherever it stopped.
+#![tactic(auto)]
+
+pub mod changing;
+pub mod copying;
+pub mod fault;
+pub mod opening;
+pub mod pass;
+pub mod pending;
+pub mod performed;
+pub mod planning;
+pub mod run;
+pub mod steps;

@@ -1,0 +1,235 @@
+//! What a run does before its steps: it reads the shelf, opens both boxes, clears the journal away, and lists both mailboxes.
+
+ghost use Rattle.std.specs.Prelude.{◌≡◌, None, Some, OnOk, IfOk, true, false};
+ghost use Rattle.book.specs.declared.book.Pending.TheVariants.{Missing};
+ghost use Rattle.book.specs.Books.{mended};
+ghost use Rattle.book.specs.BookLogs.{begun};
+ghost use Rattle.outside.specs.BoxCalls.{HasNumbers};
+ghost use Rattle.outside.specs.Opened.{IsBook, IsHeld, IsOpen, IsRead, TakesPlan, state_of, turned, with_box};
+ghost use Rattle.underway.specs.Conditions.{Underway};
+ghost use Rattle.underway.specs.Openings.{Opening};
+ghost use Rattle.runner.specs.Parts.{Part};
+ghost use Rattle.runner.specs.Going.{AreOpen, AtReady};
+ghost use Rattle.runner.specs.Before.{BothListed, FarListed, HasNoPlan, HasNone, HasPlan, IsClear, IsKnown, IsMade, IsTakenUp};
+
+use crate::fault::{RunFault, call_fault};
+use mailcore::listing::Listing;
+use mailcore::side::Side;
+use outside::outside::Outside;
+use rules::plan::Plan;
+
+/// Reads the shelf.
+pub(crate) fn recall<O: Outside>(outside: &mut O) -> Result<(), RunFault>
+    ghost opening: { Opening }
+    ensures was_honest { O.honest outside.new → O.honest outside.old }
+    ensures book { OnOk result (IsBook (O.opened outside.new)) }
+    ensures held { OnOk result (O.honest outside.new → IsHeld (O.opened outside.new) (O.seen outside.old).device) }
+    ensures same { OnOk result (O.honest outside.new → O.alone ≡ true → (O.seen outside.new).device ≡ (O.seen outside.old).device) }
+    ensures part { Part (O.honest outside.new) (Underway O.ours O.alone opening) (Underway O.ours O.alone opening) (λ _. 0) (λ _. IsKnown O.ours O.alone opening (O.opened outside.new)) (O.seen outside.old) (O.seen outside.new) result }
+{
+    match outside.open_book() {
+        Ok(()) => Ok(()),
+        Err(fault) => Err(call_fault(fault)),
+    }
+}
+
+/// The journal goes, unless it holds a plan of the next run.
+pub(crate) fn forget<O: Outside>(outside: &mut O) -> Result<(), RunFault>
+    ghost opening: { Opening }
+    requires read { IsRead (O.opened outside.old) }
+    requires whole { (O.seen outside.old).is_broken ≡ false }
+    ensures was_honest { O.honest outside.new → O.honest outside.old }
+    ensures state { OnOk result (state_of (O.opened outside.new) ≡ state_of (O.opened outside.old)) }
+    ensures stores { OnOk result (O.honest outside.new → O.alone ≡ true → ((O.seen outside.new).device.far ≡ (O.seen outside.old).device.far) × ((O.seen outside.new).device.near ≡ (O.seen outside.old).device.near)) }
+    ensures part { Part (O.honest outside.new) (IsKnown O.ours O.alone opening (O.opened outside.old)) (Underway O.ours O.alone opening) (λ _. 0) (λ _. IsKnown O.ours O.alone opening (O.opened outside.new)) (O.seen outside.old) (O.seen outside.new) result }
+{
+    if outside.pending().is_some() {
+        return Ok(());
+    }
+    match outside.discard() {
+        Ok(()) => Ok(()),
+        Err(fault) => Err(call_fault(fault)),
+    }
+}
+
+/// Takes a torn line off the journal, so that steps can be logged behind it.
+pub(crate) fn untear<O: Outside>(outside: &mut O) -> Result<(), RunFault>
+    ghost opening: { Opening }
+    requires plan { HasPlan (O.opened outside.old) }
+    ensures was_honest { O.honest outside.new → O.honest outside.old }
+    ensures opened { OnOk result (O.opened outside.new ≡ turned mended (O.opened outside.old)) }
+    ensures part { Part (O.honest outside.new) (IsTakenUp O.ours O.alone opening (O.opened outside.old)) (Underway O.ours O.alone opening) (λ _. 0) (λ _. AtReady O.ours O.alone opening (O.opened outside.new) true) (O.seen outside.old) (O.seen outside.new) result }
+{
+    match outside.mend() {
+        Ok(()) => Ok(()),
+        Err(fault) => Err(call_fault(fault)),
+    }
+}
+
+/// Removes a journal without a plan of the next run.
+fn empty<O: Outside>(outside: &mut O) -> Result<(), RunFault>
+    ghost opening: { Opening }
+    requires none { HasNoPlan (O.opened outside.old) }
+    ensures was_honest { O.honest outside.new → O.honest outside.old }
+    ensures opened { OnOk result (O.opened outside.new ≡ turned (λ _. Missing) (O.opened outside.old)) }
+    ensures part { Part (O.honest outside.new) (HasNone O.alone opening (O.opened outside.old)) (Underway O.ours O.alone opening) (λ _. 0) (λ _. IsClear O.alone opening (O.opened outside.new) false) (O.seen outside.old) (O.seen outside.new) result }
+{
+    match outside.discard() {
+        Ok(()) => Ok(()),
+        Err(fault) => Err(call_fault(fault)),
+    }
+}
+
+/// Gives waiting files their UIDs.
+fn admit<O: Outside>(outside: &mut O) -> Result<(), RunFault>
+    ghost opening: { Opening }
+    requires is_open { IsOpen Side.Near (O.opened outside.old) }
+    ensures was_honest { O.honest outside.new → O.honest outside.old }
+    ensures opened { O.opened outside.new ≡ O.opened outside.old }
+    ensures part { Part (O.honest outside.new) (IsClear O.alone opening (O.opened outside.old) false) (Underway O.ours O.alone opening) (λ _. 0) (λ _. IsClear O.alone opening (O.opened outside.new) true) (O.seen outside.old) (O.seen outside.new) result }
+{
+    match outside.admit() {
+        Ok(()) => Ok(()),
+        Err(fault) => Err(call_fault(fault)),
+    }
+}
+
+/// Removes a journal without a plan of the next run, and gives waiting files their UIDs.
+pub(crate) fn clear<O: Outside>(outside: &mut O) -> Result<(), RunFault>
+    ghost opening: { Opening }
+    requires none { HasNoPlan (O.opened outside.old) }
+    requires boxes { AreOpen (O.opened outside.old) }
+    ensures was_honest { O.honest outside.new → O.honest outside.old }
+    ensures opened { OnOk result (O.opened outside.new ≡ turned (λ _. Missing) (O.opened outside.old)) }
+    ensures part { Part (O.honest outside.new) (HasNone O.alone opening (O.opened outside.old)) (Underway O.ours O.alone opening) (λ _. 0) (λ _. IsClear O.alone opening (O.opened outside.new) true) (O.seen outside.old) (O.seen outside.new) result }
+{
+    empty(outside)?;
+    admit(outside)
+}
+
+/// Lists the far mailbox.
+fn list_far<O: Outside>(outside: &mut O) -> Result<Listing, RunFault>
+    ghost opening: { Opening }
+    requires boxes { AreOpen (O.opened outside.old) }
+    ensures was_honest { O.honest outside.new → O.honest outside.old }
+    ensures opened { O.opened outside.new ≡ O.opened outside.old }
+    ensures numbers { IfOk result HasNumbers }
+    ensures part { Part (O.honest outside.new) (IsClear O.alone opening (O.opened outside.old) true) (Underway O.ours O.alone opening) (λ _. 0) (λ far. FarListed O.alone opening (O.opened outside.old) far) (O.seen outside.old) (O.seen outside.new) result }
+{
+    match outside.list_far() {
+        Ok(far) => Ok(far),
+        Err(fault) => Err(call_fault(fault)),
+    }
+}
+
+/// Lists the near mailbox, after the far one. Messages that were pushed before are not read.
+fn list_near<O: Outside>(outside: &mut O, far: &Listing) -> Result<Listing, RunFault>
+    ghost opening: { Opening }
+    requires read { IsRead (O.opened outside.old) }
+    requires boxes { AreOpen (O.opened outside.old) }
+    ensures was_honest { O.honest outside.new → O.honest outside.old }
+    ensures opened { O.opened outside.new ≡ O.opened outside.old }
+    ensures numbers { IfOk result HasNumbers }
+    ensures part { Part (O.honest outside.new) (FarListed O.alone opening (O.opened outside.old) far.now) (Underway O.ours O.alone opening) (λ _. 0) (λ near. BothListed O.ours O.alone opening (O.opened outside.old) far.now near) (O.seen outside.old) (O.seen outside.new) result }
+{
+    let pushed = outside.state().max_pushed;
+    match outside.list_near(pushed) {
+        Ok(near) => Ok(near),
+        Err(fault) => Err(call_fault(fault)),
+    }
+}
+
+/// What both mailboxes list.
+#[derive(Debug, Drop)]
+pub(crate) struct Listings {
+    /// The far one.
+    pub far: Listing,
+    /// The near one, later.
+    pub near: Listing,
+}
+
+/// Lists the far mailbox, and then the near one.
+pub(crate) fn list_both<O: Outside>(outside: &mut O) -> Result<Listings, RunFault>
+    ghost opening: { Opening }
+    requires read { IsRead (O.opened outside.old) }
+    requires boxes { AreOpen (O.opened outside.old) }
+    ensures was_honest { O.honest outside.new → O.honest outside.old }
+    ensures opened { O.opened outside.new ≡ O.opened outside.old }
+    ensures far_numbers { IfOk result (λ both. HasNumbers both.far) }
+    ensures near_numbers { IfOk result (λ both. HasNumbers both.near) }
+    ensures part { Part (O.honest outside.new) (IsClear O.alone opening (O.opened outside.old) true) (Underway O.ours O.alone opening) (λ _. 0) (λ both. BothListed O.ours O.alone opening (O.opened outside.old) both.far both.near) (O.seen outside.old) (O.seen outside.new) result }
+{
+    let far = list_far(outside)?;
+    let near = list_near(outside, &far)?;
+    Ok(Listings { far, near })
+}
+
+/// Writes the whole plan into the journal.
+pub(crate) fn write_plan<O: Outside>(outside: &mut O, plan: Plan) -> Result<(), RunFault>
+    ghost opening: { Opening }
+    requires takes { TakesPlan (O.opened outside.old) plan }
+    ensures was_honest { O.honest outside.new → O.honest outside.old }
+    ensures opened { OnOk result (O.opened outside.new ≡ turned (λ _. begun plan) (O.opened outside.old)) }
+    ensures part { Part (O.honest outside.new) (IsMade O.ours O.alone opening (O.opened outside.old) plan) (Underway O.ours O.alone opening) (λ _. 0) (λ _. AtReady O.ours O.alone opening (O.opened outside.new) false) (O.seen outside.old) (O.seen outside.new) result }
+{
+    match outside.begin(plan) {
+        Ok(()) => Ok(()),
+        Err(fault) => Err(call_fault(fault)),
+    }
+}
+
+/// The UIDVALIDITY of a side that the run goes by: the journal's, or else, after a first run, the state's.
+fn recorded_validity<O: Outside>(outside: &O, side: Side) -> Option<u32>
+    requires read { IsRead (O.opened outside.now) }
+{
+    if let Some(journal) = outside.pending() {
+        return Some(match side {
+            Side::Far => journal.plan.far.validity,
+            Side::Near => journal.plan.near.validity,
+        });
+    }
+    let state = outside.state();
+    if state.run == 0 {
+        return None;
+    }
+    Some(match side {
+        Side::Far => state.far_validity,
+        Side::Near => state.near_validity,
+    })
+}
+
+/// Opens a box, whose UIDVALIDITY has to be the recorded one.
+fn open_one<O: Outside>(outside: &mut O, side: Side) -> Result<(), RunFault>
+    ghost opening: { Opening }
+    requires read { IsRead (O.opened outside.old) }
+    ensures was_honest { O.honest outside.new → O.honest outside.old }
+    ensures opened { OnOk result (O.opened outside.new ≡ with_box side (O.opened outside.old)) }
+    ensures part { Part (O.honest outside.new) (IsKnown O.ours O.alone opening (O.opened outside.old)) (Underway O.ours O.alone opening) (λ _. 0) (λ _. IsKnown O.ours O.alone opening (O.opened outside.new)) (O.seen outside.old) (O.seen outside.new) result }
+{
+    let recorded = recorded_validity(outside, side);
+    match outside.open_box(side) {
+        Ok(validity) => match recorded {
+            Some(before) => {
+                if before == validity {
+                    Ok(())
+                } else {
+                    Err(RunFault::ValidityChanged(side))
+                }
+            }
+            None => Ok(()),
+        },
+        Err(fault) => Err(call_fault(fault)),
+    }
+}
+
+/// Opens both boxes, the far one first.
+pub(crate) fn open_boxes<O: Outside>(outside: &mut O) -> Result<(), RunFault>
+    ghost opening: { Opening }
+    requires read { IsRead (O.opened outside.old) }
+    ensures was_honest { O.honest outside.new → O.honest outside.old }
+    ensures opened { OnOk result (O.opened outside.new ≡ with_box Side.Near (with_box Side.Far (O.opened outside.old))) }
+    ensures part { Part (O.honest outside.new) (IsKnown O.ours O.alone opening (O.opened outside.old)) (Underway O.ours O.alone opening) (λ _. 0) (λ _. IsKnown O.ours O.alone opening (O.opened outside.new)) (O.seen outside.old) (O.seen outside.new) result }
+{
+    open_one(outside, Side::Far)?;
+    open_one(outside, Side::Near)
+}

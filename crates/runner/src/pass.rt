@@ -1,0 +1,16 @@
+//! What became of a run.
+
+use crate::performed::Performed;
+use mailcore::side::Side;
+use mailcore::uid::Uid;
+
+/// What became of a run in one pass.
+#[derive(Debug, Drop)]
+pub enum Pass {
+    /// It was made before.
+    Already,
+    /// A plan was made, and these are its steps. The messages of the second list were passed over, since they are not fit to be copied.
+    Ran(Vec<Performed>, Vec<(Side, Uid)>),
+    /// A plan was pending, and these of its steps were not logged yet.
+    Finished(Vec<Performed>),
+}

@@ -1,0 +1,218 @@
+//! A whole run: it is begun, or taken up where its plan is pending, and its state is committed.
+
+ghost use Rattle.std.specs.Prelude.{◌≡◌, ◌≤◌, ◌<◌, ◌+◌, ◌^◌, [], None, Some, OnOk, IfOk, true, false};
+ghost use Rattle.rules.specs.declared.state.SyncState.{SyncState};
+ghost use Rattle.book.specs.declared.book.Pending.{Pending};
+ghost use Rattle.book.specs.Books.{Holds};
+ghost use Rattle.outside.specs.Opened.{IsBook, IsRead, TakesCommit};
+ghost use Rattle.underway.specs.Conditions.{Underway};
+ghost use Rattle.underway.specs.Openings.{Opening};
+ghost use Rattle.runner.specs.Parts.{Part};
+ghost use Rattle.runner.specs.Going.{AreOpen, AtReady, IsGoing, log_at, next_at, plan_at};
+ghost use Rattle.runner.specs.Before.{HasNoPlan, HasPlan, IsKnown, IsTakenUp};
+ghost use Rattle.runner.specs.Answers.{Answers, AnswersTo, AtEnd, IsChosen, IsEntry, IsKnownEntry, IsRun, Reaches, RunsBy, as_read, made_in, run_of};
+
+use crate::fault::{RunFault, call_fault};
+use crate::opening::{clear, forget, list_both, open_boxes, recall, untear, write_plan};
+use crate::pass::Pass;
+use crate::planning::{make_plan, passed_over};
+use crate::steps::carry_out;
+use mailcore::side::Side;
+use mailcore::uid::Uid;
+use outside::outside::Outside;
+use rand_core::Rng;
+use rules::options::Options;
+use std::alloc::Global;
+
+/// The new state takes the old one's place, and the journal goes.
+fn conclude<O: Outside>(outside: &mut O, is_taken_up: bool) -> Result<(), RunFault>
+    ghost opening: { Opening }
+    requires going { IsGoing (O.opened outside.old) }
+    requires takes { TakesCommit (O.opened outside.old) }
+    requires ended { next_at (O.opened outside.old) ≡ None }
+    ensures was_honest { O.honest outside.new → O.honest outside.old }
+    ensures part { Part (O.honest outside.new) (AtReady O.ours O.alone opening (O.opened outside.old) is_taken_up) (Underway O.ours O.alone opening) (λ _. 0) (λ _. AtEnd O.ours O.alone opening) (O.seen outside.old) (O.seen outside.new) result }
+{
+    match outside.commit() {
+        Ok(()) => Ok(()),
+        Err(fault) => Err(call_fault(fault)),
+    }
+}
+
+/// Makes a plan and writes it. Messages that are not fit are told.
+fn propose<O: Outside, R: Rng>(
+    alloc: Global,
+    outside: &mut O,
+    options: &Options,
+    rng: &mut R,
+) -> Result<Vec<(Side, Uid)>, RunFault>
+    ghost opening: { Opening }
+    requires none { HasNoPlan (O.opened outside.old) }
+    requires boxes { AreOpen (O.opened outside.old) }
+    requires room { run_of (O.opened outside.old) + 1 < 2 ^ 64 }
+    ensures was_honest { O.honest outside.new → O.honest outside.old }
+    ensures going { OnOk result (IsGoing (O.opened outside.new)) }
+    ensures log { OnOk result (log_at (O.opened outside.new) ≡ []) }
+    ensures run { IfOk result (λ unfit. IsRun (O.opened outside.old) options.now (R.stream rng.old) (plan_at (O.opened outside.new)).steps unfit.items) }
+    ensures part { Part (O.honest outside.new) (IsChosen O.ours O.alone opening (O.opened outside.old) options.now (R.stream rng.old)) (Underway O.ours O.alone opening) (λ _. 0) (λ _. AtReady O.ours O.alone opening (O.opened outside.new) false) (O.seen outside.old) (O.seen outside.new) result }
+{
+    clear(outside)?;
+    let both = list_both(outside)?;
+    let plan = make_plan(alloc, outside, &both, options, rng)?;
+    let unfit = passed_over(alloc, outside, &both, options)?;
+    write_plan(outside, plan)?;
+    Ok(unfit)
+}
+
+/// Makes a plan and carries it out.
+fn begin<O: Outside, R: Rng>(
+    alloc: Global,
+    outside: &mut O,
+    options: &Options,
+    rng: &mut R,
+) -> Result<Pass, RunFault>
+    ghost opening: { Opening }
+    requires none { HasNoPlan (O.opened outside.old) }
+    requires boxes { AreOpen (O.opened outside.old) }
+    requires room { run_of (O.opened outside.old) + 1 < 2 ^ 64 }
+    ensures was_honest { O.honest outside.new → O.honest outside.old }
+    ensures answer { IfOk result (AnswersTo (run_of (O.opened outside.old) + 1) (O.opened outside.old)) }
+    ensures runs { IfOk result (RunsBy (O.opened outside.old) options.now (R.stream rng.old)) }
+    ensures fresh { IfOk result (λ pass. pass ≡ Pass.Already → ⊥) }
+    ensures part { Part (O.honest outside.new) (IsChosen O.ours O.alone opening (O.opened outside.old) options.now (R.stream rng.old)) (Underway O.ours O.alone opening) made_in (λ _. AtEnd O.ours O.alone opening) (O.seen outside.old) (O.seen outside.new) result }
+{
+    let unfit = propose(alloc, outside, options, rng)?;
+    let performed = carry_out(alloc, outside, false)?;
+    conclude(outside, false)?;
+    Ok(Pass::Ran(performed, unfit))
+}
+
+/// Goes on with a plan that is pending.
+fn resume<O: Outside>(alloc: Global, outside: &mut O) -> Result<Pass, RunFault>
+    ghost opening: { Opening }
+    requires book { IsBook (O.opened outside.old) }
+    requires plan { HasPlan (O.opened outside.old) }
+    requires boxes { AreOpen (O.opened outside.old) }
+    ensures was_honest { O.honest outside.new → O.honest outside.old }
+    ensures answer { IfOk result (AnswersTo (run_of (O.opened outside.old) + 1) (O.opened outside.old)) }
+    ensures finished { IfOk result (λ pass. pass ≡ Pass.Already → ⊥) }
+    ensures part { Part (O.honest outside.new) (IsTakenUp O.ours O.alone opening (O.opened outside.old)) (Underway O.ours O.alone opening) made_in (λ _. AtEnd O.ours O.alone opening) (O.seen outside.old) (O.seen outside.new) result }
+{
+    untear(outside)?;
+    let performed = carry_out(alloc, outside, true)?;
+    conclude(outside, true)?;
+    Ok(Pass::Finished(performed))
+}
+
+/// The run's number is taken: a journal goes, unless it holds a plan of the next run.
+fn skip<O: Outside>(outside: &mut O) -> Result<Pass, RunFault>
+    ghost opening: { Opening }
+    requires read { IsRead (O.opened outside.old) }
+    requires whole { (O.seen outside.old).is_broken ≡ false }
+    ensures was_honest { O.honest outside.new → O.honest outside.old }
+    ensures answer { IfOk result (λ pass. pass ≡ Pass.Already) }
+    ensures stores { OnOk result (O.honest outside.new → O.alone ≡ true → ((O.seen outside.new).device.far ≡ (O.seen outside.old).device.far) × ((O.seen outside.new).device.near ≡ (O.seen outside.old).device.near)) }
+    ensures part { Part (O.honest outside.new) (IsKnown O.ours O.alone opening (O.opened outside.old)) (Underway O.ours O.alone opening) made_in (λ _. Reaches O.ours O.alone opening (run_of (O.opened outside.old))) (O.seen outside.old) (O.seen outside.new) result }
+{
+    forget(outside)?;
+    Ok(Pass::Already)
+}
+
+/// Finishes the plan that is pending, or makes one and carries it out.
+fn work<O: Outside, R: Rng>(
+    alloc: Global,
+    outside: &mut O,
+    options: &Options,
+    rng: &mut R,
+) -> Result<Pass, RunFault>
+    ghost opening: { Opening }
+    requires book { IsBook (O.opened outside.old) }
+    requires boxes { AreOpen (O.opened outside.old) }
+    requires room { run_of (O.opened outside.old) + 1 < 2 ^ 64 }
+    ensures was_honest { O.honest outside.new → O.honest outside.old }
+    ensures answer { IfOk result (AnswersTo (run_of (O.opened outside.old) + 1) (O.opened outside.old)) }
+    ensures runs { IfOk result (RunsBy (O.opened outside.old) options.now (R.stream rng.old)) }
+    ensures fresh { IfOk result (λ pass. pass ≡ Pass.Already → ⊥) }
+    ensures part { Part (O.honest outside.new) (IsKnownEntry O.ours O.alone opening (O.opened outside.old) (run_of (O.opened outside.old) + 1) options.now (R.stream rng.old)) (Underway O.ours O.alone opening) made_in (λ _. AtEnd O.ours O.alone opening) (O.seen outside.old) (O.seen outside.new) result }
+{
+    if outside.pending().is_some() {
+        resume(alloc, outside)
+    } else {
+        begin(alloc, outside, options, rng)
+    }
+}
+
+/// Opens both boxes first.
+fn open_and_work<O: Outside, R: Rng>(
+    alloc: Global,
+    outside: &mut O,
+    options: &Options,
+    rng: &mut R,
+) -> Result<Pass, RunFault>
+    ghost opening: { Opening }
+    requires book { IsBook (O.opened outside.old) }
+    requires room { run_of (O.opened outside.old) + 1 < 2 ^ 64 }
+    ensures was_honest { O.honest outside.new → O.honest outside.old }
+    ensures answer { IfOk result (AnswersTo (run_of (O.opened outside.old) + 1) (O.opened outside.old)) }
+    ensures runs { IfOk result (RunsBy (O.opened outside.old) options.now (R.stream rng.old)) }
+    ensures fresh { IfOk result (λ pass. pass ≡ Pass.Already → ⊥) }
+    ensures part { Part (O.honest outside.new) (IsKnownEntry O.ours O.alone opening (O.opened outside.old) (run_of (O.opened outside.old) + 1) options.now (R.stream rng.old)) (Underway O.ours O.alone opening) made_in (λ _. AtEnd O.ours O.alone opening) (O.seen outside.old) (O.seen outside.new) result }
+{
+    open_boxes(outside)?;
+    work(alloc, outside, options, rng)
+}
+
+/// Carries out the run of this number, once the shelf was read.
+fn take_up<O: Outside, R: Rng>(
+    alloc: Global,
+    outside: &mut O,
+    run: u64,
+    options: &Options,
+    rng: &mut R,
+) -> Result<Pass, RunFault>
+    ghost opening: { Opening }
+    requires book { IsBook (O.opened outside.old) }
+    requires whole { (O.seen outside.old).is_broken ≡ false }
+    ensures was_honest { O.honest outside.new → O.honest outside.old }
+    ensures answer { IfOk result (AnswersTo run (O.opened outside.old)) }
+    ensures runs { IfOk result (RunsBy (O.opened outside.old) options.now (R.stream rng.old)) }
+    ensures stores { IfOk result (λ pass. pass ≡ Pass.Already → O.honest outside.new → O.alone ≡ true → ((O.seen outside.new).device.far ≡ (O.seen outside.old).device.far) × ((O.seen outside.new).device.near ≡ (O.seen outside.old).device.near)) }
+    ensures part { Part (O.honest outside.new) (IsKnownEntry O.ours O.alone opening (O.opened outside.old) run options.now (R.stream rng.old)) (Underway O.ours O.alone opening) made_in (λ _. Reaches O.ours O.alone opening run) (O.seen outside.old) (O.seen outside.new) result }
+{
+    let last = outside.state().run;
+    if run <= last {
+        return skip(outside);
+    }
+    if run - last > 1 {
+        return Err(RunFault::BadState(0));
+    }
+    open_and_work(alloc, outside, options, rng)
+}
+
+/// Carries out the run of this number, or goes on with it where its plan is pending.
+///
+/// `BadState(0)`: the last run recorded is not the one before. `Stopped`: taken up again, it goes on where it stopped.
+pub fn pass<O: Outside, R: Rng>(
+    alloc: Global,
+    outside: &mut O,
+    run: u64,
+    options: &Options,
+    rng: &mut R,
+) -> Result<Pass, RunFault>
+    ghost opening: { Opening }
+
+    ensures was_honest { O.honest outside.new → O.honest outside.old }
+
+    // What is answered goes by what the files held, and what is run by the marks that the generator gave.
+    ensures answer { IfOk result (λ pass. O.honest outside.new → (s : SyncState) (p : Pending) → Holds (O.seen outside.old).device.files s p → Answers run s p pass) }
+    ensures runs { IfOk result (λ pass. O.honest outside.new → (s : SyncState) (p : Pending) → Holds (O.seen outside.old).device.files s p → RunsBy (as_read s p) options.now (R.stream rng.old) pass) }
+
+    // A run that was made leaves both mailboxes as they are.
+    ensures stores { IfOk result (λ pass. pass ≡ Pass.Already → O.honest outside.new → O.alone ≡ true → ((O.seen outside.new).device.far ≡ (O.seen outside.old).device.far) × ((O.seen outside.new).device.near ≡ (O.seen outside.old).device.near)) }
+
+    // A run that is underway is still underway after any fault, and over where it answers.
+    ensures part { Part (O.honest outside.new) (IsEntry O.ours O.alone opening run options.now (R.stream rng.old)) (Underway O.ours O.alone opening) made_in (λ _. Reaches O.ours O.alone opening run) (O.seen outside.old) (O.seen outside.new) result }
+{
+    recall(outside)?;
+    take_up(alloc, outside, run, options, rng)
+}
