@@ -9,3 +9,5 @@ pub mod Answered
 pub mod Changed
 pub mod Selecting
 pub mod LoggingIn
+pub mod Creating
+pub mod Sweeping

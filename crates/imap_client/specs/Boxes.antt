@@ -66,3 +66,8 @@ Changing (calls.Body uid) change = ⊥
 Changing (calls.Heads from) change = ⊥
 Changing (calls.Store uid mode flags) change = change ≡ stored mode flags (one_uid uid)
 Changing (calls.Expunge uids) change = change ≡ swept (each_one uids.now)
+
+-- how many commands a removal of these messages sends
+abbrev pub commands_for : List ℕ → ℕ
+commands_for [] = 0
+commands_for (uid ∷ uids) = 1

@@ -8,5 +8,6 @@ pub mod Saying
 pub mod Openings
 pub mod Boxes
 pub mod Logins
+pub mod Creations
 pub mod Calls
 pub mod Sessions

@@ -10,7 +10,7 @@ ghost use Rattle.imap_session.specs.NamedMessages.{stored, swept};
 ghost use Rattle.imap_link.specs.Outcomes.{Outcome, Never};
 ghost use Rattle.mailcore.specs.Stores.{Store};
 ghost use Rattle.imap_client.specs.Calls.{CanAsk, each_one};
-ghost use Rattle.imap_client.specs.Boxes.{IsSelected, Selects, Chooses, NoMailbox, Becomes, Changing, one_uid};
+ghost use Rattle.imap_client.specs.Boxes.{IsSelected, Selects, Chooses, NoMailbox, Becomes, Changing, one_uid, commands_for};
 ghost use Rattle.imap_client.specs.Openings.{opening_of};
 ghost use Rattle.imap_client.specs.Requests.{IsWord};
 ghost use Rattle.imap_client.specs.Spoken.{Speaks};
@@ -128,6 +128,18 @@ impl<L: Link> Session<L> {
         Ok(Opening::of(&replies))
     }
 
+    // Sends nothing. `Stopped`: the session has failed.
+    fn rest(&self) -> Result<(), FarFault>
+        ensures ends { EndsSo 0 (state_of self.now) (state_of self.now) result }
+        ensures err { IfErr result (λ fault. fault ≡ FarFault.Stopped) }
+    {
+        if self.is_ready {
+            Ok(())
+        } else {
+            Err(FarFault::Stopped)
+        }
+    }
+
     // Sends this, and waits until it was done.
     pub(crate) fn change(&mut self, call: &Call<'_>) -> Result<(), FarFault>
         requires { CanAsk call.now }
@@ -178,5 +190,22 @@ impl<L: Link> FarBox<L> {
     {
         self.session
             .change(&Call::Store(uid, StoreMode::Remove, flags))
+    }
+
+    /// Removes those of these messages that have `\Deleted`, at most 5000: one UID EXPUNGE, or nothing for an empty list.
+    pub fn expunge(&mut self, uids: &[Uid]) -> Result<(), FarFault>
+        requires { length uids.now ≤ 5000 }
+        ensures was_honest { L.honest self.new.session.wire.link → L.honest self.old.session.wire.link }
+        ensures stuck { self.old.session.is_ready ≡ false → self.new.session ≡ self.old.session }
+        ensures ends { EndsSo (commands_for uids.now) (state_of self.old.session) (state_of self.new.session) result }
+        ensures outcome { L.honest self.new.session.wire.link → (m : FarMailbox) → selected (server_of self.old.session) ≡ Some m
+            → Outcome (λ _. Becomes (swept (each_one uids.now))) Never (Becomes (swept (each_one uids.now))) result
+            (server_of self.old.session) (server_of self.new.session) }
+    {
+        if uids.is_empty() {
+            self.session.rest()
+        } else {
+            self.session.change(&Call::Expunge(uids))
+        }
     }
 }

@@ -4,6 +4,7 @@
 mod call;
 pub mod far_box;
 mod login;
+mod mailboxes;
 mod opening;
 mod reading;
 mod sending;
