@@ -1,5 +1,5 @@
 -- What became of a command of which it is known what the server does with it.
-use Rattle.std.proofs.Common.{◌≡◌, ◌⊎◌, inl, inr, ℕ, Bool, true, false, List, [], ◌∷◌, ◌++◌, refl, sym, ◌∙◌, ap, subst, append-nil, take, Option, Some, None, Result, Ok, Err}
+use Rattle.std.proofs.Common.{◌≡◌, ◌⊎◌, inl, inr, ℕ, Bool, true, false, List, [], ◌∷◌, ◌++◌, refl, sym, ◌∙◌, ap, subst, append-nil, take, Option, Some, Result, Ok, Err}
 use Rattle.std.specs.Prelude.{nat_eq, if◌then◌else◌}
 use Rattle.std.specs.Cmp.Lexicographic.{pointwise}
 use Rattle.imap_commands.specs.declared.command.Command.{Command}
@@ -15,14 +15,13 @@ use Rattle.exchange_laws.specs.Ends.{Did, DidCommand, MayHave}
 use Rattle.exchange_laws.proofs.Answering.{did_answer, leaves_answer}
 use Rattle.imap_link.specs.declared.fault.FarFault.{FarFault}
 use Rattle.imap_link.specs.declared.fault.FarFault.TheVariants as faults
-use Rattle.imap_link.specs.declared.front.Kind.{Kind}
 use Rattle.imap_link.specs.declared.front.Kind.TheVariants.{Mine, Stray}
 use Rattle.imap_link.specs.ReplyKinds.{kind_of, IsAwaited}
 use Rattle.imap_link.specs.Outcomes.{Outcome, Never}
 use Rattle.imap_link.specs.Exchanges.{Replied}
 use Rattle.imap_link.proofs.KindLemmas.{awaited_stays, tagged_awaited}
 use Rattle.imap_link.proofs.Astray.{ends_apart, closed_of}
-use Rattle.imap_client.specs.Exchanged.{Exchanged, RepliedWith}
+use Rattle.imap_client.specs.Exchanged.{Exchanged}
 use Rattle.imap_client.specs.Saying.{status_of, final_status, HeardOf}
 
 -- ---- the status

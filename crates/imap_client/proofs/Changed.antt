@@ -1,6 +1,6 @@
 -- Calls that change the selected mailbox.
-use Rattle.std.proofs.Common.{◌≡◌, ◌≤◌, ℕ, Bool, true, false, List, [], ◌∷◌, ◌++◌, refl, sym, ◌∙◌, ap, subst, take, Option, Some, None, Result, Ok, Err}
-use Rattle.std.specs.Prelude.{find, nat_le, if◌then◌else◌}
+use Rattle.std.proofs.Common.{◌≡◌, ℕ, Bool, true, false, List, [], ◌∷◌, ◌++◌, refl, sym, ◌∙◌, ap, subst, take, Option, Some, None, Result, Ok, Err}
+use Rattle.std.specs.Prelude.{nat_le, if◌then◌else◌}
 use Rattle.std.specs.Option.{option_map}
 use Rattle.mailcore.specs.Stores.{Store}
 use Rattle.wire_tokens.specs.declared.uid_set.SetItem.{SetItem}

@@ -1,14 +1,11 @@
 -- The text of a request that is sent in one line completes its command.
-use Rattle.std.proofs.Common.{◌≡◌, ◌≤◌, ◌⊎◌, inl, inr, ℕ, ◌+◌, Bool, true, false, not, List, [], ◌∷◌, ◌++◌, refl, sym, ◌∙◌, ap, subst, arith, length, append-nil}
-use Rattle.std.specs.Prelude.{◌==◌, ◌&&◌, nat_le, if◌then◌else◌}
+use Rattle.std.proofs.Common.{◌≡◌, ◌≤◌, inl, inr, ℕ, Bool, true, false, List, [], ◌∷◌, refl, sym, ◌∙◌, ap, subst, arith, length}
+use Rattle.std.specs.Prelude.{if◌then◌else◌}
 use Rattle.std.specs.List.{list_all, flat_map}
 use Rattle.std.proofs.lemmas.Bool.{and_parts, and_from}
 use Rattle.std.proofs.lemmas.List.Folds.{list_all-append}
 use Rattle.wire_reader.specs.declared.side.Side.TheVariants.{Commands}
-use Rattle.wire_reader.specs.declared.lexical.Phase.TheVariants as phases
-use Rattle.wire_reader.specs.Lexical.{phase, outside}
-use Rattle.wire_reader.specs.Spelling.{◌⨾◌, Is, crlf, is_digit}
-use Rattle.wire_reader.specs.Literal.{Number}
+use Rattle.wire_reader.specs.Spelling.{◌⨾◌, Is, is_digit}
 use Rattle.wire_reader.proofs.Part.{Part}
 use Rattle.wire_reader.proofs.Reader.{Open}
 use Rattle.wire_tokens.specs.declared.uid_set.SetEnd.{SetEnd}
@@ -16,9 +13,9 @@ use Rattle.wire_tokens.specs.declared.uid_set.SetEnd.TheVariants.{Number as End,
 use Rattle.wire_tokens.specs.declared.uid_set.SetItem.{SetItem}
 use Rattle.wire_tokens.specs.declared.uid_set.SetItem.TheVariants.{One, Range}
 use Rattle.wire_tokens.specs.declared.spaced.NameKind.TheVariants as kinds
-use Rattle.wire_tokens.specs.Atoms.{is_atom_byte, is_tag_byte, IsTag, TagText}
+use Rattle.wire_tokens.specs.Atoms.{is_atom_byte, is_tag_byte, TagText}
 use Rattle.wire_tokens.specs.Names.{NameText, NamesText}
-use Rattle.wire_tokens.specs.FlagLists.{ListedText, FlagsText}
+use Rattle.wire_tokens.specs.FlagLists.{ListedText}
 use Rattle.wire_tokens.specs.FlagWriting.{WrittenFlags}
 use Rattle.wire_tokens.specs.Sets.{EndText, ItemText, SetText}
 use Rattle.wire_strings.specs.Texts.{is_text}
@@ -42,7 +39,7 @@ use Rattle.imap_commands.proofs.WrittenCommands.{written_spelled}
 use Rattle.imap_commands.proofs.CommandsFit.{command_few}
 use Rattle.imap_session.specs.SessionCommands.{REV2}
 use Rattle.imap_link.specs.Exchanges.{Completes}
-use Rattle.imap_client.specs.Requests.{IsWord, IsPlain}
+use Rattle.imap_client.specs.Requests.{IsPlain}
 use Rattle.imap_client.proofs.Plain.{lacks, calm, no_return, IsCalm, IsLine, tame, tame_calm, class_tame, tame_then, tame_is, tame_items, bare_line, line_then, line_asks_none}
 
 -- ---- tokens

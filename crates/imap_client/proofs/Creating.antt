@@ -1,12 +1,12 @@
 -- A mailbox is made.
-use Rattle.std.proofs.Common.{◌≡◌, inl, inr, ℕ, Bool, true, false, List, [], ◌∷◌, ◌++◌, refl, ◌∙◌, subst, take, Option, Some, None, Result, Ok, Err}
+use Rattle.std.proofs.Common.{◌≡◌, inl, inr, ℕ, Bool, true, false, List, [], ◌∷◌, refl, ◌∙◌, subst, take, Option, Some, None, Result, Ok, Err}
 use Rattle.std.specs.Prelude.{codes, nat_le, if◌then◌else◌}
 use Rattle.imap_commands.specs.declared.command.Command.{Command}
 use Rattle.imap_commands.specs.declared.command.Request.TheVariants as requests
 use Rattle.imap_replies.specs.declared.reply.Reply.{Reply}
 use Rattle.imap_session.specs.Mailboxes.{FarMailbox, mailbox_at}
 use Rattle.imap_session.specs.Servers.{Server, is_logged_in}
-use Rattle.imap_session.specs.Answering.{Answer, Gives, done, refused as refused_reply, refused_with, only, out_of_place}
+use Rattle.imap_session.specs.Answering.{Gives, done, refused as refused_reply, refused_with, only, out_of_place}
 use Rattle.imap_session.specs.MailboxCommands.{is_name, next_validity, makes, creates_at}
 use Rattle.imap_link.specs.declared.fault.FarFault.{FarFault}
 use Rattle.imap_link.specs.declared.fault.FarFault.TheVariants as faults

@@ -11,7 +11,7 @@ use Rattle.imap_link.specs.declared.wire.Answered.{Answered}
 use Rattle.imap_link.specs.Faults.{IsHearing}
 use Rattle.imap_link.specs.Outcomes.{Outcome, Never}
 use Rattle.imap_link.specs.Exchanges.{Replied}
-use Rattle.imap_client.specs.Exchanged.{Exchanged, RepliedWith}
+use Rattle.imap_client.specs.Exchanged.{Exchanged}
 use Rattle.imap_client.specs.States.{State, SendStops, SentSo, Judged}
 
 abbrev pub state_at : (is_ready : Bool) (tags stops : ℕ) (heard : List ℕ) → State

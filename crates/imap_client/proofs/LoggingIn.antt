@@ -1,5 +1,5 @@
 -- Capabilities are asked for, somebody logs in, and the revision is enabled.
-use Rattle.std.proofs.Common.{◌≡◌, ◌⊎◌, ◌≤◌, ◌<◌, inl, inr, ℕ, ◌+◌, Bool, true, false, List, [], ◌∷◌, ◌++◌, refl, sym, ◌∙◌, ap, subst, arith, take, Option, Some, None, Result, Ok, Err}
+use Rattle.std.proofs.Common.{◌≡◌, ◌⊎◌, ◌≤◌, inl, inr, ℕ, ◌+◌, Bool, true, false, List, [], ◌∷◌, ◌++◌, refl, sym, ◌∙◌, ap, subst, arith, take, Some, None, Result, Ok, Err}
 use Rattle.std.specs.Prelude.{codes, ◌||◌, if◌then◌else◌}
 use Rattle.std.specs.List.{list_any}
 use Rattle.imap_commands.specs.declared.command.Request.TheVariants as requests
@@ -8,16 +8,15 @@ use Rattle.imap_replies.specs.declared.reply.Reply.TheVariants.{Capability, Enab
 use Rattle.wire_tokens.specs.Names.{has_name}
 use Rattle.imap_session.specs.Servers.{Server, Authenticated, is_before_login, is_logged_in}
 use Rattle.imap_session.specs.Answering.{Gives, done, refused_with, out_of_place}
-use Rattle.imap_session.specs.SessionCommands.{REV2, lets_in, logs_in, enables}
+use Rattle.imap_session.specs.SessionCommands.{REV2, lets_in, logs_in}
 use Rattle.imap_session.specs.Heard.{AreReplies, LeavesOut, WithoutUid}
-use Rattle.exchange_laws.specs.Ends.{MayHave}
 use Rattle.imap_link.specs.declared.fault.FarFault.{FarFault}
 use Rattle.imap_link.specs.declared.fault.FarFault.TheVariants as faults
 use Rattle.imap_link.specs.Outcomes.{Outcome, Never}
 use Rattle.imap_client.specs.Tags.{tag_text}
 use Rattle.imap_client.specs.Exchanged.{command_at, Exchanged}
 use Rattle.imap_client.specs.Saying.{HeardOf}
-use Rattle.imap_client.specs.States.{State, StopCause, Failed, Broken, Bye, UsedUp, Goes, GoesRefused, Halts, Fails, EndsSo, AskedSo}
+use Rattle.imap_client.specs.States.{State, StopCause, Failed, Broken, Bye, UsedUp, Goes, EndsSo, AskedSo}
 use Rattle.imap_client.specs.Logins.{tells_rev2, is_known, Authenticates, Rejects, Remains}
 use Rattle.imap_client.proofs.Answered.{Sure, answered, refused}
 

@@ -1,14 +1,14 @@
 -- Texts of commands in which no literal is asked for.
-use Rattle.std.proofs.Common.{◌≡◌, inl, inr, ℕ, ◌+◌, ◌*◌, ◌-◌, Bool, true, false, not, List, [], ◌∷◌, ◌++◌, refl, sym, ◌∙◌, ap, subst, append_assoc, Option, None, eqb, cond}
+use Rattle.std.proofs.Common.{◌≡◌, inl, inr, ℕ, ◌+◌, ◌*◌, ◌-◌, Bool, true, false, not, List, [], ◌∷◌, ◌++◌, refl, sym, ◌∙◌, ap, subst, append_assoc, Option, None, eqb}
 use Rattle.std.specs.Prelude.{◌==◌, ◌&&◌, nat_le, if◌then◌else◌}
-use Rattle.std.specs.List.{list_all, flat_map}
-use Rattle.std.proofs.lemmas.Bool.{and_parts, and_from, cases_Bool, false≢true, eqb-true, not-true}
+use Rattle.std.specs.List.{list_all}
+use Rattle.std.proofs.lemmas.Bool.{and_parts, and_from, cases_Bool, false≢true, eqb-true}
 use Rattle.std.proofs.lemmas.List.Folds.{list_all-append}
 use Rattle.wire_reader.specs.declared.side.Side.TheVariants.{Commands}
 use Rattle.wire_reader.specs.declared.lexical.Phase.{Phase}
 use Rattle.wire_reader.specs.declared.lexical.Phase.TheVariants as phases
 use Rattle.wire_reader.specs.Lexical.{next, restart, phase, asked, literal_limit}
-use Rattle.wire_reader.specs.Spelling.{◌⨾◌, Is, crlf, ItemsText, IsRun, is_digit}
+use Rattle.wire_reader.specs.Spelling.{◌⨾◌, Is, crlf, ItemsText, is_digit}
 use Rattle.wire_reader.proofs.Braceless.{no_brace, braceless, braceless-phase}
 use Rattle.wire_reader.proofs.LexedSeq.{two-phases}
 use Rattle.imap_session.specs.Portions.{once, goes_from, goes_in}

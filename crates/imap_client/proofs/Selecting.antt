@@ -11,7 +11,7 @@ use Rattle.imap_replies.specs.declared.reply.Reply.TheVariants.{Flags, Exists}
 use Rattle.imap_session.specs.Mailboxes.{FarMailbox, mailbox_at}
 use Rattle.imap_session.specs.Servers.{Condition, NotAuthenticated, Authenticated, Selected, LoggedOut, Server, is_logged_in, selected}
 use Rattle.imap_session.specs.Answering.{Gives, bad, done_with, refused_with, note, listed, out_of_place}
-use Rattle.imap_session.specs.MailboxCommands.{SIX, closes, opening, selects_at}
+use Rattle.imap_session.specs.MailboxCommands.{SIX, closes, selects_at}
 use Rattle.imap_session.specs.Heard.{AreReplies, LeavesOut, WithoutUid}
 use Rattle.imap_link.specs.declared.fault.FarFault.{FarFault}
 use Rattle.imap_link.specs.declared.fault.FarFault.TheVariants as faults

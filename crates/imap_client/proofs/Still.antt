@@ -1,7 +1,6 @@
 -- A still connection is idle.
-use Rattle.std.proofs.Common.{◌≡◌, ℕ, Bool, true, false, List, [], ◌∷◌, refl, sym, ap, subst}
-use Rattle.imap_replies.specs.declared.reply.Reply.{Reply}
-use Rattle.imap_session.specs.Servers.{Server, NotAuthenticated, is_over}
+use Rattle.std.proofs.Common.{◌≡◌, Bool, true, false, [], ◌∷◌, refl, sym, ap, subst}
+use Rattle.imap_session.specs.Servers.{Server, NotAuthenticated}
 use Rattle.imap_session.specs.Unread.{Kept, Whole, Dropping, Holds}
 use Rattle.imap_session.specs.Serving.{End}
 use Rattle.session_laws.proofs.Opening.{new_end_is_empty}

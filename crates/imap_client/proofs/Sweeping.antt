@@ -1,7 +1,6 @@
 -- Nothing is removed where nothing is named.
 use Rattle.std.proofs.Common.{◌≡◌, inl, IfErr, Result, Ok, Err, ℕ, Bool, true, false, List, [], ◌∷◌, refl, sym, ◌∙◌, ap, subst, Option, Some, None}
-use Rattle.std.specs.Prelude.{map, filter, not, ◌&&◌, if◌then◌else◌}
-use Rattle.std.specs.List.{list_any}
+use Rattle.std.specs.Prelude.{map, filter, ◌&&◌, if◌then◌else◌}
 use Rattle.mailcore.specs.declared.mailbox.Message.{Message}
 use Rattle.mailcore.specs.Stores.{Store}
 use Rattle.mailcore.specs.Operations.{expunged}

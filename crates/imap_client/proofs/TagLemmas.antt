@@ -1,10 +1,10 @@
 -- The tags of a connection are tags.
-use Rattle.std.proofs.Common.{◌≡◌, ◌<◌, ◌≤◌, ℕ, ◌+◌, ◌^◌, Bool, true, false, List, [], ◌∷◌, ◌++◌, length, refl, sym, subst, ap, arith, length-append, lit<}
+use Rattle.std.proofs.Common.{◌≡◌, ◌<◌, ℕ, ◌^◌, Bool, true, false, List, [], ◌∷◌, refl, arith}
 use Rattle.std.specs.Prelude.{decimal, ◌||◌, ◌&&◌, nat_le}
 use Rattle.std.specs.List.{list_all}
 use Rattle.std.proofs.lemmas.Bool.{and_parts, and_from}
 use Rattle.std.proofs.lemmas.Fmt.{length-decimal-le}
-use Rattle.wire_reader.specs.Spelling.{is_digit, IsRun}
+use Rattle.wire_reader.specs.Spelling.{is_digit}
 use Rattle.wire_tokens.specs.Atoms.{is_tag_byte, IsTag}
 use Rattle.wire_tokens.proofs.NumberLemmas.{number-decimal}
 use Rattle.imap_client.specs.Tags.{tag_text}

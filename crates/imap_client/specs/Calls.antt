@@ -1,6 +1,5 @@
 -- What calls send.
-use Rattle.std.specs.Prelude.{◌≡◌, ◌<◌, ◌≤◌, ℕ, true, List, [], ◌∷◌, map, length, max}
-use Rattle.std.specs.List.{list_all}
+use Rattle.std.specs.Prelude.{◌<◌, ◌≤◌, ℕ, List, [], ◌∷◌, map, length, max}
 use Rattle.wire_tokens.specs.declared.uid_set.SetEnd.TheVariants.{Number, Greatest}
 use Rattle.wire_tokens.specs.declared.uid_set.SetItem.{SetItem}
 use Rattle.wire_tokens.specs.declared.uid_set.SetItem.TheVariants.{One, Range}

@@ -9,5 +9,6 @@ pub mod Openings
 pub mod Boxes
 pub mod Logins
 pub mod Creations
+pub mod Nowhere
 pub mod Calls
 pub mod Sessions

@@ -1,5 +1,5 @@
 -- What happens at login.
-use Rattle.std.specs.Prelude.{◌≡◌, ℕ, Bool, true, false, ◌&&◌, nat_eq, List, Option, None, Some}
+use Rattle.std.specs.Prelude.{◌≡◌, ℕ, Bool, true, false, ◌&&◌, nat_eq, List, Some}
 use Rattle.std.specs.Cmp.Lexicographic.{pointwise}
 use Rattle.wire_tokens.specs.Names.{has_name}
 use Rattle.imap_replies.specs.declared.reply.Reply.{Reply}

@@ -1,10 +1,6 @@
 -- What the replies to a command say.
-use Rattle.std.specs.Prelude.{◌≡◌, ℕ, Bool, true, false, List, [], ◌∷◌, Option, None, Some}
+use Rattle.std.specs.Prelude.{ℕ, List, [], ◌∷◌, Option, None, Some}
 use Rattle.imap_replies.specs.declared.word.Status.{Status}
-use Rattle.imap_replies.specs.declared.response.Code.{Code}
-use Rattle.imap_replies.specs.declared.response.Code.TheVariants as codes_of
-use Rattle.imap_replies.specs.declared.response.ResponseText.{ResponseText}
-use Rattle.imap_replies.specs.declared.response.ResponseText.TheVariants.{Plain, Coded}
 use Rattle.imap_replies.specs.declared.reply.Reply.{Reply}
 use Rattle.imap_replies.specs.declared.reply.Reply.TheVariants.{Continue, Tagged, Notice, Capability, Enabled, List as Listed, Flags, Exists, Expunge, Fetch, Other, OtherNumbered}
 use Rattle.imap_session.specs.Heard.{AreReplies, LeavesOut}

@@ -1,5 +1,4 @@
 -- A session as the clauses of its calls name it.
-use Rattle.std.specs.Prelude.{ℕ}
 use Rattle.imap_session.specs.Servers.{Server}
 use Rattle.imap_session.specs.Lines.{Line}
 use Rattle.imap_link.specs.declared.link.Link as link

@@ -10,3 +10,4 @@ mod reading;
 mod sending;
 pub mod session;
 mod tags;
+pub mod tcp_link;

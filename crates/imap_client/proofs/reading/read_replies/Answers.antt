@@ -1,4 +1,4 @@
-use Rattle.std.proofs.Common.{sym, ◌∙◌, subst, refl}
+use Rattle.std.proofs.Common.{sym, ◌∙◌, refl}
 use Rattle.imap_link.proofs.Exits.{slice_is}
 use Rattle.imap_client.proofs.Left.{all_read, left_next, must_take, some_rest, none_rest, waits_not, partial_not, err_stops, whole_text}
 use Rattle.imap_client.proofs.reading.read_replies.Goals as goal

@@ -1,6 +1,5 @@
 use Rattle.std.proofs.Common.{sym, ◌∙◌, ap, subst, List, ℕ, [], ◌∷◌, ◌++◌}
 use Rattle.wire_tokens.specs.Atoms.{IsTag}
-use Rattle.imap_client.specs.Tags.{tag_text}
 use Rattle.imap_client.proofs.TagLemmas.{tags_are}
 use Rattle.imap_client.proofs.tags.tag_of.Goals as goal
 

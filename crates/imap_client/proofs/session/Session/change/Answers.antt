@@ -1,8 +1,8 @@
-use Rattle.std.proofs.Common.{◌≡◌, Some, ℕ, ◌+◌, sym, ◌∙◌, ap, subst, Result, Ok, Err, refl}
+use Rattle.std.proofs.Common.{◌≡◌, Some, ℕ, ◌+◌, sym, ◌∙◌, ap, subst, Result, Ok, Err}
 use Rattle.std.proofs.lemmas.Result.{err_from_is_err_and}
 use Rattle.mailcore.specs.Stores.{Store}
 use Rattle.imap_session.specs.Mailboxes.{FarMailbox}
-use Rattle.imap_session.specs.Servers.{Server, selected}
+use Rattle.imap_session.specs.Servers.{selected}
 use Rattle.imap_link.specs.declared.fault.FarFault.{FarFault}
 use Rattle.imap_link.specs.Outcomes.{Outcome, Never}
 use Rattle.imap_client.specs.Boxes.{Becomes, Changing}

@@ -1,9 +1,8 @@
-use Rattle.std.proofs.Common.{◌≡◌, inl, inr, ℕ, ◌+◌, Bool, true, false, List, refl, sym, ◌∙◌, ap, subst, take, Option, Some, None, Result, Ok, Err}
+use Rattle.std.proofs.Common.{◌≡◌, inr, ℕ, ◌+◌, true, false, sym, ◌∙◌, ap, subst, take, Result, Ok, Err}
 use Rattle.std.proofs.lemmas.Result.{err_from_is_err_and}
 use Rattle.imap_replies.specs.declared.word.Status.TheVariants as statuses
-use Rattle.imap_session.specs.Servers.{Server, is_logged_in}
+use Rattle.imap_session.specs.Servers.{is_logged_in}
 use Rattle.imap_link.specs.declared.fault.FarFault.{FarFault}
-use Rattle.imap_link.specs.declared.fault.FarFault.TheVariants.{NoMemory}
 use Rattle.imap_link.specs.Outcomes.{Outcome}
 use Rattle.imap_client.specs.declared.far_box.Chosen.{Chosen}
 use Rattle.imap_client.specs.declared.opening.Opening.{Opening}

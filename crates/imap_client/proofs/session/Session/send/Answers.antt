@@ -1,14 +1,12 @@
-use Rattle.std.proofs.Common.{◌≡◌, ℕ, List, [], refl, sym, ◌∙◌, ap, subst, take, drop, Result, Ok, Err}
+use Rattle.std.proofs.Common.{ℕ, List, [], sym, ◌∙◌, ap, subst, take, drop, Result, Err}
 use Rattle.std.proofs.lemmas.Result.{err_from_is_err_and}
 use Rattle.imap_commands.specs.Writing.{Written}
-use Rattle.imap_session.specs.Servers.{Server}
 use Rattle.exchange_laws.specs.Ends.{ends_of}
 use Rattle.imap_link.specs.declared.fault.FarFault.{FarFault}
-use Rattle.imap_link.specs.Faults.{IsHearing}
 use Rattle.imap_link.specs.Exchanges.{Replied}
-use Rattle.imap_link.proofs.Exits.{at_err, if_ok, on_ok}
+use Rattle.imap_link.proofs.Exits.{if_ok, on_ok}
 use Rattle.imap_client.specs.Stillness.{IsStill}
-use Rattle.imap_client.specs.States.{State, SentSo, SendStops}
+use Rattle.imap_client.specs.States.{SentSo}
 use Rattle.imap_client.specs.Exchanged.{Exchanged}
 use Rattle.imap_client.proofs.Completing.{plain_completes}
 use Rattle.imap_client.proofs.Still.{idle_of, still_of}

@@ -1,0 +1,89 @@
+//! A link over TCP.
+
+ghost use Rattle.std.specs.Prelude.{◌≡◌, ◌<◌, ◌≤◌};
+
+use device::stop_count::StopCount;
+use imap_link::link::{Link, LinkFault};
+use std::alloc::AllocError;
+use std::io::{Read, Write};
+use std::net::{Net, TcpStream};
+
+/// A link over TCP, without encryption, to a server at an address `host:port`.
+///
+/// It is not honest in the sense of `Link`: no contract can say what the other end keeps. It meets the law where the
+/// server and the network do, and the theorems above it hold under that premise alone.
+#[derive(Drop)]
+pub struct TcpLink<R: Net + AllocGlobal + Clone + Drop> {
+    rt: R,
+    address: String,
+    stream: Option<R::Stream>,
+    stops: StopCount,
+}
+
+impl<R: Net + AllocGlobal + Clone + Drop> TcpLink<R> {
+    /// A link to the server at this address. Nothing is connected before `reconnect`.
+    ///
+    /// `AllocError`: memory ran out.
+    pub fn new(rt: R, address: &str) -> Result<Self, AllocError> {
+        let address = String::from_str(rt.alloc(), address)?;
+        let stops = StopCount::new(rt.alloc());
+        Ok(TcpLink {
+            rt,
+            address,
+            stream: None,
+            stops,
+        })
+    }
+
+    // Counts a stop.
+    fn stopped(&mut self) -> LinkFault
+        ensures counted { result ≡ LinkFault.Stopped → self.old.stops < self.new.stops }
+        ensures no_less { self.old.stops ≤ self.new.stops }
+    {
+        self.stream = None;
+        match self.stops.push() {
+            Ok(()) => LinkFault::Stopped,
+            Err(_) => LinkFault::NoMemory,
+        }
+    }
+}
+
+impl<R: Net + AllocGlobal + Clone + Drop> Link for TcpLink<R> {
+    ghost use Rattle.imap_client.specs.Nowhere.{no_line};
+
+    ghost honest = { λ _. ⊥ };
+
+    ghost line = { λ _. no_line };
+
+    ghost stops = { λ l. l.stops };
+
+    fn send(&mut self, bytes: &[u8]) -> Result<(), LinkFault> {
+        let sent = match &mut self.stream {
+            Some(stream) => stream.write_all(bytes).is_ok(),
+            None => false,
+        };
+        if sent { Ok(()) } else { Err(self.stopped()) }
+    }
+
+    fn recv(&mut self, piece: &mut [u8]) -> Result<usize, LinkFault> {
+        let read = match &mut self.stream {
+            Some(stream) => stream.read(piece).ok(),
+            None => None,
+        };
+        match read {
+            Some(0) | None => Err(self.stopped()),
+            Some(count) => Ok(count),
+        }
+    }
+
+    fn reconnect(&mut self) -> Result<(), LinkFault> {
+        self.stream = None;
+        match TcpStream::connect(&self.rt, self.address.as_str()) {
+            Ok(stream) => {
+                self.stream = Some(stream);
+                Ok(())
+            }
+            Err(_) => Err(self.stopped()),
+        }
+    }
+}
