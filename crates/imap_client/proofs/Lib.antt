@@ -11,3 +11,4 @@ pub mod Selecting
 pub mod LoggingIn
 pub mod Creating
 pub mod Sweeping
+pub mod Flagging

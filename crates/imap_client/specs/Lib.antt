@@ -10,5 +10,6 @@ pub mod Boxes
 pub mod Logins
 pub mod Creations
 pub mod Nowhere
+pub mod Laws
 pub mod Calls
 pub mod Sessions

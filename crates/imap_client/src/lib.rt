@@ -3,6 +3,7 @@
 
 mod call;
 pub mod far_box;
+pub mod laws;
 mod login;
 mod mailboxes;
 mod opening;
