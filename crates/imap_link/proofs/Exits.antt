@@ -61,15 +61,6 @@ or_faulty f read heard more coming h e (inr x) = inr (subst (λ (l : List ℕ). 
 
 -- ---- what hearing tells
 
-pub hearing_stop : (f : FarFault) → IsStop f → IsHearing f
-hearing_stop faults.Stopped h = tt
-hearing_stop faults.Refused h = absurd h
-hearing_stop faults.Protocol h = absurd h
-hearing_stop faults.TooLong h = absurd h
-hearing_stop faults.NoRev2 h = absurd h
-hearing_stop faults.ReadOnly h = absurd h
-hearing_stop faults.NoMemory h = tt
-
 pub hearing_breach : (f : FarFault) (bytes : List ℕ) → IsBreach f bytes → IsHearing f
 hearing_breach faults.Stopped bytes h = absurd h
 hearing_breach faults.Refused bytes h = absurd h

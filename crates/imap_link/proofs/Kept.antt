@@ -1,11 +1,8 @@
 -- What is to be heard while more comes.
-use Rattle.std.proofs.Common.{ℕ, List, refl, sym, ◌∙◌, subst}
+use Rattle.std.proofs.Common.{ℕ, List, sym, ◌∙◌, subst}
 use Rattle.exchange_laws.specs.Ends.{Ends}
 use Rattle.exchange_laws.proofs.Others.{quiet-trans}
 use Rattle.imap_link.specs.Buffers.{Keeps, Expects}
-
-pub keeps-refl : (s : Ends) → Keeps s s
-keeps-refl s = record { stays = record { quiet = refl; kept = refl }; coming = refl }
 
 pub keeps-trans : (s t u : Ends) → Keeps s t → Keeps t u → Keeps s u
 keeps-trans s t u h k = record {

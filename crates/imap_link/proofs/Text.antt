@@ -50,9 +50,6 @@ module _ (tag : List ℕ) (kind : Kind) (heard : List ℕ) (read len : ℕ) wher
   pub ends_text : (P : Reply → Type 0) (u : IsPassed (take read heard)) (b : Begins tag kind (drop read heard) len) → P b.reply → EndsIn P (take (read + len) heard)
   ends_text P u b p = record { passed = u.replies; untagged = u.untagged; last = b.reply; is = p; spelled = one_more u b }
 
-pub none_passed : IsPassed (take 0 [])
-none_passed = record { replies = []; untagged = tt; spelled = refl }
-
 pub passed_kept : (heard more new : List ℕ) (read : ℕ) → new ≡ heard ++ more → read ≤ length heard → IsPassed (take read heard) → IsPassed (take read new)
 passed_kept heard more new read e h u = subst IsPassed (sym (ap (take read) e ∙ take-append-le read heard more h)) u
 
@@ -76,10 +73,6 @@ module _ (bytes more : List ℕ) where
 looks_longer : (tag bytes more : List ℕ) (front : Front) → Looks tag bytes front → Looks tag (bytes ++ more) front
 looks_longer tag bytes more fronts.Begun h = tt
 looks_longer tag bytes more (fronts.Whole kind len) h = begins_longer bytes more tag kind len h
-
-pub looks_on : (tag bytes part : List ℕ) (n : ℕ) (front : Front) → part ≡ take n bytes → Looks tag part front → Looks tag bytes front
-looks_on tag bytes part n front e h =
-    subst (λ (l : List ℕ). Looks tag l front) (ap (λ (l : List ℕ). l ++ drop n bytes) e ∙ take-append-drop n bytes) (looks_longer tag part (drop n bytes) front h)
 
 faulty_on : (bytes part : List ℕ) (n : ℕ) → part ≡ take n bytes → IsFaulty part → IsFaulty bytes
 faulty_on bytes part n e h = subst IsFaulty (ap (λ (l : List ℕ). l ++ drop n bytes) e ∙ take-append-drop n bytes) (faulty_longer part (drop n bytes) h)

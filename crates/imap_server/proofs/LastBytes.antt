@@ -1,5 +1,5 @@
 -- The last three bytes of a line that is dropped, and its end.
-use Rattle.std.proofs.Common.{◌≡◌, ℕ, zero, suc, ◌+◌, ◌<◌, ◌≤◌, true, false, List, [], ◌∷◌, ◌++◌, length, take, drop, get_or, slice_index_or, codes, Some, None, refl, sym, ap, subst, ◌∙◌, append_assoc, append-nil, arith}
+use Rattle.std.proofs.Common.{◌≡◌, ℕ, zero, suc, ◌+◌, ◌<◌, ◌≤◌, true, false, List, [], ◌∷◌, ◌++◌, length, take, drop, get_or, slice_index_or, codes, Some, refl, sym, ap, subst, ◌∙◌, append_assoc, append-nil, arith}
 use Rattle.std.specs.Prelude.{nat_eq}
 use Rattle.std.specs.Cmp.Lexicographic.{pointwise}
 use Rattle.std.proofs.lemmas.Bool.{true≢false, eqb-true, and_parts}
@@ -205,9 +205,6 @@ passed_end old passed next last b count p within is ten cr before t =
       y = u.y;
       return = same ∙ ap (λ (c : ℕ). u.x ∷ u.y ∷ c ∷ []) (sym (ap (λ (l : List ℕ). slice_index_or l 2 0) same) ∙ cr);
     }
-
-pub passed_all : (old passed next last : List ℕ) → PassedSoFar old passed last → passed ≡ next → Passes old next None last
-passed_all old passed next last p is before t = subst (λ (l : List ℕ). Tail (before ++ l) last) is (p before t)
 
 pub next_taken : (bytes : List ℕ) (i : ℕ) → i < length bytes → take (i + 1) bytes ≡ take i bytes ++ get_or bytes i 0 ∷ []
 next_taken bytes i h = let one : i + 1 ≡ suc i = omega arith in ap (λ (n : ℕ). take n bytes) one ∙ take-suc bytes i 0 h

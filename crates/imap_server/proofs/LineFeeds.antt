@@ -330,9 +330,6 @@ took_more old mid new first after bytes before between out done count next t u i
   sound = u.took.sound;
 }
 
-pub took_all : (old : End) (new : Server) (after : Unread) (bytes before out : List ℕ) (done : ℕ) → length bytes ≤ done → Took old (take done bytes) before out new after → Took old bytes before out new after
-took_all old new after bytes before out done all t = subst (λ (l : List ℕ). Took old l before out new after) (take_all done bytes all) t
-
 -- memory ran out behind some of them
 pub took_part : (old : End) (mid : Server) (first : Unread) (bytes before between : List ℕ) (done : ℕ) → Took old (take done bytes) before between mid first → FeedsSome old bytes mid
 took_part old mid first bytes before between done t =

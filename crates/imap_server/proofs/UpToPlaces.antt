@@ -2,13 +2,13 @@
 use Rattle.std.proofs.Common.{◌≡◌, ℕ, zero, suc, ◌+◌, ◌≤◌, Bool, true, false, eqb, List, [], ◌∷◌, ◌++◌, length, take, drop, Option, None, Some, refl, sym, ap, ◌∙◌, append-nil, take-append-drop, inl, inr, if◌then◌else◌, arith}
 use Rattle.std.proofs.lemmas.Bool.{cases_Bool}
 use Rattle.std.specs.Option.{unwrap_or}
-use Rattle.std.proofs.lemmas.List.{length-append, take_all}
+use Rattle.std.proofs.lemmas.List.{length-append}
 use Rattle.wire_reader.specs.declared.side.Side.TheVariants.{Commands}
 use Rattle.wire_reader.specs.declared.lexical.Phase.{Phase}
 use Rattle.wire_reader.specs.declared.lexical.Phase.TheVariants.{Plain, Brace, Digits, Plus, Close, Return, In}
 use Rattle.wire_reader.specs.declared.scanner.Scanner.{Scanner}
 use Rattle.wire_reader.specs.Lexical.{next, phase, is_in, asked, asks, outside}
-use Rattle.wire_reader.specs.Scanning.{start, after, scanned, is_place, place_from, first_place, up_to, NoPlace}
+use Rattle.wire_reader.specs.Scanning.{start, after, scanned, is_place, place_from, first_place, NoPlace}
 use Rattle.wire_reader.proofs.Lexed.{asks-append}
 use Rattle.wire_reader.proofs.Positions.{phase-scanned, outside-append, no_place_at, Octet, Outside}
 use Rattle.wire_reader.proofs.Scanned.{scanned-append, place_case, no_place, place-from_none, place-append}
@@ -58,10 +58,6 @@ place_within bytes s (Some n) e =
     let f = found_place bytes 0 s n (sym e) in
     let is = f.end_is in
     omega (arith, is, ap length f.parts, length-append f.front (f.byte ∷ f.back))
-
-pub place_taken : (bytes : List ℕ) (found : Option ℕ) → take (unwrap_or found (length bytes)) bytes ≡ up_to found bytes
-place_taken bytes None = take_all (length bytes) bytes (omega arith)
-place_taken bytes (Some n) = refl
 
 -- ---- where nobody is told to go on
 

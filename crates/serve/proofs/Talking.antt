@@ -1,5 +1,5 @@
 -- Lemmas on bytes of a connection that come one after another.
-use Rattle.std.proofs.Common.{◌≡◌, ℕ, List, [], ◌++◌, Option, None, Some, refl, sym, ◌∙◌, ap, subst, append_assoc, append-nil, unwrap_or, take, IsSome, Result, Ok, Err, OnOk, OnErr}
+use Rattle.std.proofs.Common.{◌≡◌, ℕ, List, [], ◌++◌, Option, None, Some, refl, sym, ◌∙◌, ap, subst, append_assoc, unwrap_or, take, IsSome, Result, Ok, Err, OnOk, OnErr}
 use Rattle.std.proofs.lemmas.Bool.{true≢false}
 use Rattle.std.specs.Io.KnownBytes.{Consumes, Appends, Keeps}
 use Rattle.std.proofs.KnownBytes.{Consumes-nil, Consumes-trans, Consumes-kept, Appends-nil, Appends-trans}
@@ -7,7 +7,7 @@ use Rattle.imap_session.specs.Servers.{Server}
 use Rattle.imap_session.specs.Unread.{Kept}
 use Rattle.imap_session.specs.Serving.{End, Runs, FeedsFrom, Feeds, ServesSome, FeedsSome}
 use Rattle.session_laws.proofs.Joins.{runs-join, feeds-join}
-use Rattle.imap_server.specs.Taking.{Host, Fed, Lost}
+use Rattle.imap_server.specs.Taking.{Host, Fed}
 use Rattle.imap_session.specs.Lines.{greeting}
 use Rattle.imap_session.specs.Heard.{AreReplies}
 use Rattle.imap_server.proofs.Feeding.{feeds_none, feeds_some}
@@ -66,17 +66,6 @@ pub some_none : (h : Host) (kept : Kept) → h.connection ≡ Some kept → Answ
 some_none h kept is =
     let end : End = record { server = h.server; kept = kept } in
     record { before = kept; was = is; some = feeds_some end end [] [] [] (feeds_none end) }
-
-pub some_all : (a b : Host) (p x : List ℕ) → Fed a p x b → AnswersSome a p b.server
-some_all a b p x f = record {
-  before = f.before;
-  was = f.was;
-  some = subst (λ (l : List ℕ). FeedsSome (record { server = a.server; kept = f.before }) l b.server) (append-nil p)
-      (feeds_some (record { server = a.server; kept = f.before }) (record { server = b.server; kept = f.after }) p [] f.said f.feeds);
-}
-
-pub some_lost : (a b : Host) (p : List ℕ) → Lost a p b → AnswersSome a p b.server
-some_lost a b p l = record { before = l.before; was = l.was; some = l.some }
 
 some_join : (a b : Host) (p q x : List ℕ) (new : Server) → Fed a p x b → AnswersSome b q new → AnswersSome a (p ++ q) new
 some_join a b p q x new f s = record {

@@ -1,4 +1,4 @@
-use Rattle.std.proofs.Common.{◌≡◌, ◌↔◌, true, All, ℕ, ◌+◌, ◌-◌, ◌*◌, ◌<◌, ◌≤◌, length, take}
+use Rattle.std.proofs.Common.{All, take}
 use Rattle.mailcore.specs.Ranges.{AreInRange}
 use Rattle.wire_strings.specs.Literals.{IsLiteral}
 use Rattle.imap_server.proofs.served.are_sent.Given as goal
