@@ -26,7 +26,7 @@ use Rattle.rand_core.specs.Stream.{Stream}
 use Rattle.outside.specs.BoxCalls.{HasNumbers}
 use Rattle.outside.specs.Opened.{IsRead, Opened, TakesPlan, state_of}
 use Rattle.underway.specs.Plans.{IsPlanned, first_uid}
-use Rattle.runner.specs.Answers.{AreDrawn, AreUnfit, IsDrawn, run_of}
+use Rattle.runner.specs.Answers.{AreDrawn, AreUnfit, IsDrawn, Moves, run_of}
 use Rattle.runner.specs.Before.{AreShown, HasNoJournal}
 use Rattle.runner.proofs.Fitness.{count_same, highest_same, notes_same, steps_same}
 
@@ -132,3 +132,7 @@ no_pairs stream = refl
 pub moved_by : (old new : Stream) (count : ℕ) (fault : CoreFault) → (fault ≡ core.NoMemory → new ≡ old) → (fault ≡ core.MarksRepeat → (r : Repeats old count) × (new ≡ after_pairs old (r.pairs + RUN_LENGTH))) → (pairs : ℕ) × (new ≡ after_pairs old pairs)
 moved_by old new count core.NoMemory f g = (0, f refl ∙ sym (no_pairs old))
 moved_by old new count core.MarksRepeat f g = let k = g refl in let r = k.0 in (r.pairs + RUN_LENGTH, k.1)
+
+-- or not at all
+pub moved_none : (stream : Stream) → Moves stream stream
+moved_none stream = (0, sym (no_pairs stream))

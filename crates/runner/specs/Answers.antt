@@ -40,6 +40,10 @@ pub record AreDrawn (stream : Stream) (far near : Listing) (state : SyncState) (
   pub each : All IsMark marks
   pub differ : AllPairs (λ a b. a ≢ b) marks
 
+-- a generator moves by whole pairs
+abbrev pub Moves : (old new : Stream) → Type 0
+Moves old new = (pairs : ℕ) × (new ≡ after_pairs old pairs)
+
 -- all steps of the plan of two listings, under the first marks of a generator
 abbrev pub IsDrawn : Option Opened → Stream → (far near : Listing) → Options → List Step → Type 0
 IsDrawn None stream far near options steps = ⊥

@@ -1,13 +1,12 @@
 //! How a plan is made: marks are drawn for the new messages of two listings.
 
-ghost use Rattle.std.specs.Prelude.{◌≡◌, ◌+◌, ◌<◌, ◌^◌, All, Some, IfOk, IfErr, ℕ, true};
-ghost use Rattle.mailcore.specs.Draws.{after_pairs};
+ghost use Rattle.std.specs.Prelude.{◌≡◌, ◌+◌, ◌<◌, ◌^◌, All, Some, IfOk, IfErr, true};
 ghost use Rattle.outside.specs.BoxCalls.{HasNumbers};
 ghost use Rattle.outside.specs.Opened.{IsRead, TakesPlan, state_of};
 ghost use Rattle.rules.specs.World.{World, IsInOrder};
 ghost use Rattle.planner.specs.Written.{marks_of};
 ghost use Rattle.underway.specs.Plans.{IsPlanned};
-ghost use Rattle.runner.specs.Answers.{AreDrawn, AreUnfit, IsDrawn, IsPlanFault, run_of};
+ghost use Rattle.runner.specs.Answers.{AreDrawn, AreUnfit, IsDrawn, IsPlanFault, Moves, run_of};
 ghost use Rattle.runner.specs.Before.{AreShown, HasNoJournal};
 
 use crate::fault::RunFault;
@@ -37,7 +36,7 @@ fn marks_for<R: Rng>(
     options: &Options,
 ) -> Result<Vec<Tuid>, RunFault>
     ensures drawn { IfOk result (λ marks. AreDrawn (R.stream rng.old) both.now.far both.now.near state.now options.now marks.items) }
-    ensures moved { (pairs : ℕ) × (R.stream rng.new ≡ after_pairs (R.stream rng.old) pairs) }
+    ensures moved { Moves (R.stream rng.old) (R.stream rng.new) }
     ensures fault { IfErr result IsPlanFault }
 {
     let count = news(&both.far, &both.near, state, options);
@@ -66,7 +65,7 @@ pub(crate) fn make_plan<O: Outside, R: Rng>(
     ensures drawn { IfOk result (λ p. IsDrawn (O.opened outside.now) (R.stream rng.old) both.now.far both.now.near options.now p.steps) }
     ensures plan { IfOk result (λ p. (w : World) → IsInOrder w → state_of (O.opened outside.now) ≡ Some w.state → AreShown w.state.max_pushed w both.now.far both.now.near
         → All (λ mark. O.ours mark ≡ true) (marks_of p.steps) → IsPlanned O.ours w options.now p) }
-    ensures moved { (pairs : ℕ) × (R.stream rng.new ≡ after_pairs (R.stream rng.old) pairs) }
+    ensures moved { Moves (R.stream rng.old) (R.stream rng.new) }
     ensures fault { IfErr result IsPlanFault }
 {
     let state = outside.state();

@@ -10,7 +10,7 @@ ghost use Rattle.underway.specs.Openings.{Opening};
 ghost use Rattle.runner.specs.Parts.{Part};
 ghost use Rattle.runner.specs.Going.{AreOpen, AtReady, IsGoing, log_at, next_at, plan_at};
 ghost use Rattle.runner.specs.Before.{HasNoPlan, HasPlan, IsKnown, IsTakenUp};
-ghost use Rattle.runner.specs.Answers.{Answers, AnswersTo, AtEnd, IsChosen, IsEntry, IsKnownEntry, IsRun, Reaches, RunsBy, as_read, made_in, run_of};
+ghost use Rattle.runner.specs.Answers.{Answers, AnswersTo, AtEnd, IsChosen, IsEntry, IsKnownEntry, IsRun, Moves, Reaches, RunsBy, as_read, made_in, run_of};
 
 use crate::fault::{RunFault, call_fault};
 use crate::opening::{clear, forget, list_both, open_boxes, recall, untear, write_plan};
@@ -54,6 +54,7 @@ fn propose<O: Outside, R: Rng>(
     ensures going { OnOk result (IsGoing (O.opened outside.new)) }
     ensures log { OnOk result (log_at (O.opened outside.new) ≡ []) }
     ensures run { IfOk result (λ unfit. IsRun (O.opened outside.old) options.now (R.stream rng.old) (plan_at (O.opened outside.new)).steps unfit.items) }
+    ensures moved { Moves (R.stream rng.old) (R.stream rng.new) }
     ensures part { Part (O.honest outside.new) (IsChosen O.ours O.alone opening (O.opened outside.old) options.now (R.stream rng.old)) (Underway O.ours O.alone opening) (λ _. 0) (λ _. AtReady O.ours O.alone opening (O.opened outside.new) false) (O.seen outside.old) (O.seen outside.new) result }
 {
     clear(outside)?;
@@ -79,6 +80,7 @@ fn begin<O: Outside, R: Rng>(
     ensures answer { IfOk result (AnswersTo (run_of (O.opened outside.old) + 1) (O.opened outside.old)) }
     ensures runs { IfOk result (RunsBy (O.opened outside.old) options.now (R.stream rng.old)) }
     ensures fresh { IfOk result (λ pass. pass ≡ Pass.Already → ⊥) }
+    ensures moved { Moves (R.stream rng.old) (R.stream rng.new) }
     ensures part { Part (O.honest outside.new) (IsChosen O.ours O.alone opening (O.opened outside.old) options.now (R.stream rng.old)) (Underway O.ours O.alone opening) made_in (λ _. AtEnd O.ours O.alone opening) (O.seen outside.old) (O.seen outside.new) result }
 {
     let unfit = propose(alloc, outside, options, rng)?;
@@ -133,6 +135,7 @@ fn work<O: Outside, R: Rng>(
     ensures answer { IfOk result (AnswersTo (run_of (O.opened outside.old) + 1) (O.opened outside.old)) }
     ensures runs { IfOk result (RunsBy (O.opened outside.old) options.now (R.stream rng.old)) }
     ensures fresh { IfOk result (λ pass. pass ≡ Pass.Already → ⊥) }
+    ensures moved { Moves (R.stream rng.old) (R.stream rng.new) }
     ensures part { Part (O.honest outside.new) (IsKnownEntry O.ours O.alone opening (O.opened outside.old) (run_of (O.opened outside.old) + 1) options.now (R.stream rng.old)) (Underway O.ours O.alone opening) made_in (λ _. AtEnd O.ours O.alone opening) (O.seen outside.old) (O.seen outside.new) result }
 {
     if outside.pending().is_some() {
@@ -156,6 +159,7 @@ fn open_and_work<O: Outside, R: Rng>(
     ensures answer { IfOk result (AnswersTo (run_of (O.opened outside.old) + 1) (O.opened outside.old)) }
     ensures runs { IfOk result (RunsBy (O.opened outside.old) options.now (R.stream rng.old)) }
     ensures fresh { IfOk result (λ pass. pass ≡ Pass.Already → ⊥) }
+    ensures moved { Moves (R.stream rng.old) (R.stream rng.new) }
     ensures part { Part (O.honest outside.new) (IsKnownEntry O.ours O.alone opening (O.opened outside.old) (run_of (O.opened outside.old) + 1) options.now (R.stream rng.old)) (Underway O.ours O.alone opening) made_in (λ _. AtEnd O.ours O.alone opening) (O.seen outside.old) (O.seen outside.new) result }
 {
     open_boxes(outside)?;
@@ -177,6 +181,7 @@ fn take_up<O: Outside, R: Rng>(
     ensures answer { IfOk result (AnswersTo run (O.opened outside.old)) }
     ensures runs { IfOk result (RunsBy (O.opened outside.old) options.now (R.stream rng.old)) }
     ensures stores { IfOk result (λ pass. pass ≡ Pass.Already → O.honest outside.new → O.alone ≡ true → ((O.seen outside.new).device.far ≡ (O.seen outside.old).device.far) × ((O.seen outside.new).device.near ≡ (O.seen outside.old).device.near)) }
+    ensures moved { Moves (R.stream rng.old) (R.stream rng.new) }
     ensures part { Part (O.honest outside.new) (IsKnownEntry O.ours O.alone opening (O.opened outside.old) run options.now (R.stream rng.old)) (Underway O.ours O.alone opening) made_in (λ _. Reaches O.ours O.alone opening run) (O.seen outside.old) (O.seen outside.new) result }
 {
     let last = outside.state().run;
@@ -206,6 +211,9 @@ pub fn pass<O: Outside, R: Rng>(
     // What is answered goes by what the files held, and what is run by the marks that the generator gave.
     ensures answer { IfOk result (λ pass. O.honest outside.new → (s : SyncState) (p : Pending) → Holds (O.seen outside.old).device.files s p → Answers run s p pass) }
     ensures runs { IfOk result (λ pass. O.honest outside.new → (s : SyncState) (p : Pending) → Holds (O.seen outside.old).device.files s p → RunsBy (as_read s p) options.now (R.stream rng.old) pass) }
+
+    // The generator moves by whole pairs, so that later marks are its own as well.
+    ensures moved { Moves (R.stream rng.old) (R.stream rng.new) }
 
     // A run that was made leaves both mailboxes as they are.
     ensures stores { IfOk result (λ pass. pass ≡ Pass.Already → O.honest outside.new → O.alone ≡ true → ((O.seen outside.new).device.far ≡ (O.seen outside.old).device.far) × ((O.seen outside.new).device.near ≡ (O.seen outside.old).device.near)) }

@@ -3,6 +3,7 @@ use Rattle.std.proofs.lemmas.Result.{err_from_is_err_and}
 use Rattle.runner.specs.Answers.{IsAsked, IsKnownEntry, run_of}
 use Rattle.runner.proofs.PartCalls.{left_weaker, part_after, passed_weaker, passed_with}
 use Rattle.runner.proofs.Passes.{boxed_answers, boxed_book, boxed_run, boxed_runs}
+use Rattle.runner.proofs.PlanFacts.{moved_none}
 use Rattle.runner.proofs.Readings.{book_read, both_open}
 use Rattle.runner.proofs.run.open_and_work.Goals as goal
 
@@ -43,3 +44,6 @@ returns-clause-part g c =
     let ready = passed_weaker _ _ (IsKnownEntry ours alone g.opening old run options stream) _ (IsKnownEntry ours alone g.opening new run options stream) _ 0 _ s1 refl (λ d k. ((k.most, k.asked), k.known)) (λ d k. record { most = k.0.0; asked = k.0.1; known = k.1 }) with in
     let same : run_of new ≡ run_of old = rw c.in_ok-open_boxes.ensures.opened (boxed_run old) in
     part_after _ _ _ _ _ _ _ _ s1 _ _ c.work.ensures.was_honest ready (rw same at c.work.ensures.part)
+
+pub returns-in_err-open_boxes-clause-moved : goal.returns-in_err-open_boxes-clause-moved
+returns-in_err-open_boxes-clause-moved g c = moved_none _

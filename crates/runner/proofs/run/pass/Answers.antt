@@ -3,6 +3,7 @@ use Rattle.std.proofs.lemmas.Result.{err_from_is_err_and}
 use Rattle.runner.specs.Answers.{IsAsked, IsEntry, IsKnownEntry}
 use Rattle.runner.proofs.PartCalls.{left_weaker, part_after, passed_weaker, passed_with}
 use Rattle.runner.proofs.Passes.{answers_held, runs_held, stores_joined}
+use Rattle.runner.proofs.PlanFacts.{moved_none}
 use Rattle.runner.proofs.run.pass.Goals as goal
 
 pub returns-in_err-recall-clause-part : goal.returns-in_err-recall-clause-part
@@ -31,3 +32,6 @@ returns-clause-part g c =
     let with = passed_with ((run ≤ g.opening.world.state.run + 1) × IsAsked ours g.opening options stream) _ _ _ _ _ _ c.in_ok-recall.ensures.part in
     let ready = passed_weaker _ _ (IsEntry ours alone g.opening run options stream) _ (IsKnownEntry ours alone g.opening opened run options stream) _ 0 _ s1 refl (λ d k. ((k.most, k.asked), k.underway)) (λ d k. record { most = k.0.0; asked = k.0.1; known = k.1 }) with in
     part_after _ _ _ _ _ _ _ _ s1 _ _ c.take_up.ensures.was_honest ready c.take_up.ensures.part
+
+pub returns-in_err-recall-clause-moved : goal.returns-in_err-recall-clause-moved
+returns-in_err-recall-clause-moved g c = moved_none _

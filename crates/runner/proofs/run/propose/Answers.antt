@@ -10,6 +10,7 @@ use Rattle.runner.specs.Going.{plan_at}
 use Rattle.runner.proofs.PartCalls.{left_after, left_here, left_weaker, passed_after, passed_weaker, passed_with}
 use Rattle.runner.proofs.Begun.{clear_underway}
 use Rattle.runner.proofs.Passes.{after_plan, begun_going, begun_log, begun_plan, caused_plan, missing_here, plan_made, run_here, turned_run}
+use Rattle.runner.proofs.PlanFacts.{moved_none}
 use Rattle.runner.proofs.Readings.{none_read, turned_open, turned_read}
 use Rattle.runner.proofs.run.propose.Goals as goal
 
@@ -110,3 +111,9 @@ returns-clause-part g c =
     let asked = passed_with (IsAsked ours g.opening options stream) _ _ _ _ _ _ so_far in
     let ready = passed_weaker _ _ (IsChosen ours alone g.opening (g.O.Outside.opened c.args.outside.now) options stream) _ (IsMade ours alone g.opening now c.in_ok-plan.plan) _ 0 _ s2 refl (λ d k. (k.asked, k.none)) (λ d k. plan_made ours alone g.opening now options stream both.far both.near c.in_ok-plan.plan c.in_ok-plan.ensures.drawn c.in_ok-plan.ensures.plan d k.0 (rw c.list_both.ensures.opened k.1)) asked in
     passed_after _ _ _ _ _ _ _ _ s2 _ c.in_ok-write_plan.ensures.was_honest ready c.in_ok-write_plan.ensures.part
+
+pub returns-in_err-clear-clause-moved : goal.returns-in_err-clear-clause-moved
+returns-in_err-clear-clause-moved g c = moved_none _
+
+pub returns-in_err-both-clause-moved : goal.returns-in_err-both-clause-moved
+returns-in_err-both-clause-moved g c = moved_none _

@@ -4,6 +4,7 @@ use Rattle.runner.specs.Answers.{AtEnd}
 use Rattle.runner.specs.Before.{HasNoPlan}
 use Rattle.runner.proofs.PartCalls.{part_weaker}
 use Rattle.runner.proofs.Passes.{known_planned, known_unplanned}
+use Rattle.runner.proofs.PlanFacts.{moved_none}
 use Rattle.runner.proofs.Readings.{book_read, has_none, has_plan, none_of, some_of}
 use Rattle.runner.proofs.run.work.Goals as goal
 
@@ -24,3 +25,6 @@ returns-else-is_some-clause-part g c =
     let i : is_some c.pending.result ≡ false = grind (arith, common_steps) in
     let none : HasNoPlan opened = has_none opened (book_read opened c.requires.1.1.0) (none_of _ c.pending.result _ c.pending.ensures i) in
     part_weaker _ _ _ _ _ _ (λ x. AtEnd ours alone g.opening) _ _ _ (λ d k. record { asked = k.asked; none = known_unplanned ours alone g.opening opened d none k.most k.known }) (λ x d k. k) c.begin.ensures.part
+
+pub returns-then-is_some-clause-moved : goal.returns-then-is_some-clause-moved
+returns-then-is_some-clause-moved g c = moved_none _
