@@ -6,6 +6,7 @@ pub mod LoopLemmas
 pub mod FreeCopies
 pub mod Logging
 pub mod Readings
+pub mod Validities
 pub mod Begun
 pub mod Fitness
 pub mod PlanFacts

@@ -42,7 +42,7 @@ use Rattle.runner.specs.declared.pass.Pass.TheVariants.{Already, Ran, Finished}
 use Rattle.runner.specs.declared.performed.Performed.{Performed}
 use Rattle.runner.specs.Faults.{IsCaused, LeavesRun}
 use Rattle.runner.specs.Answers.{Answers, AnswersTo, AreUnfit, AtEnd, IsAsked, IsDrawn, IsPlanFault, IsRest, IsRestOf, IsRun, Reaches, RunsBy, as_read, run_of}
-use Rattle.runner.specs.Before.{AreShown, BothListed, HasNoJournal, HasNoPlan, HasNone, HasPlan, IsKnown, IsMade, IsTakenUp}
+use Rattle.runner.specs.Before.{AreShown, BothListed, HasNoPlan, HasNone, HasPlan, IsKnown, IsMade, IsTakenUp}
 use Rattle.runner.specs.Going.{AreOpen, AtReady, HasLogged, HasUntorn, IsGoing, IsUntorn, log_at, logged_of, logs_of, next_at, no_journal, plan_at, steps_of}
 use Rattle.runner.proofs.Logging.{of_book}
 use Rattle.runner.proofs.PlanFacts.{no_pairs}
@@ -324,15 +324,21 @@ module _ (ours : List ℕ → Bool) (alone : Bool) (opening : Opening) where
 
 -- ---- a fault of the planner
 
-pub caused_plan : (f : RunFault) (s0 s1 : Seen) → IsPlanFault f → IsCaused f s0 s1
-caused_plan run.Stopped s0 s1 h = absurd h
-caused_plan (run.Refused step) s0 s1 h = absurd h
-caused_plan (run.ValidityChanged side) s0 s1 h = tt
-caused_plan (run.BadState line) s0 s1 h = tt
-caused_plan (run.BadJournal line) s0 s1 h = tt
-caused_plan (run.StoreFault side number) s0 s1 h = absurd h
-caused_plan run.MarksRepeat s0 s1 h = tt
-caused_plan run.NoMemory s0 s1 h = tt
+pub caused_plan : (changed : Side → Type 0) (f : RunFault) (s0 s1 : Seen) → IsPlanFault f → ((side : Side) → f ≡ run.ValidityChanged side → changed side) → IsCaused changed f s0 s1
+caused_plan changed run.Stopped s0 s1 h g = absurd h
+caused_plan changed (run.Refused step) s0 s1 h g = absurd h
+caused_plan changed (run.ValidityChanged side) s0 s1 h g = g side refl
+caused_plan changed (run.BadState line) s0 s1 h g = tt
+caused_plan changed (run.BadJournal line) s0 s1 h g = tt
+caused_plan changed (run.StoreFault side number) s0 s1 h g = absurd h
+caused_plan changed run.MarksRepeat s0 s1 h g = tt
+caused_plan changed run.NoMemory s0 s1 h g = tt
+
+pub memory_plan : (f : RunFault) → f ≡ run.NoMemory → IsPlanFault f
+memory_plan f e = rw e tt
+
+pub caused_memory : (changed : Side → Type 0) (f : RunFault) (s0 s1 : Seen) → f ≡ run.NoMemory → IsCaused changed f s0 s1
+caused_memory changed f s0 s1 e = rw e tt
 
 pub after_plan : (u : Device → Type 0) (f : RunFault) (s0 s1 : Seen) → IsPlanFault f → u s1.device → LeavesRun u f s0 s1
 after_plan u run.Stopped s0 s1 h k = absurd h
@@ -343,10 +349,6 @@ after_plan u (run.BadJournal line) s0 s1 h k = h
 after_plan u (run.StoreFault side number) s0 s1 h k = absurd h
 after_plan u run.MarksRepeat s0 s1 h k = k
 after_plan u run.NoMemory s0 s1 h k = k
-
-pub missing_here : (opened : Option Opened) → HasNoPlan opened → HasNoJournal (turned (λ _. Missing) opened)
-missing_here None h = h
-missing_here (Some o) h = refl
 
 pub none_few : (opened : Option Opened) → log_at opened ≡ [] → length (log_at opened) ≤ length (plan_at opened).steps
 none_few opened e = rw e (omega arith)

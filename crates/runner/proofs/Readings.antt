@@ -158,9 +158,6 @@ module _ (ours : List ℕ → Bool) (alone : Bool) (opening : Opening) where
   pub opened_known : (side : Side) (opened now : Option Opened) (d m d' : Device) → now ≡ with_box side opened → IsKnown ours alone opening opened d → Arrives ours alone d m → d' ≡ m → IsKnown ours alone opening now d'
   opened_known side opened now d m d' e k a is = rw (e, is) (let n = known_arrives opened d m a k in record { underway = n.underway; held = boxed_held side opened m n.held })
 
-  pub nobody_before : (d m d' : Device) → Arrives ours alone d m → d' ≡ m → alone ≡ true → d' ≡ d
-  nobody_before d m d' a is e = is ∙ a.nobody e
-
   -- ---- another journal
 
   -- the journal stays what it was, or is idle as it was

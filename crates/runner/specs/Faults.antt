@@ -35,16 +35,16 @@ pub record IsLost (side : Side) (number : ℕ) (old new : Seen) : Type 0 where
   pub protocol : number ≡ 3
   pub copied : old.appends < new.appends
 
--- a call stopped, was refused or had another fault, by the counts
-abbrev pub IsCaused : RunFault → Seen → Seen → Type 0
-IsCaused run.Stopped old new = (old.is_broken ≡ true) ⊎ (old.stops < new.stops)
-IsCaused (run.Refused step) old new = old.refusals < new.refusals
-IsCaused (run.ValidityChanged side) old new = Unit {0}
-IsCaused (run.BadState line) old new = Unit {0}
-IsCaused (run.BadJournal line) old new = Unit {0}
-IsCaused (run.StoreFault side number) old new = (old.faults < new.faults) ⊎ ((old.refusals < new.refusals) ⊎ IsLost side number old new)
-IsCaused run.MarksRepeat old new = Unit {0}
-IsCaused run.NoMemory old new = Unit {0}
+-- a call stopped, was refused or had another fault, by the counts; a UIDVALIDITY is told to have changed only where so much is so
+abbrev pub IsCaused : (changed : Side → Type 0) → RunFault → Seen → Seen → Type 0
+IsCaused changed run.Stopped old new = (old.is_broken ≡ true) ⊎ (old.stops < new.stops)
+IsCaused changed (run.Refused step) old new = old.refusals < new.refusals
+IsCaused changed (run.ValidityChanged side) old new = changed side
+IsCaused changed (run.BadState line) old new = Unit {0}
+IsCaused changed (run.BadJournal line) old new = Unit {0}
+IsCaused changed (run.StoreFault side number) old new = (old.faults < new.faults) ⊎ ((old.refusals < new.refusals) ⊎ IsLost side number old new)
+IsCaused changed run.MarksRepeat old new = Unit {0}
+IsCaused changed run.NoMemory old new = Unit {0}
 
 -- ---- what a fault leaves of a run that is underway
 

@@ -3,3 +3,4 @@ pub mod Parts
 pub mod Going
 pub mod Before
 pub mod Answers
+pub mod Validities

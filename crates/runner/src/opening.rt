@@ -8,7 +8,8 @@ ghost use Rattle.outside.specs.BoxCalls.{HasNumbers};
 ghost use Rattle.outside.specs.Opened.{IsBook, IsHeld, IsOpen, IsRead, TakesPlan, state_of, turned, with_box};
 ghost use Rattle.underway.specs.Conditions.{Underway};
 ghost use Rattle.underway.specs.Openings.{Opening};
-ghost use Rattle.runner.specs.Parts.{Part};
+ghost use Rattle.runner.specs.Parts.{Part, PartOr};
+ghost use Rattle.runner.specs.Validities.{BothSame, HasSame, HaveValidities, IsKept, KeepsValidities, TellsChange, TellsOther, recorded_in};
 ghost use Rattle.runner.specs.Going.{AreOpen, AtReady};
 ghost use Rattle.runner.specs.Before.{BothListed, FarListed, HasNoPlan, HasNone, HasPlan, IsClear, IsKnown, IsMade, IsTakenUp};
 
@@ -24,7 +25,7 @@ pub(crate) fn recall<O: Outside>(outside: &mut O) -> Result<(), RunFault>
     ensures was_honest { O.honest outside.new → O.honest outside.old }
     ensures book { OnOk result (IsBook (O.opened outside.new)) }
     ensures held { OnOk result (O.honest outside.new → IsHeld (O.opened outside.new) (O.seen outside.old).device) }
-    ensures same { OnOk result (O.honest outside.new → O.alone ≡ true → (O.seen outside.new).device ≡ (O.seen outside.old).device) }
+    ensures kept { OnOk result (O.honest outside.new → IsKept O.alone (O.seen outside.old).device (O.seen outside.new).device) }
     ensures part { Part (O.honest outside.new) (Underway O.ours O.alone opening) (Underway O.ours O.alone opening) (λ _. 0) (λ _. IsKnown O.ours O.alone opening (O.opened outside.new)) (O.seen outside.old) (O.seen outside.new) result }
 {
     match outside.open_book() {
@@ -72,6 +73,7 @@ fn empty<O: Outside>(outside: &mut O) -> Result<(), RunFault>
     requires none { HasNoPlan (O.opened outside.old) }
     ensures was_honest { O.honest outside.new → O.honest outside.old }
     ensures opened { OnOk result (O.opened outside.new ≡ turned (λ _. Missing) (O.opened outside.old)) }
+    ensures validities { OnOk result (O.honest outside.new → KeepsValidities (O.seen outside.old).device (O.seen outside.new).device) }
     ensures part { Part (O.honest outside.new) (HasNone O.alone opening (O.opened outside.old)) (Underway O.ours O.alone opening) (λ _. 0) (λ _. IsClear O.alone opening (O.opened outside.new) false) (O.seen outside.old) (O.seen outside.new) result }
 {
     match outside.discard() {
@@ -86,6 +88,7 @@ fn admit<O: Outside>(outside: &mut O) -> Result<(), RunFault>
     requires is_open { IsOpen Side.Near (O.opened outside.old) }
     ensures was_honest { O.honest outside.new → O.honest outside.old }
     ensures opened { O.opened outside.new ≡ O.opened outside.old }
+    ensures validities { OnOk result (O.honest outside.new → KeepsValidities (O.seen outside.old).device (O.seen outside.new).device) }
     ensures part { Part (O.honest outside.new) (IsClear O.alone opening (O.opened outside.old) false) (Underway O.ours O.alone opening) (λ _. 0) (λ _. IsClear O.alone opening (O.opened outside.new) true) (O.seen outside.old) (O.seen outside.new) result }
 {
     match outside.admit() {
@@ -101,6 +104,7 @@ pub(crate) fn clear<O: Outside>(outside: &mut O) -> Result<(), RunFault>
     requires boxes { AreOpen (O.opened outside.old) }
     ensures was_honest { O.honest outside.new → O.honest outside.old }
     ensures opened { OnOk result (O.opened outside.new ≡ turned (λ _. Missing) (O.opened outside.old)) }
+    ensures validities { OnOk result (O.honest outside.new → KeepsValidities (O.seen outside.old).device (O.seen outside.new).device) }
     ensures part { Part (O.honest outside.new) (HasNone O.alone opening (O.opened outside.old)) (Underway O.ours O.alone opening) (λ _. 0) (λ _. IsClear O.alone opening (O.opened outside.new) true) (O.seen outside.old) (O.seen outside.new) result }
 {
     empty(outside)?;
@@ -114,6 +118,8 @@ fn list_far<O: Outside>(outside: &mut O) -> Result<Listing, RunFault>
     ensures was_honest { O.honest outside.new → O.honest outside.old }
     ensures opened { O.opened outside.new ≡ O.opened outside.old }
     ensures numbers { IfOk result HasNumbers }
+    ensures validities { OnOk result (O.honest outside.new → KeepsValidities (O.seen outside.old).device (O.seen outside.new).device) }
+    ensures validity { IfOk result (λ far. O.honest outside.new → far.validity ≡ (O.seen outside.new).device.far.validity) }
     ensures part { Part (O.honest outside.new) (IsClear O.alone opening (O.opened outside.old) true) (Underway O.ours O.alone opening) (λ _. 0) (λ far. FarListed O.alone opening (O.opened outside.old) far) (O.seen outside.old) (O.seen outside.new) result }
 {
     match outside.list_far() {
@@ -130,6 +136,8 @@ fn list_near<O: Outside>(outside: &mut O, far: &Listing) -> Result<Listing, RunF
     ensures was_honest { O.honest outside.new → O.honest outside.old }
     ensures opened { O.opened outside.new ≡ O.opened outside.old }
     ensures numbers { IfOk result HasNumbers }
+    ensures validities { OnOk result (O.honest outside.new → KeepsValidities (O.seen outside.old).device (O.seen outside.new).device) }
+    ensures validity { IfOk result (λ near. O.honest outside.new → near.validity ≡ (O.seen outside.new).device.near.store.validity) }
     ensures part { Part (O.honest outside.new) (FarListed O.alone opening (O.opened outside.old) far.now) (Underway O.ours O.alone opening) (λ _. 0) (λ near. BothListed O.ours O.alone opening (O.opened outside.old) far.now near) (O.seen outside.old) (O.seen outside.new) result }
 {
     let pushed = outside.state().max_pushed;
@@ -157,6 +165,7 @@ pub(crate) fn list_both<O: Outside>(outside: &mut O) -> Result<Listings, RunFaul
     ensures opened { O.opened outside.new ≡ O.opened outside.old }
     ensures far_numbers { IfOk result (λ both. HasNumbers both.far) }
     ensures near_numbers { IfOk result (λ both. HasNumbers both.near) }
+    ensures validities { IfOk result (λ both. O.honest outside.new → HaveValidities both.far both.near (O.seen outside.old).device) }
     ensures part { Part (O.honest outside.new) (IsClear O.alone opening (O.opened outside.old) true) (Underway O.ours O.alone opening) (λ _. 0) (λ both. BothListed O.ours O.alone opening (O.opened outside.old) both.far both.near) (O.seen outside.old) (O.seen outside.new) result }
 {
     let far = list_far(outside)?;
@@ -181,6 +190,7 @@ pub(crate) fn write_plan<O: Outside>(outside: &mut O, plan: Plan) -> Result<(), 
 /// The UIDVALIDITY of a side that the run goes by: the journal's, or else, after a first run, the state's.
 fn recorded_validity<O: Outside>(outside: &O, side: Side) -> Option<u32>
     requires read { IsRead (O.opened outside.now) }
+    ensures { result ≡ recorded_in (O.opened outside.now) side }
 {
     if let Some(journal) = outside.pending() {
         return Some(match side {
@@ -204,7 +214,8 @@ fn open_one<O: Outside>(outside: &mut O, side: Side) -> Result<(), RunFault>
     requires read { IsRead (O.opened outside.old) }
     ensures was_honest { O.honest outside.new → O.honest outside.old }
     ensures opened { OnOk result (O.opened outside.new ≡ with_box side (O.opened outside.old)) }
-    ensures part { Part (O.honest outside.new) (IsKnown O.ours O.alone opening (O.opened outside.old)) (Underway O.ours O.alone opening) (λ _. 0) (λ _. IsKnown O.ours O.alone opening (O.opened outside.new)) (O.seen outside.old) (O.seen outside.new) result }
+    ensures kept { OnOk result (O.honest outside.new → HasSame (O.opened outside.old) side (O.seen outside.new).device × IsKept O.alone (O.seen outside.old).device (O.seen outside.new).device) }
+    ensures part { PartOr (TellsOther (O.honest outside.new) O.alone (O.opened outside.old) side (O.seen outside.old).device (O.seen outside.new).device) (O.honest outside.new) (IsKnown O.ours O.alone opening (O.opened outside.old)) (Underway O.ours O.alone opening) (λ _. 0) (λ _. IsKnown O.ours O.alone opening (O.opened outside.new)) (O.seen outside.old) (O.seen outside.new) result }
 {
     let recorded = recorded_validity(outside, side);
     match outside.open_box(side) {
@@ -228,7 +239,8 @@ pub(crate) fn open_boxes<O: Outside>(outside: &mut O) -> Result<(), RunFault>
     requires read { IsRead (O.opened outside.old) }
     ensures was_honest { O.honest outside.new → O.honest outside.old }
     ensures opened { OnOk result (O.opened outside.new ≡ with_box Side.Near (with_box Side.Far (O.opened outside.old))) }
-    ensures part { Part (O.honest outside.new) (IsKnown O.ours O.alone opening (O.opened outside.old)) (Underway O.ours O.alone opening) (λ _. 0) (λ _. IsKnown O.ours O.alone opening (O.opened outside.new)) (O.seen outside.old) (O.seen outside.new) result }
+    ensures kept { OnOk result (O.honest outside.new → BothSame (O.opened outside.old) (O.seen outside.new).device × IsKept O.alone (O.seen outside.old).device (O.seen outside.new).device) }
+    ensures part { PartOr (TellsChange (O.honest outside.new) O.alone (O.opened outside.old) (O.seen outside.old).device (O.seen outside.new).device) (O.honest outside.new) (IsKnown O.ours O.alone opening (O.opened outside.old)) (Underway O.ours O.alone opening) (λ _. 0) (λ _. IsKnown O.ours O.alone opening (O.opened outside.new)) (O.seen outside.old) (O.seen outside.new) result }
 {
     open_one(outside, Side::Far)?;
     open_one(outside, Side::Near)

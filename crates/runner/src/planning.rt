@@ -7,6 +7,7 @@ ghost use Rattle.rules.specs.World.{World, IsInOrder};
 ghost use Rattle.planner.specs.Written.{marks_of};
 ghost use Rattle.underway.specs.Plans.{IsPlanned};
 ghost use Rattle.runner.specs.Answers.{AreDrawn, AreUnfit, IsDrawn, IsPlanFault, Moves, run_of};
+ghost use Rattle.runner.specs.Validities.{ListsChanged};
 ghost use Rattle.runner.specs.Before.{AreShown, HasNoJournal};
 
 use crate::fault::RunFault;
@@ -37,7 +38,7 @@ fn marks_for<R: Rng>(
 ) -> Result<Vec<Tuid>, RunFault>
     ensures drawn { IfOk result (λ marks. AreDrawn (R.stream rng.old) both.now.far both.now.near state.now options.now marks.items) }
     ensures moved { Moves (R.stream rng.old) (R.stream rng.new) }
-    ensures fault { IfErr result IsPlanFault }
+    ensures fault { IfErr result (λ fault. IsPlanFault fault × ((side : Side) → fault ≡ RunFault.ValidityChanged side → ⊥)) }
 {
     let count = news(&both.far, &both.near, state, options);
     match draw_marks(alloc, rng, count) {
@@ -67,15 +68,14 @@ pub(crate) fn make_plan<O: Outside, R: Rng>(
         → All (λ mark. O.ours mark ≡ true) (marks_of p.steps) → IsPlanned O.ours w options.now p) }
     ensures moved { Moves (R.stream rng.old) (R.stream rng.new) }
     ensures fault { IfErr result IsPlanFault }
+    ensures changed { IfErr result (λ fault. (side : Side) → fault ≡ RunFault.ValidityChanged side → ListsChanged (O.opened outside.now) both.now.far both.now.near side) }
 {
     let state = outside.state();
     let marks = marks_for(alloc, rng, both, state, options)?;
     match plan(alloc, &both.far, &both.near, state, options, &marks) {
         Ok(plan) => Ok(plan),
-        Err(fault) => Err(match fault {
-            PlanFault::NoMemory => RunFault::NoMemory,
-            PlanFault::ValidityChanged(side) => RunFault::ValidityChanged(side),
-        }),
+        Err(PlanFault::NoMemory) => Err(RunFault::NoMemory),
+        Err(PlanFault::ValidityChanged(side)) => Err(RunFault::ValidityChanged(side)),
     }
 }
 
@@ -88,7 +88,7 @@ pub(crate) fn passed_over<O: Outside>(
 ) -> Result<Vec<(Side, Uid)>, RunFault>
     requires read { IsRead (O.opened outside.now) }
     ensures unfit { IfOk result (λ v. AreUnfit (O.opened outside.now) both.now.far both.now.near options.now v.items) }
-    ensures fault { IfErr result IsPlanFault }
+    ensures fault { IfErr result (λ fault. fault ≡ RunFault.NoMemory) }
 {
     match unfit(alloc, &both.far, &both.near, outside.state(), options) {
         Ok(found) => Ok(found),

@@ -7,7 +7,8 @@ ghost use Rattle.book.specs.Books.{Holds};
 ghost use Rattle.outside.specs.Opened.{IsBook, IsRead, TakesCommit};
 ghost use Rattle.underway.specs.Conditions.{Underway};
 ghost use Rattle.underway.specs.Openings.{Opening};
-ghost use Rattle.runner.specs.Parts.{Part};
+ghost use Rattle.runner.specs.Parts.{Part, PartOr};
+ghost use Rattle.runner.specs.Validities.{TellsChange, TellsChanged, TellsUnlessSame};
 ghost use Rattle.runner.specs.Going.{AreOpen, AtReady, IsGoing, log_at, next_at, plan_at};
 ghost use Rattle.runner.specs.Before.{HasNoPlan, HasPlan, IsKnown, IsTakenUp};
 ghost use Rattle.runner.specs.Answers.{Answers, AnswersTo, AtEnd, IsChosen, IsEntry, IsKnownEntry, IsRun, Moves, Reaches, RunsBy, as_read, made_in, run_of};
@@ -55,7 +56,7 @@ fn propose<O: Outside, R: Rng>(
     ensures log { OnOk result (log_at (O.opened outside.new) ≡ []) }
     ensures run { IfOk result (λ unfit. IsRun (O.opened outside.old) options.now (R.stream rng.old) (plan_at (O.opened outside.new)).steps unfit.items) }
     ensures moved { Moves (R.stream rng.old) (R.stream rng.new) }
-    ensures part { Part (O.honest outside.new) (IsChosen O.ours O.alone opening (O.opened outside.old) options.now (R.stream rng.old)) (Underway O.ours O.alone opening) (λ _. 0) (λ _. AtReady O.ours O.alone opening (O.opened outside.new) false) (O.seen outside.old) (O.seen outside.new) result }
+    ensures part { PartOr (TellsUnlessSame (O.honest outside.new) (O.opened outside.old) (O.seen outside.old).device) (O.honest outside.new) (IsChosen O.ours O.alone opening (O.opened outside.old) options.now (R.stream rng.old)) (Underway O.ours O.alone opening) (λ _. 0) (λ _. AtReady O.ours O.alone opening (O.opened outside.new) false) (O.seen outside.old) (O.seen outside.new) result }
 {
     clear(outside)?;
     let both = list_both(outside)?;
@@ -81,7 +82,7 @@ fn begin<O: Outside, R: Rng>(
     ensures runs { IfOk result (RunsBy (O.opened outside.old) options.now (R.stream rng.old)) }
     ensures fresh { IfOk result (λ pass. pass ≡ Pass.Already → ⊥) }
     ensures moved { Moves (R.stream rng.old) (R.stream rng.new) }
-    ensures part { Part (O.honest outside.new) (IsChosen O.ours O.alone opening (O.opened outside.old) options.now (R.stream rng.old)) (Underway O.ours O.alone opening) made_in (λ _. AtEnd O.ours O.alone opening) (O.seen outside.old) (O.seen outside.new) result }
+    ensures part { PartOr (TellsUnlessSame (O.honest outside.new) (O.opened outside.old) (O.seen outside.old).device) (O.honest outside.new) (IsChosen O.ours O.alone opening (O.opened outside.old) options.now (R.stream rng.old)) (Underway O.ours O.alone opening) made_in (λ _. AtEnd O.ours O.alone opening) (O.seen outside.old) (O.seen outside.new) result }
 {
     let unfit = propose(alloc, outside, options, rng)?;
     let performed = carry_out(alloc, outside, false)?;
@@ -136,7 +137,7 @@ fn work<O: Outside, R: Rng>(
     ensures runs { IfOk result (RunsBy (O.opened outside.old) options.now (R.stream rng.old)) }
     ensures fresh { IfOk result (λ pass. pass ≡ Pass.Already → ⊥) }
     ensures moved { Moves (R.stream rng.old) (R.stream rng.new) }
-    ensures part { Part (O.honest outside.new) (IsKnownEntry O.ours O.alone opening (O.opened outside.old) (run_of (O.opened outside.old) + 1) options.now (R.stream rng.old)) (Underway O.ours O.alone opening) made_in (λ _. AtEnd O.ours O.alone opening) (O.seen outside.old) (O.seen outside.new) result }
+    ensures part { PartOr (TellsUnlessSame (O.honest outside.new) (O.opened outside.old) (O.seen outside.old).device) (O.honest outside.new) (IsKnownEntry O.ours O.alone opening (O.opened outside.old) (run_of (O.opened outside.old) + 1) options.now (R.stream rng.old)) (Underway O.ours O.alone opening) made_in (λ _. AtEnd O.ours O.alone opening) (O.seen outside.old) (O.seen outside.new) result }
 {
     if outside.pending().is_some() {
         resume(alloc, outside)
@@ -160,7 +161,7 @@ fn open_and_work<O: Outside, R: Rng>(
     ensures runs { IfOk result (RunsBy (O.opened outside.old) options.now (R.stream rng.old)) }
     ensures fresh { IfOk result (λ pass. pass ≡ Pass.Already → ⊥) }
     ensures moved { Moves (R.stream rng.old) (R.stream rng.new) }
-    ensures part { Part (O.honest outside.new) (IsKnownEntry O.ours O.alone opening (O.opened outside.old) (run_of (O.opened outside.old) + 1) options.now (R.stream rng.old)) (Underway O.ours O.alone opening) made_in (λ _. AtEnd O.ours O.alone opening) (O.seen outside.old) (O.seen outside.new) result }
+    ensures part { PartOr (TellsChange (O.honest outside.new) O.alone (O.opened outside.old) (O.seen outside.old).device (O.seen outside.new).device) (O.honest outside.new) (IsKnownEntry O.ours O.alone opening (O.opened outside.old) (run_of (O.opened outside.old) + 1) options.now (R.stream rng.old)) (Underway O.ours O.alone opening) made_in (λ _. AtEnd O.ours O.alone opening) (O.seen outside.old) (O.seen outside.new) result }
 {
     open_boxes(outside)?;
     work(alloc, outside, options, rng)
@@ -182,7 +183,7 @@ fn take_up<O: Outside, R: Rng>(
     ensures runs { IfOk result (RunsBy (O.opened outside.old) options.now (R.stream rng.old)) }
     ensures stores { IfOk result (λ pass. pass ≡ Pass.Already → O.honest outside.new → O.alone ≡ true → ((O.seen outside.new).device.far ≡ (O.seen outside.old).device.far) × ((O.seen outside.new).device.near ≡ (O.seen outside.old).device.near)) }
     ensures moved { Moves (R.stream rng.old) (R.stream rng.new) }
-    ensures part { Part (O.honest outside.new) (IsKnownEntry O.ours O.alone opening (O.opened outside.old) run options.now (R.stream rng.old)) (Underway O.ours O.alone opening) made_in (λ _. Reaches O.ours O.alone opening run) (O.seen outside.old) (O.seen outside.new) result }
+    ensures part { PartOr (TellsChange (O.honest outside.new) O.alone (O.opened outside.old) (O.seen outside.old).device (O.seen outside.new).device) (O.honest outside.new) (IsKnownEntry O.ours O.alone opening (O.opened outside.old) run options.now (R.stream rng.old)) (Underway O.ours O.alone opening) made_in (λ _. Reaches O.ours O.alone opening run) (O.seen outside.old) (O.seen outside.new) result }
 {
     let last = outside.state().run;
     if run <= last {
@@ -218,8 +219,9 @@ pub fn pass<O: Outside, R: Rng>(
     // A run that was made leaves both mailboxes as they are.
     ensures stores { IfOk result (λ pass. pass ≡ Pass.Already → O.honest outside.new → O.alone ≡ true → ((O.seen outside.new).device.far ≡ (O.seen outside.old).device.far) × ((O.seen outside.new).device.near ≡ (O.seen outside.old).device.near)) }
 
-    // A run that is underway is still underway after any fault, and over where it answers.
-    ensures part { Part (O.honest outside.new) (IsEntry O.ours O.alone opening run options.now (R.stream rng.old)) (Underway O.ours O.alone opening) made_in (λ _. Reaches O.ours O.alone opening run) (O.seen outside.old) (O.seen outside.new) result }
+    // A run that is underway is still underway after any fault, and over where it answers. `ValidityChanged` comes only where that
+    // side's UIDVALIDITY is not the recorded one, far before near, and nothing has changed then.
+    ensures part { PartOr (TellsChanged (O.honest outside.new) O.alone (O.seen outside.old).device (O.seen outside.new).device) (O.honest outside.new) (IsEntry O.ours O.alone opening run options.now (R.stream rng.old)) (Underway O.ours O.alone opening) made_in (λ _. Reaches O.ours O.alone opening run) (O.seen outside.old) (O.seen outside.new) result }
 {
     recall(outside)?;
     take_up(alloc, outside, run, options, rng)

@@ -8,4 +8,4 @@ returns-in-None-clause-part g c =
     let s1 = g.O.Outside.seen c.seek.new.outside in
     let rest = rw c.seek.ensures.opened at c.copy-in-None.ensures.part in
     let up : c.args.is_taken_up ≡ true = grind (arith, common_steps) in
-    rw up (part_after _ _ _ _ _ _ _ _ s1 _ _ c.copy-in-None.ensures.was_honest (rw c.in-None.is at c.in_ok-copy.ensures.part) rest)
+    rw up (part_after _ _ _ _ _ _ _ _ _ s1 _ _ c.copy-in-None.ensures.was_honest (rw c.in-None.is at c.in_ok-copy.ensures.part) rest)

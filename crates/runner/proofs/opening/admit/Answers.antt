@@ -3,6 +3,7 @@ use Rattle.underway.specs.Conditions.{Underway}
 use Rattle.runner.proofs.PartCalls.{from_box, left_call, passed_call}
 use Rattle.runner.proofs.Begun.{admitted_all, admitted_part, clear_arrives, clear_underway}
 use Rattle.runner.proofs.Stages.{left_by}
+use Rattle.runner.proofs.Validities.{admitted_validities}
 use Rattle.runner.proofs.opening.admit.Goals as goal
 
 pub returns-in-Ok-clause-part : goal.returns-in-Ok-clause-part
@@ -23,3 +24,6 @@ returns-in-Err-clause-part g c =
           (λ k. clear_underway ours alone g.opening opened false s1.device (admitted_part ours alone g.opening opened _ m s1.device a at k))
           (λ x t. clear_underway ours alone g.opening opened true s1.device (admitted_all ours alone g.opening opened _ m s1.device a at t)),
     )))
+
+pub returns-in-Ok-clause-validities : goal.returns-in-Ok-clause-validities
+returns-in-Ok-clause-validities g c = λ honest. let w = c.in-Ok.ensures.call in let acts = w.acts in let e = acts.effect honest in admitted_validities g.O.Outside.ours g.O.Outside.alone _ e.mid _ e.before e.behind

@@ -6,6 +6,7 @@ use Rattle.runner.proofs.PartCalls.{from_book, left_call, passed_call}
 use Rattle.runner.proofs.Begun.{clear_underway}
 use Rattle.runner.proofs.Readings.{emptied, half_forgot, known_arrives, none_known, none_read}
 use Rattle.runner.proofs.Stages.{left_by}
+use Rattle.runner.proofs.Validities.{emptied_validities}
 use Rattle.runner.proofs.opening.empty.Goals as goal
 
 pub discard-requires : goal.discard-requires
@@ -29,3 +30,6 @@ returns-in-Err-clause-part g c =
           (half_forgot ours alone g.opening opened _ m s1.device c.requires.1 a (none_known ours alone g.opening opened _ at))
           (λ x t. clear_underway ours alone g.opening (turned (λ _. Missing) opened) false s1.device (emptied ours alone g.opening opened _ m s1.device c.requires.1 a at t)),
     )))
+
+pub returns-in-Ok-clause-validities : goal.returns-in-Ok-clause-validities
+returns-in-Ok-clause-validities g c = λ honest. let w = c.in-Ok.ensures.call in let acts = w.acts in let e = acts.effect honest in emptied_validities g.O.Outside.ours g.O.Outside.alone _ _ e.mid _ c.requires.1 e.before e.behind

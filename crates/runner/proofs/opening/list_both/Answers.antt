@@ -1,6 +1,7 @@
 use Rattle.std.proofs.Common.{rules}
 use Rattle.std.proofs.lemmas.Result.{err_from_is_err_and}
 use Rattle.runner.proofs.PartCalls.{left_after}
+use Rattle.runner.proofs.Validities.{both_validities}
 use Rattle.runner.proofs.opening.list_both.Goals as goal
 
 pub returns-in_err-near-clause-part : goal.returns-in_err-near-clause-part
@@ -12,3 +13,6 @@ returns-in_err-near-clause-part g c =
 
 pub list_near-requires : goal.list_near-requires
 list_near-requires g c κs within = (search rules, rw c.list_far.ensures.opened (c.requires.1.0, c.requires.1.1))
+
+pub returns-clause-validities : goal.returns-clause-validities
+returns-clause-validities g c = λ honest. let before = c.in_ok-near.ensures.was_honest honest in both_validities _ _ _ _ _ (c.in_ok-far.ensures.validities before) (c.in_ok-far.ensures.validity before) (c.in_ok-near.ensures.validities honest) (c.in_ok-near.ensures.validity honest)

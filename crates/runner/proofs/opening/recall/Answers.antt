@@ -1,5 +1,6 @@
 use Rattle.runner.proofs.PartCalls.{left_call, passed_call}
-use Rattle.runner.proofs.Readings.{held_before, nobody_before, read_known, unread_left}
+use Rattle.runner.proofs.Readings.{held_before, read_known, unread_left}
+use Rattle.runner.proofs.Validities.{kept_read}
 use Rattle.underway.proofs.Arrived.{underway_arrives}
 use Rattle.runner.proofs.opening.recall.Goals as goal
 
@@ -18,5 +19,5 @@ returns-in-Err-clause-part g c =
 pub returns-in-Ok-clause-held : goal.returns-in-Ok-clause-held
 returns-in-Ok-clause-held g c = λ honest. let w = c.in-Ok.ensures.call in let acts = w.acts in let e = acts.effect honest in held_before g.O.Outside.ours g.O.Outside.alone g.opening _ _ e.mid e.before e.behind.1
 
-pub returns-in-Ok-clause-same : goal.returns-in-Ok-clause-same
-returns-in-Ok-clause-same g c = λ honest alone. let w = c.in-Ok.ensures.call in let acts = w.acts in let e = acts.effect honest in nobody_before g.O.Outside.ours g.O.Outside.alone g.opening _ e.mid _ e.before e.behind.0 alone
+pub returns-in-Ok-clause-kept : goal.returns-in-Ok-clause-kept
+returns-in-Ok-clause-kept g c = λ honest. let w = c.in-Ok.ensures.call in let acts = w.acts in let e = acts.effect honest in kept_read g.O.Outside.ours g.O.Outside.alone _ e.mid _ e.before e.behind.0

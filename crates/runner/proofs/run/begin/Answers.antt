@@ -1,6 +1,6 @@
 use Rattle.std.proofs.Common.{rules}
 use Rattle.std.proofs.lemmas.Result.{err_from_is_err_and}
-use Rattle.runner.proofs.PartCalls.{left_after, passed_after}
+use Rattle.runner.proofs.PartCalls.{left_after, left_never, passed_after}
 use Rattle.runner.proofs.Passes.{none_few, ran_answers, takes_commit, whole_steps}
 use Rattle.runner.proofs.run.begin.Goals as goal
 
@@ -25,7 +25,7 @@ pub returns-in_err-performed-clause-part : goal.returns-in_err-performed-clause-
 returns-in_err-performed-clause-part g c =
     let e = err_from_is_err_and c.from_residual-in_err-performed.result c.from_residual-in_err-performed.ensures.1 in
     let s1 = g.O.Outside.seen c.propose.new.outside in
-    rw (e.1, e.2) (left_after _ _ _ _ _ _ _ _ s1 _ c.in_err-performed.ensures.was_honest c.in_ok-unfit.ensures.part c.in_err-performed.ensures.part)
+    rw (e.1, e.2) (left_never _ _ _ _ _ _ (left_after _ _ _ _ _ _ _ _ s1 _ c.in_err-performed.ensures.was_honest c.in_ok-unfit.ensures.part c.in_err-performed.ensures.part))
 
 pub returns-in_err-conclude-clause-part : goal.returns-in_err-conclude-clause-part
 returns-in_err-conclude-clause-part g c =
@@ -33,7 +33,7 @@ returns-in_err-conclude-clause-part g c =
     let s1 = g.O.Outside.seen c.propose.new.outside in
     let s2 = g.O.Outside.seen c.carry_out.new.outside in
     let so_far = passed_after _ _ _ _ _ _ _ _ s1 _ c.in_ok-performed.ensures.was_honest c.in_ok-unfit.ensures.part c.in_ok-performed.ensures.part in
-    rw (e.1, e.2) (left_after _ _ _ _ _ _ _ _ s2 _ c.in_err-conclude.ensures.was_honest so_far c.in_err-conclude.ensures.part)
+    rw (e.1, e.2) (left_never _ _ _ _ _ _ (left_after _ _ _ _ _ _ _ _ s2 _ c.in_err-conclude.ensures.was_honest so_far c.in_err-conclude.ensures.part))
 
 pub returns-clause-answer : goal.returns-clause-answer
 returns-clause-answer g c = ran_answers (g.O.Outside.opened c.args.outside.now) c.in_ok-performed.performed c.in_ok-unfit.unfit c.requires.1.1.0

@@ -7,11 +7,12 @@ use Rattle.underway.specs.Conditions.{Underway}
 use Rattle.runner.specs.Answers.{IsAsked, IsChosen}
 use Rattle.runner.specs.Before.{IsMade}
 use Rattle.runner.specs.Going.{plan_at}
-use Rattle.runner.proofs.PartCalls.{left_after, left_here, left_weaker, passed_after, passed_weaker, passed_with}
+use Rattle.runner.proofs.PartCalls.{left_after, left_here, left_never, left_weaker, passed_after, passed_weaker, passed_with}
 use Rattle.runner.proofs.Begun.{clear_underway}
-use Rattle.runner.proofs.Passes.{after_plan, begun_going, begun_log, begun_plan, caused_plan, missing_here, plan_made, run_here, turned_run}
+use Rattle.runner.proofs.Passes.{after_plan, begun_going, begun_log, begun_plan, caused_memory, caused_plan, memory_plan, plan_made, run_here, turned_run}
 use Rattle.runner.proofs.PlanFacts.{moved_none}
 use Rattle.runner.proofs.Readings.{none_read, turned_open, turned_read}
+use Rattle.runner.proofs.Validities.{missing_here, unless_same}
 use Rattle.runner.proofs.run.propose.Goals as goal
 
 pub list_both-requires : goal.list_both-requires
@@ -40,27 +41,30 @@ write_plan-requires g c κs within = (search rules, c.in_ok-plan.ensures.takes)
 pub returns-in_err-clear-clause-part : goal.returns-in_err-clear-clause-part
 returns-in_err-clear-clause-part g c =
     let e = err_from_is_err_and c.from_residual.result c.from_residual.ensures.1 in
-    rw (e.1, e.2) (left_weaker _ _ _ _ _ _ _ (λ d k. k.none) c.in_err-clear.ensures.part)
+    rw (e.1, e.2) (left_never _ _ _ _ _ _ (left_weaker _ _ _ _ _ _ _ (λ d k. k.none) c.in_err-clear.ensures.part))
 
 pub returns-in_err-both-clause-part : goal.returns-in_err-both-clause-part
 returns-in_err-both-clause-part g c =
     let e = err_from_is_err_and c.from_residual-in_err-both.result c.from_residual-in_err-both.ensures.1 in
     let s1 = g.O.Outside.seen c.clear.new.outside in
-    rw (e.1, e.2) (left_weaker _ _ _ _ _ _ _ (λ d k. k.none) (left_after _ _ _ _ _ _ _ _ s1 _ c.in_err-both.ensures.was_honest c.in_ok-clear.ensures.part c.in_err-both.ensures.part))
+    rw (e.1, e.2) (left_never _ _ _ _ _ _ (left_weaker _ _ _ _ _ _ _ (λ d k. k.none) (left_after _ _ _ _ _ _ _ _ s1 _ c.in_err-both.ensures.was_honest c.in_ok-clear.ensures.part c.in_err-both.ensures.part)))
 
 pub returns-in_err-plan-clause-part : goal.returns-in_err-plan-clause-part
 returns-in_err-plan-clause-part g c =
     let e = err_from_is_err_and c.from_residual-in_err-plan.result c.from_residual-in_err-plan.ensures.1 in
     let s1 = g.O.Outside.seen c.clear.new.outside in
     let so_far = passed_after _ _ _ _ _ _ _ _ s1 _ c.in_ok-both.ensures.was_honest c.in_ok-clear.ensures.part c.in_ok-both.ensures.part in
-    rw (e.1, e.2) (left_weaker _ _ _ _ _ _ _ (λ d k. k.none) (left_here _ _ _ _ _ _ _ _ so_far (caused_plan _ _ _ c.in_err-plan.ensures.fault) (λ k. after_plan (Underway g.O.Outside.ours g.O.Outside.alone g.opening) _ _ _ c.in_err-plan.ensures.fault (clear_underway g.O.Outside.ours g.O.Outside.alone g.opening _ _ _ k.clear))))
+    let old = g.O.Outside.opened c.args.outside.now in
+    let both = c.in_ok-both.both in
+    let emptied = c.list_both.ensures.opened ∙ c.in_ok-clear.ensures.opened in
+    rw (e.1, e.2) (left_weaker _ _ _ _ _ _ _ (λ d k. k.none) (left_here _ _ _ _ _ _ _ _ so_far (caused_plan _ _ _ _ c.in_err-plan.ensures.fault (λ side is. unless_same _ _ old _ both.far both.near side _ s1.device emptied c.requires.1.1.0 c.in_ok-both.ensures.was_honest c.in_ok-clear.ensures.validities c.in_ok-both.ensures.validities (c.in_err-plan.ensures.changed side is))) (λ k. after_plan (Underway g.O.Outside.ours g.O.Outside.alone g.opening) _ _ _ c.in_err-plan.ensures.fault (clear_underway g.O.Outside.ours g.O.Outside.alone g.opening _ _ _ k.clear))))
 
 pub returns-in_err-unfit-clause-part : goal.returns-in_err-unfit-clause-part
 returns-in_err-unfit-clause-part g c =
     let e = err_from_is_err_and c.from_residual-in_err-unfit.result c.from_residual-in_err-unfit.ensures.1 in
     let s1 = g.O.Outside.seen c.clear.new.outside in
     let so_far = passed_after _ _ _ _ _ _ _ _ s1 _ c.in_ok-both.ensures.was_honest c.in_ok-clear.ensures.part c.in_ok-both.ensures.part in
-    rw (e.1, e.2) (left_weaker _ _ _ _ _ _ _ (λ d k. k.none) (left_here _ _ _ _ _ _ _ _ so_far (caused_plan _ _ _ c.in_err-unfit.ensures.fault) (λ k. after_plan (Underway g.O.Outside.ours g.O.Outside.alone g.opening) _ _ _ c.in_err-unfit.ensures.fault (clear_underway g.O.Outside.ours g.O.Outside.alone g.opening _ _ _ k.clear))))
+    rw (e.1, e.2) (left_weaker _ _ _ _ _ _ _ (λ d k. k.none) (left_here _ _ _ _ _ _ _ _ so_far (caused_memory _ _ _ _ c.in_err-unfit.ensures.fault) (λ k. after_plan (Underway g.O.Outside.ours g.O.Outside.alone g.opening) _ _ _ (memory_plan _ c.in_err-unfit.ensures.fault) (clear_underway g.O.Outside.ours g.O.Outside.alone g.opening _ _ _ k.clear))))
 
 pub returns-clause-going : goal.returns-clause-going
 returns-clause-going g c =
@@ -95,7 +99,7 @@ returns-in_err-write_plan-clause-part g c =
     let so_far = passed_after _ _ _ _ _ _ _ _ s1 _ c.in_ok-both.ensures.was_honest c.in_ok-clear.ensures.part c.in_ok-both.ensures.part in
     let asked = passed_with (IsAsked ours g.opening options stream) _ _ _ _ _ _ so_far in
     let ready = passed_weaker _ _ (IsChosen ours alone g.opening (g.O.Outside.opened c.args.outside.now) options stream) _ (IsMade ours alone g.opening now c.in_ok-plan.plan) _ 0 _ s2 refl (λ d k. (k.asked, k.none)) (λ d k. plan_made ours alone g.opening now options stream both.far both.near c.in_ok-plan.plan c.in_ok-plan.ensures.drawn c.in_ok-plan.ensures.plan d k.0 (rw c.list_both.ensures.opened k.1)) asked in
-    rw (e.1, e.2) (left_after _ _ _ _ _ _ _ _ s2 _ c.in_err-write_plan.ensures.was_honest ready c.in_err-write_plan.ensures.part)
+    rw (e.1, e.2) (left_never _ _ _ _ _ _ (left_after _ _ _ _ _ _ _ _ s2 _ c.in_err-write_plan.ensures.was_honest ready c.in_err-write_plan.ensures.part))
 
 pub returns-clause-part : goal.returns-clause-part
 returns-clause-part g c =

@@ -1,6 +1,6 @@
 use Rattle.std.proofs.Common.{◌≡◌, ◌≤◌, ◌+◌, arith, rules}
 use Rattle.runner.specs.Answers.{IsKnownEntry, Reaches, run_of}
-use Rattle.runner.proofs.PartCalls.{left_here, part_weaker, passed_none}
+use Rattle.runner.proofs.PartCalls.{left_here, part_never, part_weaker, passed_none}
 use Rattle.runner.proofs.Passes.{end_reaches, known_least, run_of_state}
 use Rattle.runner.proofs.PlanFacts.{moved_none}
 use Rattle.runner.proofs.Readings.{book_read}
@@ -19,7 +19,7 @@ returns-then-run-last-clause-part g c =
     let opened = g.O.Outside.opened c.args.outside.now in
     let same = run_of_state opened c.state.result.now c.state.ensures.state in
     let le : c.args.run ≤ run_of opened = omega (arith, same, c.if-run-last.true) in
-    part_weaker _ _ _ _ _ _ (λ x. Reaches ours alone g.opening c.args.run) _ _ _ (λ d k. k.known) (λ x d k. record { underway = k.underway; done = λ e. k.done (omega (arith, le, e)) }) c.skip.ensures.part
+    part_weaker _ _ _ _ _ _ _ (λ x. Reaches ours alone g.opening c.args.run) _ _ _ (λ d k. k.known) (λ x d k. record { underway = k.underway; done = λ e. k.done (omega (arith, le, e)) }) (part_never _ _ _ _ _ _ _ _ _ c.skip.ensures.part)
 
 pub returns-clause-part : goal.returns-clause-part
 returns-clause-part g c =
@@ -28,7 +28,7 @@ returns-clause-part g c =
     let opened = g.O.Outside.opened c.args.outside.now in
     let same = run_of_state opened c.state.result.now c.state.ensures.state in
     let is : c.args.run ≡ run_of opened + 1 = omega (arith, same, c.if-run-last.false, c.if-run-last-gt1.false) in
-    part_weaker _ _ _ _ _ _ (λ x. Reaches ours alone g.opening c.args.run) _ _ _ (λ d k. record { most = let m = k.most in omega (arith, is, m); asked = k.asked; known = k.known }) (λ x d k. end_reaches ours alone g.opening c.args.run d k) c.open_and_work.ensures.part
+    part_weaker _ _ _ _ _ _ _ (λ x. Reaches ours alone g.opening c.args.run) _ _ _ (λ d k. record { most = let m = k.most in omega (arith, is, m); asked = k.asked; known = k.known }) (λ x d k. end_reaches ours alone g.opening c.args.run d k) c.open_and_work.ensures.part
 
 pub returns-then-run-last-gt1-clause-part : goal.returns-then-run-last-gt1-clause-part
 returns-then-run-last-gt1-clause-part g c =

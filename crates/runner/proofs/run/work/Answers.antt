@@ -2,7 +2,7 @@ use Rattle.std.proofs.Common.{◌≡◌, true, false, is_some, arith}
 use Rattle.std.proofs.lemmas.Grind.{common_steps}
 use Rattle.runner.specs.Answers.{AtEnd}
 use Rattle.runner.specs.Before.{HasNoPlan}
-use Rattle.runner.proofs.PartCalls.{part_weaker}
+use Rattle.runner.proofs.PartCalls.{part_never, part_weaker}
 use Rattle.runner.proofs.Passes.{known_planned, known_unplanned}
 use Rattle.runner.proofs.PlanFacts.{moved_none}
 use Rattle.runner.proofs.Readings.{book_read, has_none, has_plan, none_of, some_of}
@@ -15,7 +15,7 @@ returns-then-is_some-clause-part g c =
     let opened = g.O.Outside.opened c.args.outside.now in
     let i : is_some c.pending.result ≡ true = grind (arith, common_steps) in
     let j = some_of _ c.pending.result _ c.pending.ensures i in
-    part_weaker _ _ _ _ _ _ (λ x. AtEnd ours alone g.opening) _ _ _ (λ d k. known_planned ours alone g.opening opened d (has_plan opened j.0 j.1) k.most k.known) (λ x d k. k) c.resume.ensures.part
+    part_weaker _ _ _ _ _ _ _ (λ x. AtEnd ours alone g.opening) _ _ _ (λ d k. known_planned ours alone g.opening opened d (has_plan opened j.0 j.1) k.most k.known) (λ x d k. k) (part_never _ _ _ _ _ _ _ _ _ c.resume.ensures.part)
 
 pub returns-else-is_some-clause-part : goal.returns-else-is_some-clause-part
 returns-else-is_some-clause-part g c =
@@ -24,7 +24,7 @@ returns-else-is_some-clause-part g c =
     let opened = g.O.Outside.opened c.args.outside.now in
     let i : is_some c.pending.result ≡ false = grind (arith, common_steps) in
     let none : HasNoPlan opened = has_none opened (book_read opened c.requires.1.1.0) (none_of _ c.pending.result _ c.pending.ensures i) in
-    part_weaker _ _ _ _ _ _ (λ x. AtEnd ours alone g.opening) _ _ _ (λ d k. record { asked = k.asked; none = known_unplanned ours alone g.opening opened d none k.most k.known }) (λ x d k. k) c.begin.ensures.part
+    part_weaker _ _ _ _ _ _ _ (λ x. AtEnd ours alone g.opening) _ _ _ (λ d k. record { asked = k.asked; none = known_unplanned ours alone g.opening opened d none k.most k.known }) (λ x d k. k) c.begin.ensures.part
 
 pub returns-then-is_some-clause-moved : goal.returns-then-is_some-clause-moved
 returns-then-is_some-clause-moved g c = moved_none _

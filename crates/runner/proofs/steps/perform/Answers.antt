@@ -5,14 +5,14 @@ use Rattle.runner.proofs.steps.perform.Goals as goal
 pub returns-in-Gone-clause-part : goal.returns-in-Gone-clause-part
 returns-in-Gone-clause-part g c =
     let opened = g.O.Outside.opened c.args.outside.now in
-    part_weaker _ _ _ _ _ _ _ _ _ _ (taken_up g.O.Outside.ours g.O.Outside.alone g.opening opened c.args.is_taken_up) (λ x d k. k) c.mark_deleted.ensures.part
+    part_weaker _ _ _ _ _ _ _ _ _ _ _ (taken_up g.O.Outside.ours g.O.Outside.alone g.opening opened c.args.is_taken_up) (λ x d k. k) c.mark_deleted.ensures.part
 
 pub returns-in-Flags-clause-part : goal.returns-in-Flags-clause-part
 returns-in-Flags-clause-part g c =
     let opened = g.O.Outside.opened c.args.outside.now in
-    part_weaker _ _ _ _ _ _ _ _ _ _ (taken_up g.O.Outside.ours g.O.Outside.alone g.opening opened c.args.is_taken_up) (λ x d k. k) c.carry_flags.ensures.part
+    part_weaker _ _ _ _ _ _ _ _ _ _ _ (taken_up g.O.Outside.ours g.O.Outside.alone g.opening opened c.args.is_taken_up) (λ x d k. k) c.carry_flags.ensures.part
 
 pub returns-in-Expunge-clause-part : goal.returns-in-Expunge-clause-part
 returns-in-Expunge-clause-part g c =
     let opened = g.O.Outside.opened c.args.outside.now in
-    part_weaker _ _ _ _ _ _ _ _ _ _ (taken_up g.O.Outside.ours g.O.Outside.alone g.opening opened c.args.is_taken_up) (λ x d k. k) c.remove.ensures.part
+    part_weaker _ _ _ _ _ _ _ _ _ _ _ (taken_up g.O.Outside.ours g.O.Outside.alone g.opening opened c.args.is_taken_up) (λ x d k. k) c.remove.ensures.part

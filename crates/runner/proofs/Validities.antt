@@ -1,0 +1,244 @@
+-- Which UIDVALIDITY is recorded, and that the calls before the plan keep those of both mailboxes.
+use Rattle.std.proofs.Common.{◌≡◌, ℕ, zero, suc, Bool, not, ◌==◌, List, if◌then◌else◌, Option, Some, None, Result, Ok, Err, OnOk, refl, sym, ◌∙◌, ap, subst, arith}
+use Rattle.mailcore.specs.declared.side.Side.{Side}
+use Rattle.mailcore.specs.declared.side.Side.TheVariants.{Far, Near}
+use Rattle.mailcore.specs.declared.listing.Listing.{Listing}
+use Rattle.rules.specs.declared.state.SyncState.{SyncState}
+use Rattle.sync_state.specs.declared.journal.Journal.{Journal}
+use Rattle.book.specs.declared.book.Pending.{Pending}
+use Rattle.book.specs.declared.book.Pending.TheVariants.{Missing, Useless, Planned}
+use Rattle.book.specs.Books.{Holds, Turns}
+use Rattle.book.proofs.KnownBooks.{book_known}
+use Rattle.std.proofs.lemmas.Grind.{common_steps}
+use Rattle.underway.specs.Openings.{IsIdle}
+use Rattle.outside.specs.Arrivals.{Arrives}
+use Rattle.runner.specs.declared.fault.RunFault.{RunFault}
+use Rattle.runner.specs.declared.fault.RunFault.TheVariants as run
+use Rattle.rules.specs.Outcome.{changed_side}
+use Rattle.outside.specs.BookCalls.{OfBook}
+use Rattle.outside.specs.BoxCalls.{Admits}
+use Rattle.outside.specs.Devices.{Device, box}
+use Rattle.outside.specs.Opened.{IsHeld, Opened, journal_in, journal_of, state_of, turned, with_box}
+use Rattle.runner.specs.Before.{HasNoJournal, HasNoPlan}
+use Rattle.runner.specs.Answers.{as_read}
+use Rattle.runner.specs.Validities.{BothSame, HasChanged, HasOther, HasSame, HaveValidities, IsKept, IsOther, IsSame, KeepsValidities, ListsChanged, TellsChange, TellsChanged, TellsOther, TellsUnlessSame, after_run, named_after, plan_validity, recorded, recorded_in, state_validity}
+
+-- ---- which one is recorded
+
+pub recorded_plan : (opened : Option Opened) (j : Journal) (side : Side) → journal_of opened ≡ Some j → recorded_in opened side ≡ Some (plan_validity j.plan side)
+recorded_plan None j side e = cc
+recorded_plan (Some o) j side e = of_pending o.pending e
+  where
+    of_pending : (p : Pending) → journal_in p ≡ Some j → recorded o.state p side ≡ Some (plan_validity j.plan side)
+    of_pending Missing e = cc
+    of_pending Useless e = cc
+    of_pending (Planned written) e = let same : written.journal ≡ j = cc in ap (λ (x : Journal). Some (plan_validity x.plan side)) same
+
+pub recorded_state : (opened : Option Opened) (s : SyncState) (side : Side) → journal_of opened ≡ None → state_of opened ≡ Some s → recorded_in opened side ≡ after_run s side
+recorded_state None s side e f = cc
+recorded_state (Some o) s side e f = of_pending o.pending e
+  where
+    same : o.state ≡ s
+    same = cc
+
+    of_pending : (p : Pending) → journal_in p ≡ None → recorded o.state p side ≡ after_run s side
+    of_pending Missing e = ap (λ (x : SyncState). after_run x side) same
+    of_pending Useless e = ap (λ (x : SyncState). after_run x side) same
+    of_pending (Planned written) e = cc
+
+named_none : (run validity : ℕ) → run ≡ 0 → named_after run validity ≡ None
+named_none run validity e = rw e refl
+
+named_some : (run validity : ℕ) → (run ≡ 0 → ⊥) → named_after run validity ≡ Some validity
+named_some zero validity f = absurd (f refl)
+named_some (suc n) validity f = grind (arith, common_steps)
+
+pub none_recorded : (s : SyncState) (side : Side) → s.run ≡ 0 → after_run s side ≡ None
+none_recorded s side e = named_none s.run (state_validity s side) e
+
+pub some_recorded : (s : SyncState) (side : Side) → (s.run ≡ 0 → ⊥) → after_run s side ≡ Some (state_validity s side)
+some_recorded s side f = named_some s.run (state_validity s side) f
+
+-- an open box records no other
+boxed_recorded : (side at : Side) (opened : Option Opened) → recorded_in (with_box side opened) at ≡ recorded_in opened at
+boxed_recorded side at None = refl
+boxed_recorded Far at (Some o) = refl
+boxed_recorded Near at (Some o) = refl
+
+pub boxed_same : (side at : Side) (opened : Option Opened) (d : Device) → HasSame (with_box side opened) at d → HasSame opened at d
+boxed_same side at opened d h = subst (λ (r : Option ℕ). IsSame r (box d at).validity) (boxed_recorded side at opened) h
+
+pub boxed_other : (side at : Side) (opened : Option Opened) (d : Device) → HasOther (with_box side opened) at d → HasOther opened at d
+boxed_other side at opened d h = subst (λ (r : Option ℕ). IsOther r (box d at).validity) (boxed_recorded side at opened) h
+
+pub same_boxed : (opened : Option Opened) (d : Device) → BothSame opened d → BothSame (with_box Near (with_box Far opened)) d
+same_boxed None d h = h
+same_boxed (Some o) d h = h
+
+-- the box of a side has the recorded one, or another
+pub has_same : (opened : Option Opened) (side : Side) (d : Device) (before validity : ℕ) → recorded_in opened side ≡ Some before → validity ≡ (box d side).validity → before ≡ validity → HasSame opened side d
+has_same opened side d before validity r v e = subst (λ (x : Option ℕ). IsSame x (box d side).validity) (sym r) (e ∙ v)
+
+pub has_any : (opened : Option Opened) (side : Side) (d : Device) → recorded_in opened side ≡ None → HasSame opened side d
+has_any opened side d r = subst (λ (x : Option ℕ). IsSame x (box d side).validity) (sym r) tt
+
+pub has_other : (opened : Option Opened) (side : Side) (d : Device) (before validity : ℕ) → recorded_in opened side ≡ Some before → validity ≡ (box d side).validity → (before ≡ validity → ⊥) → HasOther opened side d
+has_other opened side d before validity r v f = subst (λ (x : Option ℕ). IsOther x (box d side).validity) (sym r) (λ e. f (e ∙ sym v))
+
+-- ---- what stays
+
+pub validities_next : (a b c : Device) → KeepsValidities a b → KeepsValidities b c → KeepsValidities a c
+validities_next a b c p q = record { far = q.far ∙ p.far; near = q.near ∙ p.near }
+
+pub kept_next : (alone : Bool) (a b c : Device) → IsKept alone a b → IsKept alone b c → IsKept alone a c
+kept_next alone a b c p q = record { files = q.files ∙ p.files; validities = validities_next a b c p.validities q.validities; same = λ e. q.same e ∙ p.same e }
+
+box_kept : (side : Side) (d d' : Device) → KeepsValidities d d' → (box d' side).validity ≡ (box d side).validity
+box_kept Far d d' k = k.far
+box_kept Near d d' k = k.near
+
+pub same_kept : (opened : Option Opened) (side : Side) (d d' : Device) → KeepsValidities d d' → HasSame opened side d → HasSame opened side d'
+same_kept opened side d d' k h = subst (λ (v : ℕ). IsSame (recorded_in opened side) v) (sym (box_kept side d d' k)) h
+
+pub same_before : (opened : Option Opened) (side : Side) (d d' : Device) → KeepsValidities d d' → HasSame opened side d' → HasSame opened side d
+same_before opened side d d' k h = subst (λ (v : ℕ). IsSame (recorded_in opened side) v) (box_kept side d d' k) h
+
+pub other_before : (opened : Option Opened) (side : Side) (d d' : Device) → KeepsValidities d d' → HasOther opened side d' → HasOther opened side d
+other_before opened side d d' k h = subst (λ (v : ℕ). IsOther (recorded_in opened side) v) (box_kept side d d' k) h
+
+pub changed_before : (opened : Option Opened) (side : Side) (d d' : Device) → KeepsValidities d d' → HasChanged opened side d' → HasChanged opened side d
+changed_before opened Far d d' k h = other_before opened Far d d' k h
+changed_before opened Near d d' k h = (same_before opened Far d d' k h.0, other_before opened Near d d' k h.1)
+
+module _ (ours : List ℕ → Bool) (alone : Bool) where
+  pub kept_arrives : (d m : Device) → Arrives ours alone d m → IsKept alone d m
+  kept_arrives d m a = record {
+    files = ap (λ (x : Device). x.files) a.now;
+    validities = record { far = ap (λ (x : Device). x.far.validity) a.now; near = ap (λ (x : Device). x.near.store.validity) a.now };
+    same = a.nobody;
+  }
+
+  -- a call that changes nothing
+  pub kept_read : (d m d' : Device) → Arrives ours alone d m → d' ≡ m → IsKept alone d d'
+  kept_read d m d' a e = subst (λ (x : Device). IsKept alone d x) (sym e) (kept_arrives d m a)
+
+  pub read_validities : (d m d' : Device) → Arrives ours alone d m → d' ≡ m → KeepsValidities d d'
+  read_validities d m d' a e = let k = kept_read d m d' a e in k.validities
+
+  -- an opened box has what is recorded, or another, or nothing is
+  pub same_read : (opened : Option Opened) (side : Side) (d m d' : Device) (before validity : ℕ) → recorded_in opened side ≡ Some before → Arrives ours alone d m → d' ≡ m → validity ≡ (box m side).validity → before ≡ validity → HasSame opened side d' × IsKept alone d d'
+  same_read opened side d m d' before validity r a e v same = (subst (λ (x : Device). HasSame opened side x) (sym e) (has_same opened side m before validity r v same), kept_read d m d' a e)
+
+  pub any_read : (opened : Option Opened) (side : Side) (d m d' : Device) → recorded_in opened side ≡ None → Arrives ours alone d m → d' ≡ m → HasSame opened side d' × IsKept alone d d'
+  any_read opened side d m d' r a e = (has_any opened side d' r, kept_read d m d' a e)
+
+  pub other_read : (opened : Option Opened) (side : Side) (d m d' : Device) (before validity : ℕ) → recorded_in opened side ≡ Some before → Arrives ours alone d m → d' ≡ m → validity ≡ (box m side).validity → (before ≡ validity → ⊥) → HasOther opened side d × IsKept alone d d'
+  other_read opened side d m d' before validity r a e v differ = let k = kept_arrives d m a in (other_before opened side d m k.validities (has_other opened side m before validity r v differ), kept_read d m d' a e)
+
+  -- a journal goes
+  pub emptied_validities : (opened : Option Opened) (d m d' : Device) → HasNoPlan opened → Arrives ours alone d m → OfBook (λ p. Turns p Missing) opened m d' → KeepsValidities d d'
+  emptied_validities None d m d' none a t = absurd none
+  emptied_validities (Some o) d m d' none a t =
+      let k = kept_arrives d m a in
+      validities_next d m d' k.validities (record { far = rw t.far refl; near = rw t.near refl })
+
+  -- waiting files are admitted
+  pub admitted_validities : (d m d' : Device) → Arrives ours alone d m → Admits m d' → KeepsValidities d d'
+  admitted_validities d m d' a t =
+      let k = kept_arrives d m a in
+      validities_next d m d' k.validities (record { far = ap (λ (x : Device). x.far.validity) t; near = ap (λ (x : Device). x.near.store.validity) t })
+
+pub validities_joined : {T : Type 0} (h0 h1 : Type 0) (a b c : Device) (r : Result T RunFault) → (h1 → h0) → (h0 → KeepsValidities a b) → OnOk r (h1 → KeepsValidities b c) → OnOk r (h1 → KeepsValidities a c)
+validities_joined h0 h1 a b c (Ok x) f p q = λ h. validities_next a b c (p (f h)) (q h)
+validities_joined h0 h1 a b c (Err e) f p q = tt
+
+-- ---- the listings
+
+pub both_validities : (far near : Listing) (a b c : Device) → KeepsValidities a b → far.validity ≡ b.far.validity → KeepsValidities b c → near.validity ≡ c.near.store.validity → HaveValidities far near a
+both_validities far near a b c p f q n = record { far_is = f ∙ p.far; near_is = n ∙ q.near ∙ p.near }
+
+-- a journal without a plan records what the state does
+pub emptied_same : (opened : Option Opened) (d : Device) → HasNoPlan opened → BothSame opened d → BothSame (turned (λ _. Missing) opened) d
+emptied_same None d none h = absurd none
+emptied_same (Some o) d none h = (of_pending o.pending Far none h.0, of_pending o.pending Near none h.1)
+  where
+    of_pending : (p : Pending) (side : Side) → IsIdle p → IsSame (recorded o.state p side) (box d side).validity → IsSame (after_run o.state side) (box d side).validity
+    of_pending Missing side none h = h
+    of_pending Useless side none h = h
+    of_pending (Planned written) side none h = absurd none
+
+pub missing_here : (opened : Option Opened) → HasNoPlan opened → HasNoJournal (turned (λ _. Missing) opened)
+missing_here None h = h
+missing_here (Some o) h = refl
+
+-- where both mailboxes have what is recorded, their listings do too
+pub lists_same : (opened : Option Opened) (far near : Listing) (side : Side) (d : Device) → HasNoJournal opened → BothSame opened d → HaveValidities far near d → ListsChanged opened far near side → ⊥
+lists_same None far near side d none same have told = told
+lists_same (Some o) far near side d none same have told =
+    let f = subst (λ (p : Pending). IsSame (recorded o.state p Far) d.far.validity) none same.0 in
+    let n = subst (λ (p : Pending). IsSame (recorded o.state p Near) d.near.store.validity) none same.1 in
+    no_side o.state.run far.validity o.state.far_validity near.validity o.state.near_validity side (subst (λ (v : ℕ). IsSame (after_run o.state Far) v) (sym have.far_is) f) (subst (λ (v : ℕ). IsSame (after_run o.state Near) v) (sym have.near_is) n) told
+  where
+    no_side : (run f g n m : ℕ) (side : Side) → IsSame (named_after run g) f → IsSame (named_after run m) n → (if run == 0 then None else if not (f == g) then Some Far else if not (n == m) then Some Near else None) ≡ Some side → ⊥
+    no_side zero f g n m side a b told = cc
+    no_side (suc run) f g n m side a b told = grind (arith, common_steps)
+
+pub side_told : (opened : Option Opened) (s : SyncState) (far near : Listing) (told side : Side) → run.ValidityChanged told ≡ run.ValidityChanged side → state_of opened ≡ Some s → changed_side far near s ≡ Some told → ListsChanged opened far near side
+side_told None s far near told side is e changed = cc
+side_told (Some o) s far near told side is e changed =
+    let same : told ≡ side = cc in
+    let here : o.state ≡ s = cc in
+    subst (λ (x : SyncState). changed_side far near x ≡ Some side) (sym here) (changed ∙ ap (λ (x : Side). Some x) same)
+
+-- ---- what is told
+
+pub far_told : (honest : Type 0) (alone : Bool) (opened : Option Opened) (a b : Device) (side : Side) → TellsOther honest alone opened Far a b side → TellsChange honest alone opened a b side
+far_told honest alone opened a b side told = λ h. let t = told.1 h in (rw told.0 t.0, t.1)
+
+-- the far box has the recorded one, and the near one has not
+pub near_told : (h0 h1 : Type 0) (alone : Bool) (opened now : Option Opened) (a b c : Device) (side : Side) → (h1 → h0) → now ≡ with_box Far opened → (h0 → HasSame opened Far b × IsKept alone a b) → TellsOther h1 alone now Near b c side → TellsChange h1 alone opened a c side
+near_told h0 h1 alone opened now a b c side honest e before told = λ h.
+    let p = before (honest h) in
+    let q = told.1 h in
+    let k = p.1 in
+    let other : HasOther (with_box Far opened) Near b = subst (λ (x : Option Opened). HasOther x Near b) e q.0 in
+    (rw told.0 (same_before opened Far a b k.validities p.0, other_before opened Near a b k.validities (boxed_other Far Near opened b other)), kept_next alone a b c k q.1)
+
+pub both_opened : (h0 h1 : Type 0) (alone : Bool) (opened now : Option Opened) (a b c : Device) (r : Result (Unit {0}) RunFault) → (h1 → h0) → now ≡ with_box Far opened → (h0 → HasSame opened Far b × IsKept alone a b) → OnOk r (h1 → HasSame now Near c × IsKept alone b c) → OnOk r (h1 → BothSame opened c × IsKept alone a c)
+both_opened h0 h1 alone opened now a b c (Ok x) honest e before here = λ h.
+    let p = before (honest h) in
+    let q = here h in
+    let k = q.1 in
+    let same : HasSame (with_box Far opened) Near c = subst (λ (x : Option Opened). HasSame x Near c) e q.0 in
+    ((same_kept opened Far b c k.validities p.0, boxed_same Far Near opened c same), kept_next alone a b c p.1 k)
+both_opened h0 h1 alone opened now a b c (Err f) honest e before here = tt
+
+-- a plan is not refused so where both boxes have what is recorded
+pub unless_same : (h0 h2 : Type 0) (opened now : Option Opened) (far near : Listing) (side : Side) (a b : Device) → now ≡ turned (λ _. Missing) opened → HasNoPlan opened → (h2 → h0) → (h0 → KeepsValidities a b) → (h2 → HaveValidities far near b) → ListsChanged now far near side → TellsUnlessSame h2 opened a side
+unless_same h0 h2 opened now far near side a b e none honest keeps have told = λ h same.
+    let k = keeps (honest h) in
+    let v = have h in
+    let at = emptied_same opened a none same in
+    let both : HaveValidities far near a = record { far_is = v.far_is ∙ k.far; near_is = v.near_is ∙ k.near } in
+    lists_same (turned (λ _. Missing) opened) far near side a (missing_here opened none) at both (subst (λ (x : Option Opened). ListsChanged x far near side) e told)
+
+pub same_told : (h0 h1 : Type 0) (alone : Bool) (opened now : Option Opened) (a b c : Device) (side : Side) → (h1 → h0) → now ≡ with_box Near (with_box Far opened) → (h0 → BothSame opened b × IsKept alone a b) → TellsUnlessSame h1 now b side → TellsChange h1 alone opened a c side
+same_told h0 h1 alone opened now a b c side honest e before told = λ h.
+    let p = before (honest h) in
+    let q = p.0 in
+    let at : BothSame now b = subst (λ (x : Option Opened). BothSame x b) (sym e) (same_boxed opened b q) in
+    absurd (told h at)
+
+-- by the files that were read
+pub files_changed : (alone : Bool) (h0 h1 : Type 0) (opened : Option Opened) (a b c : Device) (side : Side) → (h1 → h0) → (h0 → IsHeld opened a) → (h0 → IsKept alone a b) → TellsChange h1 alone opened b c side → TellsChanged h1 alone a c side
+files_changed alone h0 h1 opened a b c side honest held kept told = λ h s p holds. let k = kept (honest h) in let t = told h in (by_opened opened (held (honest h)) (changed_before opened side a b k.validities t.0) s p holds, kept_next alone a b c k t.1)
+  where
+    by_opened : (opened : Option Opened) → IsHeld opened a → HasChanged opened side a → (s : SyncState) (p : Pending) → Holds a.files s p → HasChanged (as_read s p) side a
+    by_opened None held changed s p holds = absurd held
+    by_opened (Some o) held changed s p holds =
+        let e = book_known a.files o.state s o.pending p held holds in
+        same_book o s p side e.0 e.1 changed
+      where
+        same_book : (o : Opened) (s : SyncState) (p : Pending) (side : Side) → o.state ≡ s → o.pending ≡ p → HasChanged (Some o) side a → HasChanged (as_read s p) side a
+        same_book o s p Far e f h = rw (sym e, sym f) h
+        same_book o s p Near e f h = rw (sym e, sym f) h
