@@ -1,0 +1,2 @@
+pub mod BookCalls
+pub mod BoxCalls

@@ -1,0 +1,27 @@
+use Rattle.std.proofs.Common.{◌≡◌, ◌∙◌, true, false, refl, sym, inl}
+use Rattle.book.specs.MemShelves as mem
+use Rattle.book.specs.declared.book.Pending.TheVariants.{Missing, Useless}
+use Rattle.book.specs.Books.{Standing, mended, torn}
+use Rattle.book.specs.BookLogs.{as_done, begun, is_refused, logged_more}
+use Rattle.sync_state.specs.declared.journal.Logged.TheVariants.{Void}
+use Rattle.outside.specs.Calls.{FromBook}
+use Rattle.mem_outside.specs.Views.{Sides, sides_of}
+use Rattle.mem_outside.proofs.BookCalls.{book_call, committed_so, stuck, turned_so}
+use Rattle.mem_outside.proofs.mem_outside.MemOutsideOutside.commit.Goals as goal
+
+pub returns-then-is_broken-clause-call : goal.returns-then-is_broken-clause-call
+returns-then-is_broken-clause-call c = stuck _ _ _ _ _ tt (inl refl) (sym c.is_broken.ensures ∙ c.if-is_broken.true)
+
+pub returns-clause-call : goal.returns-clause-call
+returns-clause-call c =
+    let m = c.args.self.now in
+    let book = c.in-Some.book in
+    let book' = c.commit-answer.new.self in
+    let b : Sides = sides_of m.boxes in
+    let s : Standing = record { is_ready = book.is_ready; shelf = mem.seen_of book.shelf } in
+    let s' : Standing = record { is_ready = book'.is_ready; shelf = mem.seen_of book'.shelf } in
+    let whole : m.condition.is_broken ≡ false = sym c.is_broken.ensures ∙ c.if-is_broken.false in
+    let ready = rw c.in-Some.is at (m.whole whole) in
+    rw (c.in-Some.is, c.end_book.ensures.told, c.end_book.ensures.now)
+    (book_call b m.condition false s s' FromBook _ _ c.commit-answer.result tt tt (λ is. absurd (cc)) c.commit-answer.ensures.ends ready whole
+    (committed_so b m.condition s.shelf s'.shelf book.pending c.commit-answer.result (c.commit-answer.ensures.leaves refl)))

@@ -1,0 +1,44 @@
+use Rattle.std.proofs.Common.{◌≡◌, ◌∙◌, ◌+◌, true, false, refl, sym, ap, rules}
+use Rattle.std.proofs.lemmas.Result.{err_from_is_err_and}
+use Rattle.device.specs.Calls.{Seen as DeviceSeen}
+use Rattle.book.specs.MemShelves as mem
+use Rattle.book.specs.Shelves.{Files}
+use Rattle.mailcore.specs.Operations.{marked_among}
+use Rattle.outside.specs.BoxCalls.{copies_made}
+use Rattle.outside.specs.Calls.{FromBox}
+use Rattle.mem_outside.specs.BoxConditions.{Counts}
+use Rattle.mem_outside.specs.Views.{Sides, shelf_of, sides_of}
+use Rattle.mem_outside.proofs.BoxCalls.{admitted_so, box_of, carried_so, halted, halts_along, leaves_done, leaves_none, leaves_same, not_admitted, not_broken, turned_box, went, went_with}
+use Rattle.mem_outside.proofs.mem_outside.MemOutsideOutside.list_far.Goals as goal
+
+pub returns-in_err-stops-clause-call : goal.returns-in_err-stops-clause-call
+returns-in_err-stops-clause-call c =
+    let p = err_from_is_err_and c.from_residual.result c.from_residual.ensures.1 in
+    let m = c.args.self.now in
+    let s : DeviceSeen Files = shelf_of (λ b. mem.seen_of b.shelf) mem.seen_of m.book m.shelf in
+    let b : Sides = sides_of m.boxes in
+    rw (p.1, p.2) (halted b b m.condition c.begin.new.self s _ _ _ _ (refl) (λ _. refl) c.in_err-stops.ensures.halted)
+
+pub returns-in_default-clause-call : goal.returns-in_default-clause-call
+returns-in_default-clause-call c =
+    let m = c.args.self.now in
+    let s : DeviceSeen Files = shelf_of (λ b. mem.seen_of b.shelf) mem.seen_of m.book m.shelf in
+    let b : Sides = sides_of m.boxes in
+    halted b b m.condition c.lack.new.self s _ _ _ _ (refl) (not_broken b b m.condition c.in_ok-stops.ensures.whole)
+    (halts_along m.condition c.begin.new.self c.lack.new.self _ c.in_ok-stops.ensures.same c.lack.ensures.halted)
+
+pub returns-in_err-end-clause-call : goal.returns-in_err-end-clause-call
+returns-in_err-end-clause-call c =
+    let p = err_from_is_err_and c.from_residual-in_err-end.result c.from_residual-in_err-end.ensures.1 in
+    let m = c.args.self.now in
+    let s : DeviceSeen Files = shelf_of (λ b. mem.seen_of b.shelf) mem.seen_of m.book m.shelf in
+    let b : Sides = sides_of m.boxes in
+    rw (p.1, p.2) (halted b b m.condition c.end.new.self s _ _ _ _ (refl) (not_broken b b m.condition c.in_ok-stops.ensures.whole)
+    (halts_along m.condition c.begin.new.self c.end.new.self _ c.in_ok-stops.ensures.same c.in_err-end.ensures.halted))
+
+pub returns-clause-call : goal.returns-clause-call
+returns-clause-call c =
+    let m = c.args.self.now in
+    let s : DeviceSeen Files = shelf_of (λ b. mem.seen_of b.shelf) mem.seen_of m.book m.shelf in
+    let b : Sides = sides_of m.boxes in
+    went b b m.condition c.end.new.self s FromBox _ _ _ ((refl, c.in-Ok.ensures.shows)) c.in_ok-stops.ensures.whole (c.in_ok-end.ensures.same ∙ c.in_ok-stops.ensures.same)

@@ -1,0 +1,5 @@
+pub mod BoxConditions
+pub mod Views
+pub mod Carrying
+pub mod BookFaults
+pub mod MemOutsides

@@ -1,0 +1,187 @@
+//! Whether calls of the mailboxes are answered, which of them stop or are refused, and how many have.
+
+ghost use Rattle.std.specs.Prelude.{◌≡◌, ◌+◌, true, false, OnOk, IfErr};
+ghost use Rattle.outside.specs.BoxCalls.{copies_made};
+ghost use Rattle.mem_outside.specs.BookFaults.{is_fault, told_by};
+ghost use Rattle.mem_outside.specs.BoxConditions.{Halts, ComesBehind, untouched};
+
+use crate::book_faults::told_by;
+use device::DeviceFault;
+use device::schedule::{Moment, Scheduled, Stop};
+use device::stop_count::StopCount;
+use outside::fault::OutsideFault;
+use outside::outside::Carried;
+use std::alloc::Global;
+use std::marker::Model;
+use sync_state::fault::BookFault;
+
+/// A call of a mailbox, as a schedule names it. There are no parts of these: one that is to stop in the midst stops before its
+/// effect.
+#[derive(Clone, Copy, Debug, PartialEq, Eq)]
+pub enum BoxCall {
+    /// `open_box`.
+    Open,
+    /// `admit`.
+    Admit,
+    /// `list_far` or `list_near`.
+    List,
+    /// `find_mark`.
+    FindMark,
+    /// `carry`.
+    Carry,
+    /// `add_flags`.
+    AddFlags,
+    /// `remove_flags`.
+    RemoveFlags,
+    /// `expunge`.
+    Expunge,
+}
+
+/// The condition of both mailboxes: whether their calls are answered, the stops and refusals to come, and how many calls
+/// have stopped, were refused, and have made a copy.
+#[derive(Debug, Drop)]
+pub struct BoxCondition {
+    is_broken: bool,
+    stopping: Scheduled<BoxCall>,
+    /// A refused call is kept as a stop of this.
+    refusing: Scheduled<BoxCall>,
+    /// An element for each copy.
+    copies: StopCount,
+}
+
+impl Model for BoxCondition {
+    ghost use Rattle.mem_outside.specs.BoxConditions.{Counts};
+
+    ghost Value = { Counts };
+
+    ghost view = { λ c. record { is_broken = c.is_broken; stops = c.stopping.stops; refusals = c.refusing.stops; copies = c.copies } };
+}
+
+impl BoxCondition {
+    /// Of mailboxes of which no call was made: these calls stop, and these are refused.
+    pub fn new(alloc: Global, stops: Vec<Stop<BoxCall>>, refusals: Vec<Stop<BoxCall>>) -> Self
+        ensures { result ≡ untouched }
+    {
+        BoxCondition {
+            is_broken: false,
+            stopping: Scheduled::new(alloc, stops),
+            refusing: Scheduled::new(alloc, refusals),
+            copies: StopCount::new(alloc),
+        }
+    }
+
+    /// Begins a call, and says whether it stops behind its effect. `Stopped`, `Refused` and `NoMemory`: it has no effect.
+    pub(crate) fn begin(&mut self, call: BoxCall) -> Result<bool, OutsideFault>
+        ensures same { OnOk result (self.new ≡ self.old) }
+        ensures whole { OnOk result (self.old.is_broken ≡ false) }
+        ensures halted { IfErr result (λ fault. Halts fault self.old self.new) }
+    {
+        if self.is_broken {
+            return Err(OutsideFault::Stopped);
+        }
+        if matches!(self.refusing.begin(call), Ok(Some(_))) {
+            return Err(self.refuse());
+        }
+        match self.stopping.begin(call) {
+            Ok(Some(Moment::Before | Moment::Part(_))) => Err(self.stop()),
+            Ok(Some(Moment::After)) => Ok(true),
+            Ok(None) | Err(_) => Ok(false),
+        }
+    }
+
+    /// Ends a call that has had its effect, and stops here if it stops behind it.
+    pub(crate) fn end(&mut self, stops: bool) -> Result<(), OutsideFault>
+        requires whole { self.old.is_broken ≡ false }
+        ensures same { OnOk result (self.new ≡ self.old) }
+        ensures behind { IfErr result ComesBehind }
+        ensures halted { IfErr result (λ fault. Halts fault self.old self.new) }
+    {
+        if stops {
+            return Err(self.stop());
+        }
+        Ok(())
+    }
+
+    /// Ends a call that may have made a copy. `NoMemory`: it could not be counted.
+    pub(crate) fn end_carry(&mut self, stops: bool, carried: &Carried) -> Result<(), OutsideFault>
+        requires whole { self.old.is_broken ≡ false }
+        ensures counted { OnOk result (self.new ≡ record self.old { copies = self.old.copies + copies_made carried.now }) }
+        ensures behind { IfErr result ComesBehind }
+        ensures halted { IfErr result (λ fault. Halts fault self.old self.new) }
+    {
+        if matches!(carried, Carried::Made(_)) && self.copies.push().is_err() {
+            return Err(self.lack());
+        }
+        if stops {
+            return Err(self.stop());
+        }
+        Ok(())
+    }
+
+    /// The call finds no memory, or no UID is left. Gives what it answers.
+    pub(crate) fn lack(&mut self) -> OutsideFault
+        requires whole { self.old.is_broken ≡ false }
+        ensures behind { ComesBehind result }
+        ensures halted { Halts result self.old self.new }
+    {
+        self.break_off();
+        OutsideFault::NoMemory
+    }
+
+    /// Ends a call of the book. Where it has a fault, each later call stops.
+    pub(crate) fn end_book(&mut self, answer: Result<(), BookFault>) -> Result<(), OutsideFault>
+        ensures told { result ≡ told_by answer }
+        ensures now { self.new ≡ record self.old { is_broken = is_fault answer } }
+    {
+        self.is_broken = answer.is_err();
+        told_by(answer)
+    }
+
+    /// From now on each call stops, until `reopen`.
+    pub(crate) fn break_off(&mut self)
+        ensures { self.new ≡ record self.old { is_broken = true } }
+    {
+        self.is_broken = true;
+    }
+
+    /// Calls are answered again.
+    pub(crate) fn reopen(&mut self)
+        ensures { self.new ≡ record self.old { is_broken = false } }
+    {
+        self.is_broken = false;
+        self.stopping.reopen();
+        self.refusing.reopen();
+    }
+
+    /// Whether a call has failed since the outside was opened.
+    pub(crate) fn is_broken(&self) -> bool
+        ensures { result ≡ self.now.is_broken }
+    {
+        self.is_broken
+    }
+
+    /// The call stops. Gives what it answers: `NoMemory` where its stop cannot be counted.
+    fn stop(&mut self) -> OutsideFault
+        requires whole { self.old.is_broken ≡ false }
+        ensures behind { ComesBehind result }
+        ensures halted { Halts result self.old self.new }
+    {
+        self.break_off();
+        match self.stopping.stop() {
+            DeviceFault::Stopped => OutsideFault::Stopped,
+            DeviceFault::NoMemory => OutsideFault::NoMemory,
+        }
+    }
+
+    /// The call is refused. Gives what it answers: `NoMemory` where its refusal cannot be counted.
+    fn refuse(&mut self) -> OutsideFault
+        requires whole { self.old.is_broken ≡ false }
+        ensures halted { Halts result self.old self.new }
+    {
+        self.break_off();
+        match self.refusing.stop() {
+            DeviceFault::Stopped => OutsideFault::Refused,
+            DeviceFault::NoMemory => OutsideFault::NoMemory,
+        }
+    }
+}
