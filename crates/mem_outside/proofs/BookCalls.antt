@@ -1,5 +1,5 @@
 -- From the clauses of a book's calls to those of the outside.
-use Rattle.std.proofs.Common.{◌≡◌, ◌<◌, ◌≤◌, ◌+◌, ◌⊎◌, inl, inr, ap, sym, ◌∙◌, refl, subst, ℕ, Bool, true, false, Result, Ok, Err, Option, None, Some, arith}
+use Rattle.std.proofs.Common.{◌≡◌, ◌<◌, ◌≤◌, ◌+◌, ◌⊎◌, inl, inr, ap, sym, refl, subst, ℕ, Bool, true, false, Result, Ok, Err, Some, arith}
 use Rattle.device.specs.Calls.{Seen as DeviceSeen, Effect}
 use Rattle.sync_state.specs.declared.fault.BookFault.{BookFault}
 use Rattle.sync_state.specs.declared.fault.BookFault.TheVariants.{Stopped, BadState, BadJournal, NoMemory}
@@ -11,7 +11,7 @@ use Rattle.outside.specs.declared.fault.OutsideFault.{OutsideFault}
 use Rattle.outside.specs.declared.fault.OutsideFault.TheVariants as fault
 use Rattle.outside.specs.Arrivals.{Arrives}
 use Rattle.outside.specs.BookCalls.{LeavesUnread, OnFiles, ReadsBook, TellsFiles}
-use Rattle.outside.specs.Calls.{Call, DoesSome, FromShelf, IsCounted, IsStop, LeavesBy, Seen, Writes, as_device}
+use Rattle.outside.specs.Calls.{Call, FromShelf, IsCounted, IsStop, LeavesBy, Seen, Writes}
 use Rattle.outside.specs.Devices.{Device}
 use Rattle.outside.specs.Opened.{Opened}
 use Rattle.mem_outside.specs.BookFaults.{is_fault, told, told_by}

@@ -1,26 +1,24 @@
 -- From what a call does to both lists to what the outside says of it.
-use Rattle.std.proofs.Common.{◌≡◌, ◌<◌, ◌≤◌, ◌+◌, ◌⊎◌, inl, inr, ap, sym, ◌∙◌, refl, subst, ℕ, Bool, true, false, List, [], ◌∷◌, ◌++◌, map, length, Result, Ok, Err, Option, None, Some, arith}
+use Rattle.std.proofs.Common.{◌≡◌, ◌<◌, ◌+◌, ◌⊎◌, inl, inr, ap, sym, ◌∙◌, refl, subst, ℕ, Bool, true, false, List, [], ◌∷◌, map, Ok, Err, Option, None, Some, arith}
 use Rattle.std.specs.Prelude.{MatchOption, if◌then◌else◌}
 use Rattle.std.proofs.lemmas.List.{append-nil}
 use Rattle.std.proofs.lemmas.List.Elements.{All-nil}
-use Rattle.device.specs.Calls.{Seen as DeviceSeen, Effect, Follows, Between, Acts}
+use Rattle.device.specs.Calls.{Seen as DeviceSeen, Effect, Follows}
 use Rattle.mailcore.specs.declared.mailbox.Message.{Message}
 use Rattle.mailcore.specs.declared.side.Direction.{Direction}
 use Rattle.mailcore.specs.declared.side.Direction.TheVariants.{Pull, Push}
 use Rattle.mailcore.specs.declared.side.Side.{Side}
 use Rattle.mailcore.specs.declared.side.Side.TheVariants.{Far, Near}
-use Rattle.mailcore.specs.Sides.{target}
 use Rattle.mailcore.specs.Stores.{Store, Waiting, numbered}
 use Rattle.book.specs.Shelves.{Files}
-use Rattle.near_box.specs.Mailboxes.{Near as NearBox}
 use Rattle.outside.specs.declared.fault.OutsideFault.{OutsideFault}
 use Rattle.outside.specs.declared.fault.OutsideFault.TheVariants as fault
 use Rattle.outside.specs.declared.outside.Carried.{Carried}
 use Rattle.outside.specs.declared.outside.Carried.TheVariants.{Absent, Unfit, Made}
 use Rattle.outside.specs.Arrivals.{Arrives, IsMerge, none, left}
 use Rattle.outside.specs.BoxCalls.{Admits, Carry, Turns}
-use Rattle.outside.specs.Calls.{Seen, Call, DoesSome, FromBox, IsCounted, IsStop, LeavesBy}
-use Rattle.outside.specs.Devices.{Device, box, on_box}
+use Rattle.outside.specs.Calls.{Call, FromBox, IsCounted, IsStop, LeavesBy}
+use Rattle.outside.specs.Devices.{Device, box}
 use Rattle.mem_outside.specs.BoxConditions.{Counts, ComesBehind, Halts, IsCountedAs}
 use Rattle.mem_outside.specs.Carrying.{CarriesSides, CarriesTo}
 use Rattle.mem_outside.specs.Views.{Sides, admitted, every, seen_at, side_of, waiting_of, with_side}

@@ -58,7 +58,8 @@ impl Model for BoxCondition {
 }
 
 impl BoxCondition {
-    /// Of mailboxes of which no call was made: these calls stop, and these are refused.
+    /// Of mailboxes of which no call was made: these calls stop, and these are refused, at whatever moment. Of a call that is in
+    /// both, the refusal acts.
     pub fn new(alloc: Global, stops: Vec<Stop<BoxCall>>, refusals: Vec<Stop<BoxCall>>) -> Self
         ensures { result ≡ untouched }
     {
@@ -79,10 +80,11 @@ impl BoxCondition {
         if self.is_broken {
             return Err(OutsideFault::Stopped);
         }
+        let moment = self.stopping.begin(call);
         if matches!(self.refusing.begin(call), Ok(Some(_))) {
             return Err(self.refuse());
         }
-        match self.stopping.begin(call) {
+        match moment {
             Ok(Some(Moment::Before | Moment::Part(_))) => Err(self.stop()),
             Ok(Some(Moment::After)) => Ok(true),
             Ok(None) | Err(_) => Ok(false),

@@ -17,7 +17,7 @@ use mailcore::tuid::Tuid;
 use mailcore::uid::Uid;
 use std::alloc::Global;
 
-/// A mailbox of a side.
+/// A mailbox of a side. Its UIDs rise and are below the next one.
 #[derive(Debug, Drop)]
 pub struct MemBox {
     pub(crate) validity: u32,
@@ -115,7 +115,7 @@ impl MemBox {
     }
 }
 
-/// Memory ran out while a mailbox was listed.
+/// Memory ran out while a mailbox was listed. UIDs that do not rise would be told so too: no clause says that they do.
 #[derive(Clone, Copy, Debug, PartialEq, Eq)]
 pub(crate) struct Unlisted;
 

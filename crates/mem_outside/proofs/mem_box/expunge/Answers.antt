@@ -1,4 +1,4 @@
-use Rattle.std.proofs.Common.{◌≡◌, ◌==◌, not, rules, sym, ◌∙◌, ℕ, Bool, true, false, refl, [], ◌∷◌, List, filter, ap}
+use Rattle.std.proofs.Common.{◌≡◌, ◌==◌, not, rules, ◌∙◌, ℕ, Bool, true, false, refl, [], ◌∷◌, List, filter}
 use Rattle.std.specs.Prelude.{◌||◌}
 use Rattle.std.specs.List.{list_any}
 use Rattle.std.proofs.lemmas.Fn.{filter_same}

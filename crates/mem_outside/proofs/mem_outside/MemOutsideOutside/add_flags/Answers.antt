@@ -1,14 +1,11 @@
-use Rattle.std.proofs.Common.{◌≡◌, ◌∙◌, ◌+◌, true, false, refl, sym, ap, rules}
+use Rattle.std.proofs.Common.{◌∙◌, refl}
 use Rattle.std.proofs.lemmas.Result.{err_from_is_err_and}
 use Rattle.device.specs.Calls.{Seen as DeviceSeen}
 use Rattle.book.specs.MemShelves as mem
 use Rattle.book.specs.Shelves.{Files}
-use Rattle.mailcore.specs.Operations.{marked_among}
-use Rattle.outside.specs.BoxCalls.{copies_made}
 use Rattle.outside.specs.Calls.{FromBox}
-use Rattle.mem_outside.specs.BoxConditions.{Counts}
 use Rattle.mem_outside.specs.Views.{Sides, shelf_of, sides_of}
-use Rattle.mem_outside.proofs.BoxCalls.{admitted_so, box_of, carried_so, halted, halts_along, leaves_done, leaves_none, leaves_same, not_admitted, not_broken, turned_box, went, went_with}
+use Rattle.mem_outside.proofs.BoxCalls.{halted, halts_along, leaves_done, leaves_none, not_broken, turned_box, went}
 use Rattle.mem_outside.proofs.mem_outside.MemOutsideOutside.add_flags.Goals as goal
 
 pub returns-in_err-stops-clause-call : goal.returns-in_err-stops-clause-call

@@ -1,12 +1,9 @@
-use Rattle.std.proofs.Common.{◌≡◌, ◌∙◌, true, false, refl, sym, inl}
+use Rattle.std.proofs.Common.{◌≡◌, ◌∙◌, false, refl, sym, inl}
 use Rattle.book.specs.MemShelves as mem
-use Rattle.book.specs.declared.book.Pending.TheVariants.{Missing, Useless}
-use Rattle.book.specs.Books.{Standing, mended, torn}
-use Rattle.book.specs.BookLogs.{as_done, begun, is_refused, logged_more}
-use Rattle.sync_state.specs.declared.journal.Logged.TheVariants.{Void}
+use Rattle.book.specs.Books.{Standing}
 use Rattle.outside.specs.Calls.{FromBook}
 use Rattle.mem_outside.specs.Views.{Sides, sides_of}
-use Rattle.mem_outside.proofs.BookCalls.{book_call, committed_so, stuck, turned_so}
+use Rattle.mem_outside.proofs.BookCalls.{book_call, committed_so, stuck}
 use Rattle.mem_outside.proofs.mem_outside.MemOutsideOutside.commit.Goals as goal
 
 pub returns-then-is_broken-clause-call : goal.returns-then-is_broken-clause-call

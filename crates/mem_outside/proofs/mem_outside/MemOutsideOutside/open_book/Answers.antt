@@ -1,4 +1,4 @@
-use Rattle.std.proofs.Common.{◌≡◌, ◌∙◌, true, false, refl, sym, inl, not}
+use Rattle.std.proofs.Common.{◌≡◌, ◌∙◌, false, refl, sym}
 use Rattle.book.specs.MemShelves as mem
 use Rattle.outside.specs.Opened.{Opened}
 use Rattle.mem_outside.specs.Views.{Sides, sides_of}
