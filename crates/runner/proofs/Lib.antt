@@ -11,3 +11,4 @@ pub mod Begun
 pub mod Fitness
 pub mod PlanFacts
 pub mod Passes
+pub mod Attempts

@@ -265,3 +265,19 @@ left_never h a underway f s0 s1 l = left_told Never _ h a underway f s0 s1 (λ s
 
 pub part_never : {T : Type 0} (c : Side → Type 0) (h : Type 0) (a underway : Device → Type 0) (copies : T → ℕ) (reaches : T → Device → Type 0) (s0 s1 : Seen) (r : Result T RunFault) → Part h a underway copies reaches s0 s1 r → PartOr c h a underway copies reaches s0 s1 r
 part_never c h a underway copies reaches s0 s1 r p = part_told Never _ h a underway copies reaches s0 s1 r (λ side n. absurd n) p
+
+-- ---- the same part that leaves another condition
+
+pub left_mapped : {changed : Side → Type 0} (h : Type 0) (a a' u u' : Device → Type 0) (f : RunFault) (s0 s1 : Seen) → ((d : Device) → a' d → a d) → ((d : Device) → u d → u' d) → Left changed h a u f s0 s1 → Left changed h a' u' f s0 s1
+left_mapped h a a' u u' f s0 s1 g k l = record { caused = l.caused; no_less = l.no_less; left = λ honest at. leaves_map u u' f s0 s1 (k s1.device) (l.left honest (g s0.device at)) }
+
+pub part_mapped : {T : Type 0} (changed : Side → Type 0) (h : Type 0) (a a' u u' : Device → Type 0) (copies : T → ℕ) (reaches reaches' : T → Device → Type 0) (s0 s1 : Seen) (r : Result T RunFault) → ((d : Device) → a' d → a d) → ((d : Device) → u d → u' d) → ((x : T) (d : Device) → reaches x d → reaches' x d) → PartOr changed h a u copies reaches s0 s1 r → PartOr changed h a' u' copies reaches' s0 s1 r
+part_mapped changed h a a' u u' copies reaches reaches' s0 s1 (Ok x) f k g p = passed_weaker h a a' (reaches x) (reaches' x) (copies x) (copies x) s0 s1 refl f (g x) p
+part_mapped changed h a a' u u' copies reaches reaches' s0 s1 (Err e) f k g p = left_mapped h a a' u u' e s0 s1 f k p
+
+pub left_with : {changed : Side → Type 0} (p h : Type 0) (a u : Device → Type 0) (f : RunFault) (s0 s1 : Seen) → Left changed h a u f s0 s1 → Left changed h (λ d. p × a d) (λ d. p × u d) f s0 s1
+left_with p h a u f s0 s1 k = record { caused = k.caused; no_less = k.no_less; left = λ honest at. leaves_map u (λ d. p × u d) f s0 s1 (λ x. (at.0, x)) (k.left honest at.1) }
+
+pub part_with : {T : Type 0} (changed : Side → Type 0) (p h : Type 0) (a u : Device → Type 0) (copies : T → ℕ) (reaches : T → Device → Type 0) (s0 s1 : Seen) (r : Result T RunFault) → PartOr changed h a u copies reaches s0 s1 r → PartOr changed h (λ d. p × a d) (λ d. p × u d) copies (λ x d. p × reaches x d) s0 s1 r
+part_with changed p h a u copies reaches s0 s1 (Ok x) k = passed_with p h a (reaches x) (copies x) s0 s1 k
+part_with changed p h a u copies reaches s0 s1 (Err e) k = left_with p h a u e s0 s1 k

@@ -263,7 +263,7 @@ module _ (ours : List ℕ → Bool) (alone : Bool) (opening : Opening) where
   done_run : (w : World) (d : Device) → Grows alone opening.world w → (x : DoneAt ours alone w opening.options d) → x.state.run ≡ opening.world.state.run + 1
   done_run w d g x = let a = x.alike in let k = a.alike in let st = k.state in st.run ∙ ap (λ (s : SyncState). s.run + 1) g.state
 
-  planned_state : (o : Opened) (w : World) (d : Device) → Grows alone opening.world w → IsHeld (Some o) d → (p : PlannedAt ours alone w opening.options d) → (o.state ≡ opening.world.state) × HasPlanned o.pending
+  pub planned_state : (o : Opened) (w : World) (d : Device) → Grows alone opening.world w → IsHeld (Some o) d → (p : PlannedAt ours alone w opening.options d) → (o.state ≡ opening.world.state) × HasPlanned o.pending
   planned_state o w d g held p =
       let e = book_known d.files o.state w.state o.pending _ held (planned_files ours alone opening w d p) in
       (e.0 ∙ g.state, subst HasPlanned (sym e.1) tt)
@@ -273,7 +273,7 @@ module _ (ours : List ℕ → Bool) (alone : Bool) (opening : Opening) where
       let e = book_known d.files o.state x.state o.pending x.pending held x.files in
       ap (λ (s : SyncState). s.run) e.0 ∙ done_run w d g x
 
-  unplanned_state : (o : Opened) (d : Device) → IsHeld (Some o) d → Unplanned alone opening d → (o.state ≡ opening.world.state) × IsIdle o.pending
+  pub unplanned_state : (o : Opened) (d : Device) → IsHeld (Some o) d → Unplanned alone opening d → (o.state ≡ opening.world.state) × IsIdle o.pending
   unplanned_state o d held n =
       let e = book_known d.files o.state opening.world.state o.pending n.pending held n.files in
       (e.0, subst IsIdle (sym e.1) n.idle)

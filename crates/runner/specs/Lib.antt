@@ -4,3 +4,4 @@ pub mod Going
 pub mod Before
 pub mod Answers
 pub mod Validities
+pub mod Attempts

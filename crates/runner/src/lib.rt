@@ -10,4 +10,5 @@ pub mod pending;
 pub mod performed;
 pub mod planning;
 pub mod run;
+pub mod settle;
 pub mod steps;

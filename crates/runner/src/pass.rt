@@ -14,3 +14,12 @@ pub enum Pass {
     /// A plan was pending, and these of its steps were not logged yet.
     Finished(Vec<Performed>),
 }
+
+/// What became of a run in all its attempts.
+#[derive(Debug, Drop)]
+pub struct Settled {
+    /// How many attempts met a stop.
+    pub stops: u32,
+    /// What the last attempt answered.
+    pub last: Pass,
+}

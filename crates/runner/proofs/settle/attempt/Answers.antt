@@ -1,0 +1,38 @@
+use Rattle.std.proofs.Common.{◌≡◌, ◌+◌, refl, arith}
+use Rattle.std.proofs.lemmas.Result.{err_from_is_err_and}
+use Rattle.underway.specs.Conditions.{IsOver}
+use Rattle.runner.specs.Answers.{IsAsked, IsEntry}
+use Rattle.runner.specs.Attempts.{IsTried}
+use Rattle.runner.proofs.Attempts.{asked_later, fixed_tried, tried_fixed}
+use Rattle.runner.proofs.PartCalls.{left_mapped, left_never, left_with, part_after, part_mapped, part_told, part_with, passed_weaker, passed_with}
+use Rattle.runner.proofs.PlanFacts.{moved_none}
+use Rattle.runner.proofs.settle.attempt.Goals as goal
+
+pub returns-in_err-number-clause-moved : goal.returns-in_err-number-clause-moved
+returns-in_err-number-clause-moved g c = moved_none _
+
+pub returns-in_err-number-clause-part : goal.returns-in_err-number-clause-part
+returns-in_err-number-clause-part g c =
+    let e = err_from_is_err_and c.from_residual.result c.from_residual.ensures.1 in
+    rw (e.1, e.2) (left_never _ _ _ _ _ _ (left_mapped _ _ _ _ _ _ _ _ (λ d k. (k.asked, k.tried)) (λ d k. record { asked = k.0; tried = k.1 }) (left_with (IsAsked g.O.Outside.ours g.opening c.args.options.now (g.R.Rng.stream c.args.rng.now)) _ _ _ _ _ _ c.in_err-number.ensures.part)))
+
+pub returns-clause-part : goal.returns-clause-part
+returns-clause-part g c =
+    let ours = g.O.Outside.ours in
+    let alone = g.O.Outside.alone in
+    let options = c.args.options.now in
+    let old = g.R.Rng.stream c.args.rng.now in
+    let new = g.R.Rng.stream c.pass.new.rng in
+    let n = c.in_ok-number.number in
+    let s1 = g.O.Outside.seen c.fix_run.new.outside in
+    let fixed = c.in_ok-number.ensures.fixed in
+    let run = c.fix_run.new.run in
+    let p : Type 0 = IsAsked ours g.opening options old × (n ≡ g.opening.world.state.run + 1) in
+    let with = passed_with (IsAsked ours g.opening options old) _ _ _ _ _ _ c.in_ok-number.ensures.part in
+    let ready = passed_weaker _ _ (IsTried ours alone g.opening options old c.args.run.now) _ (λ d. p × IsEntry ours alone g.opening n options old d) _ 0 _ s1 refl (λ d k. (k.asked, k.tried))
+    (λ d k. let t = tried_fixed ours alone g.opening run n d fixed k.1 in ((k.0, t.0), record { most = omega (arith, t.0); asked = k.0; underway = t.1 })) with in
+    part_after _ _ _ _ _ _ _ _ _ s1 _ _ c.pass.ensures.was_honest ready
+    (part_mapped _ _ _ _ _ (IsTried ours alone g.opening options new run) _ _ (λ x d. IsOver ours alone g.opening d) _ _ _ (λ d k. k)
+    (λ d k. record { asked = asked_later ours g.opening options old new c.pass.ensures.moved k.0.0; tried = fixed_tried ours alone g.opening run n d fixed (k.0.1, k.1) })
+    (λ x d k. let r = k.1 in let e = k.0.1 in r.done (omega (arith, e)))
+    (part_with _ p _ _ _ _ _ _ _ _ (part_told _ _ _ _ _ _ _ _ _ _ (λ side t. tt) c.pass.ensures.part)))

@@ -1,0 +1,124 @@
+//! A run in several attempts, each after one that met a stop.
+
+ghost use Rattle.std.specs.Prelude.{◌≡◌, ◌≤◌, ◌+◌, None, Some, OnOk, OnErr, IfOk, IfErr, IsErrOf, true, false};
+ghost use Rattle.underway.specs.Conditions.{IsOver, Underway};
+ghost use Rattle.underway.specs.Openings.{Opening};
+ghost use Rattle.runner.specs.Faults.{LeavesRun};
+ghost use Rattle.runner.specs.Parts.{Part, PartOr};
+ghost use Rattle.runner.specs.Answers.{IsAsked, Moves, made_in};
+ghost use Rattle.runner.specs.Attempts.{AtOpening, IsTried, TriedAt};
+
+use crate::fault::{RunFault, call_fault};
+use crate::pass::{Pass, Settled};
+use crate::run::pass;
+use outside::outside::Outside;
+use rand_core::Rng;
+use rules::options::Options;
+use std::alloc::Global;
+
+/// The number of the run: the state's and 1. `BadState(2)`: the state's is the greatest.
+fn next_run<O: Outside>(outside: &mut O) -> Result<u64, RunFault>
+    ghost opening: { Opening }
+    ensures was_honest { O.honest outside.new → O.honest outside.old }
+    ensures part { Part (O.honest outside.new) (AtOpening O.ours O.alone opening) (AtOpening O.ours O.alone opening) (λ _. 0) (λ number d. (number ≡ opening.world.state.run + 1) × AtOpening O.ours O.alone opening d) (O.seen outside.old) (O.seen outside.new) result }
+{
+    match outside.open_book() {
+        Ok(()) => {
+            let last = outside.state().run;
+            if last == u64::MAX {
+                return Err(RunFault::BadState(2));
+            }
+            Ok(last + 1)
+        }
+        Err(fault) => Err(call_fault(fault)),
+    }
+}
+
+/// The run's number, which is fixed at the first reading that is not stopped.
+fn fix_run<O: Outside>(outside: &mut O, run: &mut Option<u64>) -> Result<u64, RunFault>
+    ghost opening: { Opening }
+    requires whole { (O.seen outside.old).is_broken ≡ false }
+    ensures was_honest { O.honest outside.new → O.honest outside.old }
+    ensures kept { OnErr result (run.new ≡ run.old) }
+    ensures fixed { IfOk result (λ number. run.new ≡ Some number) }
+    ensures part { Part (O.honest outside.new) (TriedAt O.ours O.alone opening run.old) (TriedAt O.ours O.alone opening run.new) (λ _. 0) (λ _. TriedAt O.ours O.alone opening run.new) (O.seen outside.old) (O.seen outside.new) result }
+{
+    if let Some(number) = *run {
+        return Ok(number);
+    }
+    let number = next_run(outside)?;
+    *run = Some(number);
+    Ok(number)
+}
+
+/// One attempt.
+fn attempt<O: Outside, R: Rng>(
+    alloc: Global,
+    outside: &mut O,
+    run: &mut Option<u64>,
+    options: &Options,
+    rng: &mut R,
+) -> Result<Pass, RunFault>
+    ghost opening: { Opening }
+    requires whole { (O.seen outside.old).is_broken ≡ false }
+    ensures was_honest { O.honest outside.new → O.honest outside.old }
+    ensures moved { Moves (R.stream rng.old) (R.stream rng.new) }
+    ensures part { PartOr (λ _. Unit {0}) (O.honest outside.new) (IsTried O.ours O.alone opening options.now (R.stream rng.old) run.old) (IsTried O.ours O.alone opening options.now (R.stream rng.new) run.new) made_in (λ _. IsOver O.ours O.alone opening) (O.seen outside.old) (O.seen outside.new) result }
+{
+    let number = fix_run(outside, run)?;
+    pass(alloc, outside, number, options, rng)
+}
+
+/// Opens all again, but for the first attempt.
+fn again<O: Outside>(outside: &mut O, tried: u32)
+    requires first { tried ≡ 0 → (O.seen outside.old).is_broken ≡ false }
+    ensures was_honest { O.honest outside.new → O.honest outside.old }
+    ensures seen { O.seen outside.new ≡ record (O.seen outside.old) { is_broken = false } }
+{
+    if tried == 0 {
+        return;
+    }
+    outside.reopen();
+}
+
+/// Carries out one run: the one behind the state, in up to `tries` attempts, each of them after one that met a stop.
+///
+/// `Stopped`: each attempt met a stop. Another fault is answered at once. `BadState(2)`: the state's run is the greatest number. Whoever
+/// goes on after a fault calls `reopen` first.
+pub fn settle<O: Outside, R: Rng>(
+    alloc: Global,
+    outside: &mut O,
+    options: &Options,
+    tries: u32,
+    rng: &mut R,
+) -> Result<Settled, RunFault>
+    ghost opening: { Opening }
+    requires whole { (O.seen outside.old).is_broken ≡ false }
+    ensures was_honest { O.honest outside.new → O.honest outside.old }
+
+    // The generator moves by whole pairs.
+    ensures moved { Moves (R.stream rng.old) (R.stream rng.new) }
+
+    // From an opening, the run is over where it answers, and underway after any fault.
+    ensures done { OnOk result (O.honest outside.new → IsAsked O.ours opening options.now (R.stream rng.old) → AtOpening O.ours O.alone opening (O.seen outside.old).device → IsOver O.ours O.alone opening (O.seen outside.new).device) }
+    ensures left { IfErr result (λ fault. O.honest outside.new → IsAsked O.ours opening options.now (R.stream rng.old) → AtOpening O.ours O.alone opening (O.seen outside.old).device → LeavesRun (Underway O.ours O.alone opening) fault (O.seen outside.old) (O.seen outside.new)) }
+
+    // Each attempt but the last met a stop, and each of all where that is what is answered.
+    ensures stops { IfOk result (λ s. (O.seen outside.old).stops + s.stops ≤ (O.seen outside.new).stops) }
+    ensures stopped { IsErrOf result RunFault.Stopped → (O.seen outside.old).stops + tries ≤ (O.seen outside.new).stops }
+{
+    let mut run = None;
+    for tried in 0..tries {
+        again(outside, tried);
+        match attempt(alloc, outside, &mut run, options, rng) {
+            Ok(last) => {
+                return Ok(Settled { stops: tried, last });
+            }
+            Err(RunFault::Stopped) => {}
+            Err(fault) => {
+                return Err(fault);
+            }
+        }
+    }
+    Err(RunFault::Stopped)
+}
