@@ -1,6 +1,6 @@
 //! Both mailboxes, and the near files that wait for their UIDs.
 
-ghost use Rattle.std.specs.Prelude.{◌≡◌, ◌<◌, ◌+◌, ◌^◌, [], ◌∷◌, length, map, IfSome, if◌then◌else◌};
+ghost use Rattle.std.specs.Prelude.{◌≡◌, ◌<◌, ◌+◌, ◌^◌, length, map, IfSome, if◌then◌else◌};
 ghost use Rattle.mailcore.specs.Stores.{numbered};
 ghost use Rattle.mem_outside.specs.Views.{waiting_of};
 
@@ -23,8 +23,9 @@ pub struct Boxes {
 }
 
 impl Boxes {
-    ghost use Rattle.mailcore.specs.Operations.{expunged, flags_added, flags_removed};
+    ghost use Rattle.mailcore.specs.Operations.{flags_added, flags_removed};
     ghost use Rattle.mem_outside.specs.Views.{admitted, side_of, sides_of, store_of, with_side};
+    ghost use Rattle.outside.specs.BoxCalls.{removed};
 
     /// The mailbox of a side.
     pub fn of(&self, side: Side) -> &MemBox
@@ -56,13 +57,13 @@ impl Boxes {
         }
     }
 
-    /// Removes a message, if it is there.
+    /// Removes a message, if it is there; a far one only if it is marked as deleted.
     pub(crate) fn expunge(&mut self, side: Side, uid: Uid)
-        ensures { sides_of self.new ≡ with_side side (expunged (uid ∷ [])) (sides_of self.old) }
+        ensures { sides_of self.new ≡ with_side side (removed side uid) (sides_of self.old) }
     {
         match side {
-            Side::Far => self.far.expunge(uid),
-            Side::Near => self.near.expunge(uid),
+            Side::Far => self.far.expunge(Side::Far, uid),
+            Side::Near => self.near.expunge(Side::Near, uid),
         }
     }
     /// Gives the waiting files the UIDs from the near mailbox's next one on. False: memory ran out, or too few UIDs are left;

@@ -1,15 +1,15 @@
 //! A mailbox as a list of messages.
 
-ghost use Rattle.std.specs.Prelude.{◌≡◌, ◌<◌, ◌==◌, [], ◌∷◌, filter, map, not, IfOk};
-ghost use Rattle.std.specs.List.{list_any};
+ghost use Rattle.std.specs.Prelude.{◌≡◌, ◌<◌, ◌==◌, ◌&&◌, filter, map, not, IfOk};
 ghost use Rattle.mailcore.specs.Content.{mark_of};
 ghost use Rattle.mailcore.specs.FlagSet.{minus, union};
 ghost use Rattle.mailcore.specs.Listed.{AreBelow};
 ghost use Rattle.mailcore.specs.Operations.{is_mark, marked_among, with_flags};
+ghost use Rattle.outside.specs.BoxCalls.{may_go};
 
 use mailcore::content::fit;
 use mailcore::copies::mark_of;
-use mailcore::flags::Flags;
+use mailcore::flags::{Flag, Flags};
 use mailcore::listing::{Item, Items, Listing};
 use mailcore::mailbox::{Message, Messages};
 use mailcore::side::Side;
@@ -27,9 +27,9 @@ pub struct MemBox {
 }
 
 impl MemBox {
-    ghost use Rattle.mailcore.specs.Operations.{Shows, ShowsAbove, expunged, flags_added, flags_removed};
+    ghost use Rattle.mailcore.specs.Operations.{Shows, ShowsAbove, flags_added, flags_removed};
     ghost use Rattle.mem_outside.specs.Views.{store_of};
-    ghost use Rattle.outside.specs.BoxCalls.{HasNumbers};
+    ghost use Rattle.outside.specs.BoxCalls.{HasNumbers, removed};
 
     /// A mailbox of this UIDVALIDITY and UIDNEXT, 1 to 4294967295, with these messages.
     pub fn new(validity: u32, next: u32, messages: Messages) -> Self
@@ -107,11 +107,11 @@ impl MemBox {
         remove_flags(&mut self.messages, uid, flags);
     }
 
-    /// Removes a message, if it is there.
-    pub(crate) fn expunge(&mut self, uid: Uid)
-        ensures { store_of self.new ≡ expunged (uid ∷ []) (store_of self.old) }
+    /// Removes a message, if it is there; from a far mailbox only if it is marked as deleted.
+    pub(crate) fn expunge(&mut self, side: Side, uid: Uid)
+        ensures { store_of self.new ≡ removed side uid (store_of self.old) }
     {
-        expunge(&mut self.messages, uid);
+        expunge(&mut self.messages, side, uid);
     }
 }
 
@@ -155,11 +155,21 @@ fn remove_flags_of(message: &mut Message, uid: Uid, flags: Flags)
     }
 }
 
-/// Removes a message, if it is there.
-fn expunge(messages: &mut Vec<Message>, uid: Uid)
-    ensures { messages.new.items ≡ filter (λ m. not (list_any (λ u. m.uid == u) (uid ∷ []))) messages.old.items }
+/// Removes a message, if it is there and may go.
+fn expunge(messages: &mut Vec<Message>, side: Side, uid: Uid)
+    ensures { messages.new.items ≡ filter (λ m. not (m.uid == uid && may_go side m)) messages.old.items }
 {
-    messages.retain(|message| message.uid != uid);
+    messages.retain(|message| !(message.uid == uid && may_go(side, message)));
+}
+
+/// Whether a message of this side can be removed with its flags.
+fn may_go(side: Side, message: &Message) -> bool
+    ensures { result ≡ may_go side message.now }
+{
+    match side {
+        Side::Far => message.flags.has(Flag::Deleted),
+        Side::Near => true,
+    }
 }
 
 /// Whether a message bears a mark.

@@ -1,5 +1,5 @@
 -- What the calls of the boxes do to both mailboxes, and what they tell.
-use Rattle.std.specs.Prelude.{◌≡◌, ◌<◌, ◌≤◌, ℕ, true, false, List, [], ◌∷◌, ◌++◌, Option, None, Some}
+use Rattle.std.specs.Prelude.{◌≡◌, ◌<◌, ◌≤◌, ℕ, Bool, true, false, not, ◌&&◌, ◌==◌, List, [], ◌∷◌, ◌++◌, filter, Option, None, Some}
 use Rattle.device.specs.Calls.{Effect}
 use Rattle.mailcore.specs.declared.side.Side.{Side}
 use Rattle.mailcore.specs.declared.side.Side.TheVariants.{Far, Near}
@@ -7,7 +7,8 @@ use Rattle.mailcore.specs.declared.side.Direction.{Direction}
 use Rattle.mailcore.specs.declared.mailbox.Message.{Message}
 use Rattle.mailcore.specs.declared.listing.Listing.{Listing}
 use Rattle.mailcore.specs.Content.{fit}
-use Rattle.mailcore.specs.Operations.{Shows, ShowsAbove, bytes_of}
+use Rattle.mailcore.specs.FlagSet.{has, DELETED}
+use Rattle.mailcore.specs.Operations.{Shows, ShowsAbove, bytes_of, with_messages}
 use Rattle.mailcore.specs.Sides.{source, target}
 use Rattle.mailcore.specs.Stores.{Store}
 use Rattle.near_box.specs.Mailboxes.{admitted_near}
@@ -36,6 +37,15 @@ HasNumbers listing = (0 < listing.validity) × (0 < listing.next)
 -- the mailbox of a side changes so
 abbrev pub Turns : Side → (Store → Store) → Effect Device
 Turns side change d d' = d' ≡ on_box side change d
+
+-- a near file can be removed whatever its flags; a server removes only what is marked as deleted (RFC 9051, section 6.4.9)
+abbrev pub may_go : Side → Message → Bool
+may_go Far m = has m.flags DELETED
+may_go Near m = true
+
+-- the message with this UID is removed, if it may go
+abbrev pub removed : Side → (uid : ℕ) → Store → Store
+removed side uid = with_messages (filter (λ m. not (m.uid == uid && may_go side m)))
 
 -- all waiting files have the UIDs from next on
 abbrev pub Admits : Effect Device

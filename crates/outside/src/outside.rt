@@ -29,7 +29,7 @@ pub enum Carried {
 /// What its calls do is said where server, folder and shelf keep their word; which faults they count holds of each outside.
 pub trait Outside {
     ghost use Rattle.device.specs.Calls.{Nothing};
-    ghost use Rattle.mailcore.specs.Operations.{expunged, flags_added, flags_removed, marked_from};
+    ghost use Rattle.mailcore.specs.Operations.{flags_added, flags_removed, marked_from};
     ghost use Rattle.mailcore.specs.Sides.{target};
     ghost use Rattle.sync_state.specs.declared.journal.Logged.TheVariants.{Void};
     ghost use Rattle.book.specs.declared.book.Pending.TheVariants.{Missing, Useless};
@@ -41,7 +41,7 @@ pub trait Outside {
     ghost use Rattle.outside.specs.Calls.{Call, Changes, FromBook, FromBox, FromShelf, LeavesBy, Reads, Seen, Writes};
     ghost use Rattle.outside.specs.Opened.{IsBook, IsHeld, IsOpen, IsRead, Opened, AreCommitted, TakesCommit, TakesLog, TakesPlan, journal_of, state_of, turned, with_box};
     ghost use Rattle.outside.specs.BookCalls.{FromLog, LeavesUnread, OfBook, ReadsBook};
-    ghost use Rattle.outside.specs.BoxCalls.{Admits, AdmitsPart, Carry, HasNumbers, ListsFar, ListsNear, SetsAside, Turns, copies_made};
+    ghost use Rattle.outside.specs.BoxCalls.{Admits, AdmitsPart, Carry, HasNumbers, ListsFar, ListsNear, SetsAside, Turns, copies_made, removed};
 
     /// Server, folder and shelf have kept their word so far.
     ghost honest: { Self → Type 0 };
@@ -184,12 +184,12 @@ pub trait Outside {
         ensures opened { opened self.new ≡ opened self.old }
         ensures call { Changes {T = Unit {0}} (honest self.new) (Arrives ours alone) (λ _. Turns side (flags_removed uid flags)) Nothing (seen self.old) (seen self.new) result };
 
-    /// Removes a message, if it is there.
+    /// Removes a message, if it is there. A far message is removed only if it is marked as deleted (RFC 9051, section 6.4.9).
     fn expunge(&mut self, side: Side, uid: Uid) -> Result<(), OutsideFault>
         requires is_open { IsOpen side (opened self.old) }
         ensures was_honest { honest self.new → honest self.old }
         ensures opened { opened self.new ≡ opened self.old }
-        ensures call { Changes {T = Unit {0}} (honest self.new) (Arrives ours alone) (λ _. Turns side (expunged (uid ∷ []))) Nothing (seen self.old) (seen self.new) result };
+        ensures call { Changes {T = Unit {0}} (honest self.new) (Arrives ours alone) (λ _. Turns side (removed side uid)) Nothing (seen self.old) (seen self.new) result };
 
     /// Opens all again, so that calls are answered again. It keeps both mailboxes and the shelf, and nothing else.
     fn reopen(&mut self)
