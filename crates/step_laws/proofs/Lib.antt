@@ -10,3 +10,4 @@ pub mod Again
 pub mod Given
 pub mod Own
 pub mod OwnPlan
+pub mod Expunging

@@ -41,7 +41,7 @@ all_pass test side (m ∷ ms) h =
     let e : test side m.uid m.bytes ≡ true = All-head (λ (x : Message). test side x.uid x.bytes ≡ true) m ms h in
     rw e (ap (λ (xs : List Message). m ∷ xs) (all_pass test side ms (All-tail (λ (x : Message). test side x.uid x.bytes ≡ true) m ms h)))
 
-below_is_own : (w : World) (marks : List (List ℕ)) (side : Side) (uid : ℕ) (bytes : List ℕ) → uid < (store w side).next → is_own w marks side uid bytes ≡ true
+pub below_is_own : (w : World) (marks : List (List ℕ)) (side : Side) (uid : ℕ) (bytes : List ℕ) → uid < (store w side).next → is_own w marks side uid bytes ≡ true
 below_is_own w marks side uid bytes h = or_left (nat_lt uid (store w side).next) (list_any (λ mark. bears mark bytes) marks) (lt-ltb uid (store w side).next h)
 
 stored_is_own : (w : World) (marks : List (List ℕ)) → IsInOrder w → (side : Side) → own_in (is_own w marks) side (store w side).messages ≡ (store w side).messages
@@ -97,7 +97,7 @@ plan_step_own w options marks found (Expunge side u) r h a c = tt
 
 -- ---- where a copy is found
 
-box_own : (test : Test) (b : Boxes) (side : Side) → box (own test b) side ≡ own_in test side (box b side)
+pub box_own : (test : Test) (b : Boxes) (side : Side) → box (own test b) side ≡ own_in test side (box b side)
 box_own test b Far = refl
 box_own test b Near = refl
 

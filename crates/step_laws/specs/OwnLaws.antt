@@ -1,19 +1,21 @@
 -- The messages that a run sees as its own, and where it finds a copy again, in laws that the functions of `src/lib.rt` show.
-use Rattle.std.specs.Prelude.{ℕ, ◌<◌, ◌≤◌, ◌≡◌, Bool, false, ◌&&◌, ◌||◌, nat_lt, nat_le, nat_eq, List, [], ◌∷◌, ◌++◌, length, find, slice_index_or, Contains, Option, Some, None}
+use Rattle.std.specs.Prelude.{All, ℕ, ◌<◌, ◌≤◌, ◌≡◌, Bool, true, false, ◌&&◌, ◌||◌, nat_lt, nat_le, nat_eq, List, [], ◌∷◌, ◌++◌, length, find, slice_index_or, Contains, Option, Some, None}
 use Rattle.std.specs.List.{list_any}
 use Rattle.std.specs.Option.{option_map}
 use Rattle.std.specs.Cmp.Lexicographic.{pointwise}
+use Rattle.mailcore.specs.declared.side.Side.{Side}
 use Rattle.mailcore.specs.declared.side.Direction.{Direction}
 use Rattle.mailcore.specs.declared.mailbox.Message.{Message}
+use Rattle.mailcore.specs.FlagSet.{DELETED, has}
 use Rattle.mailcore.specs.Sides.{target}
 use Rattle.mailcore.specs.Content.{mark_of}
 use Rattle.rules.specs.declared.plan.Step.{Step}
-use Rattle.rules.specs.declared.plan.Step.TheVariants.{New}
+use Rattle.rules.specs.declared.plan.Step.TheVariants.{New, Expunge}
 use Rattle.rules.specs.declared.options.Options.{Options}
 use Rattle.rules.specs.World.{World, IsInOrder, store, scene_of}
 use Rattle.rules.specs.AlikeBy.{AreMarks}
 use Rattle.planner.specs.Written.{all_steps}
-use Rattle.step_laws.specs.Steps.{Boxes, box, boxes_of, after, Test, own, IsOwnStep}
+use Rattle.step_laws.specs.Steps.{Boxes, box, boxes_of, after, Rises, Test, own, IsOwnStep}
 
 abbrev pub is_the : (mark : List ℕ) → Option (List ℕ) → Bool
 is_the mark None = false
@@ -60,3 +62,14 @@ FoundAfter =
     (store w (target d)).next ≤ uid →
     own (is_own w marks) found ≡ after (all_steps (scene_of w options) marks) (results ++ Some uid ∷ []) (boxes_of w) →
     marked_uid mark (store w (target d)).next (box found (target d)) ≡ Some uid
+
+-- A message whose expunge is next is marked as deleted, if it is there: what marks it stands before. Its copies have UIDs of at least the next one.
+abbrev pub DeletedBeforeExpunge : Type 0
+DeletedBeforeExpunge =
+    (w : World) (options : Options) (marks : List (List ℕ)) (results : List (Option ℕ)) (found : Boxes) (side : Side) (u bound : ℕ) →
+    IsInOrder w →
+    length results < length (all_steps (scene_of w options) marks) →
+    Expunge side u ≡ slice_index_or (all_steps (scene_of w options) marks) (length results) (Expunge side u) →
+    Rises side (store w side).next (all_steps (scene_of w options) marks) results bound →
+    own (is_own w marks) found ≡ after (all_steps (scene_of w options) marks) results (boxes_of w) →
+    All (λ m. m.uid ≡ u → has m.flags DELETED ≡ true) (box found side)

@@ -37,10 +37,12 @@ pub fn plan_reaches_outcome()
 {}
 
 /// What was there before a run, and what bears one of its marks, is what the run sees as its own: each step of its plan
-/// is done among the messages of others as if they were not there, and a copy is found by its mark exactly once it is made.
+/// is done among the messages of others as if they were not there, and a copy is found by its mark exactly once it is made. A message
+/// whose expunge is next is marked as deleted.
 pub fn plan_among_others()
     ensures opening { own_law.OpeningIsOwn }
     ensures step { own_law.PlanStepIsOwn }
     ensures not_found { own_law.NotFoundBefore }
     ensures found { own_law.FoundAfter }
+    ensures deleted { own_law.DeletedBeforeExpunge }
 {}

@@ -1,4 +1,5 @@
 use Rattle.step_laws.proofs.OwnPlan.{opening_own, plan_step_own, not_found, found_after}
+use Rattle.step_laws.proofs.Expunging.{deleted_before}
 use Rattle.step_laws.proofs.plan_among_others.Goals as goal
 
 pub returns-clause-opening : goal.returns-clause-opening
@@ -12,3 +13,6 @@ returns-clause-not_found c = not_found
 
 pub returns-clause-found : goal.returns-clause-found
 returns-clause-found c = found_after
+
+pub returns-clause-deleted : goal.returns-clause-deleted
+returns-clause-deleted c = deleted_before
