@@ -14,3 +14,4 @@ pub mod Arrived
 pub mod Admitting
 pub mod Listings
 pub mod Ends
+pub mod Expunging
