@@ -1,11 +1,17 @@
 -- What stands between two attempts at a run.
-use Rattle.std.proofs.Common.{◌≡◌, ◌⊎◌, ◌≤◌, ◌<◌, ◌+◌, true, false, inl, inr, ℕ, Bool, List, Option, Some, None, refl, sym, ◌∙◌, ap, subst, arith}
+use Rattle.std.proofs.Common.{◌≡◌, ◌⊎◌, ◌≤◌, ◌<◌, ◌+◌, true, false, inl, inr, if◌then◌else◌, ℕ, Bool, List, Option, Some, None, Result, Ok, Err, IfOk, IsErrAnd, ◌^◌, refl, sym, ◌∙◌, ap, subst, arith}
+use Rattle.std.proofs.lemmas.Bool.{cases_eq, ne_eqb}
 use Rattle.rand_core.specs.Stream.{Stream}
 use Rattle.mailcore.specs.Draws.{Draws, after_pairs}
 use Rattle.mailcore.proofs.PairLemmas.{after_pairs-add}
 use Rattle.rules.specs.declared.options.Options.{Options}
 use Rattle.rules.specs.declared.state.SyncState.{SyncState}
+use Rattle.book.specs.declared.book.Pending.{Pending}
+use Rattle.book.specs.Books.{Holds}
+use Rattle.book.specs.Shelves.{Files}
+use Rattle.book.proofs.KnownBooks.{book_known}
 use Rattle.outside.specs.declared.fault.OutsideFault.{OutsideFault}
+use Rattle.outside.specs.declared.fault.OutsideFault.TheVariants as out
 use Rattle.outside.specs.Arrivals.{Arrives}
 use Rattle.outside.specs.BookCalls.{TellsFiles}
 use Rattle.outside.specs.Calls.{FromShelf, Seen}
@@ -17,14 +23,17 @@ use Rattle.underway.proofs.Arrived.{pending_arrives}
 use Rattle.underway.proofs.Growth.{unplanned_arrives}
 use Rattle.mailcore.specs.declared.side.Side.{Side}
 use Rattle.runner.specs.declared.fault.RunFault.{RunFault}
+use Rattle.runner.specs.declared.pass.Pass.{Pass}
 use Rattle.runner.specs.declared.fault.RunFault.TheVariants as run
-use Rattle.runner.specs.Faults.{LeavesRun}
-use Rattle.runner.specs.Parts.{Left}
-use Rattle.runner.specs.Answers.{IsAsked, Moves, run_of}
-use Rattle.runner.specs.Attempts.{AtOpening, TriedAt}
+use Rattle.runner.specs.Faults.{IsCaused, LeavesRun, call_fault}
+use Rattle.runner.specs.Parts.{IsStuck, Left}
+use Rattle.runner.specs.Answers.{Answers, IsAsked, Moves, RunsBy, as_read, run_of}
+use Rattle.runner.specs.Attempts.{AnswersAt, AnswersLast, AtOpening, Began, ChangedLast, HasNoNext, MetStops, TellsNoNext, TriedAt, failed_before, found_by}
+use Rattle.runner.specs.Validities.{IsKept, TellsChanged}
 use Rattle.runner.proofs.PartCalls.{TellsNoBook}
 use Rattle.runner.proofs.Passes.{planned_state, run_of_state, unplanned_state}
-use Rattle.runner.proofs.Readings.{unread_left}
+use Rattle.runner.proofs.Readings.{no_line, underway_files, unread_left}
+use Rattle.runner.proofs.Validities.{changed_before, kept_arrives, kept_next, kept_read}
 
 -- ---- the generator
 
@@ -97,14 +106,190 @@ tried_fixed ours alone opening fixed number d e t = subst (λ (x : Option ℕ). 
 pub fixed_tried : (ours : List ℕ → Bool) (alone : Bool) (opening : Opening) (fixed : Option ℕ) (number : ℕ) (d : Device) → fixed ≡ Some number → TriedAt ours alone opening (Some number) d → TriedAt ours alone opening fixed d
 fixed_tried ours alone opening fixed number d e t = subst (λ (x : Option ℕ). TriedAt ours alone opening x d) (sym e) t
 
+-- ---- what one attempt tells, by the files before it was fixed which run is made
+
+pub attempt_changed : (alone : Bool) (h1 h2 : Type 0) (a b c : Device) (side : Side) → (h2 → h1) → (h1 → IsKept alone a b) → TellsChanged h2 alone b c side → TellsChanged h2 alone a c side
+attempt_changed alone h1 h2 a b c side honest kept told = λ h s p held.
+    let k = kept (honest h) in
+    let t = told h s p (subst (λ (f : Files). Holds f s p) (sym k.files) held) in
+    (changed_before (as_read s p) side a b k.validities t.0, kept_next alone a b c k t.1)
+
+pub attempt_answers : (ours : List ℕ → Bool) (alone : Bool) (opening : Opening) (h1 h2 : Type 0) (options : Options) (stream : Stream) (fixed : Option ℕ) (number : ℕ) (a b : Device) (before : Option ℕ) (r : Result Pass RunFault) → fixed ≡ Some number → (h2 → h1) → (h1 → IsKept alone a b)
+    → (h1 → TriedAt ours alone opening before a → TriedAt ours alone opening fixed b)
+    → IfOk r (λ pass. h2 → (s : SyncState) (p : Pending) → Holds b.files s p → Answers number s p pass)
+    → IfOk r (λ pass. h2 → (s : SyncState) (p : Pending) → Holds b.files s p → RunsBy (as_read s p) options stream pass)
+    → IfOk r (λ pass. h2 → TriedAt ours alone opening before a → AnswersAt (opening.world.state.run + 1) options pass a stream)
+attempt_answers ours alone opening h1 h2 options stream fixed number a b before (Err e) is honest kept reaches answers runs = tt
+attempt_answers ours alone opening h1 h2 options stream fixed number a b before (Ok pass) is honest kept reaches answers runs = λ h at.
+    let k = kept (honest h) in
+    let t = tried_fixed ours alone opening fixed number b is (reaches (honest h) at) in
+    record {
+      answers = λ s p held. subst (λ (n : ℕ). Answers n s p pass) t.0 (answers h s p (subst (λ (f : Files). Holds f s p) (sym k.files) held));
+      runs = λ s p held. runs h s p (subst (λ (f : Files). Holds f s p) (sym k.files) held);
+    }
+
+pub kept_none : (alone : Bool) (d : Device) → IsKept alone d d
+kept_none alone d = record { files = refl; validities = record { far = refl; near = refl }; same = λ e. refl }
+
+-- ---- the greatest number
+
+no_next : (e : OutsideFault) → FromShelf e → TellsNoBook e → TellsNoNext (call_fault e)
+no_next out.Stopped k t = tt
+no_next out.Refused k t = k
+no_next (out.Box side number) k t = k
+no_next (out.BadState line) k t = absurd t
+no_next (out.BadJournal line) k t = t
+no_next out.NoMemory k t = tt
+
+last_read : (opened : Option Opened) (last s : SyncState) (p : Pending) (d : Device) → state_of opened ≡ Some last → IsHeld opened d → Holds d.files s p → last.run ≡ s.run
+last_read None last s p d e held k = absurd held
+last_read (Some o) last s p d e held k =
+    let same : o.state ≡ last = cc in
+    let b = book_known d.files o.state s o.pending p held k in
+    ap (λ (x : SyncState). x.run) (sym same ∙ b.0)
+
+module _ (ours : List ℕ → Bool) (alone : Bool) where
+  held_since : (d m : Device) → Arrives ours alone d m → (s : SyncState) (p : Pending) → Holds d.files s p → Holds m.files s p
+  held_since d m a s p h = let k = kept_arrives ours alone d m a in subst (λ (f : Files). Holds f s p) (sym k.files) h
+
+  pub next_read : (opened : Option Opened) (last : SyncState) (d m d' : Device) → state_of opened ≡ Some last → Arrives ours alone d m → d' ≡ m → IsHeld opened m → (s : SyncState) (p : Pending) → Holds d.files s p → (last.run ≡ s.run) × IsKept alone d d'
+  next_read opened last d m d' e a is held s p h = (last_read opened last s p m e held (held_since d m a s p h), kept_read ours alone d m d' a is)
+
+  pub next_unread : (e : OutsideFault) (d m d' : Device) → Arrives ours alone d m → d' ≡ m → TellsFiles e m.files → FromShelf e → (s : SyncState) (p : Pending) → Holds d.files s p → TellsNoNext (call_fault e) × IsKept alone d d'
+  next_unread e d m d' a is tells told s p h = (no_next e told (no_line m.files s p e (held_since d m a s p h) told tells), kept_read ours alone d m d' a is)
+
 -- ---- counts
 
-pub stop_rose : {changed : Side → Type 0} (h : Type 0) (a u : Device → Type 0) (s0 s1 : Seen) → s0.is_broken ≡ false → Left changed h a u run.Stopped s0 s1 → s0.stops < s1.stops
-stop_rose h a u s0 s1 whole l = by_case l.caused
+-- as an attempt finds the outside
+pub found_first : (n : ℕ) (s : Seen) → n ≡ 0 → found_by n s ≡ s
+found_first n s e = rw e refl
+
+pub found_later : (n : ℕ) (s : Seen) → (n ≡ 0 → ⊥) → found_by n s ≡ record s { is_broken = false }
+found_later n s f = rw (ne_eqb n 0 f) refl
+
+pub found_device : (n : ℕ) (s t : Seen) → t ≡ found_by n s → t.device ≡ s.device
+found_device n s t e = ap (λ (x : Seen). x.device) e
+
+-- only the first may find that it had failed before
+found_whole : (n : ℕ) (s t : Seen) → t ≡ found_by n s → (n ≡ 0 → ⊥) → t.is_broken ≡ false
+found_whole n s t e f = ap (λ (x : Seen). x.is_broken) (e ∙ found_later n s f)
+
+failed : (s : Seen) → s.is_broken ≡ true → failed_before s ≡ 1
+failed s e = rw e refl
+
+not_failed : (s : Seen) → s.is_broken ≡ false → failed_before s ≡ 0
+not_failed s e = rw e refl
+
+failed_at_most : (s : Seen) → failed_before s ≤ 1
+failed_at_most s = either s.is_broken
   where
-    by_case : (s0.is_broken ≡ true) ⊎ (s0.stops < s1.stops) → s0.stops < s1.stops
-    by_case (inl e) = cc
-    by_case (inr k) = k
+    either : (b : Bool) → (if b then 1 else 0) ≤ 1
+    either true = omega arith
+    either false = omega arith
+
+-- one more attempt met a stop
+pub stops_more : {changed : Side → Type 0} (h : Type 0) (a u : Device → Type 0) (n : ℕ) (start now s1 s2 : Seen) → MetStops n start now → (n ≡ 0 → now ≡ start) → s1 ≡ found_by n now → Left changed h a u run.Stopped s1 s2 → MetStops (n + 1) start s2
+stops_more h a u n start now s1 s2 met first e l = by_cause l.caused
+  where
+    stops : s1.stops ≡ now.stops
+    stops = ap (λ (x : Seen). x.stops) e
+
+    by_first : s1.is_broken ≡ true → (n ≡ 0) ⊎ ((n ≡ 0) → ⊥) → MetStops (n + 1) start s2
+    by_first b (inl z) =
+        let same : s1 ≡ start = e ∙ found_first n now z ∙ first z in
+        let k = failed start (sym (ap (λ (x : Seen). x.is_broken) same) ∙ b) in
+        let less = l.no_less in
+        let at = ap (λ (x : Seen). x.stops) same in
+        let least = less.stops in
+        omega (arith, z, k, at, least)
+    by_first b (inr f) = let w = found_whole n now s1 e f in cc
+
+    by_cause : (s1.is_broken ≡ true) ⊎ (s1.stops < s2.stops) → MetStops (n + 1) start s2
+    by_cause (inl b) = by_first b (cases_eq n 0)
+    by_cause (inr k) = let m = failed_at_most start in omega (arith, k, stops, met, m)
+
+-- one that was answered adds none
+pub stops_kept : (n : ℕ) (start now s1 s2 : Seen) → MetStops n start now → s1 ≡ found_by n now → s2.stops ≡ s1.stops → MetStops n start s2
+stops_kept n start now s1 s2 met e k = let at = ap (λ (x : Seen). x.stops) e in omega (arith, met, at, k)
+
+-- an attempt that was answered found the outside whole
+pub failed_few : {T : Type 0} (n : ℕ) (start now s1 s2 : Seen) (x : T) → (n ≡ 0 → now ≡ start) → s1 ≡ found_by n now → IsStuck s1 s2 (Ok x) → failed_before start ≤ n
+failed_few {T} n start now s1 s2 x first e stuck = by_first (cases_eq n 0)
+  where
+    by_flag : (b : Bool) → start.is_broken ≡ b → n ≡ 0 → failed_before start ≤ n
+    by_flag true k z = absurd ((stuck (ap (λ (y : Seen). y.is_broken) (e ∙ found_first n now z ∙ first z) ∙ k)).0)
+    by_flag false k z = let f = not_failed start k in omega (arith, f)
+
+    by_first : (n ≡ 0) ⊎ ((n ≡ 0) → ⊥) → failed_before start ≤ n
+    by_first (inl z) = by_flag start.is_broken refl z
+    by_first (inr f) = let m = failed_at_most start in omega (arith, m, f)
+
+-- the first attempt, where the outside had failed before
+pub stuck_first : {T : Type 0} (n : ℕ) (start now s1 s2 : Seen) (r : Result T RunFault) → n ≡ 0 → (n ≡ 0 → now ≡ start) → s1 ≡ found_by n now → IsStuck s1 s2 r → IsStuck start s2 r
+stuck_first n start now s1 s2 r z first e stuck = λ b.
+    let same : s1 ≡ start = e ∙ found_first n now z ∙ first z in
+    let k = stuck (ap (λ (y : Seen). y.is_broken) same ∙ b) in
+    (k.0, k.1 ∙ same)
+
+pub stuck_more : {T : Type 0} (n : ℕ) (start now s1 s2 : Seen) (r : Result T RunFault) → (n ≡ 0 → now ≡ start) → s1 ≡ found_by n now → IsStuck s1 s2 r → n + 1 ≤ 1 → start.is_broken ≡ true → s2 ≡ start
+stuck_more n start now s1 s2 r first e stuck l b = let k = stuck_first n start now s1 s2 r (omega (arith, l)) first e stuck b in k.1
+
+-- a fault that is counted in one attempt is counted in all
+pub caused_since : (c : Side → Type 0) (f : RunFault) (s0 s1 s2 : Seen) → s0.refusals ≤ s1.refusals → s0.faults ≤ s1.faults → s0.appends ≤ s1.appends → (f ≡ run.Stopped → ⊥) → IsCaused c f s1 s2 → IsCaused (λ side. Unit {0}) f s0 s2
+caused_since c run.Stopped s0 s1 s2 r b a n k = absurd (n refl)
+caused_since c (run.Refused step) s0 s1 s2 r b a n k = omega (arith, r, k)
+caused_since c (run.ValidityChanged side) s0 s1 s2 r b a n k = tt
+caused_since c (run.BadState line) s0 s1 s2 r b a n k = tt
+caused_since c (run.BadJournal line) s0 s1 s2 r b a n k = tt
+caused_since c (run.StoreFault side code) s0 s1 s2 r b a n (inl k) = inl (omega (arith, b, k))
+caused_since c (run.StoreFault side code) s0 s1 s2 r b a n (inr (inl k)) = inr (inl (omega (arith, r, k)))
+caused_since c (run.StoreFault side code) s0 s1 s2 r b a n (inr (inr k)) = inr (inr (record { far = k.far; protocol = k.protocol; copied = let m = k.copied in omega (arith, a, m) }))
+caused_since c run.MarksRepeat s0 s1 s2 r b a n k = tt
+caused_since c run.NoMemory s0 s1 s2 r b a n k = tt
+
+-- ---- the last attempt
+
+pub began_at : (ours : List ℕ → Bool) (alone : Bool) (opening : Opening) (n : ℕ) (fixed : Option ℕ) (start now s1 : Seen) (stream drawn : Stream) → (n ≡ 0 → now ≡ start) → (n ≡ 0 → drawn ≡ stream) → Moves stream drawn → s1 ≡ found_by n now → TriedAt ours alone opening fixed now.device → Began ours alone opening n start.device stream
+began_at ours alone opening n fixed start now s1 stream drawn first undrawn moved e t =
+    let same : s1.device ≡ now.device = found_device n now s1 e in
+    record {
+      device = s1.device;
+      drawn = drawn;
+      first = λ z. (same ∙ ap (λ (x : Seen). x.device) (first z), undrawn z);
+      moved = moved;
+      underway = subst (λ (d : Device). Underway ours alone opening d) (sym same) (tried_underway ours alone opening fixed now.device t);
+    }
+
+pub last_answers : (ours : List ℕ → Bool) (alone : Bool) (opening : Opening) (options : Options) (n : ℕ) (fixed : Option ℕ) (start now s1 : Seen) (stream drawn : Stream) (pass : Pass) → (n ≡ 0 → now ≡ start) → (n ≡ 0 → drawn ≡ stream) → Moves stream drawn → s1 ≡ found_by n now → TriedAt ours alone opening fixed now.device
+    → (TriedAt ours alone opening fixed s1.device → AnswersAt (opening.world.state.run + 1) options pass s1.device drawn) → AnswersLast ours alone opening options n pass start.device stream
+unfolding began_at
+last_answers ours alone opening options n fixed start now s1 stream drawn pass first undrawn moved e t answers = record {
+  began = began_at ours alone opening n fixed start now s1 stream drawn first undrawn moved e t;
+  answers = answers (subst (λ (d : Device). TriedAt ours alone opening fixed d) (sym (found_device n now s1 e)) t);
+}
+
+pub changed_last : (ours : List ℕ → Bool) (alone : Bool) (opening : Opening) (h : Type 0) (n tries : ℕ) (fixed : Option ℕ) (start now s1 s2 : Seen) (stream drawn : Stream) (side : Side) (f : RunFault) → (n ≡ 0 → now ≡ start) → (n ≡ 0 → drawn ≡ stream) → Moves stream drawn → s1 ≡ found_by n now → TriedAt ours alone opening fixed now.device
+    → n < tries → f ≡ run.ValidityChanged side → h → IsCaused (TellsChanged h alone s1.device s2.device) f s1 s2 → ChangedLast ours alone opening tries side start.device stream s2.device
+unfolding began_at
+changed_last ours alone opening h n tries fixed start now s1 s2 stream drawn side f first undrawn moved e t few is honest caused =
+    let b = began_at ours alone opening n fixed start now s1 stream drawn first undrawn moved e t in
+    let told : TellsChanged h alone s1.device s2.device side = subst (λ (x : RunFault). IsCaused (TellsChanged h alone s1.device s2.device) x s1 s2) is caused in
+    let held = underway_files ours alone opening s1.device b.underway in
+    record {
+      earlier = n;
+      few = few;
+      began = b;
+      changed = λ s p at. (told honest s p at).0;
+      kept = (told honest held.0 held.1.0 held.1.1).1;
+    }
+
+pub greatest_since : {T : Type 0} (alone : Bool) (h : Type 0) (a b c d : Device) (r : Result T RunFault) (fixed now : Option ℕ) → (fixed ≡ None) × IsKept alone a b → c ≡ b → (s : SyncState) (p : Pending) → Holds a.files s p → s.run + 1 ≡ 2 ^ 64 → (fixed ≡ None → HasNoNext h alone c d r)
+    → (fixed ≡ None → h → (s : SyncState) (p : Pending) → Holds c.files s p → s.run + 1 ≡ 2 ^ 64 → now ≡ None) → h → (now ≡ None) × (IsErrAnd r TellsNoNext × IsKept alone a d)
+greatest_since alone h a b c d r fixed now k e s p held is tells unfixed honest =
+    let kept : IsKept alone a c = subst (λ (x : Device). IsKept alone a x) (sym e) k.1 in
+    let here : Holds c.files s p = subst (λ (f : Files). Holds f s p) (sym kept.files) held in
+    let told = tells k.0 honest s p here is in
+    (unfixed k.0 honest s p here is, (told.0, kept_next alone a c d kept told.1))
 
 -- what is left by a fault after attempts in which the counts did not fall
 pub leaves_since : (u : Device → Type 0) (f : RunFault) (s0 s1 s2 : Seen) → s0.refusals ≤ s1.refusals → s0.faults ≤ s1.faults → LeavesRun u f s1 s2 → LeavesRun u f s0 s2

@@ -1,5 +1,5 @@
 -- From the calls of the outside to parts, and from parts to longer ones.
-use Rattle.std.proofs.Common.{◌≡◌, ◌⊎◌, ◌≤◌, ◌<◌, ◌+◌, inl, inr, ⊎_elim, ℕ, true, false, Result, Ok, Err, refl, ◌∙◌, arith}
+use Rattle.std.proofs.Common.{◌≡◌, ◌⊎◌, ◌≤◌, ◌<◌, ◌+◌, inl, inr, ⊎_elim, ℕ, true, false, Result, Ok, Err, refl, ◌∙◌, ap, arith}
 use Rattle.device.specs.Calls.{Effect}
 use Rattle.mailcore.specs.declared.side.Side.{Side}
 use Rattle.outside.specs.declared.fault.OutsideFault.{OutsideFault}
@@ -137,6 +137,14 @@ module _ {T : Type 0} (honest : Type 0) (from : Device → Type 0) (others : Eff
         no_less = no_less e c;
         left = λ h at. let k = a.left h in let r = f k.mid at k.before k.behind n.told in after_call underway e s0 s1 n.counted r.0 r.1;
       }
+
+-- on an outside that had failed before none goes, and it changes nothing
+module _ {T : Type 0} (honest : Type 0) (others : Effect Device) (copies : T → ℕ) (tells : OutsideFault → Type 0) (does : T → Effect Device) (leaves : OutsideFault → Effect Device) (s0 s1 : Seen) where
+  pub whole_call : (x : T) → Call honest others copies tells does leaves s0 s1 (Ok x) → s0.is_broken ≡ true → ⊥
+  whole_call x c e = let a = c.acts in let whole = a.was_whole in cc
+
+  pub stuck_call : (e : OutsideFault) → Call honest others copies tells does leaves s0 s1 (Err e) → s0.is_broken ≡ true → (call_fault e ≡ run.Stopped) × (s1 ≡ s0)
+  stuck_call e c b = let a = c.acts in let n = c.counts in let k = a.stuck b in (ap call_fault k.0, n.stuck b)
 
 -- ---- no call
 

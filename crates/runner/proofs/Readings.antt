@@ -106,7 +106,7 @@ turned_state f (Some o) = refl
 -- ---- a fault of the shelf
 
 -- files that hold a book tell no line
-no_line : (files : Files) (s : SyncState) (p : Pending) (e : OutsideFault) → Holds files s p → FromShelf e → TellsFiles e files → TellsNoBook e
+pub no_line : (files : Files) (s : SyncState) (p : Pending) (e : OutsideFault) → Holds files s p → FromShelf e → TellsFiles e files → TellsNoBook e
 no_line files s p out.Stopped h k t = tt
 no_line files s p out.Refused h k t = tt
 no_line files s p (out.Box side number) h k t = tt

@@ -1,6 +1,9 @@
 -- Where the next step stands on some world since the opening, and what calls make of that.
-use Rattle.std.proofs.Common.{◌≡◌, ◌⊎◌, inl, inr, ℕ, Bool, true, false, List, [], ◌∷◌, ◌++◌, Option, Some, None, sym, ◌∙◌, subst}
+use Rattle.std.proofs.Common.{◌≡◌, ◌⊎◌, inl, inr, ℕ, Bool, true, false, List, [], ◌∷◌, ◌++◌, Option, Some, None, refl, sym, ◌∙◌, subst}
+use Rattle.std.specs.Prelude.{All}
+use Rattle.mailcore.specs.declared.side.Side.{Side}
 use Rattle.mailcore.specs.declared.side.Direction.{Direction}
+use Rattle.mailcore.specs.FlagSet.{DELETED, has}
 use Rattle.mailcore.specs.Operations.{flags_added, flags_removed, marked_from}
 use Rattle.mailcore.specs.Sides.{target}
 use Rattle.rules.specs.declared.plan.Plan.{Plan}
@@ -15,7 +18,7 @@ use Rattle.outside.specs.declared.fault.OutsideFault.TheVariants as out
 use Rattle.outside.specs.declared.outside.Carried.{Carried}
 use Rattle.outside.specs.declared.outside.Carried.TheVariants.{Absent, Unfit, Made}
 use Rattle.outside.specs.Arrivals.{Arrives}
-use Rattle.outside.specs.BoxCalls.{Carry, SetsAside, Tells, Turns}
+use Rattle.outside.specs.BoxCalls.{Carry, SetsAside, Tells, Turns, removed}
 use Rattle.outside.specs.Calls.{DoesSome, LeavesBy}
 use Rattle.outside.specs.Devices.{Device, box}
 use Rattle.outside.specs.Opened.{Opened}
@@ -25,10 +28,12 @@ use Rattle.underway.specs.Openings.{Grows, Opening}
 use Rattle.underway.specs.Plans.{first_uid}
 use Rattle.underway.proofs.Arrived.{stands_arrives}
 use Rattle.underway.proofs.Copies.{brought, copy_found, not_absent, not_unfit, sought}
+use Rattle.underway.proofs.Expunging.{stands_deleted}
 use Rattle.underway.proofs.Flagging.{clear_made, clear_none, none_made, set_made}
 use Rattle.underway.proofs.Moves.{IsMoved, midway_arrives, midway_set_aside, moved}
 use Rattle.underway.proofs.Plain.{any_whole}
 use Rattle.runner.specs.Going.{AtBegun, AtCopied, AtDone, AtMoment, AtReady, AtSought, CopiesUnder, FoundCopy, Ready, log_at, next_at, plan_at}
+use Rattle.runner.proofs.Wholes.{removed_is}
 
 -- what is known of the world is known of it again
 pub moment_map : (alone : Bool) (opening : Opening) (opened : Option Opened) (P Q : World → Type 0) → ((w : World) → Grows alone opening.world w → NamesBelow w → P w → Q w) → AtMoment alone opening opened P → AtMoment alone opening opened Q
@@ -175,6 +180,13 @@ module _ (ours : List ℕ → Bool) (alone : Bool) (opening : Opening) (opened :
 
   pub whole_made : (s : Step) → next_at opened ≡ Some s → Rattle.step_laws.specs.Steps.makes_copy s ≡ false → (d m d' : Device) → Arrives ours alone d m → AtReady ours alone opening opened true d → IsMoved m d' (step_after (boxes_at m) s None) → AtDone ours alone opening opened Done d'
   whole_made s is plain d m d' a r c = moment_map alone opening opened _ _ (λ w g b at. any_whole ours alone w opening.options plan log s is plain false m d' at c) (ready_arrives true d m a r)
+
+  -- a message whose expunge is next is marked as deleted, if it is there
+  pub ready_deleted : (side : Side) (uid : ℕ) → next_at opened ≡ Some (step.Expunge side uid) → (d : Device) → AtReady ours alone opening opened true d → All (λ m. m.uid ≡ uid → has m.flags DELETED ≡ true) (messages_in (boxes_at d) side)
+  ready_deleted side uid is d k = let s = k.since in stands_deleted ours alone s.world opening.options plan log s.grows.in_order side uid is false d s.holds
+
+  pub expunge_made : (side : Side) (uid : ℕ) → next_at opened ≡ Some (step.Expunge side uid) → (d m d' : Device) → Arrives ours alone d m → AtReady ours alone opening opened true d → Turns side (removed side uid) m d' → AtDone ours alone opening opened Done d'
+  expunge_made side uid is d m d' a r t = whole_made (step.Expunge side uid) is refl d m d' a r (removed_is side uid m d' (ready_deleted side uid is m (ready_arrives true d m a r)) t)
 
   -- ---- flags
 

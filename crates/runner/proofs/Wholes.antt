@@ -1,34 +1,46 @@
 -- Calls that are a whole step.
 use Rattle.std.proofs.Common.{◌≡◌, ℕ, Bool, true, false, not, ◌||◌, ◌==◌, List, [], ◌∷◌, None, refl, ap, subst, ◌∙◌, ◌^◌}
-use Rattle.std.specs.Prelude.{filter}
-use Rattle.std.specs.List.{list_any}
+use Rattle.std.specs.Prelude.{All, filter, ◌&&◌}
 use Rattle.std.proofs.lemmas.Bool.{both_ways, eqb-true}
+use Rattle.std.proofs.lemmas.List.Elements.{All-head, All-tail, All-weaker}
 use Rattle.mailcore.specs.declared.side.Side.{Side}
+use Rattle.mailcore.specs.declared.side.Side.TheVariants.{Far, Near}
 use Rattle.mailcore.specs.declared.side.Direction.{Direction}
 use Rattle.mailcore.specs.declared.mailbox.Message.{Message}
-use Rattle.mailcore.specs.FlagSet.{DELETED, union}
-use Rattle.mailcore.specs.Operations.{expunged, flags_added}
+use Rattle.mailcore.specs.FlagSet.{DELETED, has, union}
+use Rattle.mailcore.specs.Operations.{flags_added}
 use Rattle.mailcore.specs.Sides.{target}
 use Rattle.rules.specs.declared.plan.Step.TheVariants as step
 use Rattle.rules.specs.FlagRule.{with_deleted}
 use Rattle.step_laws.specs.Steps.{Boxes, changed_uid, step_after, without, box as messages_in, with_box as with_messages_in}
-use Rattle.outside.specs.BoxCalls.{Turns}
+use Rattle.outside.specs.BoxCalls.{Turns, may_go, removed}
 use Rattle.outside.specs.Devices.{Device}
 use Rattle.underway.specs.Moments.{boxes_at}
 use Rattle.underway.proofs.Flagged.{flagged_same}
 use Rattle.underway.proofs.Moves.{IsMoved, moved}
 use Rattle.runner.specs.Going.{sets_first}
 
-or_false : (b : Bool) → (b || false) ≡ b
-or_false true = refl
-or_false false = refl
+without_one : (side : Side) (uid : ℕ) (ms : List Message) → All (λ m. m.uid ≡ uid → may_go side m ≡ true) ms → filter (λ m. not (m.uid == uid && may_go side m)) ms ≡ without uid ms
+without_one side uid [] h = refl
+without_one side uid (m ∷ ms) h =
+    by_test (m.uid == uid) (may_go side m) (λ e. All-head (λ (x : Message). x.uid ≡ uid → may_go side x ≡ true) m ms h (eqb-true m.uid uid e)) refl
+    (without_one side uid ms (All-tail (λ (x : Message). x.uid ≡ uid → may_go side x ≡ true) m ms h))
+  where
+    by_test : (a b : Bool) → ((m.uid == uid) ≡ true → may_go side m ≡ true) → (m.uid == uid) ≡ a → filter (λ x. not (x.uid == uid && may_go side x)) ms ≡ without uid ms →
+        filter (λ x. not (x.uid == uid && may_go side x)) (m ∷ ms) ≡ without uid (m ∷ ms)
+    by_test true b go e rest = rw (e, go e) rest
+    by_test false b go e rest = rw e (ap (λ (xs : List Message). m ∷ xs) rest)
 
-without_one : (uid : ℕ) (ms : List Message) → filter (λ m. not (list_any (λ u. m.uid == u) (uid ∷ []))) ms ≡ without uid ms
-without_one uid [] = refl
-without_one uid (m ∷ ms) = rw (or_false (m.uid == uid), without_one uid ms) refl
+goes : (side : Side) (uid : ℕ) (ms : List Message) → All (λ m. m.uid ≡ uid → has m.flags DELETED ≡ true) ms → All (λ m. m.uid ≡ uid → may_go side m ≡ true) ms
+goes Far uid ms h = h
+goes Near uid ms h = All-weaker (λ (m : Message). m.uid ≡ uid → has m.flags DELETED ≡ true) (λ m. m.uid ≡ uid → true ≡ true) (λ m k e. refl) ms h
 
-pub removed : (side : Side) (uid : ℕ) (d d' : Device) → Turns side (expunged (uid ∷ [])) d d' → IsMoved d d' (step_after (boxes_at d) (step.Expunge side uid) None)
-removed side uid d d' t = subst (λ (b : Boxes). IsMoved d d' b) (ap (λ (ms : List Message). with_messages_in (boxes_at d) side ms) (without_one uid (messages_in (boxes_at d) side))) (moved side (filter (λ m. not (list_any (λ u. m.uid == u) (uid ∷ [])))) d d' t)
+-- a message that is marked as deleted, if it is there, is removed
+pub removed_is : (side : Side) (uid : ℕ) (d d' : Device) → All (λ m. m.uid ≡ uid → has m.flags DELETED ≡ true) (messages_in (boxes_at d) side) → Turns side (removed side uid) d d' → IsMoved d d' (step_after (boxes_at d) (step.Expunge side uid) None)
+removed_is side uid d d' h t =
+    let ms = messages_in (boxes_at d) side in
+    subst (λ (b : Boxes). IsMoved d d' b) (ap (λ (xs : List Message). with_messages_in (boxes_at d) side xs) (without_one side uid ms (goes side uid ms h)))
+    (moved side (filter (λ m. not (m.uid == uid && may_go side m))) d d' t)
 
 deleted_is : (x : ℕ) → union x (2 ^ DELETED) ≡ with_deleted x
 unfolding with_deleted

@@ -1,11 +1,22 @@
--- Several attempts at one run: where it may stand between them.
-use Rattle.std.specs.Prelude.{◌≡◌, ◌⊎◌, ◌<◌, ◌+◌, ◌^◌, ℕ, Bool, List, Option, None, Some}
+-- Several attempts at one run: where it may stand between them, where the last one began, and what is answered and counted.
+use Rattle.std.specs.Prelude.{◌≡◌, ◌⊎◌, ◌<◌, ◌≤◌, ◌+◌, ◌-◌, ◌^◌, ◌==◌, if◌then◌else◌, ℕ, Bool, false, List, Option, None, Some, Result, IsErrAnd}
 use Rattle.rand_core.specs.Stream.{Stream}
+use Rattle.mailcore.specs.declared.side.Side.{Side}
 use Rattle.rules.specs.declared.options.Options.{Options}
+use Rattle.rules.specs.declared.state.SyncState.{SyncState}
+use Rattle.book.specs.declared.book.Pending.{Pending}
+use Rattle.book.specs.Books.{Holds}
+use Rattle.outside.specs.Calls.{Seen}
 use Rattle.outside.specs.Devices.{Device}
 use Rattle.underway.specs.Conditions.{IsPending, Underway}
 use Rattle.underway.specs.Openings.{Opening, Unplanned}
-use Rattle.runner.specs.Answers.{IsAsked}
+use Rattle.runner.specs.declared.fault.RunFault.{RunFault}
+use Rattle.runner.specs.declared.fault.RunFault.TheVariants as run
+use Rattle.runner.specs.declared.pass.Pass.{Pass}
+use Rattle.runner.specs.Answers.{Answers, IsAsked, Moves, RunsBy, as_read}
+use Rattle.runner.specs.Validities.{HasChanged, IsKept}
+
+-- ---- where a run stands between two attempts
 
 -- an opening: the run behind its state has not been finished, and its number is not beyond the greatest
 pub record AtOpening (ours : List ℕ → Bool) (alone : Bool) (opening : Opening) (d : Device) : Type 0 where
@@ -20,3 +31,63 @@ TriedAt ours alone opening (Some run) d = (run ≡ opening.world.state.run + 1) 
 pub record IsTried (ours : List ℕ → Bool) (alone : Bool) (opening : Opening) (options : Options) (stream : Stream) (fixed : Option ℕ) (d : Device) : Type 0 where
   pub asked : IsAsked ours opening options stream
   pub tried : TriedAt ours alone opening fixed d
+
+-- ---- the last attempt
+
+-- where an attempt began that came after so many others: the first where `settle` was called, each with the run underway and with
+-- marks that no other had
+pub record Began (ours : List ℕ → Bool) (alone : Bool) (opening : Opening) (earlier : ℕ) (start : Device) (stream : Stream) : Type 0 where
+  pub device : Device
+  pub drawn : Stream
+  pub first : earlier ≡ 0 → (device ≡ start) × (drawn ≡ stream)
+  pub moved : Moves stream drawn
+  pub underway : Underway ours alone opening device
+
+-- what an attempt at this run answered that found this device, by the files that it found
+pub record AnswersAt (run : ℕ) (options : Options) (pass : Pass) (d : Device) (stream : Stream) : Type 0 where
+  pub answers : (s : SyncState) (p : Pending) → Holds d.files s p → Answers run s p pass
+  pub runs : (s : SyncState) (p : Pending) → Holds d.files s p → RunsBy (as_read s p) options stream pass
+
+-- what the last attempt answered, after so many others
+pub record AnswersLast (ours : List ℕ → Bool) (alone : Bool) (opening : Opening) (options : Options) (earlier : ℕ) (last : Pass) (start : Device) (stream : Stream) : Type 0 where
+  pub began : Began ours alone opening earlier start stream
+  pub answers : AnswersAt (opening.world.state.run + 1) options last began.device began.drawn
+
+-- the last attempt, one of so many, found that this side's UIDVALIDITY had changed, and has changed nothing itself
+pub record ChangedLast (ours : List ℕ → Bool) (alone : Bool) (opening : Opening) (tries : ℕ) (side : Side) (start : Device) (stream : Stream) (d : Device) : Type 0 where
+  pub earlier : ℕ
+  pub few : earlier < tries
+  pub began : Began ours alone opening earlier start stream
+  pub changed : (s : SyncState) (p : Pending) → Holds began.device.files s p → HasChanged (as_read s p) side began.device
+  pub kept : IsKept alone began.device d
+
+-- ---- the greatest number
+
+-- no run comes behind that of the greatest number: line 2 of the state says so, unless it was not read
+abbrev pub TellsNoNext : RunFault → Type 0
+TellsNoNext run.Stopped = Unit {0}
+TellsNoNext (run.Refused step) = ⊥
+TellsNoNext (run.ValidityChanged side) = ⊥
+TellsNoNext (run.BadState line) = line ≡ 2
+TellsNoNext (run.BadJournal line) = ⊥
+TellsNoNext (run.StoreFault side number) = ⊥
+TellsNoNext run.MarksRepeat = ⊥
+TellsNoNext run.NoMemory = Unit {0}
+
+-- so it is told where the state's run has it, and nothing has changed then
+abbrev pub HasNoNext : {T : Type 0} → (honest : Type 0) → (alone : Bool) → (d d' : Device) → Result T RunFault → Type 0
+HasNoNext honest alone d d' result = honest → (s : SyncState) (p : Pending) → Holds d.files s p → s.run + 1 ≡ 2 ^ 64 → IsErrAnd result TellsNoNext × IsKept alone d d'
+
+-- ---- attempts that met a stop
+
+-- as an attempt finds the outside: each but the first finds it opened again
+abbrev pub found_by : (earlier : ℕ) → Seen → Seen
+found_by earlier seen = record seen { is_broken = if earlier == 0 then seen.is_broken else false }
+
+-- an outside that had failed before costs the first attempt
+abbrev pub failed_before : Seen → ℕ
+failed_before seen = if seen.is_broken then 1 else 0
+
+-- in each of so many attempts a call stopped, but in the first where the outside had failed before
+abbrev pub MetStops : (attempts : ℕ) → (old new : Seen) → Type 0
+MetStops attempts old new = old.stops + (attempts - failed_before old) ≤ new.stops

@@ -1,9 +1,10 @@
 -- What a part of a run reaches, or leaves.
-use Rattle.std.specs.Prelude.{◌≡◌, ◌≤◌, ◌+◌, ℕ, false, Result, Ok, Err}
+use Rattle.std.specs.Prelude.{◌≡◌, ◌≤◌, ◌+◌, ℕ, true, false, Result, Ok, Err, IsErrAnd}
 use Rattle.mailcore.specs.declared.side.Side.{Side}
 use Rattle.outside.specs.Calls.{Seen}
 use Rattle.outside.specs.Devices.{Device}
 use Rattle.runner.specs.declared.fault.RunFault.{RunFault}
+use Rattle.runner.specs.declared.fault.RunFault.TheVariants.{Stopped}
 use Rattle.runner.specs.Faults.{IsCaused, LeavesRun}
 
 -- none of the counts falls
@@ -39,3 +40,7 @@ Never side = ⊥
 -- a part that tells no such thing
 abbrev pub Part : {T : Type 0} → (honest : Type 0) → (from underway : Device → Type 0) → (copies : T → ℕ) → (reaches : T → Device → Type 0) → Seen → Seen → Result T RunFault → Type 0
 Part honest from underway copies reaches old new result = PartOr Never honest from underway copies reaches old new result
+
+-- on an outside that had failed before, a part stops and changes nothing
+abbrev pub IsStuck : {T : Type 0} → (old new : Seen) → Result T RunFault → Type 0
+IsStuck old new result = old.is_broken ≡ true → IsErrAnd result (λ fault. fault ≡ Stopped) × (new ≡ old)

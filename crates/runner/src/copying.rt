@@ -57,7 +57,7 @@ fn find_copy<O: Outside>(
     let side = direction.target();
     let from = first_uid(outside, side);
     match outside.find_mark(side, mark, from) {
-        Ok(found) => Ok(found),
+        Ok(copy) => Ok(copy),
         Err(fault) => Err(step_fault(fault, number)),
     }
 }

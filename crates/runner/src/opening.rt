@@ -8,7 +8,7 @@ ghost use Rattle.outside.specs.BoxCalls.{HasNumbers};
 ghost use Rattle.outside.specs.Opened.{IsBook, IsHeld, IsOpen, IsRead, TakesPlan, state_of, turned, with_box};
 ghost use Rattle.underway.specs.Conditions.{Underway};
 ghost use Rattle.underway.specs.Openings.{Opening};
-ghost use Rattle.runner.specs.Parts.{Part, PartOr};
+ghost use Rattle.runner.specs.Parts.{IsStuck, Part, PartOr};
 ghost use Rattle.runner.specs.Validities.{BothSame, HasSame, HaveValidities, IsKept, KeepsValidities, TellsChange, TellsOther, recorded_in};
 ghost use Rattle.runner.specs.Going.{AreOpen, AtReady};
 ghost use Rattle.runner.specs.Before.{BothListed, FarListed, HasNoPlan, HasNone, HasPlan, IsClear, IsKnown, IsMade, IsTakenUp};
@@ -26,6 +26,7 @@ pub(crate) fn recall<O: Outside>(outside: &mut O) -> Result<(), RunFault>
     ensures book { OnOk result (IsBook (O.opened outside.new)) }
     ensures held { OnOk result (O.honest outside.new → IsHeld (O.opened outside.new) (O.seen outside.old).device) }
     ensures kept { OnOk result (O.honest outside.new → IsKept O.alone (O.seen outside.old).device (O.seen outside.new).device) }
+    ensures stuck { IsStuck (O.seen outside.old) (O.seen outside.new) result }
     ensures part { Part (O.honest outside.new) (Underway O.ours O.alone opening) (Underway O.ours O.alone opening) (λ _. 0) (λ _. IsKnown O.ours O.alone opening (O.opened outside.new)) (O.seen outside.old) (O.seen outside.new) result }
 {
     match outside.open_book() {

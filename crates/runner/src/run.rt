@@ -7,7 +7,7 @@ ghost use Rattle.book.specs.Books.{Holds};
 ghost use Rattle.outside.specs.Opened.{IsBook, IsRead, TakesCommit};
 ghost use Rattle.underway.specs.Conditions.{Underway};
 ghost use Rattle.underway.specs.Openings.{Opening};
-ghost use Rattle.runner.specs.Parts.{Part, PartOr};
+ghost use Rattle.runner.specs.Parts.{IsStuck, Part, PartOr};
 ghost use Rattle.runner.specs.Validities.{TellsChange, TellsChanged, TellsUnlessSame};
 ghost use Rattle.runner.specs.Going.{AreOpen, AtReady, IsGoing, log_at, next_at, plan_at};
 ghost use Rattle.runner.specs.Before.{HasNoPlan, HasPlan, IsKnown, IsTakenUp};
@@ -215,6 +215,9 @@ pub fn pass<O: Outside, R: Rng>(
 
     // The generator moves by whole pairs, so that later marks are its own as well.
     ensures moved { Moves (R.stream rng.old) (R.stream rng.new) }
+
+    // On an outside that has failed before it stops and changes nothing.
+    ensures stuck { IsStuck (O.seen outside.old) (O.seen outside.new) result }
 
     // A run that was made leaves both mailboxes as they are.
     ensures stores { IfOk result (λ pass. pass ≡ Pass.Already → O.honest outside.new → O.alone ≡ true → ((O.seen outside.new).device.far ≡ (O.seen outside.old).device.far) × ((O.seen outside.new).device.near ≡ (O.seen outside.old).device.near)) }

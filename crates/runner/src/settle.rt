@@ -1,12 +1,17 @@
 //! A run in several attempts, each after one that met a stop.
 
-ghost use Rattle.std.specs.Prelude.{◌≡◌, ◌≤◌, ◌+◌, None, Some, OnOk, OnErr, IfOk, IfErr, IsErrOf, true, false};
+ghost use Rattle.std.specs.Prelude.{◌≡◌, ◌≤◌, ◌+◌, ◌^◌, None, Some, OnOk, OnErr, IfOk, IfErr, IsErrOf, true, false, ℕ};
+ghost use Rattle.mailcore.specs.declared.side.Side.{Side};
+ghost use Rattle.rules.specs.declared.state.SyncState.{SyncState};
+ghost use Rattle.book.specs.declared.book.Pending.{Pending};
+ghost use Rattle.book.specs.Books.{Holds};
 ghost use Rattle.underway.specs.Conditions.{IsOver, Underway};
 ghost use Rattle.underway.specs.Openings.{Opening};
-ghost use Rattle.runner.specs.Faults.{LeavesRun};
-ghost use Rattle.runner.specs.Parts.{Part, PartOr};
+ghost use Rattle.runner.specs.Faults.{IsCaused, LeavesRun};
+ghost use Rattle.runner.specs.Parts.{IsStuck, Part, PartOr};
+ghost use Rattle.runner.specs.Validities.{IsKept, TellsChanged};
 ghost use Rattle.runner.specs.Answers.{IsAsked, Moves, made_in};
-ghost use Rattle.runner.specs.Attempts.{AtOpening, IsTried, TriedAt};
+ghost use Rattle.runner.specs.Attempts.{AnswersAt, AnswersLast, AtOpening, ChangedLast, HasNoNext, IsTried, MetStops, TriedAt, failed_before, found_by};
 
 use crate::fault::{RunFault, call_fault};
 use crate::pass::{Pass, Settled};
@@ -20,6 +25,9 @@ use std::alloc::Global;
 fn next_run<O: Outside>(outside: &mut O) -> Result<u64, RunFault>
     ghost opening: { Opening }
     ensures was_honest { O.honest outside.new → O.honest outside.old }
+    ensures kept { OnOk result (O.honest outside.new → IsKept O.alone (O.seen outside.old).device (O.seen outside.new).device) }
+    ensures greatest { HasNoNext (O.honest outside.new) O.alone (O.seen outside.old).device (O.seen outside.new).device result }
+    ensures stuck { IsStuck (O.seen outside.old) (O.seen outside.new) result }
     ensures part { Part (O.honest outside.new) (AtOpening O.ours O.alone opening) (AtOpening O.ours O.alone opening) (λ _. 0) (λ number d. (number ≡ opening.world.state.run + 1) × AtOpening O.ours O.alone opening d) (O.seen outside.old) (O.seen outside.new) result }
 {
     match outside.open_book() {
@@ -37,10 +45,13 @@ fn next_run<O: Outside>(outside: &mut O) -> Result<u64, RunFault>
 /// The run's number, which is fixed at the first reading that is not stopped.
 fn fix_run<O: Outside>(outside: &mut O, run: &mut Option<u64>) -> Result<u64, RunFault>
     ghost opening: { Opening }
-    requires whole { (O.seen outside.old).is_broken ≡ false }
+    requires whole { (number : ℕ) → run.old ≡ Some number → (O.seen outside.old).is_broken ≡ false }
     ensures was_honest { O.honest outside.new → O.honest outside.old }
-    ensures kept { OnErr result (run.new ≡ run.old) }
+    ensures unfixed { OnErr result ((run.old ≡ None) × (run.new ≡ None)) }
     ensures fixed { IfOk result (λ number. run.new ≡ Some number) }
+    ensures kept { OnOk result (O.honest outside.new → IsKept O.alone (O.seen outside.old).device (O.seen outside.new).device) }
+    ensures greatest { run.old ≡ None → HasNoNext (O.honest outside.new) O.alone (O.seen outside.old).device (O.seen outside.new).device result }
+    ensures stuck { IsStuck (O.seen outside.old) (O.seen outside.new) result }
     ensures part { Part (O.honest outside.new) (TriedAt O.ours O.alone opening run.old) (TriedAt O.ours O.alone opening run.new) (λ _. 0) (λ _. TriedAt O.ours O.alone opening run.new) (O.seen outside.old) (O.seen outside.new) result }
 {
     if let Some(number) = *run {
@@ -60,10 +71,14 @@ fn attempt<O: Outside, R: Rng>(
     rng: &mut R,
 ) -> Result<Pass, RunFault>
     ghost opening: { Opening }
-    requires whole { (O.seen outside.old).is_broken ≡ false }
+    requires whole { (number : ℕ) → run.old ≡ Some number → (O.seen outside.old).is_broken ≡ false }
     ensures was_honest { O.honest outside.new → O.honest outside.old }
     ensures moved { Moves (R.stream rng.old) (R.stream rng.new) }
-    ensures part { PartOr (λ _. Unit {0}) (O.honest outside.new) (IsTried O.ours O.alone opening options.now (R.stream rng.old) run.old) (IsTried O.ours O.alone opening options.now (R.stream rng.new) run.new) made_in (λ _. IsOver O.ours O.alone opening) (O.seen outside.old) (O.seen outside.new) result }
+    ensures answer { IfOk result (λ pass. O.honest outside.new → TriedAt O.ours O.alone opening run.old (O.seen outside.old).device → AnswersAt (opening.world.state.run + 1) options.now pass (O.seen outside.old).device (R.stream rng.old)) }
+    ensures greatest { run.old ≡ None → HasNoNext (O.honest outside.new) O.alone (O.seen outside.old).device (O.seen outside.new).device result }
+    ensures unfixed { run.old ≡ None → O.honest outside.new → (s : SyncState) (p : Pending) → Holds (O.seen outside.old).device.files s p → s.run + 1 ≡ 2 ^ 64 → run.new ≡ None }
+    ensures stuck { IsStuck (O.seen outside.old) (O.seen outside.new) result }
+    ensures part { PartOr (TellsChanged (O.honest outside.new) O.alone (O.seen outside.old).device (O.seen outside.new).device) (O.honest outside.new) (IsTried O.ours O.alone opening options.now (R.stream rng.old) run.old) (IsTried O.ours O.alone opening options.now (R.stream rng.new) run.new) made_in (λ _. IsOver O.ours O.alone opening) (O.seen outside.old) (O.seen outside.new) result }
 {
     let number = fix_run(outside, run)?;
     pass(alloc, outside, number, options, rng)
@@ -71,9 +86,8 @@ fn attempt<O: Outside, R: Rng>(
 
 /// Opens all again, but for the first attempt.
 fn again<O: Outside>(outside: &mut O, tried: u32)
-    requires first { tried ≡ 0 → (O.seen outside.old).is_broken ≡ false }
     ensures was_honest { O.honest outside.new → O.honest outside.old }
-    ensures seen { O.seen outside.new ≡ record (O.seen outside.old) { is_broken = false } }
+    ensures seen { O.seen outside.new ≡ found_by tried (O.seen outside.old) }
 {
     if tried == 0 {
         return;
@@ -83,8 +97,8 @@ fn again<O: Outside>(outside: &mut O, tried: u32)
 
 /// Carries out one run: the one behind the state, in up to `tries` attempts, each of them after one that met a stop.
 ///
-/// `Stopped`: each attempt met a stop. Another fault is answered at once. `BadState(2)`: the state's run is the greatest number. Whoever
-/// goes on after a fault calls `reopen` first.
+/// `Stopped`: each attempt met a stop, as the first does where the outside had failed before. Another fault is answered at once.
+/// `BadState(2)`: the state's run is the greatest number. Whoever goes on after a fault calls `reopen` first, or loses an attempt.
 pub fn settle<O: Outside, R: Rng>(
     alloc: Global,
     outside: &mut O,
@@ -93,7 +107,6 @@ pub fn settle<O: Outside, R: Rng>(
     rng: &mut R,
 ) -> Result<Settled, RunFault>
     ghost opening: { Opening }
-    requires whole { (O.seen outside.old).is_broken ≡ false }
     ensures was_honest { O.honest outside.new → O.honest outside.old }
 
     // The generator moves by whole pairs.
@@ -103,9 +116,23 @@ pub fn settle<O: Outside, R: Rng>(
     ensures done { OnOk result (O.honest outside.new → IsAsked O.ours opening options.now (R.stream rng.old) → AtOpening O.ours O.alone opening (O.seen outside.old).device → IsOver O.ours O.alone opening (O.seen outside.new).device) }
     ensures left { IfErr result (λ fault. O.honest outside.new → IsAsked O.ours opening options.now (R.stream rng.old) → AtOpening O.ours O.alone opening (O.seen outside.old).device → LeavesRun (Underway O.ours O.alone opening) fault (O.seen outside.old) (O.seen outside.new)) }
 
-    // Each attempt but the last met a stop, and each of all where that is what is answered.
-    ensures stops { IfOk result (λ s. (O.seen outside.old).stops + s.stops ≤ (O.seen outside.new).stops) }
-    ensures stopped { IsErrOf result RunFault.Stopped → (O.seen outside.old).stops + tries ≤ (O.seen outside.new).stops }
+    // What the last attempt answered goes by the files that it found: the run was made already, or a plan of it was pending, or none was.
+    ensures answer { IfOk result (λ s. O.honest outside.new → IsAsked O.ours opening options.now (R.stream rng.old) → AtOpening O.ours O.alone opening (O.seen outside.old).device → AnswersLast O.ours O.alone opening options.now s.stops s.last (O.seen outside.old).device (R.stream rng.old)) }
+
+    // Behind `ValidityChanged` nothing has changed but what the attempts before the last have done.
+    ensures changed { IfErr result (λ fault. (side : Side) → fault ≡ RunFault.ValidityChanged side → O.honest outside.new → IsAsked O.ours opening options.now (R.stream rng.old) → AtOpening O.ours O.alone opening (O.seen outside.old).device → ChangedLast O.ours O.alone opening tries side (O.seen outside.old).device (R.stream rng.old) (O.seen outside.new).device) }
+
+    // A refusal, another fault of a box, or a copy that was lost stands in the counts.
+    ensures caused { IfErr result (λ fault. (fault ≡ RunFault.Stopped → ⊥) → IsCaused (λ side. Unit {0}) fault (O.seen outside.old) (O.seen outside.new)) }
+
+    // Behind the greatest run number there is no other.
+    ensures greatest { HasNoNext (O.honest outside.new) O.alone (O.seen outside.old).device (O.seen outside.new).device result }
+
+    // Each attempt but the last met a stop, and each of all where that is what is answered. Where the outside had failed before, the
+    // first met one, and it changed nothing.
+    ensures stops { IfOk result (λ s. MetStops s.stops (O.seen outside.old) (O.seen outside.new) × (failed_before (O.seen outside.old) ≤ s.stops)) }
+    ensures stopped { IsErrOf result RunFault.Stopped → MetStops tries (O.seen outside.old) (O.seen outside.new) }
+    ensures stuck { tries ≤ 1 → IsStuck (O.seen outside.old) (O.seen outside.new) result }
 {
     let mut run = None;
     for tried in 0..tries {

@@ -1,10 +1,8 @@
-use Rattle.std.proofs.Common.{refl, true}
-use Rattle.rules.specs.declared.plan.Step.TheVariants as step
+use Rattle.std.proofs.Common.{true}
 use Rattle.sync_state.specs.declared.journal.Logged.TheVariants.{Done}
 use Rattle.underway.specs.Conditions.{Underway}
 use Rattle.runner.proofs.PartCalls.{from_box, left_step, passed_call}
-use Rattle.runner.proofs.Stages.{left_by, done_underway, ready_arrives, ready_underway, whole_made}
-use Rattle.runner.proofs.Wholes.{removed}
+use Rattle.runner.proofs.Stages.{left_by, done_underway, expunge_made, ready_arrives, ready_underway}
 use Rattle.runner.proofs.changing.remove.Goals as goal
 
 pub expunge-requires : goal.expunge-requires
@@ -15,15 +13,19 @@ returns-in-Ok-clause-part g c =
     let ours = g.O.Outside.ours in
     let alone = g.O.Outside.alone in
     let opened = g.O.Outside.opened c.args.outside.now in
+    let side = c.args.side in
+    let uid = c.args.uid in
     let s1 = g.O.Outside.seen c.expunge.new.self in
     passed_call _ _ _ _ _ _ _ _ _ _ _ c.in-Ok.ensures.call
-    (λ m at a own. whole_made ours alone g.opening opened (step.Expunge c.args.side c.args.uid) c.requires.1.1 refl _ m s1.device a at (removed c.args.side c.args.uid m s1.device own))
+    (λ m at a own. expunge_made ours alone g.opening opened side uid c.requires.1.1 _ m s1.device a at own)
 
 pub returns-in-Err-clause-part : goal.returns-in-Err-clause-part
 returns-in-Err-clause-part g c =
     let ours = g.O.Outside.ours in
     let alone = g.O.Outside.alone in
     let opened = g.O.Outside.opened c.args.outside.now in
+    let side = c.args.side in
+    let uid = c.args.uid in
     let s1 = g.O.Outside.seen c.expunge.new.self in
     rw c.step_fault.ensures (left_step _ _ _ _ _ _ _ _ _ _ c.args.number _ c.in-Err.ensures.call
     (λ m at a own told. (
@@ -31,5 +33,5 @@ returns-in-Err-clause-part g c =
       left_by (Underway ours alone g.opening) _ _ c.in-Err.fault m s1.device own
           (ready_underway ours alone g.opening opened true m (ready_arrives ours alone g.opening opened true _ m a at))
           absurd
-          (λ x does. done_underway ours alone g.opening opened Done s1.device (whole_made ours alone g.opening opened (step.Expunge c.args.side c.args.uid) c.requires.1.1 refl _ m s1.device a at (removed c.args.side c.args.uid m s1.device does))),
+          (λ x does. done_underway ours alone g.opening opened Done s1.device (expunge_made ours alone g.opening opened side uid c.requires.1.1 _ m s1.device a at does)),
     )))

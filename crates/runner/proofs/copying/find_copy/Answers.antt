@@ -11,7 +11,7 @@ returns-in-Ok-clause-part g c =
     let alone = g.O.Outside.alone in
     let opened = g.O.Outside.opened c.args.outside.now in
     passed_call _ _ _ _ _ _ _ _ _ _ _ c.in-Ok.ensures.call
-    (λ m at a own. subst (λ (d : Device). FoundCopy ours alone g.opening opened c.in-Ok.found d) (sym own.0) (copy_told ours alone g.opening opened c.args.direction c.args.mark c.requires.1.1 _ m a at c.in-Ok.found (rw (c.first_uid-from.ensures, c.target-side.ensures) at own.1)))
+    (λ m at a own. subst (λ (d : Device). FoundCopy ours alone g.opening opened c.in-Ok.copy d) (sym own.0) (copy_told ours alone g.opening opened c.args.direction c.args.mark c.requires.1.1 _ m a at c.in-Ok.copy (rw (c.first_uid-from.ensures, c.target-side.ensures) at own.1)))
 
 pub returns-in-Err-clause-part : goal.returns-in-Err-clause-part
 returns-in-Err-clause-part g c =

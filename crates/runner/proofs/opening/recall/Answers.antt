@@ -1,4 +1,4 @@
-use Rattle.runner.proofs.PartCalls.{left_call, passed_call}
+use Rattle.runner.proofs.PartCalls.{left_call, passed_call, stuck_call, whole_call}
 use Rattle.runner.proofs.Readings.{held_before, read_known, unread_left}
 use Rattle.runner.proofs.Validities.{kept_read}
 use Rattle.underway.proofs.Arrived.{underway_arrives}
@@ -21,3 +21,9 @@ returns-in-Ok-clause-held g c = λ honest. let w = c.in-Ok.ensures.call in let a
 
 pub returns-in-Ok-clause-kept : goal.returns-in-Ok-clause-kept
 returns-in-Ok-clause-kept g c = λ honest. let w = c.in-Ok.ensures.call in let acts = w.acts in let e = acts.effect honest in kept_read g.O.Outside.ours g.O.Outside.alone _ e.mid _ e.before e.behind.0
+
+pub returns-in-Ok-clause-stuck : goal.returns-in-Ok-clause-stuck
+returns-in-Ok-clause-stuck g c = λ b. absurd (whole_call _ _ _ _ _ _ _ _ _ c.in-Ok.ensures.call b)
+
+pub returns-in-Err-clause-stuck : goal.returns-in-Err-clause-stuck
+returns-in-Err-clause-stuck g c = λ b. rw c.call_fault.ensures (stuck_call _ _ _ _ _ _ _ _ c.in-Err.fault c.in-Err.ensures.call b)

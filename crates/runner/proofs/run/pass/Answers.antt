@@ -38,3 +38,11 @@ returns-clause-part g c =
 
 pub returns-in_err-recall-clause-moved : goal.returns-in_err-recall-clause-moved
 returns-in_err-recall-clause-moved g c = moved_none _
+
+pub returns-in_err-recall-clause-stuck : goal.returns-in_err-recall-clause-stuck
+returns-in_err-recall-clause-stuck g c = λ b.
+    let e = err_from_is_err_and c.from_residual.result c.from_residual.ensures.1 in
+    rw (e.1, e.2) (c.in_err-recall.ensures.stuck b)
+
+pub returns-clause-stuck : goal.returns-clause-stuck
+returns-clause-stuck g c = λ b. absurd ((c.in_ok-recall.ensures.stuck b).0)

@@ -3,13 +3,43 @@ use Rattle.std.proofs.lemmas.Result.{err_from_is_err_and}
 use Rattle.underway.specs.Conditions.{IsOver}
 use Rattle.runner.specs.Answers.{IsAsked, IsEntry}
 use Rattle.runner.specs.Attempts.{IsTried}
-use Rattle.runner.proofs.Attempts.{asked_later, fixed_tried, tried_fixed}
+use Rattle.runner.proofs.Attempts.{asked_later, attempt_answers, attempt_changed, fixed_tried, tried_fixed}
 use Rattle.runner.proofs.PartCalls.{left_mapped, left_never, left_with, part_after, part_mapped, part_told, part_with, passed_weaker, passed_with}
 use Rattle.runner.proofs.PlanFacts.{moved_none}
 use Rattle.runner.proofs.settle.attempt.Goals as goal
 
 pub returns-in_err-number-clause-moved : goal.returns-in_err-number-clause-moved
 returns-in_err-number-clause-moved g c = moved_none _
+
+pub returns-in_err-number-clause-greatest : goal.returns-in_err-number-clause-greatest
+returns-in_err-number-clause-greatest g c = λ none h s p held is.
+    let e = err_from_is_err_and c.from_residual.result c.from_residual.ensures.1 in
+    rw (e.1, e.2) (c.in_err-number.ensures.greatest none h s p held is)
+
+pub returns-clause-greatest : goal.returns-clause-greatest
+returns-clause-greatest g c = λ none h s p held is. absurd ((c.in_ok-number.ensures.greatest none (c.pass.ensures.was_honest h) s p held is).0)
+
+pub returns-in_err-number-clause-unfixed : goal.returns-in_err-number-clause-unfixed
+returns-in_err-number-clause-unfixed g c = λ none h s p held is. c.in_err-number.ensures.unfixed.1
+
+pub returns-clause-unfixed : goal.returns-clause-unfixed
+returns-clause-unfixed g c = λ none h s p held is. absurd ((c.in_ok-number.ensures.greatest none (c.pass.ensures.was_honest h) s p held is).0)
+
+pub returns-in_err-number-clause-stuck : goal.returns-in_err-number-clause-stuck
+returns-in_err-number-clause-stuck g c = λ b.
+    let e = err_from_is_err_and c.from_residual.result c.from_residual.ensures.1 in
+    rw (e.1, e.2) (c.in_err-number.ensures.stuck b)
+
+pub returns-clause-stuck : goal.returns-clause-stuck
+returns-clause-stuck g c = λ b. absurd ((c.in_ok-number.ensures.stuck b).0)
+
+pub returns-clause-answer : goal.returns-clause-answer
+returns-clause-answer g c =
+    let e = c.in_ok-number.ensures in
+    let s0 = g.O.Outside.seen c.args.outside.now in
+    let s1 = g.O.Outside.seen c.fix_run.new.outside in
+    let p = e.part in
+    attempt_answers g.O.Outside.ours g.O.Outside.alone g.opening _ _ c.args.options.now _ c.fix_run.new.run c.in_ok-number.number s0.device s1.device c.args.run.now c.pass.result e.fixed c.pass.ensures.was_honest e.kept p.reaches c.pass.ensures.answer c.pass.ensures.runs
 
 pub returns-in_err-number-clause-part : goal.returns-in_err-number-clause-part
 returns-in_err-number-clause-part g c =
@@ -24,7 +54,9 @@ returns-clause-part g c =
     let old = g.R.Rng.stream c.args.rng.now in
     let new = g.R.Rng.stream c.pass.new.rng in
     let n = c.in_ok-number.number in
+    let s0 = g.O.Outside.seen c.args.outside.now in
     let s1 = g.O.Outside.seen c.fix_run.new.outside in
+    let s2 = g.O.Outside.seen c.pass.new.outside in
     let fixed = c.in_ok-number.ensures.fixed in
     let run = c.fix_run.new.run in
     let p : Type 0 = IsAsked ours g.opening options old × (n ≡ g.opening.world.state.run + 1) in
@@ -35,4 +67,4 @@ returns-clause-part g c =
     (part_mapped _ _ _ _ _ (IsTried ours alone g.opening options new run) _ _ (λ x d. IsOver ours alone g.opening d) _ _ _ (λ d k. k)
     (λ d k. record { asked = asked_later ours g.opening options old new c.pass.ensures.moved k.0.0; tried = fixed_tried ours alone g.opening run n d fixed (k.0.1, k.1) })
     (λ x d k. let r = k.1 in let e = k.0.1 in r.done (omega (arith, e)))
-    (part_with _ p _ _ _ _ _ _ _ _ (part_told _ _ _ _ _ _ _ _ _ _ (λ side t. tt) c.pass.ensures.part)))
+    (part_with _ p _ _ _ _ _ _ _ _ (part_told _ _ _ _ _ _ _ _ _ _ (λ side t. attempt_changed alone _ _ s0.device s1.device s2.device side c.pass.ensures.was_honest c.in_ok-number.ensures.kept t) c.pass.ensures.part)))

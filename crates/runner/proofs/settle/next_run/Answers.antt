@@ -1,7 +1,8 @@
-use Rattle.std.proofs.Common.{◌≡◌, ◌+◌, arith}
+use Rattle.std.proofs.Common.{◌≡◌, ◌+◌, refl, arith}
 use Rattle.runner.specs.Attempts.{AtOpening}
-use Rattle.runner.proofs.Attempts.{opening_left, run_read}
-use Rattle.runner.proofs.PartCalls.{left_call, left_here, passed_call}
+use Rattle.runner.proofs.Attempts.{next_read, next_unread, opening_left, run_read}
+use Rattle.runner.proofs.PartCalls.{left_call, left_here, passed_call, stuck_call, whole_call}
+use Rattle.runner.proofs.Validities.{kept_read}
 use Rattle.runner.proofs.settle.next_run.Goals as goal
 
 pub returns-then-last-clause-part : goal.returns-then-last-clause-part
@@ -21,3 +22,43 @@ pub returns-in-Err-clause-part : goal.returns-in-Err-clause-part
 returns-in-Err-clause-part g c =
     let s1 = g.O.Outside.seen c.open_book.new.self in
     rw c.call_fault.ensures (left_call _ _ _ _ _ _ _ _ _ _ _ c.in-Err.ensures.call (λ m at a own told. opening_left g.O.Outside.ours g.O.Outside.alone g.opening c.in-Err.fault _ m s1.device at a own.0 own.1 told))
+
+pub returns-else-last-clause-kept : goal.returns-else-last-clause-kept
+returns-else-last-clause-kept g c = λ honest.
+    let w = c.in-Ok.ensures.call in
+    let acts = w.acts in
+    let e = acts.effect honest in
+    kept_read g.O.Outside.ours g.O.Outside.alone _ e.mid _ e.before e.behind.0
+
+pub returns-then-last-clause-greatest : goal.returns-then-last-clause-greatest
+returns-then-last-clause-greatest g c = λ honest s p held is.
+    let w = c.in-Ok.ensures.call in
+    let acts = w.acts in
+    let e = acts.effect honest in
+    (refl, kept_read g.O.Outside.ours g.O.Outside.alone _ e.mid _ e.before e.behind.0)
+
+pub returns-else-last-clause-greatest : goal.returns-else-last-clause-greatest
+returns-else-last-clause-greatest g c = λ honest s p held is.
+    let w = c.in-Ok.ensures.call in
+    let acts = w.acts in
+    let e = acts.effect honest in
+    let last = c.state.result.now in
+    let n = (next_read g.O.Outside.ours g.O.Outside.alone _ last _ e.mid _ c.state.ensures.state e.before e.behind.0 e.behind.1 s p held).0 in
+    absurd (omega (arith, n, is, c.if-last.false))
+
+pub returns-in-Err-clause-greatest : goal.returns-in-Err-clause-greatest
+returns-in-Err-clause-greatest g c = λ honest s p held is.
+    let w = c.in-Err.ensures.call in
+    let acts = w.acts in
+    let counts = w.counts in
+    let l = acts.left honest in
+    rw c.call_fault.ensures (next_unread g.O.Outside.ours g.O.Outside.alone c.in-Err.fault _ l.mid _ l.before l.behind.0 l.behind.1 counts.told s p held)
+
+pub returns-then-last-clause-stuck : goal.returns-then-last-clause-stuck
+returns-then-last-clause-stuck g c = λ b. absurd (whole_call _ _ _ _ _ _ _ _ _ c.in-Ok.ensures.call b)
+
+pub returns-else-last-clause-stuck : goal.returns-else-last-clause-stuck
+returns-else-last-clause-stuck g c = λ b. absurd (whole_call _ _ _ _ _ _ _ _ _ c.in-Ok.ensures.call b)
+
+pub returns-in-Err-clause-stuck : goal.returns-in-Err-clause-stuck
+returns-in-Err-clause-stuck g c = λ b. rw c.call_fault.ensures (stuck_call _ _ _ _ _ _ _ _ c.in-Err.fault c.in-Err.ensures.call b)

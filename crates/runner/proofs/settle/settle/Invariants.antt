@@ -1,6 +1,10 @@
-use Rattle.std.proofs.Common.{◌≡◌, ◌≤◌, ◌+◌, false}
+use Rattle.std.proofs.Common.{◌≡◌, ◌≤◌, ◌+◌, ◌^◌, None, true}
+use Rattle.book.specs.declared.book.Pending.{Pending}
+use Rattle.book.specs.Books.{Holds}
+use Rattle.rules.specs.declared.state.SyncState.{SyncState}
 use Rattle.runner.specs.Answers.{IsAsked, Moves}
-use Rattle.runner.specs.Attempts.{AtOpening, IsTried}
+use Rattle.runner.specs.Attempts.{AtOpening, IsTried, MetStops}
+use Rattle.runner.specs.Validities.{IsKept}
 use Rattle.runner.proofs.settle.settle.Given as goal
 
 abbrev pub ghost-attempt : goal.ghost-attempt
@@ -15,9 +19,14 @@ invariant-loop-tried g l =
     record {
       was_honest : g.O.Outside.honest l.outside → g.O.Outside.honest l.fn.outside;
       moved : Moves (g.R.Rng.stream l.fn.rng) (g.R.Rng.stream l.rng);
-      stops : start.stops + l.tried ≤ now.stops;
+      stops : MetStops l.tried start now;
       refusals : start.refusals ≤ now.refusals;
       faults : start.faults ≤ now.faults;
-      first : l.tried ≡ 0 → now.is_broken ≡ false;
+      appends : start.appends ≤ now.appends;
+      first : l.tried ≡ 0 → now ≡ start;
+      unfixed : l.tried ≡ 0 → l.run ≡ None;
+      undrawn : l.tried ≡ 0 → g.R.Rng.stream l.rng ≡ g.R.Rng.stream l.fn.rng;
+      stuck : l.tried ≤ 1 → start.is_broken ≡ true → now ≡ start;
       left : g.O.Outside.honest l.outside → IsAsked ours g.opening l.options (g.R.Rng.stream l.fn.rng) → AtOpening ours alone g.opening start.device → IsTried ours alone g.opening l.options (g.R.Rng.stream l.rng) l.run now.device;
+      greatest : g.O.Outside.honest l.outside → (s : SyncState) (p : Pending) → Holds start.device.files s p → s.run + 1 ≡ 2 ^ 64 → (l.run ≡ None) × IsKept alone start.device now.device;
     }
