@@ -5,7 +5,7 @@ pub mod fault;
 pub mod line;
 pub mod plan_lines;
 pub mod read;
-mod read_mailbox;
+pub mod read_mailbox;
 mod read_options;
 mod read_state;
 pub mod run_plan;

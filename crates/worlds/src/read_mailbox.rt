@@ -78,8 +78,8 @@ fn is_far(bytes: &[u8]) -> bool {
     bytes.len() <= FAR_BYTES_MAX && memchr(0, bytes).is_none()
 }
 
-/// The bytes whose escaped text stands between quotes.
-fn read_bytes(alloc: Global, text: &[u8], line: Line<'_>) -> Result<Vec<u8>, WorldFault>
+/// The bytes whose escaped text stands between quotes, on this line.
+pub fn read_bytes(alloc: Global, text: &[u8], line: Line<'_>) -> Result<Vec<u8>, WorldFault>
     ensures { IfErr result (IsOf line.entry.number) }
 {
     let [b'"', escaped @ .., b'"'] = text else {

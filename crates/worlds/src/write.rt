@@ -19,13 +19,59 @@ pub fn write_world(text: &mut String, world: &World) -> Result<(), AllocError> {
 
 /// Adds the text of a world from its line `far` on.
 pub fn write_from_far(text: &mut String, world: &World) -> Result<(), AllocError> {
-    write_mailbox(text, Side::Far, &world.far)?;
-    write_mailbox(text, Side::Near, &world.near)?;
-    for file in &world.waiting {
+    let parts = WrittenWorld {
+        far: WrittenMailbox::of(&world.far),
+        near: WrittenMailbox::of(&world.near),
+        waiting: &world.waiting,
+        state: &world.state,
+    };
+    write_parts(text, &parts)
+}
+
+/// A mailbox as it is written: its numbers, and its messages in the order of their UIDs.
+#[derive(Clone, Copy, Debug)]
+pub struct WrittenMailbox<'a> {
+    /// Its UIDVALIDITY.
+    pub validity: u32,
+    /// Its UIDNEXT.
+    pub next: u32,
+    /// Its messages.
+    pub messages: &'a [Message],
+}
+
+impl<'a> WrittenMailbox<'a> {
+    /// This mailbox.
+    pub fn of(mailbox: &'a Mailbox) -> Self {
+        WrittenMailbox {
+            validity: mailbox.validity,
+            next: mailbox.next,
+            messages: mailbox.messages.as_slice(),
+        }
+    }
+}
+
+/// A world without what the run may do, wherever its parts stand.
+#[derive(Clone, Copy, Debug)]
+pub struct WrittenWorld<'a> {
+    /// The far mailbox.
+    pub far: WrittenMailbox<'a>,
+    /// The near mailbox.
+    pub near: WrittenMailbox<'a>,
+    /// The near files that wait for a UID, in the order of their names.
+    pub waiting: &'a [WaitingFile],
+    /// What the last run recorded.
+    pub state: &'a SyncState,
+}
+
+/// Adds the lines of a world from its line `far` on.
+pub fn write_parts(text: &mut String, parts: &WrittenWorld<'_>) -> Result<(), AllocError> {
+    write_mailbox(text, Side::Far, &parts.far)?;
+    write_mailbox(text, Side::Near, &parts.near)?;
+    for file in parts.waiting {
         write!(text, "w {} ", FlagsWord(file.flags))?;
         write_bytes(text, &file.bytes)?;
     }
-    write_state(text, &world.state)?;
+    write_state(text, parts.state)?;
     text.push_str("end\n")
 }
 
@@ -62,7 +108,11 @@ fn write_cells(text: &mut String, cells: &Cells) -> Result<(), AllocError> {
     Ok(())
 }
 
-fn write_mailbox(text: &mut String, side: Side, mailbox: &Mailbox) -> Result<(), AllocError> {
+fn write_mailbox(
+    text: &mut String,
+    side: Side,
+    mailbox: &WrittenMailbox<'_>,
+) -> Result<(), AllocError> {
     let letter = match side {
         Side::Far => 'f',
         Side::Near => 'n',
@@ -74,7 +124,7 @@ fn write_mailbox(text: &mut String, side: Side, mailbox: &Mailbox) -> Result<(),
         mailbox.validity,
         mailbox.next
     )?;
-    for message in mailbox.messages.as_slice() {
+    for message in mailbox.messages {
         let uid = message.uid.get();
         write!(text, "{letter} {uid} {} ", FlagsWord(message.flags))?;
         write_bytes(text, &message.bytes)?;

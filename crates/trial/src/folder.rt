@@ -1,0 +1,168 @@
+//! The near mailbox of a trial, as files of a folder in memory.
+
+ghost use Rattle.std.specs.Prelude.{◌≡◌};
+
+use device::schedule::Stop;
+use mailcore::flags::Flags;
+use mailcore::mailbox::{Mailbox, Message};
+use mailcore::octets::Octets;
+use maildir::folder::{File, Place};
+use maildir::letters::{flags_in, letters_with};
+use maildir::mem_folder::{FolderCall, MemFolder};
+use maildir::meta::Meta;
+use maildir::name::{Name, read_name, spell};
+use std::alloc::{AllocError, Global};
+use std::cmp::Ordering;
+use worlds::world::WaitingFile;
+
+/// A folder with this mailbox: a message of UID 7 stands in `cur` as `m7,U=7:2,LETTERS`, the first waiting file as
+/// `w00000001:2,LETTERS`, and there is a meta file. Its calls stop as the schedule says.
+pub fn folder_with(
+    alloc: Global,
+    near: Mailbox,
+    waiting: Vec<WaitingFile>,
+    schedule: Vec<Stop<FolderCall>>,
+) -> Result<MemFolder, AllocError> {
+    let meta = Meta {
+        validity: near.validity,
+        next: near.next,
+    };
+    let mut folder = MemFolder::new(alloc, schedule);
+    folder.put_meta(Octets::from_vec(meta.text(alloc)?));
+    put_messages(alloc, &mut folder, near.messages.into_vec())?;
+    put_waiting(alloc, &mut folder, waiting)?;
+    Ok(folder)
+}
+
+fn put_messages(
+    alloc: Global,
+    folder: &mut MemFolder,
+    messages: Vec<Message>,
+) -> Result<(), AllocError> {
+    for message in messages {
+        let name = message_name(alloc, &message)?;
+        put(folder, name, message.bytes)?;
+    }
+    Ok(())
+}
+
+fn put_waiting(
+    alloc: Global,
+    folder: &mut MemFolder,
+    waiting: Vec<WaitingFile>,
+) -> Result<(), AllocError> {
+    for (place, file) in waiting.into_iter().enumerate() {
+        let name = waiting_name(alloc, place, file.flags)?;
+        put(folder, name, file.bytes)?;
+    }
+    Ok(())
+}
+
+fn put(folder: &mut MemFolder, name: Vec<u8>, bytes: Octets) -> Result<(), AllocError> {
+    folder.put(File {
+        place: Place::Cur,
+        name: Octets::from_vec(name),
+        bytes,
+    })
+}
+
+fn message_name(alloc: Global, message: &Message) -> Result<Vec<u8>, AllocError> {
+    let uid = message.uid.get();
+    let base = format!(in alloc; "m{uid}")?;
+    let letters = letters_with(alloc, b"", message.flags)?;
+    spell(alloc, base.as_bytes(), Some(message.uid), Some(&letters))
+}
+
+/// The name of the file at this place among those that wait, counted from 0.
+fn waiting_name(alloc: Global, place: usize, flags: Flags) -> Result<Vec<u8>, AllocError> {
+    let number = place.saturating_add(1);
+    let base = format!(in alloc; "w{number:08}")?;
+    let letters = letters_with(alloc, b"", flags)?;
+    spell(alloc, base.as_bytes(), None, Some(&letters))
+}
+
+/// What stands in a folder.
+#[derive(Debug, Drop)]
+pub struct Contents {
+    /// The messages, in the order of their UIDs.
+    pub messages: Vec<Message>,
+    /// The files that wait for a UID, in the order of their names.
+    pub waiting: Vec<WaitingFile>,
+}
+
+/// What stands in this folder, without a call of it.
+pub fn contents_of(alloc: Global, folder: &MemFolder) -> Result<Contents, AllocError> {
+    let messages = messages_among(alloc, folder.files())?;
+    match waiting_among(alloc, folder.files()) {
+        Ok(waiting) => Ok(Contents { messages, waiting }),
+        Err(fault) => Err(fault),
+    }
+}
+
+fn messages_among(alloc: Global, files: &[File]) -> Result<Vec<Message>, AllocError> {
+    let mut messages = Vec::new(alloc);
+    for file in files {
+        let name = read_name(file.name.as_slice());
+        if let Some(
+            Name {
+                base: _,
+                uid: Some(uid),
+                letters,
+            },
+        ) = name
+        {
+            messages.push(Message {
+                uid,
+                flags: flags_of(letters),
+                bytes: copy_of(alloc, &file.bytes)?,
+            })?;
+        }
+    }
+    messages.sort_unstable_by_key(|message| message.uid.get());
+    Ok(messages)
+}
+
+fn waiting_among(alloc: Global, files: &[File]) -> Result<Vec<WaitingFile>, AllocError> {
+    let mut waiting = Vec::new(alloc);
+    for file in &waiting_files(alloc, files)? {
+        let letters = match read_name(file.name.as_slice()) {
+            Some(name) => name.letters,
+            None => None,
+        };
+        waiting.push(WaitingFile {
+            flags: flags_of(letters),
+            bytes: copy_of(alloc, &file.bytes)?,
+        })?;
+    }
+    Ok(waiting)
+}
+
+/// The files without a UID, in the order of their names.
+fn waiting_files(alloc: Global, files: &[File]) -> Result<Vec<&File>, AllocError> {
+    let mut waiting = Vec::new(alloc);
+    for file in files {
+        if matches!(
+            read_name(file.name.as_slice()),
+            Some(Name { uid: None, .. })
+        ) {
+            waiting.push(file)?;
+        }
+    }
+    waiting.sort_by(by_name)?;
+    Ok(waiting)
+}
+
+fn by_name(a: &&File, b: &&File) -> Ordering {
+    a.name.as_slice().cmp(b.name.as_slice())
+}
+
+fn flags_of(letters: Option<&[u8]>) -> Flags {
+    match letters {
+        Some(letters) => flags_in(letters),
+        None => Flags::none(),
+    }
+}
+
+fn copy_of(alloc: Global, bytes: &Octets) -> Result<Octets, AllocError> {
+    Ok(Octets::from_vec(Vec::from_slice(alloc, bytes.as_slice())?))
+}

@@ -1,0 +1,26 @@
+//! What a trial says.
+
+ghost use Rattle.std.specs.Prelude.{◌<◌};
+
+use crate::stop::Stops;
+use worlds::world::World;
+
+/// A trial, as a text gives it (docs/FORMATS.md, "Trial").
+#[derive(Debug, Drop)]
+pub struct Trial {
+    /// The world before the run.
+    pub world: World,
+    /// What else it says.
+    pub course: Course,
+}
+
+/// What a trial says beside its world.
+#[derive(Debug, Drop)]
+pub struct Course {
+    /// How many attempts the run has, at least 1. 4294967295 stands for greater numbers too.
+    pub tries: u32,
+    /// The bytes of the journal before the run, if there is one.
+    pub journal: Option<Vec<u8>>,
+    /// Which calls stop.
+    pub stops: Stops,
+}
