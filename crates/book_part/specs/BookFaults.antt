@@ -1,0 +1,20 @@
+-- How the faults of a book are told.
+use Rattle.std.specs.Prelude.{Bool, true, false, Result, Ok, Err}
+use Rattle.sync_state.specs.declared.fault.BookFault.{BookFault}
+use Rattle.sync_state.specs.declared.fault.BookFault.TheVariants as book
+use Rattle.outside.specs.declared.fault.OutsideFault.{OutsideFault}
+use Rattle.outside.specs.declared.fault.OutsideFault.TheVariants as outside
+
+abbrev pub told : BookFault → OutsideFault
+told book.Stopped = outside.Stopped
+told (book.BadState line) = outside.BadState line
+told (book.BadJournal line) = outside.BadJournal line
+told book.NoMemory = outside.NoMemory
+
+abbrev pub told_by : {T : Type 0} → Result T BookFault → Result T OutsideFault
+told_by (Ok answer) = Ok answer
+told_by (Err fault) = Err (told fault)
+
+abbrev pub is_fault : {T E : Type 0} → Result T E → Bool
+is_fault (Ok answer) = false
+is_fault (Err fault) = true

@@ -1,0 +1,21 @@
+-- The book of an outside as the clauses of its calls name it.
+use Rattle.std.specs.Prelude.{Option}
+use Rattle.device.specs.Calls.{Seen}
+use Rattle.book.specs.declared.shelf.Shelf as shelf
+use Rattle.book.specs.Shelves.{Files}
+use Rattle.book_part.specs.declared.book_part.BookPart.{BookPart}
+use Rattle.book_part.specs.Desks.{kept_at, seen_at}
+use Rattle.book_part.specs.Kept.{Kept}
+
+module _ {S : Type 0} {shelves : shelf.Ghosts S} where
+  -- what is seen of its shelf
+  abbrev pub seen_of : BookPart S shelves → Seen Files
+  seen_of part = seen_at part.desk
+
+  -- the files of its shelf
+  abbrev pub files_of : BookPart S shelves → Files
+  files_of part = (seen_of part).stored
+
+  -- what was read of them
+  abbrev pub kept_of : BookPart S shelves → Option Kept
+  kept_of part = kept_at part.desk

@@ -1,0 +1,4 @@
+pub mod BookFaults
+pub mod BookParts
+pub mod Desks
+pub mod Kept

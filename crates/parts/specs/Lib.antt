@@ -1,0 +1,4 @@
+pub mod PartCalls
+pub mod Tallies
+pub mod Devices
+pub mod Drafts

@@ -1,0 +1,111 @@
+//! Whether calls of an outside are answered, and how many have failed.
+
+ghost use Rattle.std.specs.Prelude.{◌≡◌, true, false, OnOk, IfErr};
+ghost use Rattle.outside.specs.BoxCalls.{copies_made};
+ghost use Rattle.parts.specs.Tallies.{Ended, Fails, no_copies, untouched};
+
+use device::stop_count::StopCount;
+use outside::fault::OutsideFault;
+use outside::outside::Carried;
+use std::alloc::Global;
+use std::marker::Model;
+
+/// Whether calls of an outside are answered, and how many of them have stopped, were refused, had another fault of a box, and
+/// have made a copy. No number is the greatest: what is counted takes memory.
+#[derive(Debug, Drop)]
+pub struct Tally {
+    is_broken: bool,
+    stops: StopCount,
+    refusals: StopCount,
+    faults: StopCount,
+    copies: StopCount,
+}
+
+impl Model for Tally {
+    ghost use Rattle.parts.specs.Tallies.{Counts};
+
+    ghost Value = { Counts };
+
+    ghost view = { λ t. record { is_broken = t.is_broken; stops = t.stops; refusals = t.refusals; faults = t.faults; copies = t.copies } };
+}
+
+impl Tally {
+    /// That of an outside of which no call was made.
+    pub fn new(alloc: Global) -> Self
+        ensures { result ≡ untouched }
+    {
+        Tally {
+            is_broken: false,
+            stops: StopCount::new(alloc),
+            refusals: StopCount::new(alloc),
+            faults: StopCount::new(alloc),
+            copies: StopCount::new(alloc),
+        }
+    }
+
+    /// Whether a call may be made. `Stopped`: one has failed since the outside was opened.
+    pub fn check(&self) -> Result<(), OutsideFault>
+        ensures whole { OnOk result (self.now.is_broken ≡ false) }
+        ensures stopped { IfErr result (λ fault. (fault ≡ OutsideFault.Stopped) × (self.now.is_broken ≡ true)) }
+    {
+        if self.is_broken {
+            return Err(OutsideFault::Stopped);
+        }
+        Ok(())
+    }
+
+    /// Ends a call with this answer, which makes no copy. A fault is counted, and from then on each call stops.
+    ///
+    /// `NoMemory`: the fault could not be counted, too.
+    pub fn end<T>(&mut self, answer: Result<T, OutsideFault>) -> Result<T, OutsideFault>
+        ensures { Ended no_copies answer result self.old self.new }
+    {
+        match answer {
+            Ok(answer) => Ok(answer),
+            Err(fault) => Err(self.fail(fault)),
+        }
+    }
+
+    /// The same of a call that may make a copy, which is counted too.
+    pub fn end_carry(
+        &mut self,
+        answer: Result<Carried, OutsideFault>,
+    ) -> Result<Carried, OutsideFault>
+        ensures { Ended copies_made answer result self.old self.new }
+    {
+        let carried = match answer {
+            Ok(carried) => carried,
+            Err(fault) => return Err(self.fail(fault)),
+        };
+        if matches!(carried, Carried::Made(_)) && self.copies.push().is_err() {
+            return Err(self.fail(OutsideFault::NoMemory));
+        }
+        Ok(carried)
+    }
+
+    /// Calls are answered again.
+    pub fn reopen(&mut self)
+        ensures { self.new ≡ record self.old { is_broken = false } }
+    {
+        self.is_broken = false;
+    }
+
+    /// A call has this fault, and from now on each call stops. Gives what it answers.
+    fn fail(&mut self, fault: OutsideFault) -> OutsideFault
+        ensures { Fails fault result self.old self.new }
+    {
+        self.is_broken = true;
+        let counted = match fault {
+            OutsideFault::Stopped => self.stops.push(),
+            OutsideFault::Refused => self.refusals.push(),
+            OutsideFault::Box(_, _) => self.faults.push(),
+            OutsideFault::BadState(_) | OutsideFault::BadJournal(_) | OutsideFault::NoMemory => {
+                Ok(())
+            }
+        };
+        match counted {
+            Ok(()) => fault,
+            Err(_) => OutsideFault::NoMemory,
+        }
+    }
+}
