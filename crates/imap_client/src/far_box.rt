@@ -158,6 +158,13 @@ impl<L: Link> Session<L> {
 impl<L: Link> FarBox<L> {
     ghost use Rattle.imap_client.specs.Sessions.{state_of, server_of};
 
+    /// The UIDVALIDITY that was told when the mailbox was selected.
+    pub fn validity(&self) -> u32
+        ensures { result ≡ self.now.validity }
+    {
+        self.validity
+    }
+
     /// Gives the session back, without taking memory.
     pub fn into_session(self) -> Session<L>
         ensures { result ≡ self.session }

@@ -57,6 +57,8 @@ impl<R: Net + AllocGlobal + Clone + Drop> Link for TcpLink<R> {
 
     ghost stops = { λ l. l.stops };
 
+    ghost sound = { λ l kept. absurd kept };
+
     fn send(&mut self, bytes: &[u8]) -> Result<(), LinkFault> {
         let sent = match &mut self.stream {
             Some(stream) => stream.write_all(bytes).is_ok(),

@@ -3,3 +3,4 @@ pub mod ReplyKinds
 pub mod Buffers
 pub mod Outcomes
 pub mod Exchanges
+pub mod Soundness

@@ -4,6 +4,7 @@ ghost use Rattle.std.specs.Prelude.{◌≡◌, ◌<◌, ◌≤◌, ℕ, length, 
 ghost use Rattle.imap_session.specs.Servers.{Quiet};
 ghost use Rattle.imap_session.specs.Serving.{FeedsSome};
 ghost use Rattle.imap_session.specs.Lines.{Line, Sends, Receives, Starts};
+ghost use Rattle.imap_link.specs.Soundness.{AreSound};
 
 use thiserror::Error;
 
@@ -20,10 +21,10 @@ pub enum LinkFault {
 
 /// A link to a server, over one connection at a time.
 ///
-/// Its law is said by three ghost members. Where the link is honest, the server saw a beginning of what was sent, what
-/// came back begins the server's replies to it, and after `reconnect` no byte of an earlier connection is read at either
-/// end (docs/SESSION.md, "Both ends"). A link that cannot know that of the other end is not honest, and promises its
-/// counts of stops alone.
+/// Its law is said by ghost members. Where the link is honest, the server saw a beginning of what was sent, what came back
+/// begins the server's replies to it, after `reconnect` no byte of an earlier connection is read at either end
+/// (docs/SESSION.md, "Both ends"), and the server's mailboxes are mailboxes. A link that cannot know that of the other end
+/// is not honest, and promises its counts of stops alone.
 pub trait Link {
     /// The server and what lies between have kept their word so far.
     ghost honest: { Self → Type 0 };
@@ -63,4 +64,7 @@ pub trait Link {
         ensures counts { stops self.old ≤ stops self.new }
         ensures steady { OnOk result (stops self.new ≡ stops self.old) }
         ensures stopped { IsErrOf result LinkFault.Stopped → stops self.old < stops self.new };
+
+    /// The mailboxes of an honest server: UIDs rise and are below the next one (RFC 9051, section 2.3.1.1).
+    ghost sound: { (link : Self) → honest link → AreSound (line link).end.server.mailboxes };
 }
