@@ -109,7 +109,7 @@ module _ (f g : Store → Store) where
   in_same (Selected name) m ms e same = changed_same name m ms e same
   in_same LoggedOut m ms e same = refl
 
-  selected_same : (s : Server) (m : FarMailbox) → selected s ≡ Some m → f m.store ≡ g m.store → with_selected f s ≡ with_selected g s
+  pub selected_same : (s : Server) (m : FarMailbox) → selected s ≡ Some m → f m.store ≡ g m.store → with_selected f s ≡ with_selected g s
   selected_same s m e same = ap (λ (ms : List FarMailbox). record s { mailboxes = ms }) (in_same s.condition m s.mailboxes e same)
 
 pub stored_is_flagged : StoredIsFlagged

@@ -12,3 +12,4 @@ pub mod LoggingIn
 pub mod Creating
 pub mod Sweeping
 pub mod Flagging
+pub mod Removing
