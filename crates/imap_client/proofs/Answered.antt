@@ -111,7 +111,7 @@ module _ (c : Command) (old : Server) (xs : List Reply) (last : Reply) (after : 
   after_so new (inl q) = inl q
   after_so new (inr d) = inr (sure.each d.said new (did_step c old d.said new d.did)).1
 
-  heard_so : (status : Status) (bytes : List ℕ) (new : Server) → Replied c status bytes old new → HeardOf (xs ++ last ∷ []) bytes × (new ≡ after)
+  pub heard_so : (status : Status) (bytes : List ℕ) (new : Server) → Replied c status bytes old new → HeardOf (xs ++ last ∷ []) bytes × (new ≡ after)
   heard_so status bytes new r =
       let s = said_of c status bytes old new r in
       let is = sure.each s.said new s.step in

@@ -12,7 +12,7 @@ use Rattle.imap_link.specs.Faults.{IsHearing}
 use Rattle.imap_link.specs.Outcomes.{Outcome, Never}
 use Rattle.imap_link.specs.Exchanges.{Replied}
 use Rattle.imap_client.specs.Exchanged.{Exchanged}
-use Rattle.imap_client.specs.States.{State, SendStops, SentSo, Judged}
+use Rattle.imap_client.specs.States.{State, SendStops, SentSo, Judged, Asked, AskedSo}
 
 abbrev pub state_at : (is_ready : Bool) (tags stops : ℕ) (heard : List ℕ) → State
 state_at is_ready tags stops heard = record { is_ready = is_ready; tags = tags; stops = stops; heard = heard }
@@ -55,3 +55,25 @@ exchanged_of c status len ready (Err faults.NoMemory) heard now old new j e h = 
 
 pub judged_len : (status : Status) (len n : ℕ) (ready : Bool) (result : Result ℕ FarFault) → Judged status len ready result → result ≡ Ok n → n ≡ len
 judged_len status len n ready result j e = (subst (Judged status len ready) e j).1
+
+-- ---- the first part of a call
+
+pub asked_err : (T U : Type 0) (old new : State) (f : FarFault) → AskedSo {T = T} old new (Err f) → AskedSo {T = U} old new (Err f)
+asked_err T U old new faults.Stopped h = h
+asked_err T U old new faults.Refused h = h
+asked_err T U old new faults.Protocol h = h
+asked_err T U old new faults.TooLong h = h
+asked_err T U old new faults.NoRev2 h = h
+asked_err T U old new faults.ReadOnly h = h
+asked_err T U old new faults.NoMemory h = h
+
+-- what the status makes of it
+pub judged_asked : (status : Status) (len : ℕ) (old mid new : State) (result : Result ℕ FarFault) → Asked old mid → new.stops ≡ mid.stops → new.tags ≡ mid.tags → Judged status len new.is_ready result → AskedSo old new result
+judged_asked status len old mid new (Ok n) a s t j = record { was_ready = a.was_ready; begun = j.2; stops = s ∙ a.stops; tags = t ∙ a.tags }
+judged_asked status len old mid new (Err faults.Stopped) a s t j = absurd j
+judged_asked status len old mid new (Err faults.Refused) a s t j = record { was_ready = a.was_ready; is_ready = j.1; stops = s ∙ a.stops; tags = t ∙ a.tags }
+judged_asked status len old mid new (Err faults.Protocol) a s t j = record { was_ready = a.was_ready; is_ready = j.1 }
+judged_asked status len old mid new (Err faults.TooLong) a s t j = absurd j
+judged_asked status len old mid new (Err faults.NoRev2) a s t j = absurd j
+judged_asked status len old mid new (Err faults.ReadOnly) a s t j = absurd j
+judged_asked status len old mid new (Err faults.NoMemory) a s t j = absurd j

@@ -1,5 +1,5 @@
 -- Capabilities are asked for, somebody logs in, and the revision is enabled.
-use Rattle.std.proofs.Common.{◌≡◌, ◌⊎◌, ◌≤◌, inl, inr, ℕ, ◌+◌, Bool, true, false, List, [], ◌∷◌, ◌++◌, refl, sym, ◌∙◌, ap, subst, arith, take, Some, None, Result, Ok, Err}
+use Rattle.std.proofs.Common.{◌≡◌, ◌⊎◌, ◌≤◌, inl, inr, ℕ, ◌+◌, Bool, true, false, List, [], ◌∷◌, ◌++◌, refl, sym, ◌∙◌, ap, subst, arith, take, Option, Some, None, Result, Ok, Err}
 use Rattle.std.specs.Prelude.{codes, ◌||◌, if◌then◌else◌}
 use Rattle.std.specs.List.{list_any}
 use Rattle.imap_commands.specs.declared.command.Request.TheVariants as requests
@@ -14,11 +14,14 @@ use Rattle.imap_link.specs.declared.fault.FarFault.{FarFault}
 use Rattle.imap_link.specs.declared.fault.FarFault.TheVariants as faults
 use Rattle.imap_link.specs.Outcomes.{Outcome, Never}
 use Rattle.imap_client.specs.Tags.{tag_text}
-use Rattle.imap_client.specs.Exchanged.{command_at, Exchanged}
+use Rattle.imap_link.specs.declared.wire.Answered.{Answered}
+use Rattle.imap_replies.specs.declared.word.Status.{Status}
+use Rattle.imap_replies.specs.declared.word.Status.TheVariants as statuses
+use Rattle.imap_client.specs.Exchanged.{command_at, AnsweredSo, Exchanged}
 use Rattle.imap_client.specs.Saying.{HeardOf}
 use Rattle.imap_client.specs.States.{State, StopCause, Failed, Broken, Bye, UsedUp, Goes, EndsSo, AskedSo}
 use Rattle.imap_client.specs.Logins.{tells_rev2, is_known, Authenticates, Rejects, Remains}
-use Rattle.imap_client.proofs.Answered.{Sure, answered, refused}
+use Rattle.imap_client.proofs.Answered.{Sure, status_so, after_so, heard_so, answered, refused}
 
 -- ---- CAPABILITY
 
@@ -116,6 +119,9 @@ module _ (n : ℕ) (user password : List ℕ) (old : Server) (before : is_before
 
 -- ---- ENABLE
 
+same_status : (s : Status) → (let x : Option Status = Some statuses.Ok in x) ≡ Some s → s ≡ statuses.Ok
+same_status s e = cc
+
 module _ (n : ℕ) (old : Server) (logged : is_logged_in old.condition ≡ true) where
   enable_sure : Sure (command_at n (requests.Enable (REV2 ∷ []))) old (Enabled (Some (REV2 ∷ [])) ∷ []) (done (tag_text n)) old
   enable_sure = record {
@@ -123,22 +129,20 @@ module _ (n : ℕ) (old : Server) (logged : is_logged_in old.condition ≡ true)
         subst (λ (b : Bool). Gives (if b then record { replies = Enabled (if has_name REV2 (REV2 ∷ []) then Some (REV2 ∷ []) else None) ∷ done (tag_text n) ∷ []; after = old } else out_of_place old (tag_text n)) said new) logged step;
   }
 
-  enable_by : (heard : List ℕ) (new : Server) (result : Result ℕ FarFault)
-      → Outcome {T = ℕ} (λ len s t. HeardOf (Enabled (Some (REV2 ∷ [])) ∷ done (tag_text n) ∷ []) (take len heard) × (t ≡ old)) Never (λ s t. t ≡ old) result old new
-      → Outcome {T = ℕ} (λ len. Remains) Never Remains result old new
-  enable_by heard new (Ok len) h = h.1
-  enable_by heard new (Err faults.Stopped) h = h
-  enable_by heard new (Err faults.Refused) h = h
-  enable_by heard new (Err faults.Protocol) h = h
-  enable_by heard new (Err faults.TooLong) h = h
-  enable_by heard new (Err faults.NoRev2) h = h
-  enable_by heard new (Err faults.ReadOnly) h = h
-  enable_by heard new (Err faults.NoMemory) h = h
-
-  pub enable_exchanged : (result : Result ℕ FarFault) (heard : List ℕ) (new : Server) → Exchanged (command_at n (requests.Enable (REV2 ∷ []))) result heard old new
-      → Outcome {T = ℕ} (λ len. Remains) Never Remains result old new
-  enable_exchanged result heard new h =
-      enable_by heard new result (answered (command_at n (requests.Enable (REV2 ∷ []))) old (Enabled (Some (REV2 ∷ [])) ∷ []) (done (tag_text n)) old enable_sure refl result heard new h)
+  pub enable_answered : (result : Result Answered FarFault) (heard : List ℕ) (new : Server) → AnsweredSo (command_at n (requests.Enable (REV2 ∷ []))) result heard old new
+      → Outcome {T = Answered} (λ a s t. (a.status ≡ statuses.Ok) × Remains s t) Never Remains result old new
+  enable_answered (Ok a) heard new h =
+      let c = command_at n (requests.Enable (REV2 ∷ [])) in
+      let xs = Enabled (Some (REV2 ∷ [])) ∷ [] in
+      let status = status_so c old xs (done (tag_text n)) old enable_sure a.status (take a.len heard) new h in
+      (same_status a.status status, (heard_so c old xs (done (tag_text n)) old enable_sure a.status (take a.len heard) new h).1)
+  enable_answered (Err faults.Stopped) heard new h = after_so (command_at n (requests.Enable (REV2 ∷ []))) old (Enabled (Some (REV2 ∷ [])) ∷ []) (done (tag_text n)) old enable_sure new h
+  enable_answered (Err faults.Refused) heard new h = h
+  enable_answered (Err faults.Protocol) heard new h = h
+  enable_answered (Err faults.TooLong) heard new h = h
+  enable_answered (Err faults.NoRev2) heard new h = h
+  enable_answered (Err faults.ReadOnly) heard new h = h
+  enable_answered (Err faults.NoMemory) heard new h = after_so (command_at n (requests.Enable (REV2 ∷ []))) old (Enabled (Some (REV2 ∷ [])) ∷ []) (done (tag_text n)) old enable_sure new h
 
 -- ---- one after another
 

@@ -8,7 +8,9 @@ use Rattle.imap_session.specs.Servers.{Server}
 use Rattle.exchange_laws.specs.Ends.{MayHave, DidCommand}
 use Rattle.imap_link.specs.declared.fault.FarFault.{FarFault}
 use Rattle.imap_link.specs.declared.fault.FarFault.TheVariants.{Stopped, Refused, Protocol, TooLong, NoRev2, ReadOnly, NoMemory}
+use Rattle.imap_link.specs.declared.wire.Answered.{Answered}
 use Rattle.imap_link.specs.Exchanges.{Replied}
+use Rattle.imap_link.specs.Outcomes.{Outcome, Never}
 use Rattle.imap_client.specs.Tags.{tag_text}
 
 -- the command with this request that is the n-th of its connection
@@ -19,6 +21,10 @@ command_at n request = record { tag = tag_text n; request = request }
 pub record RepliedWith (c : Command) (status : Status) (old new : Server) : Type 0 where
   pub bytes : List ℕ
   pub replied : Replied c status bytes old new
+
+-- the answer to the command stands at the front of the buffer; or the call was stopped, with the command done or not
+abbrev pub AnsweredSo : Command → Result Answered FarFault → (heard : List ℕ) → (old new : Server) → Type 0
+AnsweredSo c result heard old new = Outcome (λ a. Replied c a.status (take a.len heard)) Never (DidCommand c) result old new
 
 -- The answer of this length stands at the front of the buffer; or the server said NO, or BAD; or the call was stopped,
 -- with the command done or not.

@@ -17,6 +17,7 @@ use crate::session::Session;
 use imap_link::fault::FarFault;
 use imap_link::link::Link;
 use imap_replies::reply::Reply;
+use imap_replies::word::Status;
 
 impl<L: Link> Session<L> {
     ghost use Rattle.imap_client.specs.Sessions.{state_of, server_of};
@@ -92,16 +93,13 @@ impl<L: Link> Session<L> {
         ensures outcome { L.honest self.new.wire.link → is_logged_in (server_of self.old).condition ≡ true
             → Outcome (λ _. Remains) Never Remains result (server_of self.old) (server_of self.new) }
     {
-        match self.ask(&Call::Enable) {
-            Ok(len) => {
-                self.done(len);
+        let answered = self.ask_status(&Call::Enable)?;
+        match answered.status {
+            Status::Ok => {
+                self.done(answered.len);
                 Ok(())
             }
-            Err(FarFault::Refused) => {
-                self.is_ready = false;
-                Err(FarFault::NoRev2)
-            }
-            Err(fault) => Err(fault),
+            _ => Err(FarFault::NoRev2),
         }
     }
 }

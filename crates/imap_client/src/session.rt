@@ -7,7 +7,7 @@ ghost use Rattle.imap_client.specs.Stillness.{IsStill};
 ghost use Rattle.imap_link.specs.Buffers.{IsAnswerText};
 ghost use Rattle.imap_client.specs.Tags.{tag_text};
 ghost use Rattle.imap_client.specs.Requests.{IsPlain};
-ghost use Rattle.imap_client.specs.Exchanged.{command_at, Exchanged};
+ghost use Rattle.imap_client.specs.Exchanged.{command_at, AnsweredSo, Exchanged};
 ghost use Rattle.imap_client.specs.Calls.{request_of, CanAsk};
 ghost use Rattle.imap_client.specs.States.{Opened, SendStops, EndsSo, SentSo, Judged, ExchangedSo, AskedSo};
 ghost use Rattle.imap_link.specs.Faults.{IsHearing};
@@ -23,6 +23,7 @@ use imap_link::link::Link;
 use imap_link::wire::{Answered, Wire};
 use imap_replies::word::Status;
 use std::alloc::Global;
+use wire_tokens::tag::Tag;
 
 /// A session with a server, over a link.
 ///
@@ -95,7 +96,7 @@ impl<L: Link> Session<L> {
     }
 
     // A call begins: the session counts as failed until it has ended well.
-    fn begin(&mut self) -> Result<(), FarFault>
+    pub(crate) fn begin(&mut self) -> Result<(), FarFault>
         ensures same { (self.new.wire ≡ self.old.wire) × (self.new.tags ≡ self.old.tags) }
         ensures begun { self.new.is_ready ≡ false }
         ensures stuck { self.old.is_ready ≡ false → self.new ≡ self.old }
@@ -110,10 +111,10 @@ impl<L: Link> Session<L> {
         Ok(())
     }
 
-    // The command with the next tag. `Stopped`: there is none left.
-    fn command(&mut self, request: Request) -> Result<Command, FarFault>
+    // The next tag. `Stopped`: there is none left.
+    pub(crate) fn next_tag(&mut self) -> Result<Tag, FarFault>
         ensures same { (self.new.wire ≡ self.old.wire) × (self.new.is_ready ≡ self.old.is_ready) }
-        ensures command { IfOk result (λ c. (c ≡ command_at (self.old.tags + 1) request) × (self.new.tags ≡ self.old.tags + 1)) }
+        ensures tag { IfOk result (λ tag. (tag ≡ tag_text (self.old.tags + 1)) × (self.new.tags ≡ self.old.tags + 1)) }
         ensures stopped { IsErrOf result FarFault.Stopped → (self.old.tags ≡ 18446744073709551615) × (self.new.tags ≡ self.old.tags) }
         ensures err { IfErr result (λ fault. (fault ≡ FarFault.Stopped) ⊎ (fault ≡ FarFault.NoMemory)) }
     {
@@ -122,11 +123,22 @@ impl<L: Link> Session<L> {
         };
         self.tags = tags;
         let tag = tag_of(self.wire.alloc, tags)?;
+        Ok(tag)
+    }
+
+    // The command with the next tag. `Stopped`: there is none left.
+    fn command(&mut self, request: Request) -> Result<Command, FarFault>
+        ensures same { (self.new.wire ≡ self.old.wire) × (self.new.is_ready ≡ self.old.is_ready) }
+        ensures command { IfOk result (λ c. (c ≡ command_at (self.old.tags + 1) request) × (self.new.tags ≡ self.old.tags + 1)) }
+        ensures stopped { IsErrOf result FarFault.Stopped → (self.old.tags ≡ 18446744073709551615) × (self.new.tags ≡ self.old.tags) }
+        ensures err { IfErr result (λ fault. (fault ≡ FarFault.Stopped) ⊎ (fault ≡ FarFault.NoMemory)) }
+    {
+        let tag = self.next_tag()?;
         Ok(Command { tag, request })
     }
 
     // Sends a command of one line and waits for its answer, which stands in the buffer then.
-    fn send(&mut self, command: &Command) -> Result<usize, FarFault>
+    fn send(&mut self, command: &Command) -> Result<Answered, FarFault>
         requires plain { IsPlain command.now.request }
         requires stays { is_logout command.now.request ≡ false }
         requires begun { self.old.is_ready ≡ false }
@@ -134,17 +146,17 @@ impl<L: Link> Session<L> {
         ensures was_honest { L.honest self.new.wire.link → L.honest self.old.wire.link }
         ensures tags { self.new.tags ≡ self.old.tags }
         ensures sent { SentSo command.now.tag (state_of self.old) (state_of self.new) result }
-        ensures outcome { L.honest self.new.wire.link → Exchanged command.now result self.new.wire.heard.items (server_of self.old) (server_of self.new) }
-        ensures idle { IfOk result (λ len. L.honest self.new.wire.link → IsStill (ends_of (L.line self.new.wire.link) (drop len self.new.wire.heard.items))) }
-        ensures answer { IfOk result (λ len. (len ≤ length self.new.wire.heard.items) × IsAnswerText command.now.tag statuses.Ok (take len self.new.wire.heard.items)) }
+        ensures outcome { L.honest self.new.wire.link → AnsweredSo command.now result self.new.wire.heard.items (server_of self.old) (server_of self.new) }
+        ensures idle { IfOk result (λ a. L.honest self.new.wire.link → IsStill (ends_of (L.line self.new.wire.link) (drop a.len self.new.wire.heard.items))) }
+        ensures answer { IfOk result (λ a. (a.len ≤ length self.new.wire.heard.items) × IsAnswerText command.now.tag a.status (take a.len self.new.wire.heard.items)) }
     {
         let text = text_of(self.wire.alloc, command)?;
         let answered = self.wire.finish(&command.tag, &text, false)?;
-        self.judge(answered)
+        Ok(answered)
     }
 
     // What the status of an answer makes of it: after NO it is dropped, and the session goes on.
-    fn judge(&mut self, answered: Answered) -> Result<usize, FarFault>
+    pub(crate) fn judge(&mut self, answered: Answered) -> Result<usize, FarFault>
         requires begun { self.old.is_ready ≡ false }
         requires within { answered.len ≤ length self.old.wire.heard.items }
         requires idle { L.honest self.old.wire.link → IsStill (ends_of (L.line self.old.wire.link) (drop answered.len self.old.wire.heard.items)) }
@@ -165,23 +177,38 @@ impl<L: Link> Session<L> {
     }
 
     // Sends the command with the next tag, and waits for its answer.
-    fn exchange(&mut self, request: Request) -> Result<usize, FarFault>
+    fn exchange(&mut self, request: Request) -> Result<Answered, FarFault>
         requires plain { IsPlain request }
         requires stays { is_logout request ≡ false }
         requires begun { self.old.is_ready ≡ false }
         requires idle { L.honest self.old.wire.link → IsStill (ends_of (L.line self.old.wire.link) self.old.wire.heard.items) }
         ensures was_honest { L.honest self.new.wire.link → L.honest self.old.wire.link }
         ensures asked { ExchangedSo (state_of self.old) (state_of self.new) result }
-        ensures outcome { L.honest self.new.wire.link → Exchanged (command_at (self.old.tags + 1) request) result self.new.wire.heard.items (server_of self.old) (server_of self.new) }
-        ensures idle { IfOk result (λ len. L.honest self.new.wire.link → IsStill (ends_of (L.line self.new.wire.link) (drop len self.new.wire.heard.items))) }
-        ensures answer { IfOk result (λ len. (len ≤ length self.new.wire.heard.items) × IsAnswerText (tag_text self.new.tags) statuses.Ok (take len self.new.wire.heard.items)) }
+        ensures outcome { L.honest self.new.wire.link → AnsweredSo (command_at (self.old.tags + 1) request) result self.new.wire.heard.items (server_of self.old) (server_of self.new) }
+        ensures idle { IfOk result (λ a. L.honest self.new.wire.link → IsStill (ends_of (L.line self.new.wire.link) (drop a.len self.new.wire.heard.items))) }
+        ensures answer { IfOk result (λ a. (a.len ≤ length self.new.wire.heard.items) × IsAnswerText (tag_text self.new.tags) a.status (take a.len self.new.wire.heard.items)) }
     {
         let command = self.command(request)?;
         self.send(&command)
     }
 
-    /// Begins a call that sends this: sends it and waits for its answer, which stands in the buffer then. The session
-    /// counts as failed until `done`.
+    /// Begins a call that sends this: sends it and waits for its answer, whatever its status, which stands in the buffer
+    /// then. The session counts as failed until `done`.
+    pub(crate) fn ask_status(&mut self, call: &Call<'_>) -> Result<Answered, FarFault>
+        requires { CanAsk call.now }
+        ensures was_honest { L.honest self.new.wire.link → L.honest self.old.wire.link }
+        ensures stuck { self.old.is_ready ≡ false → self.new ≡ self.old }
+        ensures asked { AskedSo (state_of self.old) (state_of self.new) result }
+        ensures outcome { L.honest self.new.wire.link → AnsweredSo (command_at (self.old.tags + 1) (request_of call.now)) result self.new.wire.heard.items (server_of self.old) (server_of self.new) }
+        ensures idle { IfOk result (λ a. L.honest self.new.wire.link → IsStill (ends_of (L.line self.new.wire.link) (drop a.len self.new.wire.heard.items))) }
+        ensures answer { IfOk result (λ a. (a.len ≤ length self.new.wire.heard.items) × IsAnswerText (tag_text self.new.tags) a.status (take a.len self.new.wire.heard.items)) }
+    {
+        self.begin()?;
+        let request = call.request(self.wire.alloc)?;
+        self.exchange(request)
+    }
+
+    /// The same, where an answer that is not OK is a fault.
     pub(crate) fn ask(&mut self, call: &Call<'_>) -> Result<usize, FarFault>
         requires { CanAsk call.now }
         ensures was_honest { L.honest self.new.wire.link → L.honest self.old.wire.link }
@@ -191,9 +218,8 @@ impl<L: Link> Session<L> {
         ensures idle { IfOk result (λ len. L.honest self.new.wire.link → IsStill (ends_of (L.line self.new.wire.link) (drop len self.new.wire.heard.items))) }
         ensures answer { IfOk result (λ len. (len ≤ length self.new.wire.heard.items) × IsAnswerText (tag_text self.new.tags) statuses.Ok (take len self.new.wire.heard.items)) }
     {
-        self.begin()?;
-        let request = call.request(self.wire.alloc)?;
-        self.exchange(request)
+        let answered = self.ask_status(call)?;
+        self.judge(answered)
     }
 
     /// Ends a call: drops its answer, of this length.

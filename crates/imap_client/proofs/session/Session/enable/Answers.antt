@@ -1,37 +1,46 @@
-use Rattle.std.proofs.Common.{◌≡◌, ℕ, ◌+◌, true, sym, subst, Ok, Err}
+use Rattle.std.proofs.Common.{◌≡◌, ℕ, ◌+◌, true, sym, ◌∙◌, ap, subst, Result, Ok, Err}
+use Rattle.std.proofs.lemmas.Result.{err_from_is_err_and}
+use Rattle.imap_replies.specs.declared.word.Status.TheVariants as statuses
 use Rattle.imap_session.specs.Servers.{is_logged_in}
 use Rattle.imap_link.specs.declared.fault.FarFault.{FarFault}
+use Rattle.imap_link.specs.declared.wire.Answered.{Answered}
 use Rattle.imap_link.specs.Outcomes.{Outcome, Never}
 use Rattle.imap_client.specs.Logins.{Remains}
+use Rattle.imap_client.specs.States.{EndsSo}
 use Rattle.imap_client.proofs.Changed.{outcome_err, state_of_parts}
-use Rattle.imap_client.proofs.LoggingIn.{enable_exchanged, asked_ends}
+use Rattle.imap_client.proofs.LoggingIn.{enable_answered, asked_ends}
 use Rattle.imap_client.proofs.session.Session.enable.Goals as goal
 
-pub returns-in-Err-Refused-clause-outcome : goal.returns-in-Err-Refused-clause-outcome
-returns-in-Err-Refused-clause-outcome g c honest logged =
-    let old = (g.L.Link.line c.args.self.now.wire.link).end.server in
-    let new = (g.L.Link.line c.ask.new.self.wire.link).end.server in
-    let f = c.in-Err-Refused.field-0 in
-    subst (λ (x : FarFault). Outcome {T = ℕ} (λ len. Remains) Never Remains (Err x) old new) c.in-Err-Refused.field-0-is
-    (enable_exchanged (c.args.self.now.tags + 1) old logged (Err f) c.ask.new.self.wire.heard.items new (c.in-Err-Refused.ensures.outcome honest))
-
-pub returns-in-Err : goal.returns-in-Err
-returns-in-Err g c =
+pub returns-in_err-answered-clause-ends : goal.returns-in_err-answered-clause-ends
+returns-in_err-answered-clause-ends g c =
+    let p = err_from_is_err_and c.from_residual.result c.from_residual.ensures.1 in
     let was = c.args.self.now in
-    let now = c.ask.new.self in
-    let old = (g.L.Link.line was.wire.link).end.server in
-    let new = (g.L.Link.line now.wire.link).end.server in
-    record {
-      was_honest = c.in-Err.ensures.was_honest;
-      stuck = c.in-Err.ensures.stuck;
-      ends = asked_ends ℕ (Unit {0}) (state_of_parts was.is_ready was.tags (g.L.Link.stops was.wire.link) was.wire.heard.items) (state_of_parts now.is_ready now.tags (g.L.Link.stops now.wire.link) now.wire.heard.items) c.in-Err.fault c.in-Err.ensures.asked;
-      outcome = λ honest logged.
-          outcome_err ℕ (Unit {0}) (λ len. Remains) (λ x. Remains) Never Remains old new c.in-Err.fault
-          (enable_exchanged (was.tags + 1) old logged (Err c.in-Err.fault) now.wire.heard.items new (c.in-Err.ensures.outcome honest));
-    }
+    let now = c.ask_status.new.self in
+    let old = state_of_parts was.is_ready was.tags (g.L.Link.stops was.wire.link) was.wire.heard.items in
+    let new = state_of_parts now.is_ready now.tags (g.L.Link.stops now.wire.link) now.wire.heard.items in
+    subst (λ (r : Result (Unit {0}) FarFault). EndsSo 1 old new r) (sym (p.1 ∙ ap Err p.2)) (asked_ends Answered (Unit {0}) old new c.in_err-answered.field-0.0 c.in_err-answered.ensures.asked)
+
+pub returns-in_err-answered-clause-outcome : goal.returns-in_err-answered-clause-outcome
+returns-in_err-answered-clause-outcome g c honest logged =
+    let p = err_from_is_err_and c.from_residual.result c.from_residual.ensures.1 in
+    let f = c.in_err-answered.field-0.0 in
+    let old = (g.L.Link.line c.args.self.now.wire.link).end.server in
+    let new = (g.L.Link.line c.ask_status.new.self.wire.link).end.server in
+    subst (λ (r : Result (Unit {0}) FarFault). Outcome (λ x. Remains) Never Remains r old new) (sym (p.1 ∙ ap Err p.2))
+    (outcome_err Answered (Unit {0}) (λ a s t. (a.status ≡ statuses.Ok) × Remains s t) (λ x. Remains) Never Remains old new f
+    (enable_answered (c.args.self.now.tags + 1) old logged (Err f) c.ask_status.new.self.wire.heard.items new (c.in_err-answered.ensures.outcome honest)))
+
+pub returns-in_default-clause-outcome : goal.returns-in_default-clause-outcome
+returns-in_default-clause-outcome g c honest logged =
+    let old = (g.L.Link.line c.args.self.now.wire.link).end.server in
+    let new = (g.L.Link.line c.ask_status.new.self.wire.link).end.server in
+    let told = enable_answered (c.args.self.now.tags + 1) old logged (Ok c.in_ok-answered.answered) c.ask_status.new.self.wire.heard.items new (c.in_ok-answered.ensures.outcome honest) in
+    c.in_default.not-Ok told.0
 
 pub returns-in-Ok-clause-outcome : goal.returns-in-Ok-clause-outcome
 returns-in-Ok-clause-outcome g c =
     let old = (g.L.Link.line c.args.self.now.wire.link).end.server in
     subst (λ l. g.L.Link.honest l → is_logged_in old.condition ≡ true → Remains old (g.L.Link.line l).end.server) (sym c.done.ensures.link)
-    (λ honest logged. enable_exchanged (c.args.self.now.tags + 1) old logged (Ok c.in-Ok.len) c.ask.new.self.wire.heard.items (g.L.Link.line c.ask.new.self.wire.link).end.server (c.in-Ok.ensures.outcome honest))
+    (λ honest logged.
+    let told = enable_answered (c.args.self.now.tags + 1) old logged (Ok c.in_ok-answered.answered) c.ask_status.new.self.wire.heard.items (g.L.Link.line c.ask_status.new.self.wire.link).end.server (c.in_ok-answered.ensures.outcome honest) in
+    told.1)
