@@ -93,7 +93,7 @@ module _ (n : ℕ) (old : Server) (m : FarMailbox) (is : selected old ≡ Some m
 
 -- ---- the mailbox stays selected
 
-abbrev with_store : (Store → Store) → FarMailbox → FarMailbox
+abbrev pub with_store : (Store → Store) → FarMailbox → FarMailbox
 with_store change m = record m { store = change m.store }
 
 changed_by : (change : Store → Store) (name : List ℕ) (m : FarMailbox) (ms : List FarMailbox) (b : Bool) → same_name m.name name ≡ b
@@ -112,7 +112,7 @@ by_condition change name ms Authenticated e = refl
 by_condition change name ms (Selected at) e = changed_at change at ms
 by_condition change name ms LoggedOut e = refl
 
-selected_changed : (change : Store → Store) (name : List ℕ) (s : Server) → selected_name s.condition ≡ Some name → selected (with_selected change s) ≡ option_map (with_store change) (selected s)
+pub selected_changed : (change : Store → Store) (name : List ℕ) (s : Server) → selected_name s.condition ≡ Some name → selected (with_selected change s) ≡ option_map (with_store change) (selected s)
 selected_changed change name s e = by_condition change name s.mailboxes s.condition e
 
 -- its validity stays, and its next UID does not fall

@@ -44,7 +44,7 @@ use Rattle.imap_client.proofs.Plain.{lacks, calm, no_return, IsCalm, IsLine, tam
 
 -- ---- tokens
 
-tag_tame : (tag t : List ℕ) → TagText tag t → list_all tame t ≡ true
+pub tag_tame : (tag t : List ℕ) → TagText tag t → list_all tame t ≡ true
 tag_tame tag t h = class_tame is_tag_byte refl refl t h.1.each
 
 end_tame : (e : SetEnd) (t : List ℕ) → EndText e t → list_all tame t ≡ true
@@ -66,7 +66,7 @@ listed_tame : (names : List (List ℕ)) (t : List ℕ) → ListedText kinds.Flag
 listed_tame [] t h = ap (list_all tame) h
 listed_tame (n ∷ names) t h = tame_items (NameText kinds.Flag) name_tame 32 refl (n ∷ names) t h
 
-flags_tame : (set : ℕ) (t : List ℕ) → WrittenFlags set t → list_all tame t ≡ true
+pub flags_tame : (set : ℕ) (t : List ℕ) → WrittenFlags set t → list_all tame t ≡ true
 flags_tame set t h = tame_then (tame_is (40 ∷ []) refl) (tame_then (listed_tame h.spelled.names) (tame_is (41 ∷ []) refl)) t h.spelled.spelled
 
 rev2_tame : (names : List (List ℕ)) (t : List ℕ) → names ≡ REV2 ∷ [] → NamesText names t → list_all tame t ≡ true
@@ -189,7 +189,7 @@ behind_short (requests.Fetch set what) p = let a = items_short what in omega (ar
 behind_short (requests.Store set mode flags) p = let a = mode_short mode in omega (arith, p, a)
 behind_short (requests.Expunge set) p = omega (arith, p)
 
-tag_short : (c : Command) (t : List ℕ) → Written c t → length c.tag ≤ 32
+pub tag_short : (c : Command) (t : List ℕ) → Written c t → length c.tag ≤ 32
 tag_short c t h = let same = h.first.0 in let most = h.first.1.most in let long = ap length same in omega (arith, most, long)
 
 pub plain_completes : (c : Command) (t : List ℕ) → IsPlain c.request → Written c t → Completes c c.tag [] t

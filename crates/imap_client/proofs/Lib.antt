@@ -1,6 +1,9 @@
 pub mod TagLemmas
 pub mod Plain
 pub mod Completing
+pub mod InTwo
+pub mod Adding
+pub mod Offering
 pub mod Left
 pub mod Still
 pub mod Exchanging

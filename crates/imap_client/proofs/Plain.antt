@@ -23,7 +23,7 @@ abbrev pub calm : List ℕ → Bool
 calm t = list_all no_return t
 
 -- neither behind the CR of a literal nor in one
-abbrev soft : Phase → Bool
+abbrev pub soft : Phase → Bool
 soft phases.Plain = true
 soft phases.Brace = true
 soft (phases.Digits n) = true
@@ -43,7 +43,7 @@ soft_close : (c : Bool) (n b : ℕ) (plus : Bool) → not c ≡ true → soft (i
 soft_close true n b plus h = cc
 soft_close false n b plus h = soft_restart b
 
-soft_next : (p : Phase) (b : ℕ) → soft p ≡ true → no_return b ≡ true → soft (next p b) ≡ true
+pub soft_next : (p : Phase) (b : ℕ) → soft p ≡ true → no_return b ≡ true → soft (next p b) ≡ true
 soft_next phases.Plain b h k = soft_restart b
 soft_next phases.Brace b h k = soft_if (is_digit b) (phases.Digits (b - 48)) (restart b) refl (soft_restart b)
 soft_next (phases.Digits n) b h k =
@@ -54,7 +54,7 @@ soft_next (phases.Close n plus) b h k = soft_close (b == 13) n b plus k
 soft_next (phases.Return n plus) b h k = cc
 soft_next (phases.In n) b h k = cc
 
-asked_none : (p : Phase) (b : ℕ) → soft p ≡ true → asked Commands p b ≡ None
+pub asked_none : (p : Phase) (b : ℕ) → soft p ≡ true → asked Commands p b ≡ None
 asked_none phases.Plain b h = refl
 asked_none phases.Brace b h = refl
 asked_none (phases.Digits n) b h = refl

@@ -9,6 +9,8 @@ pub mod Openings
 pub mod Boxes
 pub mod Logins
 pub mod Creations
+pub mod Appending
+pub mod Given
 pub mod Nowhere
 pub mod Laws
 pub mod Calls

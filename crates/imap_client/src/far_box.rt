@@ -33,11 +33,13 @@ use mailcore::uid::Uid;
 /// gives the session back, which can be connected anew.
 #[derive(Drop)]
 pub struct FarBox<L: Link> {
-    session: Session<L>,
-    name: Vec<u8>,
-    validity: u32,
-    // A UID that is above those of all messages that were there when the mailbox was selected.
-    next: u32,
+    pub(crate) session: Session<L>,
+    pub(crate) name: Vec<u8>,
+    pub(crate) validity: u32,
+    // A UID that is above those of all messages of which the server has told: those that were there when the mailbox was
+    // selected, and those that were added since, where their UIDs were told.
+    pub(crate) next: u32,
+    pub ghost named: { IsWord name.items },
     pub ghost selected: { session.is_ready ≡ true → L.honest session.wire.link
         → IsSelected name.items validity next (L.line session.wire.link).end.server } by { Prim.hlevel props },
 }

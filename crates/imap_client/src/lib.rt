@@ -1,8 +1,11 @@
 //! A session with an IMAP server, and the far mailbox, over any link.
 #![tactic(auto)]
 
+mod addition;
+pub mod appending;
 mod call;
 pub mod far_box;
+mod given;
 pub mod laws;
 mod login;
 mod mailboxes;

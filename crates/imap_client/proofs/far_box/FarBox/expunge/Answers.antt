@@ -29,6 +29,7 @@ returns-else-is_empty-clause-ends g c =
 
 pub invariant_of-self : goal.invariant_of-self
 invariant_of-self g c = record {
+  named = c.args.self.now.named;
   selected = λ ready honest.
       let was = c.args.self.now.session in
       let now = c.change.new.self in

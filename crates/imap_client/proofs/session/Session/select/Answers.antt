@@ -1,10 +1,12 @@
 use Rattle.std.proofs.Common.{List, ℕ, sym, subst}
 use Rattle.imap_client.specs.Boxes.{IsSelected}
+use Rattle.imap_client.specs.Requests.{IsWord}
 use Rattle.imap_client.proofs.Selecting.{selected_so}
 use Rattle.imap_client.proofs.session.Session.select.Goals as goal
 
 pub invariant_of-result : goal.invariant_of-result
 invariant_of-result g c = record {
+  named = subst IsWord (sym c.in-Ok.ensures.name) c.requires;
   selected = λ ready honest.
       let old = (g.L.Link.line c.args.self.wire.link).end.server in
       let new = (g.L.Link.line c.choose.new.self.wire.link).end.server in

@@ -1,0 +1,323 @@
+-- A message is added to the selected mailbox.
+use Rattle.std.proofs.Common.{◌≡◌, ◌⊎◌, ◌<◌, ◌≤◌, inl, inr, ℕ, ◌+◌, Bool, true, false, List, [], ◌∷◌, ◌++◌, refl, sym, ◌∙◌, ap, subst, arith, take, length, Option, Some, None, Result, Ok, Err}
+use Rattle.std.specs.Prelude.{◌==◌, ◌&&◌, nat_le, nat_lt, if◌then◌else◌}
+use Rattle.std.specs.List.{fold}
+use Rattle.std.specs.Option.{option_map}
+use Rattle.std.proofs.lemmas.Bool.{cases_Bool, and_from, le-leb, leb-true}
+use Rattle.mailcore.specs.Stores.{Store}
+use Rattle.mailcore.specs.Operations.{added}
+use Rattle.imap_commands.specs.declared.command.Command.{Command}
+use Rattle.imap_commands.specs.declared.command.Request.TheVariants as requests
+use Rattle.imap_replies.specs.declared.word.Status.{Status}
+use Rattle.imap_replies.specs.declared.word.Status.TheVariants as statuses
+use Rattle.imap_replies.specs.declared.response.Code.TheVariants as codes_of
+use Rattle.imap_replies.specs.declared.reply.Reply.{Reply}
+use Rattle.imap_replies.specs.declared.reply.Reply.TheVariants.{Exists}
+use Rattle.imap_session.specs.Mailboxes.{FarMailbox, same_name, mailbox_at, changed}
+use Rattle.imap_session.specs.Servers.{Condition, NotAuthenticated, Authenticated, Selected, LoggedOut, Server, Quiet, is_logged_in, selected, selected_in, changed_in, with_selected}
+use Rattle.imap_session.specs.Answering.{Gives, only, done_with, refused}
+use Rattle.imap_session.specs.AppendCommand.{MayGive, grown, AppendsUnder, NoneLeft, AppendsAt, AppendsIf}
+use Rattle.imap_session.specs.Heard.{AreReplies, LeavesOut, WithoutUid}
+use Rattle.imap_session.specs.Steps.{Step}
+use Rattle.exchange_laws.specs.Ends.{MayHave, DidCommand}
+use Rattle.imap_link.specs.declared.fault.FarFault.{FarFault}
+use Rattle.imap_link.specs.declared.fault.FarFault.TheVariants as faults
+use Rattle.imap_link.specs.Outcomes.{Outcome}
+use Rattle.imap_link.specs.Exchanges.{Replied}
+use Rattle.imap_client.specs.declared.given.Given.{Given}
+use Rattle.imap_client.specs.Tags.{tag_text}
+use Rattle.imap_client.specs.Exchanged.{command_at, Exchanged}
+use Rattle.imap_client.specs.Saying.{status_of, final_status, HeardOf}
+use Rattle.imap_client.specs.States.{State, EndsSo}
+use Rattle.imap_client.specs.Given.{given_more, given_in, uid_told}
+use Rattle.imap_client.specs.Boxes.{selected_name, is_next, IsSelected, Becomes}
+use Rattle.imap_client.specs.Appending.{AddsUnder, AddsSome, Adds, IsTold, NoUidLeft}
+use Rattle.imap_client.proofs.Answered.{final_last, did_step, said_of}
+use Rattle.imap_client.proofs.Changed.{with_store, selected_changed, there_of}
+
+-- ---- the mailbox that is selected
+
+-- with a mailbox of this name selected
+pub record At (name : List ℕ) (mailboxes : List FarMailbox) (c : Condition) : Type 0 where
+  pub logged_in : is_logged_in c ≡ true
+  pub there : selected_in mailboxes c ≡ mailbox_at name mailboxes
+  pub changes : (change : Store → Store) → changed_in c change mailboxes ≡ changed change name mailboxes
+
+at_by : (name at : List ℕ) (mailboxes : List FarMailbox) → at ≡ name → At name mailboxes (Selected at)
+at_by name at mailboxes e = record {
+  logged_in = refl;
+  there = ap (λ (n : List ℕ). mailbox_at n mailboxes) e;
+  changes = λ change. ap (λ (n : List ℕ). changed change n mailboxes) e;
+}
+
+same_some : (a b : List ℕ) → (let x : Option (List ℕ) = Some a in x) ≡ Some b → a ≡ b
+same_some a b e = cc
+
+at_of : (name : List ℕ) (mailboxes : List FarMailbox) (c : Condition) → selected_name c ≡ Some name → At name mailboxes c
+at_of name mailboxes NotAuthenticated e = cc
+at_of name mailboxes Authenticated e = cc
+at_of name mailboxes (Selected at) e = at_by name at mailboxes (same_some at name e)
+at_of name mailboxes LoggedOut e = cc
+
+-- ---- what was done
+
+-- the message was added, and the bytes are what was said of it
+pub record AddedSo (n : ℕ) (name : List ℕ) (m : FarMailbox) (flags : ℕ) (message bytes : List ℕ) (old new : Server) : Type 0 where
+  pub uid : ℕ
+  pub under : AddsUnder m flags message uid old new
+  pub heard : HeardOf (grown old.condition name (length m.store.messages + 1) ++ done_with (tag_text n) (codes_of.AppendUid m.store.validity uid) ∷ []) bytes
+
+module _ (n : ℕ) (name : List ℕ) (flags : ℕ) (message : List ℕ) (old : Server) (m : FarMailbox) (named : selected_name old.condition ≡ Some name) (is : selected old ≡ Some m) where
+  abbrev this : Command
+  this = command_at n (requests.Append name flags message)
+
+  -- it was added, or no UID is left
+  by_step : (said : List Reply) (new : Server) → Step old this said new → NoneLeft old m (tag_text n) said new ⊎ AppendsUnder old m (tag_text n) name flags message said new
+  by_step said new step =
+      let at = at_of name old.mailboxes old.condition named in
+      subst (λ (x : Option FarMailbox). AppendsAt x old (tag_text n) name flags message said new) (sym at.there ∙ is)
+      (subst (λ (b : Bool). AppendsIf b old (tag_text n) name flags message said new) at.logged_in step)
+
+  under_of : (said : List Reply) (new : Server) → (a : AppendsUnder old m (tag_text n) name flags message said new) → AddsUnder m flags message a.uid old new
+  under_of said new a =
+      let at = at_of name old.mailboxes old.condition named in
+      record { may = a.may; after = a.gives.1 ∙ ap (λ (ms : List FarMailbox). record old { mailboxes = ms }) (sym (at.changes (added a.uid flags message))) }
+
+  added_status : (said : List Reply) (new : Server) (status : Status) → AppendsUnder old m (tag_text n) name flags message said new → final_status said ≡ Some status → statuses.Ok ≡ status
+  added_status said new status a e =
+      let last : final_status said ≡ Some statuses.Ok = ap final_status a.gives.0 ∙ final_last (grown old.condition name (length m.store.messages + 1)) (done_with (tag_text n) (codes_of.AppendUid m.store.validity a.uid)) in
+      cc
+
+  none_status : (said : List Reply) (new : Server) (status : Status) → NoneLeft old m (tag_text n) said new → final_status said ≡ Some status → statuses.No ≡ status
+  none_status said new status l e = let last : final_status said ≡ Some statuses.No = ap final_status l.gives.0 in cc
+
+  ok_so : (bytes : List ℕ) (new : Server) → Replied this statuses.Ok bytes old new → AddedSo n name m flags message bytes old new
+  ok_so bytes new r =
+      let s = said_of this statuses.Ok bytes old new r in
+      elim (by_step s.said new s.step) [
+        | inl l ↦ (let both = none_status s.said new statuses.Ok l s.status_is in cc)
+        | inr a ↦ record { uid = a.uid; under = under_of s.said new a; heard = subst (λ (rs : List Reply). HeardOf rs bytes) a.gives.0 s.heard }
+      ]
+
+  no_so : (bytes : List ℕ) (new : Server) → Replied this statuses.No bytes old new → NoUidLeft m old new
+  no_so bytes new r =
+      let s = said_of this statuses.No bytes old new r in
+      elim (by_step s.said new s.step) [
+        | inl l ↦ (l.gives.1, l.last)
+        | inr a ↦ (let both = added_status s.said new statuses.No a s.status_is in cc)
+      ]
+
+  bad_so : (bytes : List ℕ) (new : Server) → Replied this statuses.Bad bytes old new → ⊥
+  bad_so bytes new r =
+      let s = said_of this statuses.Bad bytes old new r in
+      elim (by_step s.said new s.step) [
+        | inl l ↦ (let both = none_status s.said new statuses.Bad l s.status_is in cc)
+        | inr a ↦ (let both = added_status s.said new statuses.Bad a s.status_is in cc)
+      ]
+
+  may_so : (new : Server) → MayHave (DidCommand this) old new → MayHave (AddsSome m flags message) old new
+  may_so new (inl q) = inl q
+  may_so new (inr d) =
+      elim (by_step d.said new (did_step this old d.said new d.did)) [
+        | inl l ↦ inl l.gives.1
+        | inr a ↦ inr (record { uid = a.uid; under = under_of d.said new a })
+      ]
+
+  pub add_exchanged : (result : Result ℕ FarFault) (heard : List ℕ) (new : Server) → Exchanged this result heard old new
+      → Outcome {T = ℕ} (λ len. AddedSo n name m flags message (take len heard)) (NoUidLeft m) (AddsSome m flags message) result old new
+  add_exchanged (Ok len) heard new h = ok_so (take len heard) new h
+  add_exchanged (Err faults.Stopped) heard new h = may_so new h
+  add_exchanged (Err faults.Refused) heard new h = no_so h.bytes new h.replied
+  add_exchanged (Err faults.Protocol) heard new h = bad_so h.bytes new h.replied
+  add_exchanged (Err faults.TooLong) heard new h = h
+  add_exchanged (Err faults.NoRev2) heard new h = h
+  add_exchanged (Err faults.ReadOnly) heard new h = h
+  add_exchanged (Err faults.NoMemory) heard new h = may_so new h
+
+  pub some_of : (bytes : List ℕ) (new : Server) → AddedSo n name m flags message bytes old new → AddsSome m flags message old new
+  some_of bytes new a = record { uid = a.uid; under = a.under }
+
+-- ---- what is told of it
+
+by_same : (b : Bool) (n : ℕ) → ((if b then Exists n ∷ [] else []) ≡ []) ⊎ ((if b then Exists n ∷ [] else []) ≡ Exists n ∷ [])
+by_same true n = inr refl
+by_same false n = inl refl
+
+none_or_one : (c : Condition) (name : List ℕ) (n : ℕ) → (grown c name n ≡ []) ⊎ (grown c name n ≡ Exists n ∷ [])
+none_or_one NotAuthenticated name n = inl refl
+none_or_one Authenticated name n = inl refl
+none_or_one (Selected at) name n = by_same (same_name at name) n
+none_or_one LoggedOut name n = inl refl
+
+-- nothing, or its validity and its UID
+abbrev IsOf : (validity uid : ℕ) → Option Given → Type 0
+IsOf validity uid given = (given ≡ None) ⊎ (given ≡ Some (record { validity = validity; uid = uid }))
+
+module _ (tag : List ℕ) (validity uid : ℕ) where
+  abbrev ends : Reply
+  ends = done_with tag (codes_of.AppendUid validity uid)
+
+  last_given : (h : Reply) → (h ≡ ends) ⊎ WithoutUid h ends → IsOf validity uid (given_more None h)
+  last_given h (inl e) = inr (ap (given_more None) e)
+  last_given h (inr w) = inl (ap (given_more None) w.heard_is)
+
+  given_alone : (hs : List Reply) → LeavesOut hs (ends ∷ []) → IsOf validity uid (given_in hs)
+  given_alone [] l = absurd l
+  given_alone (h ∷ []) l = last_given h l.0
+  given_alone (h ∷ i ∷ hs) l = absurd l.1
+
+  passed : (n : ℕ) (h : Reply) → (h ≡ Exists n) ⊎ WithoutUid h (Exists n) → given_more None h ≡ None
+  passed n h (inl e) = ap (given_more None) e
+  passed n h (inr w) = let said = w.said_is in cc
+
+  given_behind : (n : ℕ) (hs : List Reply) → LeavesOut hs (Exists n ∷ ends ∷ []) → IsOf validity uid (given_in hs)
+  given_behind n [] l = absurd l
+  given_behind n (h ∷ []) l = absurd l.1
+  given_behind n (h ∷ i ∷ []) l = subst (λ (g : Option Given). IsOf validity uid (given_more g i)) (sym (passed n h l.0)) (last_given i l.1.0)
+  given_behind n (h ∷ i ∷ j ∷ hs) l = absurd l.1.1
+
+  given_of : (c : Condition) (name : List ℕ) (n : ℕ) (hs : List Reply) → LeavesOut hs (grown c name n ++ ends ∷ []) → IsOf validity uid (given_in hs)
+  given_of c name n hs l = elim (none_or_one c name n) [
+    | inl e ↦ given_alone hs (subst (λ (xs : List Reply). LeavesOut hs (xs ++ ends ∷ [])) e l)
+    | inr e ↦ given_behind n hs (subst (λ (xs : List Reply). LeavesOut hs (xs ++ ends ∷ [])) e l)
+  ]
+
+-- the UID is told, or none
+pub record ToldSo (uid : ℕ) (r : Result (Option ℕ) FarFault) : Type 0 where
+  pub told : Option ℕ
+  pub is : r ≡ Ok told
+  pub is_told : IsTold told uid
+
+eq_true : (a b : ℕ) → a ≡ b → (a == b) ≡ true
+eq_true a b e = grind (arith, e)
+
+told_by : (validity next known uid : ℕ) (given : Option Given) → known ≡ validity → next ≤ uid → uid < 4294967295 → IsOf validity uid given → ToldSo uid (uid_told given known next)
+told_by validity next known uid given e least below (inl g) = record { told = None; is = ap (λ (x : Option Given). uid_told x known next) g; is_told = tt }
+told_by validity next known uid given e least below (inr g) =
+    let fits : (validity == known && nat_le next uid && nat_lt uid 4294967295) ≡ true = grind (arith, e, least, below) in
+    record {
+      told = Some uid;
+      is = ap (λ (x : Option Given). uid_told x known next) g ∙ ap (λ (b : Bool). if b then (let x : Result (Option ℕ) FarFault = Ok (Some uid) in x) else Err faults.Protocol) fits;
+      is_told = refl;
+    }
+
+validity_is : (m : FarMailbox) (x : Option FarMailbox) (v : ℕ) → x ≡ Some m → option_map (λ y. y.store.validity) x ≡ Some v → v ≡ m.store.validity
+validity_is m x v e h = let both : (let y : Option ℕ = Some m.store.validity in y) ≡ Some v = sym (ap (option_map (λ y. y.store.validity)) e) ∙ h in cc
+
+next_at_most : (m : FarMailbox) (x : Option FarMailbox) (n : ℕ) → x ≡ Some m → is_next n x ≡ true → n ≤ m.store.next
+next_at_most m x n e h = leb-true n m.store.next (sym (ap (is_next n) e) ∙ h)
+
+pub told_so : (n : ℕ) (name : List ℕ) (m : FarMailbox) (flags : ℕ) (message bytes : List ℕ) (old new : Server) (validity next : ℕ) → IsSelected name validity next old → selected old ≡ Some m
+    → (a : AddedSo n name m flags message bytes old new) → (given : Option Given) → ((rs : List Reply) → AreReplies rs bytes → given ≡ given_in rs) → ToldSo a.uid (uid_told given validity next)
+told_so n name m flags message bytes old new validity next sel is a given told =
+    let least = next_at_most m (selected old) next is sel.2 in
+    let may = a.under.may in
+    let at_least = may.at_least in
+    told_by m.store.validity next validity a.uid given (validity_is m (selected old) validity is sel.1) (omega (arith, least, at_least)) may.below
+    (subst (IsOf m.store.validity a.uid) (sym (told a.heard.replies a.heard.spelled)) (given_of (tag_text n) m.store.validity a.uid old.condition name (length m.store.messages + 1) a.heard.replies a.heard.left_out))
+
+same_told : (a b : Option ℕ) → (let x : Result (Option ℕ) FarFault = Ok a in x) ≡ Ok b → a ≡ b
+same_told a b e = cc
+
+never_err : (a : Option ℕ) (f : FarFault) → (let x : Result (Option ℕ) FarFault = Ok a in x) ≡ Err f → ⊥
+never_err a f e = cc
+
+pub adds_so : (n : ℕ) (name : List ℕ) (m : FarMailbox) (flags : ℕ) (message bytes : List ℕ) (old new : Server) (r : Result (Option ℕ) FarFault) (told : Option ℕ)
+    → (a : AddedSo n name m flags message bytes old new) → ToldSo a.uid r → r ≡ Ok told → Adds m flags message told old new
+adds_so n name m flags message bytes old new r told a t e =
+    record { uid = a.uid; under = a.under; is_told = subst (λ (x : Option ℕ). IsTold x a.uid) (same_told t.told told (sym t.is ∙ e)) t.is_told }
+
+pub never_protocol : (uid : ℕ) (r : Result (Option ℕ) FarFault) (f : FarFault) → ToldSo uid r → r ≡ Err f → ⊥
+never_protocol uid r f t e = never_err t.told f (sym t.is ∙ e)
+
+-- and else it breaks the protocol
+fails_by : (b : Bool) (uid : ℕ) (f : FarFault) → (if b then (let x : Result (Option ℕ) FarFault = Ok (Some uid) in x) else Err faults.Protocol) ≡ Err f → f ≡ faults.Protocol
+fails_by true uid f e = cc
+fails_by false uid f e = cc
+
+pub told_fails : (given : Option Given) (validity next : ℕ) (f : FarFault) → uid_told given validity next ≡ Err f → f ≡ faults.Protocol
+told_fails None validity next f e = absurd (never_err None f e)
+told_fails (Some given) validity next f e = fails_by (given.validity == validity && nat_le next given.uid && nat_lt given.uid 4294967295) given.uid f e
+
+-- ---- the mailbox stays selected
+
+-- a next UID that is known where one was told
+abbrev pub next_known : (next : ℕ) → Option ℕ → ℕ
+next_known next None = next
+next_known next (Some uid) = uid + 1
+
+known_least : (next uid : ℕ) (told : Option ℕ) → next ≤ uid → IsTold told uid → next_known next told ≤ uid + 1
+known_least next uid None least t = omega (arith, least)
+known_least next uid (Some u) least t = omega (arith, t)
+
+under_selected : (name : List ℕ) (validity next now : ℕ) (m : FarMailbox) (flags : ℕ) (message : List ℕ) (uid : ℕ) (old new : Server) → IsSelected name validity next old → selected old ≡ Some m
+    → AddsUnder m flags message uid old new → now ≤ uid + 1 → IsSelected name validity now new
+under_selected name validity next now m flags message uid old new h is a most =
+    let change = added uid flags message in
+    let there : selected (with_selected change old) ≡ Some (with_store change m) = selected_changed change name old h.0 ∙ ap (option_map (with_store change)) is in
+    subst (IsSelected name validity now) (sym a.after)
+    (h.0, ap (option_map (λ y. y.store.validity)) there ∙ ap (λ (v : ℕ). Some v) (sym (validity_is m (selected old) validity is h.1)), ap (is_next now) there ∙ le-leb now (uid + 1) most)
+
+pub told_selected : (name : List ℕ) (validity next : ℕ) (m : FarMailbox) (flags : ℕ) (message : List ℕ) (told : Option ℕ) (old new : Server) → IsSelected name validity next old → selected old ≡ Some m
+    → Adds m flags message told old new → IsSelected name validity (next_known next told) new
+told_selected name validity next m flags message told old new h is a =
+    let least = next_at_most m (selected old) next is h.2 in
+    let may = a.under.may in
+    let at_least = may.at_least in
+    let below : next ≤ a.uid = omega (arith, least, at_least) in
+    under_selected name validity next (next_known next told) m flags message a.uid old new h is a.under (known_least next a.uid told below a.is_told)
+
+-- where a call ended so
+module _ (T : Type 0) (was now : State) (old new : Server) where
+  not_ready : (b : Bool) → b ≡ true → b ≡ false → ⊥
+  not_ready b e f = let both : true ≡ false = sym e ∙ f in cc
+
+  -- of a session that had failed
+  stuck_outcome : (does : T → Server → Server → Type 0) (refuses effect : Server → Server → Type 0) (r : Result T FarFault) → EndsSo 1 was now r → was.is_ready ≡ false → new ≡ old → Outcome does refuses effect r old new
+  stuck_outcome does refuses effect (Ok x) e f same = absurd (not_ready was.is_ready e.was_ready f)
+  stuck_outcome does refuses effect (Err faults.Stopped) e f same = inl same
+  stuck_outcome does refuses effect (Err faults.Refused) e f same = absurd (not_ready was.is_ready e.was_ready f)
+  stuck_outcome does refuses effect (Err faults.Protocol) e f same = absurd (not_ready was.is_ready e.was_ready f)
+  stuck_outcome does refuses effect (Err faults.TooLong) e f same = absurd (not_ready was.is_ready e.was_ready f)
+  stuck_outcome does refuses effect (Err faults.NoRev2) e f same = absurd (not_ready was.is_ready e.was_ready f)
+  stuck_outcome does refuses effect (Err faults.ReadOnly) e f same = absurd (not_ready was.is_ready e.was_ready f)
+  stuck_outcome does refuses effect (Err faults.NoMemory) e f same = inl same
+
+  pub outcome_where : (does : T → Server → Server → Type 0) (refuses effect : Server → Server → Type 0) (r : Result T FarFault) → EndsSo 1 was now r → (was.is_ready ≡ false → new ≡ old)
+      → (was.is_ready ≡ true → Outcome does refuses effect r old new) → Outcome does refuses effect r old new
+  outcome_where does refuses effect r e same go = elim (cases_Bool was.is_ready) [ inl t ↦ go t | inr f ↦ stuck_outcome does refuses effect r e f (same f) ]
+
+-- of a session that goes on behind a fault
+module _ (was now : State) (old new : Server) (name : List ℕ) (validity next flags : ℕ) (message : List ℕ) where
+  no_more : (b : Bool) → b ≡ true → b ≡ false → ⊥
+  no_more b e f = let both : true ≡ false = sym e ∙ f in cc
+
+  abbrev OutSo : FarFault → Type 0
+  OutSo f = IsSelected name validity next old → (m : FarMailbox) → selected old ≡ Some m → Outcome {T = Option ℕ} (Adds m flags message) (NoUidLeft m) (AddsSome m flags message) (Err f) old new
+
+  pub err_selected : (f : FarFault) → EndsSo {T = Option ℕ} 1 was now (Err f) → now.is_ready ≡ true → (was.is_ready ≡ true → IsSelected name validity next old) → OutSo f → IsSelected name validity next new
+  err_selected faults.Stopped e ready sel out = absurd (no_more now.is_ready ready e.is_ready)
+  err_selected faults.Refused e ready sel out =
+      let is = sel e.was_ready in
+      let there = there_of name validity next old is in
+      subst (IsSelected name validity next) (sym (out is there.mailbox there.is).0) is
+  err_selected faults.Protocol e ready sel out = absurd (no_more now.is_ready ready e.is_ready)
+  err_selected faults.TooLong e ready sel out = absurd (no_more now.is_ready ready e.is_ready)
+  err_selected faults.NoRev2 e ready sel out = absurd (no_more now.is_ready ready e.is_ready)
+  err_selected faults.ReadOnly e ready sel out =
+      let is = sel e.was_ready in
+      let there = there_of name validity next old is in
+      absurd (out is there.mailbox there.is)
+  err_selected faults.NoMemory e ready sel out = absurd (no_more now.is_ready ready e.is_ready)
+
+  -- and behind an answer
+  pub ok_selected : (told : Option ℕ) → EndsSo 1 was now (Ok told) → (was.is_ready ≡ true → IsSelected name validity next old)
+      → (IsSelected name validity next old → (m : FarMailbox) → selected old ≡ Some m → Adds m flags message told old new) → IsSelected name validity (next_known next told) new
+  ok_selected told e sel out =
+      let is = sel e.was_ready in
+      let there = there_of name validity next old is in
+      told_selected name validity next there.mailbox flags message told old new is there.is (out is there.mailbox there.is)
+
+pub none_known : (next : ℕ) (told : Option ℕ) → ((x : ℕ) → told ≡ Some x → ⊥) → next_known next told ≡ next
+none_known next None n = refl
+none_known next (Some x) n = absurd (n x refl)

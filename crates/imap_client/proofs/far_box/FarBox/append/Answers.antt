@@ -1,0 +1,52 @@
+use Rattle.std.proofs.Common.{◌≡◌, ℕ, ◌+◌, List, Option, Some, sym, ◌∙◌, ap, subst}
+use Rattle.imap_client.specs.Boxes.{IsSelected}
+use Rattle.imap_client.proofs.Changed.{state_of_parts}
+use Rattle.imap_client.proofs.Adding.{next_known, none_known, err_selected, ok_selected}
+use Rattle.imap_client.proofs.far_box.FarBox.append.Goals as goal
+
+pub invariant_of-self : goal.invariant_of-self
+invariant_of-self g c = record {
+  named = c.args.self.now.named;
+  selected = λ ready honest.
+      let it = c.args.self.now in
+      let was = it.session in
+      let now = c.add.new.self in
+      let old = (g.L.Link.line was.wire.link).end.server in
+      let new = (g.L.Link.line now.wire.link).end.server in
+      err_selected (state_of_parts was.is_ready was.tags (g.L.Link.stops was.wire.link) was.wire.heard.items) (state_of_parts now.is_ready now.tags (g.L.Link.stops now.wire.link) now.wire.heard.items) old new
+      it.name.items it.validity it.next c.args.flags c.args.bytes.now c.in_err-told.field-0.0 c.in_err-told.ensures.ends ready
+      (λ before. it.selected before (c.in_err-told.ensures.was_honest honest))
+      (λ s m is. c.in_err-told.ensures.outcome honest (subst (λ (n : List ℕ). IsSelected n it.validity it.next old) (sym c.deref.ensures.value) s) m is);
+}
+
+pub invariant_of-self-in-Some : goal.invariant_of-self-in-Some
+invariant_of-self-in-Some g c = record {
+  named = c.args.self.now.named;
+  selected = λ ready honest.
+      let it = c.args.self.now in
+      let was = it.session in
+      let now = c.add.new.self in
+      let old = (g.L.Link.line was.wire.link).end.server in
+      let new = (g.L.Link.line now.wire.link).end.server in
+      subst (λ (k : ℕ). IsSelected it.name.items it.validity k new) (ap (next_known it.next) c.in-Some.is ∙ ap (λ (u : ℕ). u + 1) (sym c.get.ensures.number))
+      (ok_selected (state_of_parts was.is_ready was.tags (g.L.Link.stops was.wire.link) was.wire.heard.items) (state_of_parts now.is_ready now.tags (g.L.Link.stops now.wire.link) now.wire.heard.items) old new
+      it.name.items it.validity it.next c.args.flags c.args.bytes.now c.in_ok-told.told c.in_ok-told.ensures.ends
+      (λ before. it.selected before (c.in_ok-told.ensures.was_honest honest))
+      (λ s m is. c.in_ok-told.ensures.outcome honest (subst (λ (n : List ℕ). IsSelected n it.validity it.next old) (sym c.deref.ensures.value) s) m is));
+}
+
+pub invariant_of-self-in_default : goal.invariant_of-self-in_default
+invariant_of-self-in_default g c = record {
+  named = c.args.self.now.named;
+  selected = λ ready honest.
+      let it = c.args.self.now in
+      let was = it.session in
+      let now = c.add.new.self in
+      let old = (g.L.Link.line was.wire.link).end.server in
+      let new = (g.L.Link.line now.wire.link).end.server in
+      subst (λ (k : ℕ). IsSelected it.name.items it.validity k new) (none_known it.next c.in_ok-told.told c.in_default.not-Some)
+      (ok_selected (state_of_parts was.is_ready was.tags (g.L.Link.stops was.wire.link) was.wire.heard.items) (state_of_parts now.is_ready now.tags (g.L.Link.stops now.wire.link) now.wire.heard.items) old new
+      it.name.items it.validity it.next c.args.flags c.args.bytes.now c.in_ok-told.told c.in_ok-told.ensures.ends
+      (λ before. it.selected before (c.in_ok-told.ensures.was_honest honest))
+      (λ s m is. c.in_ok-told.ensures.outcome honest (subst (λ (n : List ℕ). IsSelected n it.validity it.next old) (sym c.deref.ensures.value) s) m is));
+}

@@ -1,0 +1,95 @@
+-- A message is added to a mailbox (RFC 9051, section 6.3.12).
+use Rattle.std.specs.Prelude.{◌≡◌, ◌⊎◌, ℕ, false, List, [], ◌∷◌, ◌++◌, length, Option, None, Some, Result, Ok, Err}
+use Rattle.wire_reader.specs.Spelling.{◌⨾◌, Is, crlf}
+use Rattle.wire_tokens.specs.Atoms.{TagText}
+use Rattle.wire_tokens.specs.FlagWriting.{WrittenFlags}
+use Rattle.wire_tokens.specs.Numbers.{NumberText}
+use Rattle.wire_strings.specs.Quotes.{QuotedText}
+use Rattle.mailcore.specs.Operations.{added}
+use Rattle.imap_commands.specs.declared.command.Command.{Command}
+use Rattle.imap_commands.specs.declared.command.Request.{Request}
+use Rattle.imap_commands.specs.declared.command.Request.TheVariants as requests
+use Rattle.imap_commands.specs.declared.verb.Verb.TheVariants as verbs
+use Rattle.imap_commands.specs.Verbs.{word_of}
+use Rattle.imap_commands.specs.Messages.{IsMessage}
+use Rattle.imap_commands.specs.Requests.{space}
+use Rattle.imap_session.specs.Mailboxes.{FarMailbox}
+use Rattle.imap_session.specs.AppendCommand.{MayGive}
+use Rattle.imap_session.specs.Portions.{goes_in}
+use Rattle.imap_session.specs.Servers.{Server, Quiet}
+use Rattle.imap_session.specs.Lines.{Line}
+use Rattle.exchange_laws.specs.Ends.{ends_of, IsAt, IsText, AsksAtEnd, DidCommand, is_logout}
+use Rattle.imap_link.specs.declared.fault.FarFault.{FarFault}
+use Rattle.imap_link.specs.Outcomes.{Outcome, Never}
+use Rattle.imap_client.specs.declared.addition.Addition.{Addition}
+use Rattle.imap_client.specs.Boxes.{Becomes}
+use Rattle.imap_client.specs.Requests.{IsWord}
+
+-- ---- what becomes of the selected mailbox
+
+-- the message was added under this UID, which may be any of at least the next one, and nothing else changed
+pub record AddsUnder (m : FarMailbox) (flags : ℕ) (bytes : List ℕ) (uid : ℕ) (old new : Server) : Type 0 where
+  pub may : MayGive m.store uid
+  pub after : Becomes (added uid flags bytes) old new
+
+-- under some UID
+pub record AddsSome (m : FarMailbox) (flags : ℕ) (bytes : List ℕ) (old new : Server) : Type 0 where
+  pub uid : ℕ
+  pub under : AddsUnder m flags bytes uid old new
+
+-- the UID that was told, if one was, is that of the message
+abbrev pub IsTold : Option ℕ → (uid : ℕ) → Type 0
+IsTold None uid = Unit {0}
+IsTold (Some told) uid = told ≡ uid
+
+pub record Adds (m : FarMailbox) (flags : ℕ) (bytes : List ℕ) (told : Option ℕ) (old new : Server) : Type 0 where
+  pub uid : ℕ
+  pub under : AddsUnder m flags bytes uid old new
+  pub is_told : IsTold told uid
+
+-- the mailbox has no UID left, and nothing changed
+abbrev pub NoUidLeft : FarMailbox → Server → Server → Type 0
+NoUidLeft m old new = (new ≡ old) × (m.store.next ≡ 4294967295)
+
+-- ---- what is sent
+
+abbrev pub request_to_add : Addition → Request
+request_to_add a = requests.Append a.name.now a.flags a.bytes.now
+
+-- what the caller owes: a name that can be quoted, of at most 1024 bytes; 1 to 16777238 octets, none of them NUL
+pub record CanAdd (a : Addition) : Type 0 where
+  pub name : IsWord a.name.now
+  pub message : IsMessage a.bytes.now
+
+-- the command up to where its message is asked for: `tag APPEND "name" (flags) {count}` and a line end
+abbrev pub FrontText : (tag name : List ℕ) (flags count : ℕ) → List ℕ → Type 0
+FrontText tag name flags count =
+    TagText tag ⨾ Is space ⨾ Is (word_of verbs.Append) ⨾ QuotedText name ⨾ Is space ⨾ WrittenFlags flags ⨾ Is space
+    ⨾ Is (123 ∷ []) ⨾ NumberText count ⨾ Is (125 ∷ crlf)
+
+-- ---- a command that is sent in two parts
+
+-- the command is the front, behind which its literal is asked for, and then the rest
+pub record InTwo (tag front rest : List ℕ) (c : Command) : Type 0 where
+  pub tag_is : c.tag ≡ tag
+  pub stays : is_logout c.request ≡ false
+  pub text : IsText c (front ++ rest)
+  pub some : rest ≡ [] → ⊥
+  pub count : ℕ
+  pub asks : AsksAtEnd front count
+  pub asks_no_more : goes_in (front ++ rest) ≡ goes_in front
+
+-- there is such a command
+pub record IsInTwo (tag front rest : List ℕ) : Type 0 where
+  pub command : Command
+  pub is : InTwo tag front rest command
+
+-- the front of one
+pub record IsFront (tag front : List ℕ) : Type 0 where
+  pub rest : List ℕ
+  pub is : IsInTwo tag front rest
+
+-- the server waits for the rest, and nothing is on the way; or the command was done or not
+abbrev pub WaitsOr : {T : Type 0} → Command → (front : List ℕ) → Result T FarFault → (old new : Line) (heard : List ℕ) → Type 0
+WaitsOr c front (Ok _) old new heard = Quiet old.end.server new.end.server × IsAt front (ends_of new heard)
+WaitsOr c front (Err fault) old new heard = Outcome {T = Unit {0}} (λ _. Never) Never (DidCommand c) (Err fault) old.end.server new.end.server

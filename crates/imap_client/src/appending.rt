@@ -1,0 +1,159 @@
+//! Messages are added to a far mailbox (RFC 9051, section 6.3.12).
+
+ghost use Rattle.std.specs.Prelude.{◌≡◌, ◌≤◌, ◌+◌, ℕ, List, Some, true, false, length, take, drop, IfOk, IfErr};
+ghost use Rattle.imap_commands.specs.declared.command.Command.{Command};
+ghost use Rattle.imap_commands.specs.Messages.{IsMessage};
+ghost use Rattle.imap_replies.specs.declared.reply.Reply.{Reply};
+ghost use Rattle.imap_replies.specs.declared.word.Status.TheVariants as statuses;
+ghost use Rattle.imap_session.specs.Heard.{AreReplies};
+ghost use Rattle.imap_session.specs.Mailboxes.{FarMailbox};
+ghost use Rattle.imap_session.specs.Servers.{selected};
+ghost use Rattle.exchange_laws.specs.Ends.{ends_of};
+ghost use Rattle.imap_link.specs.Buffers.{IsAnswerText};
+ghost use Rattle.imap_link.specs.Outcomes.{Outcome};
+ghost use Rattle.imap_client.specs.Appending.{Adds, AddsSome, NoUidLeft, CanAdd, request_to_add, InTwo, IsInTwo, IsFront, WaitsOr};
+ghost use Rattle.imap_client.specs.Boxes.{IsSelected};
+ghost use Rattle.imap_client.specs.Exchanged.{command_at, Exchanged};
+ghost use Rattle.imap_client.specs.Given.{given_in};
+ghost use Rattle.imap_client.specs.Spoken.{Speaks};
+ghost use Rattle.imap_client.specs.States.{EndsSo, SentSo, AskedSo};
+ghost use Rattle.imap_client.specs.Stillness.{IsStill};
+ghost use Rattle.imap_client.specs.Tags.{tag_text};
+
+use crate::addition::Addition;
+use crate::far_box::FarBox;
+use crate::given::{Given, given_in, uid_told};
+use crate::reading::read_replies;
+use crate::session::Session;
+use imap_link::fault::FarFault;
+use imap_link::link::Link;
+use imap_link::wire::{Answered, Told};
+use mailcore::flags::Flags;
+use mailcore::uid::Uid;
+use wire_tokens::tag::Tag;
+
+impl<L: Link> Session<L> {
+    ghost use Rattle.imap_client.specs.Sessions.{state_of, line_of, server_of};
+
+    // Sends the front of a command, and waits until its literal is asked for. An answer in place of that refuses the
+    // command, or breaks the protocol.
+    fn offer(&mut self, tag: &Tag, front: &[u8]) -> Result<(), FarFault>
+        requires front { IsFront tag.now front.now }
+        requires begun { self.old.is_ready ≡ false }
+        requires idle { L.honest self.old.wire.link → IsStill (ends_of (L.line self.old.wire.link) self.old.wire.heard.items) }
+        ensures was_honest { L.honest self.new.wire.link → L.honest self.old.wire.link }
+        ensures tags { self.new.tags ≡ self.old.tags }
+        ensures sent { SentSo tag.now (state_of self.old) (state_of self.new) result }
+        ensures outcome { L.honest self.new.wire.link → (rest : List ℕ) (c : Command) → InTwo tag.now front.now rest c
+            → WaitsOr c front.now result (line_of self.old) (line_of self.new) self.new.wire.heard.items }
+    {
+        match self.wire.ask(tag, front)? {
+            Told::Go(len) => {
+                self.wire.forget(len);
+                Ok(())
+            }
+            Told::Answer(len, status) => {
+                self.judge(Answered { len, status })?;
+                Err(FarFault::Protocol)
+            }
+        }
+    }
+
+    // Sends a command in two parts, the second once it is asked for, and waits for its answer, which stands in the buffer
+    // then.
+    fn deliver(&mut self, tag: &Tag, front: &[u8], rest: &[u8]) -> Result<usize, FarFault>
+        requires parts { IsInTwo tag.now front.now rest.now }
+        requires begun { self.old.is_ready ≡ false }
+        requires idle { L.honest self.old.wire.link → IsStill (ends_of (L.line self.old.wire.link) self.old.wire.heard.items) }
+        ensures was_honest { L.honest self.new.wire.link → L.honest self.old.wire.link }
+        ensures tags { self.new.tags ≡ self.old.tags }
+        ensures sent { SentSo tag.now (state_of self.old) (state_of self.new) result }
+        ensures outcome { L.honest self.new.wire.link → (c : Command) → InTwo tag.now front.now rest.now c
+            → Exchanged c result self.new.wire.heard.items (server_of self.old) (server_of self.new) }
+        ensures idle { IfOk result (λ len. L.honest self.new.wire.link → IsStill (ends_of (L.line self.new.wire.link) (drop len self.new.wire.heard.items))) }
+        ensures answer { IfOk result (λ len. (len ≤ length self.new.wire.heard.items) × IsAnswerText tag.now statuses.Ok (take len self.new.wire.heard.items)) }
+    {
+        self.offer(tag, front)?;
+        let answered = self.wire.finish(tag, rest, false)?;
+        self.judge(answered)
+    }
+
+    // Begins a call that adds this: sends it and waits for its answer, which stands in the buffer then. The session counts
+    // as failed until `done`.
+    fn ask_to_add(&mut self, addition: &Addition<'_>) -> Result<usize, FarFault>
+        requires { CanAdd addition.now }
+        ensures was_honest { L.honest self.new.wire.link → L.honest self.old.wire.link }
+        ensures stuck { self.old.is_ready ≡ false → self.new ≡ self.old }
+        ensures asked { AskedSo (state_of self.old) (state_of self.new) result }
+        ensures outcome { L.honest self.new.wire.link → Exchanged (command_at (self.old.tags + 1) (request_to_add addition.now)) result self.new.wire.heard.items (server_of self.old) (server_of self.new) }
+        ensures idle { IfOk result (λ len. L.honest self.new.wire.link → IsStill (ends_of (L.line self.new.wire.link) (drop len self.new.wire.heard.items))) }
+        ensures answer { IfOk result (λ len. (len ≤ length self.new.wire.heard.items) × IsAnswerText (tag_text self.new.tags) statuses.Ok (take len self.new.wire.heard.items)) }
+    {
+        self.begin()?;
+        let tag = self.next_tag()?;
+        let front = addition.front(self.wire.alloc, &tag)?;
+        let rest = addition.rest(self.wire.alloc)?;
+        self.deliver(&tag, &front, &rest)
+    }
+
+    // What the replies at the front of the buffer tell of a message that was added.
+    fn given(&self, len: usize) -> Result<Option<Given>, FarFault>
+        requires within { len ≤ length self.now.wire.heard.items }
+        requires speaks { Speaks (take len self.now.wire.heard.items) }
+        ensures told { IfOk result (λ given. (rs : List Reply) → AreReplies rs (take len self.now.wire.heard.items) → given ≡ given_in rs) }
+        ensures err { IfErr result (λ fault. fault ≡ FarFault.NoMemory) }
+    {
+        let replies = read_replies(self.wire.alloc, &self.wire.heard[..len])?;
+        Ok(given_in(&replies))
+    }
+
+    // Adds this to the selected mailbox, which has this validity, and a next UID of at least this.
+    fn add(
+        &mut self,
+        addition: &Addition<'_>,
+        validity: u32,
+        next: u32,
+    ) -> Result<Option<Uid>, FarFault>
+        requires { CanAdd addition.now }
+        ensures was_honest { L.honest self.new.wire.link → L.honest self.old.wire.link }
+        ensures stuck { self.old.is_ready ≡ false → self.new ≡ self.old }
+        ensures ends { EndsSo 1 (state_of self.old) (state_of self.new) result }
+        ensures outcome { L.honest self.new.wire.link → IsSelected addition.now.name.now validity next (server_of self.old) → (m : FarMailbox) → selected (server_of self.old) ≡ Some m
+            → Outcome (Adds m addition.now.flags addition.now.bytes.now) (NoUidLeft m) (AddsSome m addition.now.flags addition.now.bytes.now) result (server_of self.old) (server_of self.new) }
+    {
+        let len = self.ask_to_add(addition)?;
+        let given = self.given(len)?;
+        let told = uid_told(given, validity, next)?;
+        self.done(len);
+        Ok(told)
+    }
+}
+
+impl<L: Link> FarBox<L> {
+    ghost use Rattle.imap_client.specs.Sessions.{state_of, server_of};
+
+    /// Adds a message of 1 to 16777238 bytes, none of them NUL, with these flags, and tells its UID if the server does.
+    ///
+    /// The server gets the message once it has asked for it. `Refused`: it has no UID left. `Protocol`: it says that the
+    /// message was added before it has asked for it, or tells a UID of another UIDVALIDITY, or one that was given before,
+    /// too.
+    pub fn append(&mut self, bytes: &[u8], flags: Flags) -> Result<Option<Uid>, FarFault>
+        requires { IsMessage bytes.now }
+        ensures was_honest { L.honest self.new.session.wire.link → L.honest self.old.session.wire.link }
+        ensures stuck { self.old.session.is_ready ≡ false → self.new.session ≡ self.old.session }
+        ensures ends { EndsSo 1 (state_of self.old.session) (state_of self.new.session) result }
+        ensures outcome { L.honest self.new.session.wire.link → (m : FarMailbox) → selected (server_of self.old.session) ≡ Some m
+            → Outcome (Adds m flags bytes.now) (NoUidLeft m) (AddsSome m flags bytes.now) result (server_of self.old.session) (server_of self.new.session) }
+    {
+        let addition = Addition {
+            name: &self.name,
+            flags,
+            bytes,
+        };
+        let told = self.session.add(&addition, self.validity, self.next)?;
+        if let Some(uid) = told {
+            self.next = uid.get() + 1;
+        }
+        Ok(told)
+    }
+}
