@@ -71,6 +71,13 @@ impl BoxCondition {
         }
     }
 
+    /// How many calls have stopped.
+    pub fn stops(&self) -> usize
+        ensures { result ≡ self.now.stops }
+    {
+        self.stopping.stop_count()
+    }
+
     /// Begins a call, and says whether it stops behind its effect. `Stopped`, `Refused` and `NoMemory`: it has no effect.
     pub(crate) fn begin(&mut self, call: BoxCall) -> Result<bool, OutsideFault>
         ensures same { OnOk result (self.new ≡ self.old) }
@@ -147,7 +154,7 @@ impl BoxCondition {
     }
 
     /// Calls are answered again.
-    pub(crate) fn reopen(&mut self)
+    pub fn reopen(&mut self)
         ensures { self.new ≡ record self.old { is_broken = false } }
     {
         self.is_broken = false;

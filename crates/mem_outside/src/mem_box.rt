@@ -44,6 +44,20 @@ impl MemBox {
         }
     }
 
+    /// Its UIDVALIDITY.
+    pub fn validity(&self) -> u32
+        ensures { result ≡ (store_of self.now).validity }
+    {
+        self.validity
+    }
+
+    /// Its UIDNEXT.
+    pub fn next(&self) -> u32
+        ensures { result ≡ (store_of self.now).next }
+    {
+        self.next
+    }
+
     /// Its messages.
     pub fn messages(&self) -> &[Message]
         ensures { result.now ≡ (store_of self.now).messages }

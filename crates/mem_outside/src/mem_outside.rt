@@ -40,6 +40,17 @@ pub struct MemOutside {
     pub ghost whole: { condition.is_broken ≡ false → is_whole (λ b. b.is_ready) (λ s. not (mem.seen_of s).is_broken) book shelf ≡ true },
 }
 
+/// What an outside in memory is made of.
+#[derive(Drop)]
+pub struct Parts {
+    /// The shelf.
+    pub shelf: MemShelf,
+    /// Both mailboxes.
+    pub boxes: Boxes,
+    /// Their condition.
+    pub condition: BoxCondition,
+}
+
 impl MemOutside {
     ghost use Rattle.mem_outside.specs.MemOutsides.{opened_of, seen_of};
     ghost use Rattle.mem_outside.specs.Views.{seen_at, sides_of};
@@ -66,6 +77,26 @@ impl MemOutside {
         ensures { result.now ≡ self.now.boxes }
     {
         &self.boxes
+    }
+
+    /// Gives what it is made of back.
+    pub fn into_parts(self) -> Parts
+        ensures { seen_at (sides_of result.boxes) result.condition (mem.seen_of result.shelf) ≡ seen_of self }
+    {
+        let MemOutside {
+            alloc: _,
+            mut shelf,
+            mut book,
+            far_is_open: _,
+            near_is_open: _,
+            condition,
+            boxes,
+        } = self;
+        Parts {
+            shelf: take_shelf(&mut book, &mut shelf),
+            boxes,
+            condition,
+        }
     }
 }
 

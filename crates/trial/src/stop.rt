@@ -51,7 +51,18 @@ pub enum DeviceStop {
     Link(LinkStop),
 }
 
-/// The stops of a trial by devices, each in the order of the lines: of two for one call the first acts.
+impl LinkStop {
+    /// The command that it stops, and which one of its name.
+    fn command(&self) -> (Command, u64) {
+        match *self {
+            LinkStop::Command(stop) => (stop.call, stop.number),
+            LinkStop::Append(number, _) => (Command::Append, number),
+        }
+    }
+}
+
+/// The stops of a trial by devices, each in the order of the lines: of two for one call the first acts. A connection has one
+/// for a command at most.
 #[derive(Debug, Drop)]
 pub struct Stops {
     /// Those of the near mailbox's folder.
@@ -77,9 +88,15 @@ impl Stops {
         match stop {
             DeviceStop::Folder(stop) => self.folder.push(stop)?,
             DeviceStop::Shelf(stop) => self.shelf.push(stop)?,
+            DeviceStop::Link(stop) if self.is_stopped(stop.command()) => {}
             DeviceStop::Link(stop) => self.link.push(stop)?,
         }
         Ok(())
+    }
+
+    /// Whether this command is stopped.
+    fn is_stopped(&self, command: (Command, u64)) -> bool {
+        self.link.iter().any(|stop| stop.command() == command)
     }
 }
 
