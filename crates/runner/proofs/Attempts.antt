@@ -25,7 +25,7 @@ use Rattle.mailcore.specs.declared.side.Side.{Side}
 use Rattle.runner.specs.declared.fault.RunFault.{RunFault}
 use Rattle.runner.specs.declared.pass.Pass.{Pass}
 use Rattle.runner.specs.declared.fault.RunFault.TheVariants as run
-use Rattle.runner.specs.Faults.{IsCaused, LeavesRun, call_fault}
+use Rattle.runner.specs.Faults.{IsCaused, LeavesRun, Reasons, because, call_fault}
 use Rattle.runner.specs.Parts.{IsStuck, Left}
 use Rattle.runner.specs.Answers.{Answers, IsAsked, Moves, RunsBy, as_read, run_of}
 use Rattle.runner.specs.Attempts.{AnswersAt, AnswersLast, AtOpening, Began, ChangedLast, HasNoNext, MetStops, TellsNoNext, TriedAt, failed_before, found_by}
@@ -188,7 +188,7 @@ failed_at_most s = either s.is_broken
     either false = omega arith
 
 -- one more attempt met a stop
-pub stops_more : {changed : Side → Type 0} (h : Type 0) (a u : Device → Type 0) (n : ℕ) (start now s1 s2 : Seen) → MetStops n start now → (n ≡ 0 → now ≡ start) → s1 ≡ found_by n now → Left changed h a u run.Stopped s1 s2 → MetStops (n + 1) start s2
+pub stops_more : {reasons : Reasons} (h : Type 0) (a u : Device → Type 0) (n : ℕ) (start now s1 s2 : Seen) → MetStops n start now → (n ≡ 0 → now ≡ start) → s1 ≡ found_by n now → Left reasons h a u run.Stopped s1 s2 → MetStops (n + 1) start s2
 stops_more h a u n start now s1 s2 met first e l = by_cause l.caused
   where
     stops : s1.stops ≡ now.stops
@@ -235,17 +235,17 @@ pub stuck_more : {T : Type 0} (n : ℕ) (start now s1 s2 : Seen) (r : Result T R
 stuck_more n start now s1 s2 r first e stuck l b = let k = stuck_first n start now s1 s2 r (omega (arith, l)) first e stuck b in k.1
 
 -- a fault that is counted in one attempt is counted in all
-pub caused_since : (c : Side → Type 0) (f : RunFault) (s0 s1 s2 : Seen) → s0.refusals ≤ s1.refusals → s0.faults ≤ s1.faults → s0.appends ≤ s1.appends → (f ≡ run.Stopped → ⊥) → IsCaused c f s1 s2 → IsCaused (λ side. Unit {0}) f s0 s2
-caused_since c run.Stopped s0 s1 s2 r b a n k = absurd (n refl)
-caused_since c (run.Refused step) s0 s1 s2 r b a n k = omega (arith, r, k)
-caused_since c (run.ValidityChanged side) s0 s1 s2 r b a n k = tt
-caused_since c (run.BadState line) s0 s1 s2 r b a n k = tt
-caused_since c (run.BadJournal line) s0 s1 s2 r b a n k = tt
-caused_since c (run.StoreFault side code) s0 s1 s2 r b a n (inl k) = inl (omega (arith, b, k))
-caused_since c (run.StoreFault side code) s0 s1 s2 r b a n (inr (inl k)) = inr (inl (omega (arith, r, k)))
-caused_since c (run.StoreFault side code) s0 s1 s2 r b a n (inr (inr k)) = inr (inr (record { far = k.far; protocol = k.protocol; copied = let m = k.copied in omega (arith, a, m) }))
-caused_since c run.MarksRepeat s0 s1 s2 r b a n k = tt
-caused_since c run.NoMemory s0 s1 s2 r b a n k = tt
+pub caused_since : (c : Reasons) (repeats : Type 0) (f : RunFault) (s0 s1 s2 : Seen) → s0.refusals ≤ s1.refusals → s0.faults ≤ s1.faults → s0.appends ≤ s1.appends → (f ≡ run.Stopped → ⊥) → (c.repeats → repeats) → IsCaused c f s1 s2 → IsCaused (because (λ side. Unit {0}) repeats) f s0 s2
+caused_since c repeats run.Stopped s0 s1 s2 r b a n g k = absurd (n refl)
+caused_since c repeats (run.Refused step) s0 s1 s2 r b a n g k = omega (arith, r, k)
+caused_since c repeats (run.ValidityChanged side) s0 s1 s2 r b a n g k = tt
+caused_since c repeats (run.BadState line) s0 s1 s2 r b a n g k = tt
+caused_since c repeats (run.BadJournal line) s0 s1 s2 r b a n g k = tt
+caused_since c repeats (run.StoreFault side code) s0 s1 s2 r b a n g (inl k) = inl (omega (arith, b, k))
+caused_since c repeats (run.StoreFault side code) s0 s1 s2 r b a n g (inr (inl k)) = inr (inl (omega (arith, r, k)))
+caused_since c repeats (run.StoreFault side code) s0 s1 s2 r b a n g (inr (inr k)) = inr (inr (record { far = k.far; protocol = k.protocol; copied = let m = k.copied in omega (arith, a, m) }))
+caused_since c repeats run.MarksRepeat s0 s1 s2 r b a n g k = g k
+caused_since c repeats run.NoMemory s0 s1 s2 r b a n g k = tt
 
 -- ---- the last attempt
 
@@ -268,12 +268,12 @@ last_answers ours alone opening options n fixed start now s1 stream drawn pass f
   answers = answers (subst (λ (d : Device). TriedAt ours alone opening fixed d) (sym (found_device n now s1 e)) t);
 }
 
-pub changed_last : (ours : List ℕ → Bool) (alone : Bool) (opening : Opening) (h : Type 0) (n tries : ℕ) (fixed : Option ℕ) (start now s1 s2 : Seen) (stream drawn : Stream) (side : Side) (f : RunFault) → (n ≡ 0 → now ≡ start) → (n ≡ 0 → drawn ≡ stream) → Moves stream drawn → s1 ≡ found_by n now → TriedAt ours alone opening fixed now.device
-    → n < tries → f ≡ run.ValidityChanged side → h → IsCaused (TellsChanged h alone s1.device s2.device) f s1 s2 → ChangedLast ours alone opening tries side start.device stream s2.device
+pub changed_last : (ours : List ℕ → Bool) (alone : Bool) (opening : Opening) (h repeats : Type 0) (n tries : ℕ) (fixed : Option ℕ) (start now s1 s2 : Seen) (stream drawn : Stream) (side : Side) (f : RunFault) → (n ≡ 0 → now ≡ start) → (n ≡ 0 → drawn ≡ stream) → Moves stream drawn → s1 ≡ found_by n now → TriedAt ours alone opening fixed now.device
+    → n < tries → f ≡ run.ValidityChanged side → h → IsCaused (because (TellsChanged h alone s1.device s2.device) repeats) f s1 s2 → ChangedLast ours alone opening tries side start.device stream s2.device
 unfolding began_at
-changed_last ours alone opening h n tries fixed start now s1 s2 stream drawn side f first undrawn moved e t few is honest caused =
+changed_last ours alone opening h repeats n tries fixed start now s1 s2 stream drawn side f first undrawn moved e t few is honest caused =
     let b = began_at ours alone opening n fixed start now s1 stream drawn first undrawn moved e t in
-    let told : TellsChanged h alone s1.device s2.device side = subst (λ (x : RunFault). IsCaused (TellsChanged h alone s1.device s2.device) x s1 s2) is caused in
+    let told : TellsChanged h alone s1.device s2.device side = subst (λ (x : RunFault). IsCaused (because (TellsChanged h alone s1.device s2.device) repeats) x s1 s2) is caused in
     let held = underway_files ours alone opening s1.device b.underway in
     record {
       earlier = n;

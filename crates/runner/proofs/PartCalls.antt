@@ -8,7 +8,7 @@ use Rattle.outside.specs.Calls.{Call, FromBook, FromBox, IsCounted, Seen}
 use Rattle.outside.specs.Devices.{Device}
 use Rattle.runner.specs.declared.fault.RunFault.{RunFault}
 use Rattle.runner.specs.declared.fault.RunFault.TheVariants as run
-use Rattle.runner.specs.Faults.{IsCaused, IsLost, LeavesRun, call_fault, step_fault}
+use Rattle.runner.specs.Faults.{IsCaused, IsLost, LeavesRun, Reasons, call_fault, step_fault}
 use Rattle.runner.specs.Parts.{Left, Never, NoLess, Part, PartOr, Passed}
 
 -- ---- why a fault is told
@@ -16,21 +16,21 @@ use Rattle.runner.specs.Parts.{Left, Never, NoLess, Part, PartOr, Passed}
 abbrev StopCount : OutsideFault → Seen → Seen → Type 0
 StopCount e old new = e ≡ out.Stopped → (old.is_broken ≡ true) ⊎ (old.stops < new.stops)
 
-caused_by : (changed : Side → Type 0) (e : OutsideFault) (number : ℕ) (s0 s1 : Seen) → StopCount e s0 s1 → IsCounted e s0 s1 → IsCaused changed (step_fault e number) s0 s1
-caused_by changed out.Stopped number s0 s1 stop h = stop refl
-caused_by changed out.Refused number s0 s1 stop h = h
-caused_by changed (out.Box side code) number s0 s1 stop h = inl h
-caused_by changed (out.BadState line) number s0 s1 stop h = tt
-caused_by changed (out.BadJournal line) number s0 s1 stop h = tt
-caused_by changed out.NoMemory number s0 s1 stop h = tt
+caused_by : (reasons : Reasons) (e : OutsideFault) (number : ℕ) (s0 s1 : Seen) → StopCount e s0 s1 → IsCounted e s0 s1 → IsCaused reasons (step_fault e number) s0 s1
+caused_by reasons out.Stopped number s0 s1 stop h = stop refl
+caused_by reasons out.Refused number s0 s1 stop h = h
+caused_by reasons (out.Box side code) number s0 s1 stop h = inl h
+caused_by reasons (out.BadState line) number s0 s1 stop h = tt
+caused_by reasons (out.BadJournal line) number s0 s1 stop h = tt
+caused_by reasons out.NoMemory number s0 s1 stop h = tt
 
-called_by : (changed : Side → Type 0) (e : OutsideFault) (s0 s1 : Seen) → StopCount e s0 s1 → IsCounted e s0 s1 → IsCaused changed (call_fault e) s0 s1
-called_by changed out.Stopped s0 s1 stop h = stop refl
-called_by changed out.Refused s0 s1 stop h = inr (inl h)
-called_by changed (out.Box side code) s0 s1 stop h = inl h
-called_by changed (out.BadState line) s0 s1 stop h = tt
-called_by changed (out.BadJournal line) s0 s1 stop h = tt
-called_by changed out.NoMemory s0 s1 stop h = tt
+called_by : (reasons : Reasons) (e : OutsideFault) (s0 s1 : Seen) → StopCount e s0 s1 → IsCounted e s0 s1 → IsCaused reasons (call_fault e) s0 s1
+called_by reasons out.Stopped s0 s1 stop h = stop refl
+called_by reasons out.Refused s0 s1 stop h = inr (inl h)
+called_by reasons (out.Box side code) s0 s1 stop h = inl h
+called_by reasons (out.BadState line) s0 s1 stop h = tt
+called_by reasons (out.BadJournal line) s0 s1 stop h = tt
+called_by reasons out.NoMemory s0 s1 stop h = tt
 
 -- ---- what a fault leaves
 
@@ -117,7 +117,7 @@ module _ {T : Type 0} (honest : Type 0) (from : Device → Type 0) (others : Eff
   no_less e c = let a = c.acts in let n = c.counts in record { stops = a.no_less; refusals = n.refusals; faults = n.faults; appends = n.appends }
 
   -- that had a fault while a step was performed
-  pub left_step : {changed : Side → Type 0} (underway : Device → Type 0) (number : ℕ) (e : OutsideFault) → Call honest others copies tells does leaves s0 s1 (Err e) → ((m : Device) → from s0.device → others s0.device m → leaves e m s1.device → tells e → TellsNoBook e × underway s1.device) → Left changed honest from underway (step_fault e number) s0 s1
+  pub left_step : {reasons : Reasons} (underway : Device → Type 0) (number : ℕ) (e : OutsideFault) → Call honest others copies tells does leaves s0 s1 (Err e) → ((m : Device) → from s0.device → others s0.device m → leaves e m s1.device → tells e → TellsNoBook e × underway s1.device) → Left reasons honest from underway (step_fault e number) s0 s1
   left_step underway number e c f =
       let a = c.acts in
       let n = c.counts in
@@ -128,7 +128,7 @@ module _ {T : Type 0} (honest : Type 0) (from : Device → Type 0) (others : Eff
       }
 
   -- that had one else
-  pub left_call : {changed : Side → Type 0} (underway : Device → Type 0) (e : OutsideFault) → Call honest others copies tells does leaves s0 s1 (Err e) → ((m : Device) → from s0.device → others s0.device m → leaves e m s1.device → tells e → TellsNoBook e × underway s1.device) → Left changed honest from underway (call_fault e) s0 s1
+  pub left_call : {reasons : Reasons} (underway : Device → Type 0) (e : OutsideFault) → Call honest others copies tells does leaves s0 s1 (Err e) → ((m : Device) → from s0.device → others s0.device m → leaves e m s1.device → tells e → TellsNoBook e × underway s1.device) → Left reasons honest from underway (call_fault e) s0 s1
   left_call underway e c f =
       let a = c.acts in
       let n = c.counts in
@@ -164,17 +164,17 @@ passed_after h0 h1 a b c m n s0 s1 s2 honest p q = record {
 }
 
 -- what may be told once the counts before it stood still
-later : (changed : Side → Type 0) (f : RunFault) (s0 s1 s2 : Seen) → s1.is_broken ≡ false → s1.stops ≡ s0.stops → s1.refusals ≡ s0.refusals → s1.faults ≡ s0.faults → s0.appends ≤ s1.appends → IsCaused changed f s1 s2 → IsCaused changed f s0 s2
-later changed run.Stopped s0 s1 s2 w s r b a h = ⊎_elim (λ k. cc) (λ k. inr (omega arith)) h
-later changed (run.Refused step) s0 s1 s2 w s r b a h = omega arith
-later changed (run.StoreFault side code) s0 s1 s2 w s r b a (inl h) = inl (omega arith)
-later changed (run.StoreFault side code) s0 s1 s2 w s r b a (inr (inl h)) = inr (inl (omega arith))
-later changed (run.StoreFault side code) s0 s1 s2 w s r b a (inr (inr h)) = inr (inr (record { far = h.far; protocol = h.protocol; copied = let k = h.copied in omega arith }))
-later changed (run.ValidityChanged side) s0 s1 s2 w s r b a h = h
-later changed (run.BadState line) s0 s1 s2 w s r b a h = tt
-later changed (run.BadJournal line) s0 s1 s2 w s r b a h = tt
-later changed run.MarksRepeat s0 s1 s2 w s r b a h = tt
-later changed run.NoMemory s0 s1 s2 w s r b a h = tt
+later : (reasons : Reasons) (f : RunFault) (s0 s1 s2 : Seen) → s1.is_broken ≡ false → s1.stops ≡ s0.stops → s1.refusals ≡ s0.refusals → s1.faults ≡ s0.faults → s0.appends ≤ s1.appends → IsCaused reasons f s1 s2 → IsCaused reasons f s0 s2
+later reasons run.Stopped s0 s1 s2 w s r b a h = ⊎_elim (λ k. cc) (λ k. inr (omega arith)) h
+later reasons (run.Refused step) s0 s1 s2 w s r b a h = omega arith
+later reasons (run.StoreFault side code) s0 s1 s2 w s r b a (inl h) = inl (omega arith)
+later reasons (run.StoreFault side code) s0 s1 s2 w s r b a (inr (inl h)) = inr (inl (omega arith))
+later reasons (run.StoreFault side code) s0 s1 s2 w s r b a (inr (inr h)) = inr (inr (record { far = h.far; protocol = h.protocol; copied = let k = h.copied in omega arith }))
+later reasons (run.ValidityChanged side) s0 s1 s2 w s r b a h = h
+later reasons (run.BadState line) s0 s1 s2 w s r b a h = tt
+later reasons (run.BadJournal line) s0 s1 s2 w s r b a h = tt
+later reasons run.MarksRepeat s0 s1 s2 w s r b a h = h
+later reasons run.NoMemory s0 s1 s2 w s r b a h = tt
 
 leaves_later : (u : Device → Type 0) (f : RunFault) (s0 s1 s2 : Seen) → s1.refusals ≡ s0.refusals → s1.faults ≡ s0.faults → LeavesRun u f s1 s2 → LeavesRun u f s0 s2
 leaves_later u run.Stopped s0 s1 s2 r b k = k
@@ -187,7 +187,7 @@ leaves_later u (run.BadJournal line) s0 s1 s2 r b k = k
 leaves_later u run.MarksRepeat s0 s1 s2 r b k = k
 leaves_later u run.NoMemory s0 s1 s2 r b k = k
 
-pub left_after : {changed : Side → Type 0} (h0 h1 : Type 0) (a b underway : Device → Type 0) (m : ℕ) (f : RunFault) (s0 s1 s2 : Seen) → (h1 → h0) → Passed h0 a b m s0 s1 → Left changed h1 b underway f s1 s2 → Left changed h1 a underway f s0 s2
+pub left_after : {reasons : Reasons} (h0 h1 : Type 0) (a b underway : Device → Type 0) (m : ℕ) (f : RunFault) (s0 s1 s2 : Seen) → (h1 → h0) → Passed h0 a b m s0 s1 → Left reasons h1 b underway f s1 s2 → Left reasons h1 a underway f s0 s2
 left_after h0 h1 a b underway m f s0 s1 s2 honest p q = record {
   caused = later _ f s0 s1 s2 p.is_whole p.stops p.refusals p.faults (omega (arith, p.appends)) q.caused;
   no_less = let n = q.no_less in record { stops = omega (arith, p.stops, n.stops); refusals = omega (arith, p.refusals, n.refusals); faults = omega (arith, p.faults, n.faults); appends = omega (arith, p.appends, n.appends) };
@@ -195,7 +195,7 @@ left_after h0 h1 a b underway m f s0 s1 s2 honest p q = record {
 }
 
 -- a fault of the run's own, behind a part that went
-pub left_here : {changed : Side → Type 0} (h : Type 0) (a b underway : Device → Type 0) (m : ℕ) (f : RunFault) (s0 s1 : Seen) → Passed h a b m s0 s1 → IsCaused changed f s1 s1 → (b s1.device → LeavesRun underway f s0 s1) → Left changed h a underway f s0 s1
+pub left_here : {reasons : Reasons} (h : Type 0) (a b underway : Device → Type 0) (m : ℕ) (f : RunFault) (s0 s1 : Seen) → Passed h a b m s0 s1 → IsCaused reasons f s1 s1 → (b s1.device → LeavesRun underway f s0 s1) → Left reasons h a underway f s0 s1
 left_here h a b underway m f s0 s1 p caused g = record {
   caused = later _ f s0 s1 s1 p.is_whole p.stops p.refusals p.faults (omega (arith, p.appends)) caused;
   no_less = record { stops = omega (arith, p.stops); refusals = omega (arith, p.refusals); faults = omega (arith, p.faults); appends = omega (arith, p.appends) };
@@ -203,7 +203,7 @@ left_here h a b underway m f s0 s1 p caused g = record {
 }
 
 -- a copy that was made and not found
-pub left_lost : {changed : Side → Type 0} (h : Type 0) (a underway : Device → Type 0) (m : ℕ) (s0 s1 : Seen) → 0 < m → Passed h a (λ d. ⊥) m s0 s1 → (side : Side) (number : ℕ) → ((s0.appends < s1.appends) → IsLost side number s0 s1) → Left changed h a underway (run.StoreFault side number) s0 s1
+pub left_lost : {reasons : Reasons} (h : Type 0) (a underway : Device → Type 0) (m : ℕ) (s0 s1 : Seen) → 0 < m → Passed h a (λ d. ⊥) m s0 s1 → (side : Side) (number : ℕ) → ((s0.appends < s1.appends) → IsLost side number s0 s1) → Left reasons h a underway (run.StoreFault side number) s0 s1
 left_lost h a underway m s0 s1 some p side number lost = record {
   caused = inr (inr (lost (omega (arith, some, p.appends))));
   no_less = record { stops = omega (arith, p.stops); refusals = omega (arith, p.refusals); faults = omega (arith, p.faults); appends = omega (arith, p.appends) };
@@ -222,17 +222,17 @@ passed_weaker h a a' b b' m n s0 s1 same f g p = record {
   reaches = λ honest at. g s1.device (p.reaches honest (f s0.device at));
 }
 
-pub left_weaker : {changed : Side → Type 0} (h : Type 0) (a a' underway : Device → Type 0) (f : RunFault) (s0 s1 : Seen) → ((d : Device) → a' d → a d) → Left changed h a underway f s0 s1 → Left changed h a' underway f s0 s1
+pub left_weaker : {reasons : Reasons} (h : Type 0) (a a' underway : Device → Type 0) (f : RunFault) (s0 s1 : Seen) → ((d : Device) → a' d → a d) → Left reasons h a underway f s0 s1 → Left reasons h a' underway f s0 s1
 left_weaker h a a' underway f s0 s1 g l = record { caused = l.caused; no_less = l.no_less; left = λ honest at. l.left honest (g s0.device at) }
 
-pub part_weaker : {T : Type 0} (changed : Side → Type 0) (h : Type 0) (a a' underway : Device → Type 0) (copies : T → ℕ) (reaches reaches' : T → Device → Type 0) (s0 s1 : Seen) (r : Result T RunFault) → ((d : Device) → a' d → a d) → ((x : T) (d : Device) → reaches x d → reaches' x d) → PartOr changed h a underway copies reaches s0 s1 r → PartOr changed h a' underway copies reaches' s0 s1 r
-part_weaker changed h a a' underway copies reaches reaches' s0 s1 (Ok x) f g p = passed_weaker h a a' (reaches x) (reaches' x) (copies x) (copies x) s0 s1 refl f (g x) p
-part_weaker changed h a a' underway copies reaches reaches' s0 s1 (Err e) f g p = left_weaker h a a' underway e s0 s1 f p
+pub part_weaker : {T : Type 0} (reasons : Reasons) (h : Type 0) (a a' underway : Device → Type 0) (copies : T → ℕ) (reaches reaches' : T → Device → Type 0) (s0 s1 : Seen) (r : Result T RunFault) → ((d : Device) → a' d → a d) → ((x : T) (d : Device) → reaches x d → reaches' x d) → PartOr reasons h a underway copies reaches s0 s1 r → PartOr reasons h a' underway copies reaches' s0 s1 r
+part_weaker reasons h a a' underway copies reaches reaches' s0 s1 (Ok x) f g p = passed_weaker h a a' (reaches x) (reaches' x) (copies x) (copies x) s0 s1 refl f (g x) p
+part_weaker reasons h a a' underway copies reaches reaches' s0 s1 (Err e) f g p = left_weaker h a a' underway e s0 s1 f p
 
 -- a part after one that made no copy
-pub part_after : {T : Type 0} (changed : Side → Type 0) (h0 h1 : Type 0) (a b underway : Device → Type 0) (copies : T → ℕ) (reaches : T → Device → Type 0) (s0 s1 s2 : Seen) (r : Result T RunFault) → (h1 → h0) → Passed h0 a b 0 s0 s1 → PartOr changed h1 b underway copies reaches s1 s2 r → PartOr changed h1 a underway copies reaches s0 s2 r
-part_after changed h0 h1 a b underway copies reaches s0 s1 s2 (Ok x) honest p q = passed_weaker h1 a a (reaches x) (reaches x) (0 + copies x) (copies x) s0 s2 (omega arith) (λ d k. k) (λ d k. k) (passed_after h0 h1 a b (reaches x) 0 (copies x) s0 s1 s2 honest p q)
-part_after changed h0 h1 a b underway copies reaches s0 s1 s2 (Err e) honest p q = left_after h0 h1 a b underway 0 e s0 s1 s2 honest p q
+pub part_after : {T : Type 0} (reasons : Reasons) (h0 h1 : Type 0) (a b underway : Device → Type 0) (copies : T → ℕ) (reaches : T → Device → Type 0) (s0 s1 s2 : Seen) (r : Result T RunFault) → (h1 → h0) → Passed h0 a b 0 s0 s1 → PartOr reasons h1 b underway copies reaches s1 s2 r → PartOr reasons h1 a underway copies reaches s0 s2 r
+part_after reasons h0 h1 a b underway copies reaches s0 s1 s2 (Ok x) honest p q = passed_weaker h1 a a (reaches x) (reaches x) (0 + copies x) (copies x) s0 s2 (omega arith) (λ d k. k) (λ d k. k) (passed_after h0 h1 a b (reaches x) 0 (copies x) s0 s1 s2 honest p q)
+part_after reasons h0 h1 a b underway copies reaches s0 s1 s2 (Err e) honest p q = left_after h0 h1 a b underway 0 e s0 s1 s2 honest p q
 
 -- beside what does not change
 pub passed_with : (p h : Type 0) (a b : Device → Type 0) (n : ℕ) (s0 s1 : Seen) → Passed h a b n s0 s1 → Passed h (λ d. p × a d) (λ d. p × b d) n s0 s1
@@ -248,44 +248,44 @@ passed_with p h a b n s0 s1 k = record {
 pub add_none : (n : ℕ) → n + 0 ≡ n
 add_none n = omega arith
 
--- ---- the same part with another cause of a changed UIDVALIDITY
+-- ---- the same part for other reasons
 
-caused_told : (c c' : Side → Type 0) (f : RunFault) (s0 s1 : Seen) → ((side : Side) → c side → c' side) → IsCaused c f s0 s1 → IsCaused c' f s0 s1
-caused_told c c' run.Stopped s0 s1 g h = h
-caused_told c c' (run.Refused step) s0 s1 g h = h
-caused_told c c' (run.ValidityChanged side) s0 s1 g h = g side h
-caused_told c c' (run.BadState line) s0 s1 g h = h
-caused_told c c' (run.BadJournal line) s0 s1 g h = h
-caused_told c c' (run.StoreFault side code) s0 s1 g h = h
-caused_told c c' run.MarksRepeat s0 s1 g h = h
-caused_told c c' run.NoMemory s0 s1 g h = h
+caused_told : (c c' : Reasons) (f : RunFault) (s0 s1 : Seen) → ((side : Side) → c.changed side → c'.changed side) → (c.repeats → c'.repeats) → IsCaused c f s0 s1 → IsCaused c' f s0 s1
+caused_told c c' run.Stopped s0 s1 g k h = h
+caused_told c c' (run.Refused step) s0 s1 g k h = h
+caused_told c c' (run.ValidityChanged side) s0 s1 g k h = g side h
+caused_told c c' (run.BadState line) s0 s1 g k h = h
+caused_told c c' (run.BadJournal line) s0 s1 g k h = h
+caused_told c c' (run.StoreFault side code) s0 s1 g k h = h
+caused_told c c' run.MarksRepeat s0 s1 g k h = k h
+caused_told c c' run.NoMemory s0 s1 g k h = h
 
-pub left_told : (c c' : Side → Type 0) (h : Type 0) (a underway : Device → Type 0) (f : RunFault) (s0 s1 : Seen) → ((side : Side) → c side → c' side) → Left c h a underway f s0 s1 → Left c' h a underway f s0 s1
-left_told c c' h a underway f s0 s1 g l = record { caused = caused_told c c' f s0 s1 g l.caused; no_less = l.no_less; left = l.left }
+pub left_told : (c c' : Reasons) (h : Type 0) (a underway : Device → Type 0) (f : RunFault) (s0 s1 : Seen) → ((side : Side) → c.changed side → c'.changed side) → (c.repeats → c'.repeats) → Left c h a underway f s0 s1 → Left c' h a underway f s0 s1
+left_told c c' h a underway f s0 s1 g k l = record { caused = caused_told c c' f s0 s1 g k l.caused; no_less = l.no_less; left = l.left }
 
-pub part_told : {T : Type 0} (c c' : Side → Type 0) (h : Type 0) (a underway : Device → Type 0) (copies : T → ℕ) (reaches : T → Device → Type 0) (s0 s1 : Seen) (r : Result T RunFault) → ((side : Side) → c side → c' side) → PartOr c h a underway copies reaches s0 s1 r → PartOr c' h a underway copies reaches s0 s1 r
-part_told c c' h a underway copies reaches s0 s1 (Ok x) g p = p
-part_told c c' h a underway copies reaches s0 s1 (Err e) g p = left_told c c' h a underway e s0 s1 g p
+pub part_told : {T : Type 0} (c c' : Reasons) (h : Type 0) (a underway : Device → Type 0) (copies : T → ℕ) (reaches : T → Device → Type 0) (s0 s1 : Seen) (r : Result T RunFault) → ((side : Side) → c.changed side → c'.changed side) → (c.repeats → c'.repeats) → PartOr c h a underway copies reaches s0 s1 r → PartOr c' h a underway copies reaches s0 s1 r
+part_told c c' h a underway copies reaches s0 s1 (Ok x) g k p = p
+part_told c c' h a underway copies reaches s0 s1 (Err e) g k p = left_told c c' h a underway e s0 s1 g k p
 
 -- a part that never tells one
-pub left_never : {c : Side → Type 0} (h : Type 0) (a underway : Device → Type 0) (f : RunFault) (s0 s1 : Seen) → Left Never h a underway f s0 s1 → Left c h a underway f s0 s1
-left_never h a underway f s0 s1 l = left_told Never _ h a underway f s0 s1 (λ side n. absurd n) l
+pub left_never : {c : Reasons} (h : Type 0) (a underway : Device → Type 0) (f : RunFault) (s0 s1 : Seen) → Left Never h a underway f s0 s1 → Left c h a underway f s0 s1
+left_never h a underway f s0 s1 l = left_told Never _ h a underway f s0 s1 (λ side n. absurd n) (λ n. absurd n) l
 
-pub part_never : {T : Type 0} (c : Side → Type 0) (h : Type 0) (a underway : Device → Type 0) (copies : T → ℕ) (reaches : T → Device → Type 0) (s0 s1 : Seen) (r : Result T RunFault) → Part h a underway copies reaches s0 s1 r → PartOr c h a underway copies reaches s0 s1 r
-part_never c h a underway copies reaches s0 s1 r p = part_told Never _ h a underway copies reaches s0 s1 r (λ side n. absurd n) p
+pub part_never : {T : Type 0} (c : Reasons) (h : Type 0) (a underway : Device → Type 0) (copies : T → ℕ) (reaches : T → Device → Type 0) (s0 s1 : Seen) (r : Result T RunFault) → Part h a underway copies reaches s0 s1 r → PartOr c h a underway copies reaches s0 s1 r
+part_never c h a underway copies reaches s0 s1 r p = part_told Never _ h a underway copies reaches s0 s1 r (λ side n. absurd n) (λ n. absurd n) p
 
 -- ---- the same part that leaves another condition
 
-pub left_mapped : {changed : Side → Type 0} (h : Type 0) (a a' u u' : Device → Type 0) (f : RunFault) (s0 s1 : Seen) → ((d : Device) → a' d → a d) → ((d : Device) → u d → u' d) → Left changed h a u f s0 s1 → Left changed h a' u' f s0 s1
+pub left_mapped : {reasons : Reasons} (h : Type 0) (a a' u u' : Device → Type 0) (f : RunFault) (s0 s1 : Seen) → ((d : Device) → a' d → a d) → ((d : Device) → u d → u' d) → Left reasons h a u f s0 s1 → Left reasons h a' u' f s0 s1
 left_mapped h a a' u u' f s0 s1 g k l = record { caused = l.caused; no_less = l.no_less; left = λ honest at. leaves_map u u' f s0 s1 (k s1.device) (l.left honest (g s0.device at)) }
 
-pub part_mapped : {T : Type 0} (changed : Side → Type 0) (h : Type 0) (a a' u u' : Device → Type 0) (copies : T → ℕ) (reaches reaches' : T → Device → Type 0) (s0 s1 : Seen) (r : Result T RunFault) → ((d : Device) → a' d → a d) → ((d : Device) → u d → u' d) → ((x : T) (d : Device) → reaches x d → reaches' x d) → PartOr changed h a u copies reaches s0 s1 r → PartOr changed h a' u' copies reaches' s0 s1 r
-part_mapped changed h a a' u u' copies reaches reaches' s0 s1 (Ok x) f k g p = passed_weaker h a a' (reaches x) (reaches' x) (copies x) (copies x) s0 s1 refl f (g x) p
-part_mapped changed h a a' u u' copies reaches reaches' s0 s1 (Err e) f k g p = left_mapped h a a' u u' e s0 s1 f k p
+pub part_mapped : {T : Type 0} (reasons : Reasons) (h : Type 0) (a a' u u' : Device → Type 0) (copies : T → ℕ) (reaches reaches' : T → Device → Type 0) (s0 s1 : Seen) (r : Result T RunFault) → ((d : Device) → a' d → a d) → ((d : Device) → u d → u' d) → ((x : T) (d : Device) → reaches x d → reaches' x d) → PartOr reasons h a u copies reaches s0 s1 r → PartOr reasons h a' u' copies reaches' s0 s1 r
+part_mapped reasons h a a' u u' copies reaches reaches' s0 s1 (Ok x) f k g p = passed_weaker h a a' (reaches x) (reaches' x) (copies x) (copies x) s0 s1 refl f (g x) p
+part_mapped reasons h a a' u u' copies reaches reaches' s0 s1 (Err e) f k g p = left_mapped h a a' u u' e s0 s1 f k p
 
-pub left_with : {changed : Side → Type 0} (p h : Type 0) (a u : Device → Type 0) (f : RunFault) (s0 s1 : Seen) → Left changed h a u f s0 s1 → Left changed h (λ d. p × a d) (λ d. p × u d) f s0 s1
+pub left_with : {reasons : Reasons} (p h : Type 0) (a u : Device → Type 0) (f : RunFault) (s0 s1 : Seen) → Left reasons h a u f s0 s1 → Left reasons h (λ d. p × a d) (λ d. p × u d) f s0 s1
 left_with p h a u f s0 s1 k = record { caused = k.caused; no_less = k.no_less; left = λ honest at. leaves_map u (λ d. p × u d) f s0 s1 (λ x. (at.0, x)) (k.left honest at.1) }
 
-pub part_with : {T : Type 0} (changed : Side → Type 0) (p h : Type 0) (a u : Device → Type 0) (copies : T → ℕ) (reaches : T → Device → Type 0) (s0 s1 : Seen) (r : Result T RunFault) → PartOr changed h a u copies reaches s0 s1 r → PartOr changed h (λ d. p × a d) (λ d. p × u d) copies (λ x d. p × reaches x d) s0 s1 r
-part_with changed p h a u copies reaches s0 s1 (Ok x) k = passed_with p h a (reaches x) (copies x) s0 s1 k
-part_with changed p h a u copies reaches s0 s1 (Err e) k = left_with p h a u e s0 s1 k
+pub part_with : {T : Type 0} (reasons : Reasons) (p h : Type 0) (a u : Device → Type 0) (copies : T → ℕ) (reaches : T → Device → Type 0) (s0 s1 : Seen) (r : Result T RunFault) → PartOr reasons h a u copies reaches s0 s1 r → PartOr reasons h (λ d. p × a d) (λ d. p × u d) copies (λ x d. p × reaches x d) s0 s1 r
+part_with reasons p h a u copies reaches s0 s1 (Ok x) k = passed_with p h a (reaches x) (copies x) s0 s1 k
+part_with reasons p h a u copies reaches s0 s1 (Err e) k = left_with p h a u e s0 s1 k

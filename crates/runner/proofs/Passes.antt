@@ -40,7 +40,7 @@ use Rattle.runner.specs.declared.fault.RunFault.TheVariants as run
 use Rattle.runner.specs.declared.pass.Pass.{Pass}
 use Rattle.runner.specs.declared.pass.Pass.TheVariants.{Already, Ran, Finished}
 use Rattle.runner.specs.declared.performed.Performed.{Performed}
-use Rattle.runner.specs.Faults.{IsCaused, LeavesRun}
+use Rattle.runner.specs.Faults.{IsCaused, LeavesRun, Reasons}
 use Rattle.runner.specs.Answers.{Answers, AnswersTo, AreUnfit, AtEnd, IsAsked, IsDrawn, IsPlanFault, IsRest, IsRestOf, IsRun, Reaches, RunsBy, as_read, run_of}
 use Rattle.runner.specs.Before.{AreShown, BothListed, HasNoPlan, HasNone, HasPlan, IsKnown, IsMade, IsTakenUp}
 use Rattle.runner.specs.Going.{AreOpen, AtReady, HasLogged, HasUntorn, IsGoing, IsUntorn, log_at, logged_of, logs_of, next_at, no_journal, plan_at, steps_of}
@@ -324,21 +324,21 @@ module _ (ours : List ℕ → Bool) (alone : Bool) (opening : Opening) where
 
 -- ---- a fault of the planner
 
-pub caused_plan : (changed : Side → Type 0) (f : RunFault) (s0 s1 : Seen) → IsPlanFault f → ((side : Side) → f ≡ run.ValidityChanged side → changed side) → IsCaused changed f s0 s1
-caused_plan changed run.Stopped s0 s1 h g = absurd h
-caused_plan changed (run.Refused step) s0 s1 h g = absurd h
-caused_plan changed (run.ValidityChanged side) s0 s1 h g = g side refl
-caused_plan changed (run.BadState line) s0 s1 h g = tt
-caused_plan changed (run.BadJournal line) s0 s1 h g = tt
-caused_plan changed (run.StoreFault side number) s0 s1 h g = absurd h
-caused_plan changed run.MarksRepeat s0 s1 h g = tt
-caused_plan changed run.NoMemory s0 s1 h g = tt
+pub caused_plan : (reasons : Reasons) (f : RunFault) (s0 s1 : Seen) → IsPlanFault f → ((side : Side) → f ≡ run.ValidityChanged side → reasons.changed side) → (f ≡ run.MarksRepeat → reasons.repeats) → IsCaused reasons f s0 s1
+caused_plan reasons run.Stopped s0 s1 h g k = absurd h
+caused_plan reasons (run.Refused step) s0 s1 h g k = absurd h
+caused_plan reasons (run.ValidityChanged side) s0 s1 h g k = g side refl
+caused_plan reasons (run.BadState line) s0 s1 h g k = tt
+caused_plan reasons (run.BadJournal line) s0 s1 h g k = tt
+caused_plan reasons (run.StoreFault side number) s0 s1 h g k = absurd h
+caused_plan reasons run.MarksRepeat s0 s1 h g k = k refl
+caused_plan reasons run.NoMemory s0 s1 h g k = tt
 
 pub memory_plan : (f : RunFault) → f ≡ run.NoMemory → IsPlanFault f
 memory_plan f e = rw e tt
 
-pub caused_memory : (changed : Side → Type 0) (f : RunFault) (s0 s1 : Seen) → f ≡ run.NoMemory → IsCaused changed f s0 s1
-caused_memory changed f s0 s1 e = rw e tt
+pub caused_memory : (reasons : Reasons) (f : RunFault) (s0 s1 : Seen) → f ≡ run.NoMemory → IsCaused reasons f s0 s1
+caused_memory reasons f s0 s1 e = rw e tt
 
 pub after_plan : (u : Device → Type 0) (f : RunFault) (s0 s1 : Seen) → IsPlanFault f → u s1.device → LeavesRun u f s0 s1
 after_plan u run.Stopped s0 s1 h k = absurd h

@@ -4,8 +4,6 @@ use Rattle.mailcore.specs.declared.listing.Listing.{Listing}
 use Rattle.mailcore.specs.declared.side.Side.{Side}
 use Rattle.mailcore.specs.declared.side.Side.TheVariants.{Far, Near}
 use Rattle.mailcore.specs.declared.side.Direction.TheVariants.{Pull, Push}
-use Rattle.mailcore.specs.declared.fault.CoreFault.{CoreFault}
-use Rattle.mailcore.specs.declared.fault.CoreFault.TheVariants as core
 use Rattle.mailcore.specs.Draws.{RUN_LENGTH, Repeats, after_pairs}
 use Rattle.mailcore.specs.Operations.{item_above}
 use Rattle.rules.specs.declared.options.Options.{Options}
@@ -128,11 +126,13 @@ pub no_pairs : (stream : Stream) → after_pairs stream 0 ≡ stream
 unfolding after_pairs
 no_pairs stream = refl
 
--- the generator moves by whole pairs, whatever the fault
-pub moved_by : (old new : Stream) (count : ℕ) (fault : CoreFault) → (fault ≡ core.NoMemory → new ≡ old) → (fault ≡ core.MarksRepeat → (r : Repeats old count) × (new ≡ after_pairs old (r.pairs + RUN_LENGTH))) → (pairs : ℕ) × (new ≡ after_pairs old pairs)
-moved_by old new count core.NoMemory f g = (0, f refl ∙ sym (no_pairs old))
-moved_by old new count core.MarksRepeat f g = let k = g refl in let r = k.0 in (r.pairs + RUN_LENGTH, k.1)
+-- the generator moves by whole pairs
+pub moved_pairs : (old new : Stream) (count : ℕ) → (r : Repeats old count) × (new ≡ after_pairs old (r.pairs + RUN_LENGTH)) → Moves old new
+moved_pairs old new count k = let r = k.0 in (r.pairs + RUN_LENGTH, k.1)
 
 -- or not at all
 pub moved_none : (stream : Stream) → Moves stream stream
 moved_none stream = (0, sym (no_pairs stream))
+
+pub moved_same : (old new : Stream) → new ≡ old → Moves old new
+moved_same old new e = subst (λ (s : Stream). Moves old s) (sym e) (moved_none old)

@@ -4,7 +4,7 @@ use Rattle.rand_core.specs.Stream.{Stream}
 use Rattle.mailcore.specs.declared.side.Side.{Side}
 use Rattle.mailcore.specs.declared.listing.Listing.{Listing}
 use Rattle.mailcore.specs.Mark.{IsMark}
-use Rattle.mailcore.specs.Draws.{Draws, after_pairs}
+use Rattle.mailcore.specs.Draws.{Draws, Repeats, after_pairs}
 use Rattle.rules.specs.declared.options.Options.{Options}
 use Rattle.rules.specs.declared.plan.Step.{Step}
 use Rattle.rules.specs.declared.state.SyncState.{SyncState}
@@ -43,6 +43,14 @@ pub record AreDrawn (stream : Stream) (far near : Listing) (state : SyncState) (
 -- a generator moves by whole pairs
 abbrev pub Moves : (old new : Stream) → Type 0
 Moves old new = (pairs : ℕ) × (new ≡ after_pairs old pairs)
+
+-- so many draws in a row give marks that were drawn before, before there are as many marks as some plan wants
+abbrev pub HasRepeats : Stream → Type 0
+HasRepeats stream = (count : ℕ) × Repeats stream count
+
+-- or they do so later
+abbrev pub WillRepeat : Stream → Type 0
+WillRepeat stream = (drawn : Stream) × (Moves stream drawn) × HasRepeats drawn
 
 -- all steps of the plan of two listings, under the first marks of a generator
 abbrev pub IsDrawn : Option Opened → Stream → (far near : Listing) → Options → List Step → Type 0

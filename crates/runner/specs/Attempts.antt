@@ -34,8 +34,8 @@ pub record IsTried (ours : List ℕ → Bool) (alone : Bool) (opening : Opening)
 
 -- ---- the last attempt
 
--- where an attempt began that came after so many others: the first where `settle` was called, each with the run underway and with
--- marks that no other had
+-- where an attempt began that came after so many others: the first where `settle` was called, each with the run underway and the
+-- generator moved by whole pairs
 pub record Began (ours : List ℕ → Bool) (alone : Bool) (opening : Opening) (earlier : ℕ) (start : Device) (stream : Stream) : Type 0 where
   pub device : Device
   pub drawn : Stream

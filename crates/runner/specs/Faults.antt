@@ -35,16 +35,24 @@ pub record IsLost (side : Side) (number : ℕ) (old new : Seen) : Type 0 where
   pub protocol : number ≡ 3
   pub copied : old.appends < new.appends
 
--- a call stopped, was refused or had another fault, by the counts; a UIDVALIDITY is told to have changed only where so much is so
-abbrev pub IsCaused : (changed : Side → Type 0) → RunFault → Seen → Seen → Type 0
-IsCaused changed run.Stopped old new = (old.is_broken ≡ true) ⊎ (old.stops < new.stops)
-IsCaused changed (run.Refused step) old new = old.refusals < new.refusals
-IsCaused changed (run.ValidityChanged side) old new = changed side
-IsCaused changed (run.BadState line) old new = Unit {0}
-IsCaused changed (run.BadJournal line) old new = Unit {0}
-IsCaused changed (run.StoreFault side number) old new = (old.faults < new.faults) ⊎ ((old.refusals < new.refusals) ⊎ IsLost side number old new)
-IsCaused changed run.MarksRepeat old new = Unit {0}
-IsCaused changed run.NoMemory old new = Unit {0}
+-- what stands behind two faults of the run's own: that a side's UIDVALIDITY has changed, and that marks repeat
+pub record Reasons : Type 1 where
+  pub changed : Side → Type 0
+  pub repeats : Type 0
+
+abbrev pub because : (changed : Side → Type 0) → (repeats : Type 0) → Reasons
+because changed repeats = record { changed = changed; repeats = repeats }
+
+-- a call stopped, was refused or had another fault, by the counts; the faults of the run's own have their reasons
+abbrev pub IsCaused : Reasons → RunFault → Seen → Seen → Type 0
+IsCaused reasons run.Stopped old new = (old.is_broken ≡ true) ⊎ (old.stops < new.stops)
+IsCaused reasons (run.Refused step) old new = old.refusals < new.refusals
+IsCaused reasons (run.ValidityChanged side) old new = reasons.changed side
+IsCaused reasons (run.BadState line) old new = Unit {0}
+IsCaused reasons (run.BadJournal line) old new = Unit {0}
+IsCaused reasons (run.StoreFault side number) old new = (old.faults < new.faults) ⊎ ((old.refusals < new.refusals) ⊎ IsLost side number old new)
+IsCaused reasons run.MarksRepeat old new = reasons.repeats
+IsCaused reasons run.NoMemory old new = Unit {0}
 
 -- ---- what a fault leaves of a run that is underway
 

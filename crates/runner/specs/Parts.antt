@@ -1,11 +1,10 @@
 -- What a part of a run reaches, or leaves.
 use Rattle.std.specs.Prelude.{◌≡◌, ◌≤◌, ◌+◌, ℕ, true, false, Result, Ok, Err, IsErrAnd}
-use Rattle.mailcore.specs.declared.side.Side.{Side}
 use Rattle.outside.specs.Calls.{Seen}
 use Rattle.outside.specs.Devices.{Device}
 use Rattle.runner.specs.declared.fault.RunFault.{RunFault}
 use Rattle.runner.specs.declared.fault.RunFault.TheVariants.{Stopped}
-use Rattle.runner.specs.Faults.{IsCaused, LeavesRun}
+use Rattle.runner.specs.Faults.{IsCaused, LeavesRun, Reasons, because}
 
 -- none of the counts falls
 pub record NoLess (old new : Seen) : Type 0 where
@@ -24,18 +23,18 @@ pub record Passed (honest : Type 0) (from to : Device → Type 0) (copies : ℕ)
   pub reaches : honest → from old.device → to new.device
 
 -- a part that ended with a fault
-pub record Left (changed : Side → Type 0) (honest : Type 0) (from underway : Device → Type 0) (fault : RunFault) (old new : Seen) : Type 0 where
-  pub caused : IsCaused changed fault old new
+pub record Left (reasons : Reasons) (honest : Type 0) (from underway : Device → Type 0) (fault : RunFault) (old new : Seen) : Type 0 where
+  pub caused : IsCaused reasons fault old new
   pub no_less : NoLess old new
   pub left : honest → from old.device → LeavesRun underway fault old new
 
--- a part that may tell that a side's UIDVALIDITY has changed, where so much is so
-abbrev pub PartOr : {T : Type 0} → (changed : Side → Type 0) → (honest : Type 0) → (from underway : Device → Type 0) → (copies : T → ℕ) → (reaches : T → Device → Type 0) → Seen → Seen → Result T RunFault → Type 0
-PartOr changed honest from underway copies reaches old new (Ok answer) = Passed honest from (reaches answer) (copies answer) old new
-PartOr changed honest from underway copies reaches old new (Err fault) = Left changed honest from underway fault old new
+-- a part that may tell a fault of the run's own, for these reasons
+abbrev pub PartOr : {T : Type 0} → Reasons → (honest : Type 0) → (from underway : Device → Type 0) → (copies : T → ℕ) → (reaches : T → Device → Type 0) → Seen → Seen → Result T RunFault → Type 0
+PartOr reasons honest from underway copies reaches old new (Ok answer) = Passed honest from (reaches answer) (copies answer) old new
+PartOr reasons honest from underway copies reaches old new (Err fault) = Left reasons honest from underway fault old new
 
-abbrev pub Never : Side → Type 0
-Never side = ⊥
+abbrev pub Never : Reasons
+Never = because (λ side. ⊥) ⊥
 
 -- a part that tells no such thing
 abbrev pub Part : {T : Type 0} → (honest : Type 0) → (from underway : Device → Type 0) → (copies : T → ℕ) → (reaches : T → Device → Type 0) → Seen → Seen → Result T RunFault → Type 0

@@ -6,7 +6,7 @@ ghost use Rattle.outside.specs.Opened.{IsRead, TakesPlan, state_of};
 ghost use Rattle.rules.specs.World.{World, IsInOrder};
 ghost use Rattle.planner.specs.Written.{marks_of};
 ghost use Rattle.underway.specs.Plans.{IsPlanned};
-ghost use Rattle.runner.specs.Answers.{AreDrawn, AreUnfit, IsDrawn, IsPlanFault, Moves, run_of};
+ghost use Rattle.runner.specs.Answers.{AreDrawn, AreUnfit, HasRepeats, IsDrawn, IsPlanFault, Moves, run_of};
 ghost use Rattle.runner.specs.Validities.{ListsChanged};
 ghost use Rattle.runner.specs.Before.{AreShown, HasNoJournal};
 
@@ -39,14 +39,13 @@ fn marks_for<R: Rng>(
     ensures drawn { IfOk result (λ marks. AreDrawn (R.stream rng.old) both.now.far both.now.near state.now options.now marks.items) }
     ensures moved { Moves (R.stream rng.old) (R.stream rng.new) }
     ensures fault { IfErr result (λ fault. IsPlanFault fault × ((side : Side) → fault ≡ RunFault.ValidityChanged side → ⊥)) }
+    ensures repeats { IfErr result (λ fault. fault ≡ RunFault.MarksRepeat → HasRepeats (R.stream rng.old)) }
 {
     let count = news(&both.far, &both.near, state, options);
     match draw_marks(alloc, rng, count) {
         Ok(marks) => Ok(marks),
-        Err(fault) => Err(match fault {
-            CoreFault::NoMemory => RunFault::NoMemory,
-            CoreFault::MarksRepeat => RunFault::MarksRepeat,
-        }),
+        Err(CoreFault::NoMemory) => Err(RunFault::NoMemory),
+        Err(CoreFault::MarksRepeat) => Err(RunFault::MarksRepeat),
     }
 }
 
@@ -68,6 +67,7 @@ pub(crate) fn make_plan<O: Outside, R: Rng>(
         → All (λ mark. O.ours mark ≡ true) (marks_of p.steps) → IsPlanned O.ours w options.now p) }
     ensures moved { Moves (R.stream rng.old) (R.stream rng.new) }
     ensures fault { IfErr result IsPlanFault }
+    ensures repeats { IfErr result (λ fault. fault ≡ RunFault.MarksRepeat → HasRepeats (R.stream rng.old)) }
     ensures changed { IfErr result (λ fault. (side : Side) → fault ≡ RunFault.ValidityChanged side → ListsChanged (O.opened outside.now) both.now.far both.now.near side) }
 {
     let state = outside.state();

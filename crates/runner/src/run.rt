@@ -7,11 +7,12 @@ ghost use Rattle.book.specs.Books.{Holds};
 ghost use Rattle.outside.specs.Opened.{IsBook, IsRead, TakesCommit};
 ghost use Rattle.underway.specs.Conditions.{Underway};
 ghost use Rattle.underway.specs.Openings.{Opening};
+ghost use Rattle.runner.specs.Faults.{because};
 ghost use Rattle.runner.specs.Parts.{IsStuck, Part, PartOr};
 ghost use Rattle.runner.specs.Validities.{TellsChange, TellsChanged, TellsUnlessSame};
 ghost use Rattle.runner.specs.Going.{AreOpen, AtReady, IsGoing, log_at, next_at, plan_at};
 ghost use Rattle.runner.specs.Before.{HasNoPlan, HasPlan, IsKnown, IsTakenUp};
-ghost use Rattle.runner.specs.Answers.{Answers, AnswersTo, AtEnd, IsChosen, IsEntry, IsKnownEntry, IsRun, Moves, Reaches, RunsBy, as_read, made_in, run_of};
+ghost use Rattle.runner.specs.Answers.{Answers, AnswersTo, AtEnd, HasRepeats, IsChosen, IsEntry, IsKnownEntry, IsRun, Moves, Reaches, RunsBy, as_read, made_in, run_of};
 
 use crate::fault::{RunFault, call_fault};
 use crate::opening::{clear, forget, list_both, open_boxes, recall, untear, write_plan};
@@ -56,7 +57,7 @@ fn propose<O: Outside, R: Rng>(
     ensures log { OnOk result (log_at (O.opened outside.new) ≡ []) }
     ensures run { IfOk result (λ unfit. IsRun (O.opened outside.old) options.now (R.stream rng.old) (plan_at (O.opened outside.new)).steps unfit.items) }
     ensures moved { Moves (R.stream rng.old) (R.stream rng.new) }
-    ensures part { PartOr (TellsUnlessSame (O.honest outside.new) (O.opened outside.old) (O.seen outside.old).device) (O.honest outside.new) (IsChosen O.ours O.alone opening (O.opened outside.old) options.now (R.stream rng.old)) (Underway O.ours O.alone opening) (λ _. 0) (λ _. AtReady O.ours O.alone opening (O.opened outside.new) false) (O.seen outside.old) (O.seen outside.new) result }
+    ensures part { PartOr (because (TellsUnlessSame (O.honest outside.new) (O.opened outside.old) (O.seen outside.old).device) (HasRepeats (R.stream rng.old))) (O.honest outside.new) (IsChosen O.ours O.alone opening (O.opened outside.old) options.now (R.stream rng.old)) (Underway O.ours O.alone opening) (λ _. 0) (λ _. AtReady O.ours O.alone opening (O.opened outside.new) false) (O.seen outside.old) (O.seen outside.new) result }
 {
     clear(outside)?;
     let both = list_both(outside)?;
@@ -82,7 +83,7 @@ fn begin<O: Outside, R: Rng>(
     ensures runs { IfOk result (RunsBy (O.opened outside.old) options.now (R.stream rng.old)) }
     ensures fresh { IfOk result (λ pass. pass ≡ Pass.Already → ⊥) }
     ensures moved { Moves (R.stream rng.old) (R.stream rng.new) }
-    ensures part { PartOr (TellsUnlessSame (O.honest outside.new) (O.opened outside.old) (O.seen outside.old).device) (O.honest outside.new) (IsChosen O.ours O.alone opening (O.opened outside.old) options.now (R.stream rng.old)) (Underway O.ours O.alone opening) made_in (λ _. AtEnd O.ours O.alone opening) (O.seen outside.old) (O.seen outside.new) result }
+    ensures part { PartOr (because (TellsUnlessSame (O.honest outside.new) (O.opened outside.old) (O.seen outside.old).device) (HasRepeats (R.stream rng.old))) (O.honest outside.new) (IsChosen O.ours O.alone opening (O.opened outside.old) options.now (R.stream rng.old)) (Underway O.ours O.alone opening) made_in (λ _. AtEnd O.ours O.alone opening) (O.seen outside.old) (O.seen outside.new) result }
 {
     let unfit = propose(alloc, outside, options, rng)?;
     let performed = carry_out(alloc, outside, false)?;
@@ -137,7 +138,7 @@ fn work<O: Outside, R: Rng>(
     ensures runs { IfOk result (RunsBy (O.opened outside.old) options.now (R.stream rng.old)) }
     ensures fresh { IfOk result (λ pass. pass ≡ Pass.Already → ⊥) }
     ensures moved { Moves (R.stream rng.old) (R.stream rng.new) }
-    ensures part { PartOr (TellsUnlessSame (O.honest outside.new) (O.opened outside.old) (O.seen outside.old).device) (O.honest outside.new) (IsKnownEntry O.ours O.alone opening (O.opened outside.old) (run_of (O.opened outside.old) + 1) options.now (R.stream rng.old)) (Underway O.ours O.alone opening) made_in (λ _. AtEnd O.ours O.alone opening) (O.seen outside.old) (O.seen outside.new) result }
+    ensures part { PartOr (because (TellsUnlessSame (O.honest outside.new) (O.opened outside.old) (O.seen outside.old).device) (HasRepeats (R.stream rng.old))) (O.honest outside.new) (IsKnownEntry O.ours O.alone opening (O.opened outside.old) (run_of (O.opened outside.old) + 1) options.now (R.stream rng.old)) (Underway O.ours O.alone opening) made_in (λ _. AtEnd O.ours O.alone opening) (O.seen outside.old) (O.seen outside.new) result }
 {
     if outside.pending().is_some() {
         resume(alloc, outside)
@@ -161,7 +162,7 @@ fn open_and_work<O: Outside, R: Rng>(
     ensures runs { IfOk result (RunsBy (O.opened outside.old) options.now (R.stream rng.old)) }
     ensures fresh { IfOk result (λ pass. pass ≡ Pass.Already → ⊥) }
     ensures moved { Moves (R.stream rng.old) (R.stream rng.new) }
-    ensures part { PartOr (TellsChange (O.honest outside.new) O.alone (O.opened outside.old) (O.seen outside.old).device (O.seen outside.new).device) (O.honest outside.new) (IsKnownEntry O.ours O.alone opening (O.opened outside.old) (run_of (O.opened outside.old) + 1) options.now (R.stream rng.old)) (Underway O.ours O.alone opening) made_in (λ _. AtEnd O.ours O.alone opening) (O.seen outside.old) (O.seen outside.new) result }
+    ensures part { PartOr (because (TellsChange (O.honest outside.new) O.alone (O.opened outside.old) (O.seen outside.old).device (O.seen outside.new).device) (HasRepeats (R.stream rng.old))) (O.honest outside.new) (IsKnownEntry O.ours O.alone opening (O.opened outside.old) (run_of (O.opened outside.old) + 1) options.now (R.stream rng.old)) (Underway O.ours O.alone opening) made_in (λ _. AtEnd O.ours O.alone opening) (O.seen outside.old) (O.seen outside.new) result }
 {
     open_boxes(outside)?;
     work(alloc, outside, options, rng)
@@ -183,7 +184,7 @@ fn take_up<O: Outside, R: Rng>(
     ensures runs { IfOk result (RunsBy (O.opened outside.old) options.now (R.stream rng.old)) }
     ensures stores { IfOk result (λ pass. pass ≡ Pass.Already → O.honest outside.new → O.alone ≡ true → ((O.seen outside.new).device.far ≡ (O.seen outside.old).device.far) × ((O.seen outside.new).device.near ≡ (O.seen outside.old).device.near)) }
     ensures moved { Moves (R.stream rng.old) (R.stream rng.new) }
-    ensures part { PartOr (TellsChange (O.honest outside.new) O.alone (O.opened outside.old) (O.seen outside.old).device (O.seen outside.new).device) (O.honest outside.new) (IsKnownEntry O.ours O.alone opening (O.opened outside.old) run options.now (R.stream rng.old)) (Underway O.ours O.alone opening) made_in (λ _. Reaches O.ours O.alone opening run) (O.seen outside.old) (O.seen outside.new) result }
+    ensures part { PartOr (because (TellsChange (O.honest outside.new) O.alone (O.opened outside.old) (O.seen outside.old).device (O.seen outside.new).device) (HasRepeats (R.stream rng.old))) (O.honest outside.new) (IsKnownEntry O.ours O.alone opening (O.opened outside.old) run options.now (R.stream rng.old)) (Underway O.ours O.alone opening) made_in (λ _. Reaches O.ours O.alone opening run) (O.seen outside.old) (O.seen outside.new) result }
 {
     let last = outside.state().run;
     if run <= last {
@@ -223,8 +224,9 @@ pub fn pass<O: Outside, R: Rng>(
     ensures stores { IfOk result (λ pass. pass ≡ Pass.Already → O.honest outside.new → O.alone ≡ true → ((O.seen outside.new).device.far ≡ (O.seen outside.old).device.far) × ((O.seen outside.new).device.near ≡ (O.seen outside.old).device.near)) }
 
     // A run that is underway is still underway after any fault, and over where it answers. `ValidityChanged` comes only where that
-    // side's UIDVALIDITY is not the recorded one, far before near, and nothing has changed then.
-    ensures part { PartOr (TellsChanged (O.honest outside.new) O.alone (O.seen outside.old).device (O.seen outside.new).device) (O.honest outside.new) (IsEntry O.ours O.alone opening run options.now (R.stream rng.old)) (Underway O.ours O.alone opening) made_in (λ _. Reaches O.ours O.alone opening run) (O.seen outside.old) (O.seen outside.new) result }
+    // side's UIDVALIDITY is not the recorded one, far before near, and nothing has changed then; `MarksRepeat` only where the generator's
+    // draws do.
+    ensures part { PartOr (because (TellsChanged (O.honest outside.new) O.alone (O.seen outside.old).device (O.seen outside.new).device) (HasRepeats (R.stream rng.old))) (O.honest outside.new) (IsEntry O.ours O.alone opening run options.now (R.stream rng.old)) (Underway O.ours O.alone opening) made_in (λ _. Reaches O.ours O.alone opening run) (O.seen outside.old) (O.seen outside.new) result }
 {
     recall(outside)?;
     take_up(alloc, outside, run, options, rng)

@@ -7,10 +7,10 @@ ghost use Rattle.book.specs.declared.book.Pending.{Pending};
 ghost use Rattle.book.specs.Books.{Holds};
 ghost use Rattle.underway.specs.Conditions.{IsOver, Underway};
 ghost use Rattle.underway.specs.Openings.{Opening};
-ghost use Rattle.runner.specs.Faults.{IsCaused, LeavesRun};
+ghost use Rattle.runner.specs.Faults.{IsCaused, LeavesRun, because};
 ghost use Rattle.runner.specs.Parts.{IsStuck, Part, PartOr};
 ghost use Rattle.runner.specs.Validities.{IsKept, TellsChanged};
-ghost use Rattle.runner.specs.Answers.{IsAsked, Moves, made_in};
+ghost use Rattle.runner.specs.Answers.{HasRepeats, IsAsked, Moves, WillRepeat, made_in};
 ghost use Rattle.runner.specs.Attempts.{AnswersAt, AnswersLast, AtOpening, ChangedLast, HasNoNext, IsTried, MetStops, TriedAt, failed_before, found_by};
 
 use crate::fault::{RunFault, call_fault};
@@ -78,7 +78,7 @@ fn attempt<O: Outside, R: Rng>(
     ensures greatest { run.old ≡ None → HasNoNext (O.honest outside.new) O.alone (O.seen outside.old).device (O.seen outside.new).device result }
     ensures unfixed { run.old ≡ None → O.honest outside.new → (s : SyncState) (p : Pending) → Holds (O.seen outside.old).device.files s p → s.run + 1 ≡ 2 ^ 64 → run.new ≡ None }
     ensures stuck { IsStuck (O.seen outside.old) (O.seen outside.new) result }
-    ensures part { PartOr (TellsChanged (O.honest outside.new) O.alone (O.seen outside.old).device (O.seen outside.new).device) (O.honest outside.new) (IsTried O.ours O.alone opening options.now (R.stream rng.old) run.old) (IsTried O.ours O.alone opening options.now (R.stream rng.new) run.new) made_in (λ _. IsOver O.ours O.alone opening) (O.seen outside.old) (O.seen outside.new) result }
+    ensures part { PartOr (because (TellsChanged (O.honest outside.new) O.alone (O.seen outside.old).device (O.seen outside.new).device) (HasRepeats (R.stream rng.old))) (O.honest outside.new) (IsTried O.ours O.alone opening options.now (R.stream rng.old) run.old) (IsTried O.ours O.alone opening options.now (R.stream rng.new) run.new) made_in (λ _. IsOver O.ours O.alone opening) (O.seen outside.old) (O.seen outside.new) result }
 {
     let number = fix_run(outside, run)?;
     pass(alloc, outside, number, options, rng)
@@ -122,8 +122,8 @@ pub fn settle<O: Outside, R: Rng>(
     // Behind `ValidityChanged` nothing has changed but what the attempts before the last have done.
     ensures changed { IfErr result (λ fault. (side : Side) → fault ≡ RunFault.ValidityChanged side → O.honest outside.new → IsAsked O.ours opening options.now (R.stream rng.old) → AtOpening O.ours O.alone opening (O.seen outside.old).device → ChangedLast O.ours O.alone opening tries side (O.seen outside.old).device (R.stream rng.old) (O.seen outside.new).device) }
 
-    // A refusal, another fault of a box, or a copy that was lost stands in the counts.
-    ensures caused { IfErr result (λ fault. (fault ≡ RunFault.Stopped → ⊥) → IsCaused (λ side. Unit {0}) fault (O.seen outside.old) (O.seen outside.new)) }
+    // A refusal, another fault of a box, or a copy that was lost stands in the counts, and marks repeat only where the draws do.
+    ensures caused { IfErr result (λ fault. (fault ≡ RunFault.Stopped → ⊥) → IsCaused (because (λ side. Unit {0}) (WillRepeat (R.stream rng.old))) fault (O.seen outside.old) (O.seen outside.new)) }
 
     // Behind the greatest run number there is no other.
     ensures greatest { HasNoNext (O.honest outside.new) O.alone (O.seen outside.old).device (O.seen outside.new).device result }

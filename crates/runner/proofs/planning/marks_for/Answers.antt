@@ -1,6 +1,12 @@
 use Rattle.std.proofs.Common.{refl}
-use Rattle.runner.proofs.PlanFacts.{moved_by}
+use Rattle.runner.proofs.PlanFacts.{moved_pairs, moved_same}
 use Rattle.runner.proofs.planning.marks_for.Goals as goal
 
-pub returns-after-fault-clause-moved : goal.returns-after-fault-clause-moved
-returns-after-fault-clause-moved g c = let e = c.in-Err.ensures in moved_by (g.R.Rng.stream c.args.rng.now) (g.R.Rng.stream c.draw_marks.new.rng) _ c.in-Err.fault (λ f. e.no_memory (rw f refl)) (λ f. e.repeats (rw f refl))
+pub returns-in-Err-NoMemory-clause-moved : goal.returns-in-Err-NoMemory-clause-moved
+returns-in-Err-NoMemory-clause-moved g c = let e = c.in-Err-NoMemory.ensures in moved_same _ _ (e.no_memory (rw c.in-Err-NoMemory.field-0-is refl))
+
+pub returns-in-Err-MarksRepeat-clause-moved : goal.returns-in-Err-MarksRepeat-clause-moved
+returns-in-Err-MarksRepeat-clause-moved g c = let e = c.in-Err-MarksRepeat.ensures in moved_pairs _ _ _ (e.repeats (rw c.in-Err-MarksRepeat.field-0-is refl))
+
+pub returns-in-Err-MarksRepeat-clause-repeats : goal.returns-in-Err-MarksRepeat-clause-repeats
+returns-in-Err-MarksRepeat-clause-repeats g c = λ is. let e = c.in-Err-MarksRepeat.ensures in (_, (e.repeats (rw c.in-Err-MarksRepeat.field-0-is refl)).0)

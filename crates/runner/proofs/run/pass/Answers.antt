@@ -34,7 +34,7 @@ returns-clause-part g c =
     let stream = g.R.Rng.stream c.args.rng.now in
     let with = passed_with ((run ≤ g.opening.world.state.run + 1) × IsAsked ours g.opening options stream) _ _ _ _ _ _ c.in_ok-recall.ensures.part in
     let ready = passed_weaker _ _ (IsEntry ours alone g.opening run options stream) _ (IsKnownEntry ours alone g.opening opened run options stream) _ 0 _ s1 refl (λ d k. ((k.most, k.asked), k.underway)) (λ d k. record { most = k.0.0; asked = k.0.1; known = k.1 }) with in
-    part_after _ _ _ _ _ _ _ _ _ s1 _ _ c.take_up.ensures.was_honest ready (part_told _ _ _ _ _ _ _ _ _ _ (λ side t. files_changed alone _ _ opened s0.device s1.device s2.device side c.take_up.ensures.was_honest c.in_ok-recall.ensures.held c.in_ok-recall.ensures.kept t) c.take_up.ensures.part)
+    part_after _ _ _ _ _ _ _ _ _ s1 _ _ c.take_up.ensures.was_honest ready (part_told _ _ _ _ _ _ _ _ _ _ (λ side t. files_changed alone _ _ opened s0.device s1.device s2.device side c.take_up.ensures.was_honest c.in_ok-recall.ensures.held c.in_ok-recall.ensures.kept t) (λ k. k) c.take_up.ensures.part)
 
 pub returns-in_err-recall-clause-moved : goal.returns-in_err-recall-clause-moved
 returns-in_err-recall-clause-moved g c = moved_none _

@@ -57,7 +57,7 @@ returns-in_err-plan-clause-part g c =
     let old = g.O.Outside.opened c.args.outside.now in
     let both = c.in_ok-both.both in
     let emptied = c.list_both.ensures.opened ∙ c.in_ok-clear.ensures.opened in
-    rw (e.1, e.2) (left_weaker _ _ _ _ _ _ _ (λ d k. k.none) (left_here _ _ _ _ _ _ _ _ so_far (caused_plan _ _ _ _ c.in_err-plan.ensures.fault (λ side is. unless_same _ _ old _ both.far both.near side _ s1.device emptied c.requires.1.1.0 c.in_ok-both.ensures.was_honest c.in_ok-clear.ensures.validities c.in_ok-both.ensures.validities (c.in_err-plan.ensures.changed side is))) (λ k. after_plan (Underway g.O.Outside.ours g.O.Outside.alone g.opening) _ _ _ c.in_err-plan.ensures.fault (clear_underway g.O.Outside.ours g.O.Outside.alone g.opening _ _ _ k.clear))))
+    rw (e.1, e.2) (left_weaker _ _ _ _ _ _ _ (λ d k. k.none) (left_here _ _ _ _ _ _ _ _ so_far (caused_plan _ _ _ _ c.in_err-plan.ensures.fault (λ side is. unless_same _ _ old _ both.far both.near side _ s1.device emptied c.requires.1.1.0 c.in_ok-both.ensures.was_honest c.in_ok-clear.ensures.validities c.in_ok-both.ensures.validities (c.in_err-plan.ensures.changed side is)) c.in_err-plan.ensures.repeats) (λ k. after_plan (Underway g.O.Outside.ours g.O.Outside.alone g.opening) _ _ _ c.in_err-plan.ensures.fault (clear_underway g.O.Outside.ours g.O.Outside.alone g.opening _ _ _ k.clear))))
 
 pub returns-in_err-unfit-clause-part : goal.returns-in_err-unfit-clause-part
 returns-in_err-unfit-clause-part g c =

@@ -67,4 +67,4 @@ returns-clause-part g c =
     (part_mapped _ _ _ _ _ (IsTried ours alone g.opening options new run) _ _ (λ x d. IsOver ours alone g.opening d) _ _ _ (λ d k. k)
     (λ d k. record { asked = asked_later ours g.opening options old new c.pass.ensures.moved k.0.0; tried = fixed_tried ours alone g.opening run n d fixed (k.0.1, k.1) })
     (λ x d k. let r = k.1 in let e = k.0.1 in r.done (omega (arith, e)))
-    (part_with _ p _ _ _ _ _ _ _ _ (part_told _ _ _ _ _ _ _ _ _ _ (λ side t. attempt_changed alone _ _ s0.device s1.device s2.device side c.pass.ensures.was_honest c.in_ok-number.ensures.kept t) c.pass.ensures.part)))
+    (part_with _ p _ _ _ _ _ _ _ _ (part_told _ _ _ _ _ _ _ _ _ _ (λ side t. attempt_changed alone _ _ s0.device s1.device s2.device side c.pass.ensures.was_honest c.in_ok-number.ensures.kept t) (λ k. k) c.pass.ensures.part)))

@@ -136,7 +136,7 @@ returns-in-Err-clause-changed g c = λ side is h asked at.
     let s2 = g.O.Outside.seen c.attempt.new.outside in
     let t = i.left (c.again.ensures.was_honest (c.attempt.ensures.was_honest h)) asked at in
     let part = c.in-Err.ensures.part in
-    changed_last g.O.Outside.ours g.O.Outside.alone g.opening _ c.loop-tried.tried c.args.tries c.loop-tried.run s0 now s1 s2 _ _ side c.in-Err.fault i.first i.undrawn i.moved c.again.ensures.seen t.tried (omega arith) is h part.caused
+    changed_last g.O.Outside.ours g.O.Outside.alone g.opening _ _ c.loop-tried.tried c.args.tries c.loop-tried.run s0 now s1 s2 _ _ side c.in-Err.fault i.first i.undrawn i.moved c.again.ensures.seen t.tried (omega arith) is h part.caused
 
 pub returns-in-Err-clause-caused : goal.returns-in-Err-clause-caused
 returns-in-Err-clause-caused g c = λ other.
@@ -149,7 +149,7 @@ returns-in-Err-clause-caused g c = λ other.
     let refusals : s0.refusals ≤ s1.refusals = (let k = i.refusals in let r = ap (λ (s : Seen). s.refusals) e in omega (arith, k, r)) in
     let faults : s0.faults ≤ s1.faults = (let k = i.faults in let r = ap (λ (s : Seen). s.faults) e in omega (arith, k, r)) in
     let appends : s0.appends ≤ s1.appends = (let k = i.appends in let r = ap (λ (s : Seen). s.appends) e in omega (arith, k, r)) in
-    caused_since _ c.in-Err.fault s0 s1 s2 refusals faults appends other part.caused
+    caused_since _ _ c.in-Err.fault s0 s1 s2 refusals faults appends other (λ k. (g.R.Rng.stream c.loop-tried.rng, i.moved, k)) part.caused
 
 pub returns-in-Err-clause-greatest : goal.returns-in-Err-clause-greatest
 returns-in-Err-clause-greatest g c = λ h s p held is.
