@@ -16,3 +16,10 @@ pub mod Creating
 pub mod Sweeping
 pub mod Flagging
 pub mod Removing
+pub mod Fetched
+pub mod Listed
+pub mod Numbered
+pub mod Rows
+pub mod Marks
+pub mod BodyTold
+pub mod Staying

@@ -6,6 +6,11 @@ pub mod Exchanged
 pub mod States
 pub mod Saying
 pub mod Openings
+pub mod Fetching
+pub mod Readings
+pub mod Listings
+pub mod Markings
+pub mod Bodies
 pub mod Boxes
 pub mod Logins
 pub mod Creations

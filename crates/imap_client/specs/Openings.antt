@@ -1,5 +1,5 @@
 -- What the replies to SELECT say of a mailbox (RFC 9051, sections 6.3.2 and 7.1).
-use Rattle.std.specs.Prelude.{ℕ, ◌^◌, Bool, true, false, ◌==◌, List, None, Some, if◌then◌else◌}
+use Rattle.std.specs.Prelude.{ℕ, ◌<◌, ◌^◌, Bool, true, false, ◌==◌, List, Option, None, Some, if◌then◌else◌}
 use Rattle.std.specs.List.{fold}
 use Rattle.mailcore.specs.FlagSet.{union}
 use Rattle.mailcore.specs.FlagNames.{place}
@@ -40,3 +40,11 @@ opening_more o _ = o
 
 abbrev pub opening_of : List Reply → Opening
 opening_of replies = fold opening_more nothing_told replies
+
+abbrev pub NoneOrPositive : Option ℕ → Type 0
+NoneOrPositive None = Unit {0}
+NoneOrPositive (Some n) = 0 < n
+
+-- what is told of numbers is above 0
+abbrev pub IsPositive : Opening → Type 0
+IsPositive o = NoneOrPositive o.next × NoneOrPositive o.validity

@@ -1,6 +1,6 @@
 //! A far mailbox: a session in which it is selected.
 
-ghost use Rattle.std.specs.Prelude.{◌≡◌, ◌≤◌, true, false, List, Some, length, take, IfOk, IfErr, Ok, Err};
+ghost use Rattle.std.specs.Prelude.{◌≡◌, ◌<◌, ◌≤◌, true, false, List, Some, length, take, IfOk, IfErr, Ok, Err};
 ghost use Rattle.imap_commands.specs.declared.command.StoreMode.TheVariants as modes;
 ghost use Rattle.imap_replies.specs.declared.reply.Reply.{Reply};
 ghost use Rattle.imap_session.specs.Heard.{AreReplies};
@@ -11,7 +11,7 @@ ghost use Rattle.imap_link.specs.Outcomes.{Outcome, Never};
 ghost use Rattle.mailcore.specs.Stores.{Store};
 ghost use Rattle.imap_client.specs.Calls.{CanAsk, each_one};
 ghost use Rattle.imap_client.specs.Boxes.{IsSelected, Selects, Chooses, NoMailbox, Becomes, Changing, one_uid, commands_for};
-ghost use Rattle.imap_client.specs.Openings.{opening_of};
+ghost use Rattle.imap_client.specs.Openings.{opening_of, IsPositive};
 ghost use Rattle.imap_client.specs.Requests.{IsWord};
 ghost use Rattle.imap_client.specs.Spoken.{Speaks};
 ghost use Rattle.imap_client.specs.States.{EndsSo};
@@ -40,8 +40,11 @@ pub struct FarBox<L: Link> {
     // selected, and those that were added since, where their UIDs were told.
     pub(crate) next: u32,
     pub ghost named: { IsWord name.items },
+    // The bytes of the message that was fetched last.
+    pub(crate) body: Vec<u8>,
     pub ghost selected: { session.is_ready ≡ true → L.honest session.wire.link
         → IsSelected name.items validity next (L.line session.wire.link).end.server } by { Prim.hlevel props },
+    pub ghost numbers: { (0 < validity) × (0 < next) },
 }
 
 /// What is known of a mailbox that was selected.
@@ -50,6 +53,7 @@ pub(crate) struct Chosen {
     name: Vec<u8>,
     validity: u32,
     next: u32,
+    ghost numbers: { (0 < validity) × (0 < next) },
 }
 
 impl<L: Link> Session<L> {
@@ -77,11 +81,13 @@ impl<L: Link> Session<L> {
                     validity,
                     next,
                 } = chosen;
+                let body = Vec::new(session.wire.alloc);
                 Ok(FarBox {
                     session,
                     name,
                     validity,
                     next,
+                    body,
                 })
             }
             Err(fault) => Err((fault, session)),
@@ -124,6 +130,7 @@ impl<L: Link> Session<L> {
         requires within { len ≤ length self.now.wire.heard.items }
         requires speaks { Speaks (take len self.now.wire.heard.items) }
         ensures told { IfOk result (λ o. (rs : List Reply) → AreReplies rs (take len self.now.wire.heard.items) → o ≡ opening_of rs) }
+        ensures positive { IfOk result IsPositive }
         ensures err { IfErr result (λ fault. fault ≡ FarFault.NoMemory) }
     {
         let replies = read_replies(self.wire.alloc, &self.wire.heard[..len])?;

@@ -3,15 +3,19 @@
 
 mod addition;
 pub mod appending;
+mod bodies;
 mod call;
 pub mod far_box;
 mod given;
 pub mod laws;
+mod listing;
 mod login;
 mod mailboxes;
+mod marking;
 mod opening;
 mod reading;
 mod sending;
 pub mod session;
 mod tags;
 pub mod tcp_link;
+mod told;

@@ -1,7 +1,7 @@
 //! What the replies to SELECT say of a mailbox (RFC 9051, section 6.3.2).
 
 ghost use Rattle.std.specs.Prelude.{◌≡◌, true};
-ghost use Rattle.imap_client.specs.Openings.{permits_all, code_more, opening_more, nothing_told, opening_of};
+ghost use Rattle.imap_client.specs.Openings.{permits_all, code_more, opening_more, nothing_told, opening_of, IsPositive};
 
 use imap_replies::reply::Reply;
 use imap_replies::response::{Code, ResponseText};
@@ -22,11 +22,14 @@ pub(crate) struct Opening {
 impl Opening {
     /// What these replies say.
     pub(crate) fn of(replies: &[Reply<'_>]) -> Opening
-        ensures { result ≡ opening_of replies.now }
+        ensures told { result ≡ opening_of replies.now }
+        ensures positive { IsPositive result }
     {
-        replies
-            .iter()
-            .fold(Opening::none(), |opening, reply| opening.with(reply))
+        let mut opening = Opening::none();
+        for reply in replies {
+            opening = opening.with(reply);
+        }
+        opening
     }
 
     /// Nothing.
@@ -42,7 +45,8 @@ impl Opening {
 
     /// The same with one reply more.
     fn with(self, reply: &Reply<'_>) -> Opening
-        ensures { result ≡ opening_more self reply.now }
+        ensures told { result ≡ opening_more self reply.now }
+        ensures positive { IsPositive self → IsPositive result }
     {
         match reply {
             Reply::Notice(NoticeKind::Ok, ResponseText::Coded(code, _)) => self.with_code(code),
@@ -53,7 +57,8 @@ impl Opening {
 
     /// The same with one code more.
     fn with_code(self, code: &Code<'_>) -> Opening
-        ensures { result ≡ code_more self code.now }
+        ensures told { result ≡ code_more self code.now }
+        ensures positive { IsPositive self → IsPositive result }
     {
         match code {
             Code::UidNext(next) => Opening {

@@ -15,6 +15,7 @@ invariant_of-self g c = record {
       (g.L.Link.line was.wire.link).end.server (g.L.Link.line now.wire.link).end.server c.change.result c.change.ensures.ends ready
       (λ before. c.args.self.now.selected before (c.change.ensures.was_honest honest))
       (λ m is. c.change.ensures.outcome honest m is _ refl);
+  numbers = c.args.self.now.numbers;
 }
 
 pub returns-clause-outcome : goal.returns-clause-outcome

@@ -12,4 +12,5 @@ invariant_of-result g c = record {
       let new = (g.L.Link.line c.choose.new.self.wire.link).end.server in
       subst (λ (name : List ℕ). IsSelected name c.in-Ok.chosen.validity c.in-Ok.chosen.next new) (sym c.in-Ok.ensures.name)
       (selected_so c.args.name.now c.in-Ok.chosen.validity c.in-Ok.chosen.next old new (c.in-Ok.ensures.chosen honest));
+  numbers = c.in-Ok.chosen.numbers;
 }

@@ -1,0 +1,67 @@
+-- The mailbox stays selected in calls that change nothing, and what is listed of it.
+use Rattle.std.proofs.Common.{◌≡◌, ℕ, suc, ◌+◌, ◌<◌, Bool, true, false, List, [], ◌∷◌, sym, ◌∙◌, ap, subst, length, arith, Option, Some, None, Result, Ok, Err, refl}
+use Rattle.std.specs.Prelude.{map, max}
+use Rattle.std.specs.Option.{option_map}
+use Rattle.mailcore.specs.declared.mailbox.Message.{Message}
+use Rattle.mailcore.specs.declared.listing.Listing.{Listing}
+use Rattle.mailcore.specs.declared.side.Side.TheVariants.{Far}
+use Rattle.mailcore.specs.Listed.{AreBelow, item_of}
+use Rattle.mailcore.specs.Operations.{Shows}
+use Rattle.mailcore.specs.Stores.{Store, IsStore}
+use Rattle.imap_session.specs.Mailboxes.{FarMailbox}
+use Rattle.imap_session.specs.Servers.{Server, selected}
+use Rattle.imap_link.specs.declared.fault.FarFault.{FarFault}
+use Rattle.imap_link.specs.declared.fault.FarFault.TheVariants as faults
+use Rattle.imap_client.specs.Boxes.{IsSelected}
+use Rattle.imap_client.specs.Listings.{next_above, ListsFrom}
+use Rattle.imap_client.specs.States.{State, EndsSo}
+use Rattle.imap_client.proofs.Changed.{there_of}
+
+module _ (name : List ℕ) (validity next : ℕ) (was now : State) (old new : Server) (ready : now.is_ready ≡ true)
+    (sel : was.is_ready ≡ true → IsSelected name validity next old) (same : (m : FarMailbox) → selected old ≡ Some m → new ≡ old) where
+  stays_by : was.is_ready ≡ true → IsSelected name validity next new
+  stays_by was_ready =
+      let is = sel was_ready in
+      let there = there_of name validity next old is in
+      subst (IsSelected name validity next) (sym (same there.mailbox there.is)) is
+
+  failed : now.is_ready ≡ false → IsSelected name validity next new
+  failed not_ready = let both : false ≡ true = sym not_ready ∙ ready in cc
+
+  pub stays : (T : Type 0) (commands : ℕ) (result : Result T FarFault) → EndsSo commands was now result → IsSelected name validity next new
+  stays T commands (Ok x) e = stays_by e.was_ready
+  stays T commands (Err faults.Stopped) e = failed e.is_ready
+  stays T commands (Err faults.Refused) e = stays_by e.was_ready
+  stays T commands (Err faults.Protocol) e = failed e.is_ready
+  stays T commands (Err faults.TooLong) e = failed e.is_ready
+  stays T commands (Err faults.NoRev2) e = failed e.is_ready
+  stays T commands (Err faults.ReadOnly) e = stays_by e.was_ready
+  stays T commands (Err faults.NoMemory) e = failed e.is_ready
+
+-- ---- listings
+
+same_some : (a b : ℕ) → (let x : Option ℕ = Some a in x) ≡ Some b → a ≡ b
+same_some a b e = cc
+
+pub lists_so : (name : List ℕ) (validity known : ℕ) (s : Server) (m : FarMailbox) → selected s ≡ Some m → IsSelected name validity known s → (listing : Listing)
+    → listing.validity ≡ validity → listing.next ≡ next_above known listing.items → listing.items ≡ map (item_of Far) m.store.messages → ListsFrom known m.store listing
+lists_so name validity known s m at is listing v n e = record {
+  validity = v ∙ sym (same_some m.store.validity validity (sym (ap (option_map (λ x. x.store.validity)) at) ∙ is.1));
+  next = n;
+  items = e;
+}
+
+next_stays : (next : ℕ) (ms : List Message) → AreBelow ms next → next_above next (map (item_of Far) ms) ≡ next
+next_stays next [] below = refl
+next_stays next (m ∷ ms) below =
+    let less : m.uid < next = below 0 m (omega arith) in
+    let same : max next (m.uid + 1) ≡ next = omega arith in
+    ap (λ (n : ℕ). next_above n (map (item_of Far) ms)) same ∙ next_stays next ms (λ k d h. below (suc k) d (omega arith))
+
+-- where the next UID is known, it is shown
+pub shows_so : (known : ℕ) (s : Store) (listing : Listing) → IsStore s → known ≡ s.next → ListsFrom known s listing → Shows Far s listing
+shows_so known s listing is e l = record {
+  validity = l.validity;
+  next = l.next ∙ ap (next_above known) l.items ∙ ap (λ (n : ℕ). next_above n (map (item_of Far) s.messages)) e ∙ next_stays s.next s.messages is.below;
+  items = l.items;
+}

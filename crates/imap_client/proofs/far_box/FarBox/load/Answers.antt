@@ -1,0 +1,73 @@
+use Rattle.std.proofs.Common.{◌≡◌, Some, None, ℕ, Bool, true, false, List, Option, sym, ◌∙◌, ap, subst, Result, Ok, Err}
+use Rattle.std.specs.Prelude.{Vec, if◌then◌else◌}
+use Rattle.std.specs.Global.{Global}
+use Rattle.std.proofs.lemmas.Result.{err_from_is_err_and}
+use Rattle.mailcore.specs.Operations.{bytes_of}
+use Rattle.imap_link.specs.declared.fault.FarFault.{FarFault}
+use Rattle.imap_link.specs.Outcomes.{Outcome, Never}
+use Rattle.imap_client.specs.Bodies.{text_of}
+use Rattle.imap_client.specs.Logins.{Remains}
+use Rattle.imap_client.specs.Readings.{Tells}
+use Rattle.imap_client.proofs.Changed.{state_of_parts, outcome_err}
+use Rattle.imap_client.proofs.Staying.{stays}
+use Rattle.imap_client.proofs.far_box.FarBox.load.Goals as goal
+
+pub invariant_of-self : goal.invariant_of-self
+invariant_of-self g c = record {
+  selected = λ ready honest.
+      let was = c.args.self.now.session in
+      let now = c.body.new.self in
+      stays c.args.self.now.name.items c.args.self.now.validity c.args.self.now.next
+      (state_of_parts was.is_ready was.tags (g.L.Link.stops was.wire.link) was.wire.heard.items) (state_of_parts now.is_ready now.tags (g.L.Link.stops now.wire.link) now.wire.heard.items)
+      (g.L.Link.line was.wire.link).end.server (g.L.Link.line now.wire.link).end.server ready
+      (λ before. c.args.self.now.selected before (c.body.ensures.was_honest honest))
+      (λ m is. c.body.ensures.remains honest m is) (Option (Vec ℕ Global)) 1 c.body.result c.body.ensures.ends;
+  numbers = c.args.self.now.numbers;
+}
+
+pub invariant_of-self-in-Some : goal.invariant_of-self-in-Some
+invariant_of-self-in-Some g c = record {
+  selected = λ ready honest.
+      let was = c.args.self.now.session in
+      let now = c.body.new.self in
+      stays c.args.self.now.name.items c.args.self.now.validity c.args.self.now.next
+      (state_of_parts was.is_ready was.tags (g.L.Link.stops was.wire.link) was.wire.heard.items) (state_of_parts now.is_ready now.tags (g.L.Link.stops now.wire.link) now.wire.heard.items)
+      (g.L.Link.line was.wire.link).end.server (g.L.Link.line now.wire.link).end.server ready
+      (λ before. c.args.self.now.selected before (c.body.ensures.was_honest honest))
+      (λ m is. c.body.ensures.remains honest m is) (Option (Vec ℕ Global)) 1 c.body.result c.body.ensures.ends;
+  numbers = c.args.self.now.numbers;
+}
+
+pub invariant_of-self-in-None : goal.invariant_of-self-in-None
+invariant_of-self-in-None g c = record {
+  selected = λ ready honest.
+      let was = c.args.self.now.session in
+      let now = c.body.new.self in
+      stays c.args.self.now.name.items c.args.self.now.validity c.args.self.now.next
+      (state_of_parts was.is_ready was.tags (g.L.Link.stops was.wire.link) was.wire.heard.items) (state_of_parts now.is_ready now.tags (g.L.Link.stops now.wire.link) now.wire.heard.items)
+      (g.L.Link.line was.wire.link).end.server (g.L.Link.line now.wire.link).end.server ready
+      (λ before. c.args.self.now.selected before (c.body.ensures.was_honest honest))
+      (λ m is. c.body.ensures.remains honest m is) (Option (Vec ℕ Global)) 1 c.body.result c.body.ensures.ends;
+  numbers = c.args.self.now.numbers;
+}
+
+pub returns-in_err-found-clause-outcome : goal.returns-in_err-found-clause-outcome
+returns-in_err-found-clause-outcome g c honest m is store range =
+    let p = err_from_is_err_and c.from_residual.result c.from_residual.ensures.1 in
+    let f = c.in_err-found.field-0.0 in
+    let bytes = c.args.self.now.body.items in
+    let old = (g.L.Link.line c.args.self.now.session.wire.link).end.server in
+    let new = (g.L.Link.line c.body.new.self.wire.link).end.server in
+    let so = λ (is_there : Bool). (if is_there then Some bytes else None) ≡ bytes_of c.args.uid m.store in
+    subst (λ (r : Result Bool FarFault). Outcome (Tells so) Never Remains r old new) (sym (p.1 ∙ ap Err p.2))
+    (outcome_err (Option (Vec ℕ Global)) Bool (Tells (λ found. text_of found ≡ bytes_of c.args.uid m.store)) (Tells so) Never Remains old new f (c.in_err-found.ensures.outcome honest m is store range))
+
+pub returns-in-Some-clause-outcome : goal.returns-in-Some-clause-outcome
+returns-in-Some-clause-outcome g c honest m is store range =
+    let told = c.in_ok-found.ensures.outcome honest m is store range in
+    (sym (ap text_of c.in-Some.is) ∙ told.0, told.1)
+
+pub returns-in-None-clause-outcome : goal.returns-in-None-clause-outcome
+returns-in-None-clause-outcome g c honest m is store range =
+    let told = c.in_ok-found.ensures.outcome honest m is store range in
+    (sym (ap text_of c.in-None.is) ∙ told.0, told.1)

@@ -1,0 +1,210 @@
+//! The bytes of one message of the selected mailbox (RFC 9051, section 6.4.5).
+
+ghost use Rattle.std.specs.Prelude.{◌≡◌, ◌≤◌, List, Some, None, false, length, take, IfErr, if◌then◌else◌};
+ghost use Rattle.std.specs.Option.{option_map};
+ghost use Rattle.imap_replies.specs.declared.reply.Reply.{Reply};
+ghost use Rattle.imap_session.specs.Heard.{AreReplies};
+ghost use Rattle.imap_session.specs.Mailboxes.{FarMailbox};
+ghost use Rattle.imap_session.specs.Servers.{selected};
+ghost use Rattle.imap_link.specs.Outcomes.{Outcome, Never};
+ghost use Rattle.mailcore.specs.Operations.{bytes_of};
+ghost use Rattle.mailcore.specs.Ranges.{AreInRange};
+ghost use Rattle.mailcore.specs.Stores.{IsStore};
+ghost use Rattle.imap_client.specs.Bodies.{bodies_more, body_bytes, body_in, body_more, body_told, is_told, text_of};
+ghost use Rattle.imap_client.specs.Fetching.{told_of};
+ghost use Rattle.imap_client.specs.Logins.{Remains};
+ghost use Rattle.imap_client.specs.Readings.{ReadsAs, IsReadFault, Tells};
+ghost use Rattle.imap_client.specs.Spoken.{Speaks};
+ghost use Rattle.imap_client.specs.States.{EndsSo};
+
+use crate::call::Call;
+use crate::far_box::FarBox;
+use crate::reading::read_replies;
+use crate::session::Session;
+use crate::told::Told;
+use imap_link::fault::FarFault;
+use imap_link::link::Link;
+use imap_replies::fetch::FetchItem;
+use imap_replies::reply::Reply;
+use mailcore::uid::Uid;
+use std::alloc::Global;
+use wire_strings::string::WireString;
+
+/// The bytes of the message with this UID, or none where these replies do not tell them. Of two replies the later counts.
+///
+/// `Protocol`: they are told as NIL, or quoted with a backslash. `NoMemory`.
+fn body_told(alloc: Global, replies: &[Reply<'_>], uid: Uid) -> Result<Option<Vec<u8>>, FarFault>
+    ensures told { ReadsAs text_of result (body_told uid replies.now) }
+{
+    let mut body = None;
+    for reply in replies {
+        body = with_reply(alloc, reply, uid, body)?;
+    }
+    Ok(body)
+}
+
+/// The bytes that a reply tells of the message with this UID, or else those that were told before.
+fn with_reply(
+    alloc: Global,
+    reply: &Reply<'_>,
+    uid: Uid,
+    before: Option<Vec<u8>>,
+) -> Result<Option<Vec<u8>>, FarFault>
+    ensures told { ReadsAs text_of result (bodies_more uid (Some (text_of before)) reply.now) }
+{
+    let Reply::Fetch(_, items) = reply else {
+        return Ok(before);
+    };
+    if is_told(items.items(), uid) {
+        body_in(alloc, items.items(), before)
+    } else {
+        Ok(before)
+    }
+}
+
+/// Whether these items tell of the message with this UID.
+fn is_told(items: &[FetchItem<'_>], uid: Uid) -> bool
+    ensures { result ≡ is_told uid (told_of items.now).uid }
+{
+    match Told::of(items).uid {
+        Some(told) => told == uid.get(),
+        None => false,
+    }
+}
+
+/// The bytes that these items tell, or else those that were told before.
+fn body_in(
+    alloc: Global,
+    items: &[FetchItem<'_>],
+    before: Option<Vec<u8>>,
+) -> Result<Option<Vec<u8>>, FarFault>
+    ensures told { ReadsAs text_of result (body_in (Some (text_of before)) items.now) }
+{
+    let mut body = before;
+    for item in items {
+        body = with_item(alloc, item, body)?;
+    }
+    Ok(body)
+}
+
+/// A copy of the bytes that an item tells, or else those that were told before.
+fn with_item(
+    alloc: Global,
+    item: &FetchItem<'_>,
+    before: Option<Vec<u8>>,
+) -> Result<Option<Vec<u8>>, FarFault>
+    ensures told { ReadsAs text_of result (body_more (Some (text_of before)) item.now) }
+{
+    let FetchItem::Body(body) = item else {
+        return Ok(before);
+    };
+    match body_bytes(body) {
+        Some(bytes) => Ok(Some(Vec::from_slice(alloc, bytes)?)),
+        None => Err(FarFault::Protocol),
+    }
+}
+
+/// The bytes of a body, or none where it is NIL or quoted with a backslash.
+fn body_bytes<'a>(body: &Option<WireString<'a>>) -> Option<&'a [u8]>
+    ensures { option_map (λ b. b.now) result ≡ body_bytes body.now }
+{
+    match body {
+        Some(WireString::Literal(octets)) => Some(octets.bytes()),
+        Some(WireString::Quoted(quoted)) => {
+            if quoted.has_escapes() {
+                None
+            } else {
+                Some(quoted.raw())
+            }
+        }
+        None => None,
+    }
+}
+
+impl<L: Link> Session<L> {
+    ghost use Rattle.imap_client.specs.Sessions.{state_of, server_of};
+
+    // The bytes of the message with this UID, as the replies at the front of the buffer tell them.
+    fn body_heard(&self, len: usize, uid: Uid) -> Result<Option<Vec<u8>>, FarFault>
+        requires within { len ≤ length self.now.wire.heard.items }
+        requires speaks { Speaks (take len self.now.wire.heard.items) }
+        ensures told { (rs : List Reply) → AreReplies rs (take len self.now.wire.heard.items) → ReadsAs text_of result (body_told uid rs) }
+        ensures err { IfErr result IsReadFault }
+    {
+        let alloc = self.wire.alloc;
+        let replies = read_replies(alloc, &self.wire.heard[..len])?;
+        body_told(alloc, &replies, uid)
+    }
+
+    /// The bytes of a message of the selected mailbox, or none where it is not there.
+    pub(crate) fn body(&mut self, uid: Uid) -> Result<Option<Vec<u8>>, FarFault>
+        ensures was_honest { L.honest self.new.wire.link → L.honest self.old.wire.link }
+        ensures stuck { self.old.is_ready ≡ false → self.new ≡ self.old }
+        ensures ends { EndsSo 1 (state_of self.old) (state_of self.new) result }
+        ensures remains { L.honest self.new.wire.link → (m : FarMailbox) → selected (server_of self.old) ≡ Some m → Remains (server_of self.old) (server_of self.new) }
+        ensures outcome { L.honest self.new.wire.link → (m : FarMailbox) → selected (server_of self.old) ≡ Some m → IsStore m.store → AreInRange m.store.messages
+            → Outcome (Tells (λ found. text_of found ≡ bytes_of uid m.store)) Never Remains result (server_of self.old) (server_of self.new) }
+    {
+        let len = self.ask(&Call::Body(uid))?;
+        let body = self.body_heard(len, uid)?;
+        self.done(len);
+        Ok(body)
+    }
+}
+
+impl<L: Link> FarBox<L> {
+    ghost use Rattle.std.specs.Prelude.{⊤};
+    ghost use mathlib.Core.Option.{none};
+    ghost use Rattle.std.specs.Borrow.{sem, follows_so};
+    ghost use Rattle.imap_client.specs.Sessions.{state_of, server_of};
+    ghost use Rattle.imap_client.specs.contracts.far_box.FarBox.{the_row};
+
+    /// The bytes of a message, or none where it is not there: one UID FETCH. They are lent until the next call.
+    ///
+    /// `Protocol`: the server tells them as NIL, or quoted with a backslash, too.
+    pub fn fetch(&mut self, uid: Uid) -> Result<Option<&[u8]>, FarFault>
+        ensures* behind { sem 𝓛 (follows_so (the_row L.row L.Link) (the_row L.row L.Link) self.entry.ghost_name none (λ _ _. ⊤)
+            (λ after. (L.honest after.session.wire.link → L.honest self.old.session.wire.link)
+            × (self.old.session.is_ready ≡ false → after.session ≡ self.old.session)
+            × EndsSo 1 (state_of self.old.session) (state_of after.session) result
+            × ((after.name ≡ self.old.name) × (after.validity ≡ self.old.validity) × (after.next ≡ self.old.next))
+            × (L.honest after.session.wire.link → (m : FarMailbox) → selected (server_of self.old.session) ≡ Some m → Remains (server_of self.old.session) (server_of after.session))
+            × (L.honest after.session.wire.link → (m : FarMailbox) → selected (server_of self.old.session) ≡ Some m → IsStore m.store → AreInRange m.store.messages
+            → Outcome (Tells (λ found. option_map (λ b. b.now) found ≡ bytes_of uid m.store)) Never Remains result
+            (server_of self.old.session) (server_of after.session)))) }
+    {
+        if self.load(uid)? {
+            Ok(Some(self.body()))
+        } else {
+            Ok(None)
+        }
+    }
+
+    /// Fetches the bytes of a message, which `body` then lends, and says whether it is there.
+    pub fn load(&mut self, uid: Uid) -> Result<bool, FarFault>
+        ensures was_honest { L.honest self.new.session.wire.link → L.honest self.old.session.wire.link }
+        ensures stuck { self.old.session.is_ready ≡ false → self.new.session ≡ self.old.session }
+        ensures ends { EndsSo 1 (state_of self.old.session) (state_of self.new.session) result }
+        ensures same { (self.new.name ≡ self.old.name) × (self.new.validity ≡ self.old.validity) × (self.new.next ≡ self.old.next) }
+        ensures remains { L.honest self.new.session.wire.link → (m : FarMailbox) → selected (server_of self.old.session) ≡ Some m → Remains (server_of self.old.session) (server_of self.new.session) }
+        ensures outcome { L.honest self.new.session.wire.link → (m : FarMailbox) → selected (server_of self.old.session) ≡ Some m → IsStore m.store → AreInRange m.store.messages
+            → Outcome (Tells (λ is_there. (if is_there then Some self.new.body.items else None) ≡ bytes_of uid m.store)) Never Remains result
+            (server_of self.old.session) (server_of self.new.session) }
+    {
+        let found = self.session.body(uid)?;
+        match found {
+            Some(bytes) => {
+                self.body = bytes;
+                Ok(true)
+            }
+            None => Ok(false),
+        }
+    }
+
+    /// The bytes that `load` fetched last.
+    pub fn body(&self) -> &[u8]
+        ensures { result.now ≡ self.now.body.items }
+    {
+        self.body.as_slice()
+    }
+}

@@ -1,0 +1,135 @@
+//! What the selected mailbox lists (RFC 9051, section 6.4.5).
+
+ghost use Rattle.std.specs.Prelude.{◌≡◌, ◌≤◌, ◌<◌, List, Some, false, length, take, map, IfOk, IfErr};
+ghost use Rattle.imap_replies.specs.declared.reply.Reply.{Reply};
+ghost use Rattle.imap_session.specs.Heard.{AreReplies};
+ghost use Rattle.imap_session.specs.Mailboxes.{FarMailbox};
+ghost use Rattle.imap_session.specs.Servers.{selected};
+ghost use Rattle.imap_link.specs.Outcomes.{Outcome, Never};
+ghost use Rattle.mailcore.specs.declared.side.Side.TheVariants.{Far};
+ghost use Rattle.mailcore.specs.Listed.{item_of};
+ghost use Rattle.mailcore.specs.Operations.{Shows};
+ghost use Rattle.mailcore.specs.Ranges.{AreInRange};
+ghost use Rattle.mailcore.specs.Stores.{IsStore};
+ghost use Rattle.imap_client.specs.Fetching.{rows_of};
+ghost use Rattle.imap_client.specs.Listings.{item_told, items_told, next_above, ListsFrom};
+ghost use Rattle.imap_client.specs.Logins.{Remains};
+ghost use Rattle.imap_client.specs.Readings.{ReadsAs, IsReadFault, Tells};
+ghost use Rattle.imap_client.specs.Spoken.{Speaks};
+ghost use Rattle.imap_client.specs.States.{EndsSo};
+
+use crate::call::Call;
+use crate::far_box::FarBox;
+use crate::reading::read_replies;
+use crate::session::Session;
+use crate::told::{Told, rows_of};
+use imap_link::fault::FarFault;
+use imap_link::link::Link;
+use mailcore::content::MESSAGE_MAX;
+use mailcore::listing::{Item, Items, Listing};
+use mailcore::uid::Uid;
+use std::alloc::Global;
+use std::collections::BTreeMap;
+
+/// The messages that these rows list.
+///
+/// `Protocol`: a message was told without its flags or its size, or under 4294967295. `NoMemory`.
+fn items_of(alloc: Global, rows: &BTreeMap<u32, Told>) -> Result<Items, FarFault>
+    ensures told { ReadsAs (λ items. items) result (items_told rows.now.entries) }
+{
+    let mut items = Vec::with_capacity(alloc, rows.len())?;
+    for (uid, told) in rows {
+        match item_told(*uid, told) {
+            Some(item) => items.push(item)?,
+            None => return Err(FarFault::Protocol),
+        }
+    }
+    Ok(Items::from_vec(items))
+}
+
+/// The message of this UID as it is listed, or none where its flags or its size were not told.
+fn item_told(uid: u32, told: &Told) -> Option<Item>
+    ensures { result ≡ item_told uid told.now.flags told.now.size }
+{
+    let uid = Uid::new(uid)?;
+    let flags = told.flags?;
+    let size = told.size?;
+    Some(Item {
+        uid,
+        flags,
+        fit: size as usize <= MESSAGE_MAX,
+    })
+}
+
+/// The least number that is at least `known` and above the UIDs of these messages.
+fn next_above(known: u32, items: &[Item]) -> u32
+    ensures next { result ≡ next_above known items.now }
+    ensures least { known ≤ result }
+{
+    let mut next = known;
+    for item in items {
+        next = next.max(item.uid.get() + 1);
+    }
+    next
+}
+
+impl<L: Link> Session<L> {
+    ghost use Rattle.imap_client.specs.Sessions.{state_of, server_of};
+
+    // The messages that the replies at the front of the buffer list.
+    fn items_heard(&self, len: usize) -> Result<Items, FarFault>
+        requires within { len ≤ length self.now.wire.heard.items }
+        requires speaks { Speaks (take len self.now.wire.heard.items) }
+        ensures told { (rs : List Reply) → AreReplies rs (take len self.now.wire.heard.items) → ReadsAs (λ items. items) result (items_told (rows_of rs)) }
+        ensures err { IfErr result IsReadFault }
+    {
+        let alloc = self.wire.alloc;
+        let replies = read_replies(alloc, &self.wire.heard[..len])?;
+        let rows = rows_of(alloc, &replies)?;
+        items_of(alloc, &rows)
+    }
+
+    /// The messages of the selected mailbox.
+    pub(crate) fn items(&mut self) -> Result<Items, FarFault>
+        ensures was_honest { L.honest self.new.wire.link → L.honest self.old.wire.link }
+        ensures stuck { self.old.is_ready ≡ false → self.new ≡ self.old }
+        ensures ends { EndsSo 1 (state_of self.old) (state_of self.new) result }
+        ensures remains { L.honest self.new.wire.link → (m : FarMailbox) → selected (server_of self.old) ≡ Some m → Remains (server_of self.old) (server_of self.new) }
+        ensures outcome { L.honest self.new.wire.link → (m : FarMailbox) → selected (server_of self.old) ≡ Some m → IsStore m.store → AreInRange m.store.messages
+            → Outcome (Tells (λ items. items ≡ map (item_of Far) m.store.messages)) Never Remains result (server_of self.old) (server_of self.new) }
+    {
+        let len = self.ask(&Call::Listing)?;
+        let items = self.items_heard(len)?;
+        self.done(len);
+        Ok(items)
+    }
+}
+
+impl<L: Link> FarBox<L> {
+    ghost use Rattle.imap_client.specs.Sessions.{state_of, server_of};
+
+    /// What the mailbox lists: one UID FETCH. It does not tell UIDNEXT: the next UID is the one that was told last, by SELECT or for
+    /// a message that was added, or one above the greatest UID that is listed, if that is more.
+    ///
+    /// `Protocol`: a message is told without its flags or its size, or under 4294967295, too.
+    pub fn list(&mut self) -> Result<Listing, FarFault>
+        ensures was_honest { L.honest self.new.session.wire.link → L.honest self.old.session.wire.link }
+        ensures stuck { self.old.session.is_ready ≡ false → self.new.session ≡ self.old.session }
+        ensures ends { EndsSo 1 (state_of self.old.session) (state_of self.new.session) result }
+        ensures same { (self.new.name ≡ self.old.name) × (self.new.validity ≡ self.old.validity) × (self.new.next ≡ self.old.next) }
+        ensures remains { L.honest self.new.session.wire.link → (m : FarMailbox) → selected (server_of self.old.session) ≡ Some m → Remains (server_of self.old.session) (server_of self.new.session) }
+        ensures numbers { IfOk result (λ listing. (0 < listing.validity) × (0 < listing.next)) }
+        ensures outcome { L.honest self.new.session.wire.link → (m : FarMailbox) → selected (server_of self.old.session) ≡ Some m → IsStore m.store → AreInRange m.store.messages
+            → Outcome (Tells (ListsFrom self.old.next m.store)) Never Remains result (server_of self.old.session) (server_of self.new.session) }
+        ensures shows { L.honest self.new.session.wire.link → (m : FarMailbox) → selected (server_of self.old.session) ≡ Some m → IsStore m.store → AreInRange m.store.messages
+            → self.old.next ≡ m.store.next → IfOk result (λ listing. Shows Far m.store listing) }
+    {
+        let items = self.session.items()?;
+        let next = next_above(self.next, items.as_slice());
+        Ok(Listing {
+            validity: self.validity,
+            next,
+            items,
+        })
+    }
+}

@@ -1,0 +1,158 @@
+//! Where a mark stands in the selected mailbox: the mark of a message is in its first 22 octets (RFC 9051, section 6.4.5).
+
+ghost use Rattle.std.specs.Prelude.{◌≡◌, ◌≤◌, List, Some, false, length, take, IfOk, IfErr};
+ghost use Rattle.std.specs.List.{list_any};
+ghost use Rattle.imap_replies.specs.declared.reply.Reply.{Reply};
+ghost use Rattle.imap_session.specs.Heard.{AreReplies};
+ghost use Rattle.imap_session.specs.Mailboxes.{FarMailbox};
+ghost use Rattle.imap_session.specs.Servers.{selected};
+ghost use Rattle.imap_link.specs.Outcomes.{Outcome, Never};
+ghost use Rattle.mailcore.specs.Operations.{marked_from};
+ghost use Rattle.mailcore.specs.Ranges.{AreInRange};
+ghost use Rattle.mailcore.specs.Stores.{IsStore};
+ghost use Rattle.imap_client.specs.Logins.{Remains};
+ghost use Rattle.imap_client.specs.Markings.{mark_told, bears, marked_uid, lesser, least_marked, uid_found};
+ghost use Rattle.imap_client.specs.Readings.{ReadsAs, IsReadFault, Tells};
+ghost use Rattle.imap_client.specs.Spoken.{Speaks};
+ghost use Rattle.imap_client.specs.States.{EndsSo};
+
+use crate::call::Call;
+use crate::far_box::FarBox;
+use crate::reading::read_replies;
+use crate::session::Session;
+use crate::told::Told;
+use imap_link::fault::FarFault;
+use imap_link::link::Link;
+use imap_replies::fetch::FetchItem;
+use imap_replies::reply::Reply;
+use mailcore::copies::mark_of;
+use mailcore::tuid::Tuid;
+use mailcore::uid::Uid;
+use wire_strings::string::WireString;
+
+/// The least UID of at least `from` under which one of these replies shows the mark.
+fn least_marked(replies: &[Reply<'_>], mark: Tuid, from: u32) -> Option<u32>
+    ensures { result ≡ least_marked mark from replies.now }
+{
+    let mut least = None;
+    for reply in replies {
+        least = lesser(least, marked_uid(reply, mark, from));
+    }
+    least
+}
+
+fn lesser(a: Option<u32>, b: Option<u32>) -> Option<u32>
+    ensures { result ≡ lesser a b }
+{
+    match (a, b) {
+        (Some(a), Some(b)) => Some(a.min(b)),
+        (None, b) => b,
+        (a, None) => a,
+    }
+}
+
+/// The UID of a reply that shows the mark, if it is at least `from`.
+fn marked_uid(reply: &Reply<'_>, mark: Tuid, from: u32) -> Option<u32>
+    ensures { result ≡ marked_uid mark from reply.now }
+{
+    let Reply::Fetch(_, items) = reply else {
+        return None;
+    };
+    let uid = Told::of(items.items()).uid?;
+    if uid >= from && any_bears(items.items(), mark) {
+        Some(uid)
+    } else {
+        None
+    }
+}
+
+fn any_bears(items: &[FetchItem<'_>], mark: Tuid) -> bool
+    ensures { result ≡ list_any (bears mark) items.now }
+{
+    items.iter().any(|item| bears(item, mark))
+}
+
+/// Whether an item is the beginning of a message with this mark.
+fn bears(item: &FetchItem<'_>, mark: Tuid) -> bool
+    ensures { result ≡ bears mark item.now }
+{
+    match item {
+        FetchItem::Head(head) => mark_told(head) == Some(mark),
+        _ => false,
+    }
+}
+
+/// The mark that the beginning of a message bears.
+fn mark_told(head: &Option<WireString<'_>>) -> Option<Tuid>
+    ensures { result ≡ mark_told head.now }
+{
+    match head {
+        Some(WireString::Literal(octets)) => mark_of(octets.bytes()),
+        Some(WireString::Quoted(quoted)) => mark_of(quoted.raw()),
+        None => None,
+    }
+}
+
+/// The UID that was found. `Protocol`: it is 4294967295.
+fn uid_found(found: Option<u32>) -> Result<Option<Uid>, FarFault>
+    ensures { ReadsAs (λ uid. uid) result (uid_found found) }
+{
+    match found {
+        None => Ok(None),
+        Some(number) => match Uid::new(number) {
+            Some(uid) => Ok(Some(uid)),
+            None => Err(FarFault::Protocol),
+        },
+    }
+}
+
+impl<L: Link> Session<L> {
+    ghost use Rattle.imap_client.specs.Sessions.{state_of, server_of};
+
+    // Where the replies at the front of the buffer show the mark.
+    fn mark_heard(&self, len: usize, mark: Tuid, from: u32) -> Result<Option<Uid>, FarFault>
+        requires within { len ≤ length self.now.wire.heard.items }
+        requires speaks { Speaks (take len self.now.wire.heard.items) }
+        ensures told { (rs : List Reply) → AreReplies rs (take len self.now.wire.heard.items) → ReadsAs (λ uid. uid) result (uid_found (least_marked mark from rs)) }
+        ensures err { IfErr result IsReadFault }
+    {
+        let replies = read_replies(self.wire.alloc, &self.wire.heard[..len])?;
+        uid_found(least_marked(&replies, mark, from))
+    }
+
+    /// Where the mark stands in the selected mailbox, from this UID on.
+    pub(crate) fn mark(&mut self, mark: Tuid, from: u32) -> Result<Option<Uid>, FarFault>
+        ensures was_honest { L.honest self.new.wire.link → L.honest self.old.wire.link }
+        ensures stuck { self.old.is_ready ≡ false → self.new ≡ self.old }
+        ensures ends { EndsSo 1 (state_of self.old) (state_of self.new) result }
+        ensures remains { L.honest self.new.wire.link → (m : FarMailbox) → selected (server_of self.old) ≡ Some m → Remains (server_of self.old) (server_of self.new) }
+        ensures outcome { L.honest self.new.wire.link → (m : FarMailbox) → selected (server_of self.old) ≡ Some m → IsStore m.store → AreInRange m.store.messages
+            → Outcome (Tells (λ found. found ≡ marked_from mark from m.store)) Never Remains result (server_of self.old) (server_of self.new) }
+    {
+        let len = self.ask(&Call::Heads(from))?;
+        let found = self.mark_heard(len, mark, from)?;
+        self.done(len);
+        Ok(found)
+    }
+}
+
+impl<L: Link> FarBox<L> {
+    ghost use Rattle.imap_client.specs.Sessions.{state_of, server_of};
+
+    /// The least UID of at least `from` whose message has the mark: one UID FETCH of the first 22 octets. A message below `from`
+    /// that the server sends, since `*` names the last one, never counts.
+    ///
+    /// `Protocol`: the server tells the mark under 4294967295, too.
+    pub fn find_mark(&mut self, mark: Tuid, from: u32) -> Result<Option<Uid>, FarFault>
+        ensures was_honest { L.honest self.new.session.wire.link → L.honest self.old.session.wire.link }
+        ensures stuck { self.old.session.is_ready ≡ false → self.new.session ≡ self.old.session }
+        ensures ends { EndsSo 1 (state_of self.old.session) (state_of self.new.session) result }
+        ensures same { (self.new.name ≡ self.old.name) × (self.new.validity ≡ self.old.validity) × (self.new.next ≡ self.old.next) }
+        ensures remains { L.honest self.new.session.wire.link → (m : FarMailbox) → selected (server_of self.old.session) ≡ Some m → Remains (server_of self.old.session) (server_of self.new.session) }
+        ensures outcome { L.honest self.new.session.wire.link → (m : FarMailbox) → selected (server_of self.old.session) ≡ Some m → IsStore m.store → AreInRange m.store.messages
+            → Outcome (Tells (λ found. found ≡ marked_from mark from m.store)) Never Remains result
+            (server_of self.old.session) (server_of self.new.session) }
+    {
+        self.session.mark(mark, from)
+    }
+}
