@@ -1,0 +1,2 @@
+pub mod MemLines
+pub mod MemLinks

@@ -1,0 +1,9 @@
+//! Links to a server in this process, which stop where a schedule says: one in memory, and one over a loopback connection.
+#![tactic(auto)]
+
+pub mod command;
+pub mod loop_link;
+pub mod mem_link;
+pub mod schedule;
+mod sending;
+mod unread;

@@ -1,0 +1,188 @@
+//! A link to a server in memory.
+
+ghost use Rattle.std.specs.Prelude.{◌≡◌, ◌<◌, ◌≤◌, length, OnOk, OnErr, IfSome, Err};
+ghost use Rattle.imap_session.specs.Serving.{FeedsSome};
+ghost use Rattle.imap_session.specs.Lines.{Sends};
+
+use crate::schedule::Schedule;
+use crate::unread::Unread;
+use device::stop_count::StopCount;
+use imap_link::link::{Link, LinkFault};
+use imap_server::server::{Server, ServerFault};
+use std::alloc::{AllocError, Global};
+
+/// At most so many bytes are received at once, where nobody says otherwise.
+pub(crate) const PIECE_BYTES: usize = 4096;
+
+/// A link to a server in memory, which stops where its schedule says.
+///
+/// It is honest, whatever the schedule: what is sent is fed to the server up to where the link stops, and what the server says
+/// is handed out in order, up to there. Nothing is connected before `reconnect`. Where the server has said all that it will say
+/// before more is sent, `recv` answers `Stopped`.
+#[derive(Drop)]
+pub struct MemLink {
+    server: Server,
+    unread: Unread,
+    schedule: Schedule,
+    /// At most so many bytes are received at once.
+    piece: usize,
+    is_open: bool,
+    stops: StopCount,
+}
+
+impl MemLink {
+    ghost use Rattle.mem_link.specs.MemLinks.{line_of, stops_of};
+
+    /// A link to this server, with these stops.
+    pub fn new(alloc: Global, server: Server, schedule: Schedule) -> MemLink
+        ensures server { (line_of result).end.server ≡ server.server }
+        ensures stops { stops_of result ≡ 0 }
+    {
+        MemLink {
+            server,
+            unread: Unread::new(alloc),
+            schedule,
+            piece: PIECE_BYTES,
+            is_open: false,
+            stops: StopCount::new(alloc),
+        }
+    }
+
+    /// The same link, of which at most so many bytes, and at least one, are received at once.
+    pub fn in_pieces(self, piece: usize) -> MemLink
+        ensures line { line_of result ≡ line_of self }
+        ensures stops { stops_of result ≡ stops_of self }
+    {
+        MemLink {
+            piece: piece.max(1),
+            ..self
+        }
+    }
+
+    /// How many calls have stopped.
+    pub fn stops(&self) -> usize
+        ensures { result ≡ stops_of self.now }
+    {
+        self.stops.get()
+    }
+
+    /// The server, with its mailboxes as they stand.
+    pub fn server(&self) -> &Server
+        ensures { result.now.server ≡ (line_of self.now).end.server }
+    {
+        &self.server
+    }
+
+    /// The server, which nothing links to any more.
+    pub fn into_server(self) -> Server
+        ensures { result.server ≡ (line_of self).end.server }
+    {
+        let MemLink { server, .. } = self;
+        server
+    }
+
+    /// Ends the connection: nothing more is sent or received.
+    fn break_off(&mut self)
+        ensures server { self.new.server.server ≡ self.old.server.server }
+        ensures stops { self.new.stops ≡ self.old.stops }
+    {
+        self.schedule.break_off(self.unread.len());
+        self.server.hang_up();
+        self.unread.greet(b"");
+        self.is_open = false;
+    }
+
+    /// The link stops. Gives what the call answers: `NoMemory` where the stop cannot be counted.
+    pub(crate) fn stop(&mut self) -> LinkFault
+        ensures server { self.new.server.server ≡ self.old.server.server }
+        ensures counted { result ≡ LinkFault.Stopped → self.old.stops < self.new.stops }
+        ensures no_less { self.old.stops ≤ self.new.stops }
+    {
+        self.break_off();
+        match self.stops.push() {
+            Ok(()) => LinkFault::Stopped,
+            Err(AllocError) => LinkFault::NoMemory,
+        }
+    }
+
+    /// The link finds no memory, and stops. Gives what the call answers.
+    fn lack(&mut self) -> LinkFault
+        ensures fault { result ≡ LinkFault.NoMemory }
+        ensures server { self.new.server.server ≡ self.old.server.server }
+        ensures stops { self.new.stops ≡ self.old.stops }
+    {
+        self.break_off();
+        LinkFault::NoMemory
+    }
+
+    /// Counts bytes that are sent. Where the link stops, or has stopped, gives how many of them the server reads.
+    pub(crate) fn begin(&mut self, bytes: &[u8]) -> Option<usize>
+        ensures front { IfSome result (λ front. front ≤ length bytes.now) }
+        ensures line { line_of self.new ≡ line_of self.old }
+        ensures stops { self.new.stops ≡ self.old.stops }
+    {
+        if self.is_open {
+            self.schedule.send(bytes)
+        } else {
+            Some(0)
+        }
+    }
+
+    /// Feeds bytes to the server, whose answer is unread then.
+    pub(crate) fn give(&mut self, bytes: &[u8]) -> Result<(), LinkFault>
+        ensures ok { OnOk result (Sends bytes.now (line_of self.old) (line_of self.new)) }
+        ensures err { OnErr result (FeedsSome (line_of self.old).end bytes.now (line_of self.new).end.server) }
+        ensures steady { OnOk result (self.new.stops ≡ self.old.stops) }
+        ensures counted { result ≡ Err LinkFault.Stopped → self.old.stops < self.new.stops }
+        ensures no_less { self.old.stops ≤ self.new.stops }
+    {
+        match self.server.feed(bytes) {
+            Ok(answer) => {
+                self.schedule.answer(self.unread.len(), &answer);
+                match self.unread.push(answer) {
+                    Ok(()) => Ok(()),
+                    Err(AllocError) => Err(self.lack()),
+                }
+            }
+            Err(ServerFault::NoMemory) => Err(self.lack()),
+            Err(ServerFault::Closed) => Err(self.stop()),
+        }
+    }
+}
+
+impl Link for MemLink {
+    ghost use Rattle.mem_link.specs.MemLinks.{line_of, stops_of};
+
+    ghost honest = { λ _. Unit {0} };
+
+    ghost line = { line_of };
+
+    ghost stops = { stops_of };
+
+    fn send(&mut self, bytes: &[u8]) -> Result<(), LinkFault> {
+        match self.begin(bytes) {
+            None => self.give(bytes),
+            Some(front) => {
+                self.give(&bytes[..front])?;
+                Err(self.stop())
+            }
+        }
+    }
+
+    fn recv(&mut self, piece: &mut [u8]) -> Result<usize, LinkFault> {
+        let most = self.piece.min(self.schedule.room());
+        let count = self.unread.take(piece, most);
+        if count == 0 {
+            return Err(self.stop());
+        }
+        self.schedule.receive(count);
+        Ok(count)
+    }
+
+    fn reconnect(&mut self) -> Result<(), LinkFault> {
+        self.break_off();
+        self.unread.greet(self.server.connect());
+        self.is_open = true;
+        Ok(())
+    }
+}
