@@ -1,4 +1,4 @@
-use Rattle.std.proofs.Common.{◌≡◌, ℕ, ◌+◌, List, Option, Some, sym, ◌∙◌, ap, subst}
+use Rattle.std.proofs.Common.{◌≡◌, ℕ, ◌+◌, List, Option, Some, sym, ◌∙◌, ap, subst, arith}
 use Rattle.imap_client.specs.Boxes.{IsSelected}
 use Rattle.imap_client.proofs.Changed.{state_of_parts}
 use Rattle.imap_client.proofs.Adding.{next_known, none_known, err_selected, ok_selected}
@@ -7,6 +7,7 @@ use Rattle.imap_client.proofs.far_box.FarBox.append.Goals as goal
 pub invariant_of-self : goal.invariant_of-self
 invariant_of-self g c = record {
   named = c.args.self.now.named;
+  numbers = c.args.self.now.numbers;
   selected = λ ready honest.
       let it = c.args.self.now in
       let was = it.session in
@@ -22,6 +23,7 @@ invariant_of-self g c = record {
 pub invariant_of-self-in-Some : goal.invariant_of-self-in-Some
 invariant_of-self-in-Some g c = record {
   named = c.args.self.now.named;
+  numbers = (c.args.self.now.numbers.0, omega arith);
   selected = λ ready honest.
       let it = c.args.self.now in
       let was = it.session in
@@ -38,6 +40,7 @@ invariant_of-self-in-Some g c = record {
 pub invariant_of-self-in_default : goal.invariant_of-self-in_default
 invariant_of-self-in_default g c = record {
   named = c.args.self.now.named;
+  numbers = c.args.self.now.numbers;
   selected = λ ready honest.
       let it = c.args.self.now in
       let was = it.session in

@@ -5,6 +5,7 @@ use Rattle.imap_client.proofs.far_box.FarBox.find_mark.Goals as goal
 
 pub invariant_of-self : goal.invariant_of-self
 invariant_of-self g c = record {
+  named = c.args.self.now.named;
   selected = λ ready honest.
       let was = c.args.self.now.session in
       let now = c.mark.new.self in

@@ -14,6 +14,7 @@ use Rattle.imap_client.proofs.far_box.FarBox.load.Goals as goal
 
 pub invariant_of-self : goal.invariant_of-self
 invariant_of-self g c = record {
+  named = c.args.self.now.named;
   selected = λ ready honest.
       let was = c.args.self.now.session in
       let now = c.body.new.self in
@@ -27,6 +28,7 @@ invariant_of-self g c = record {
 
 pub invariant_of-self-in-Some : goal.invariant_of-self-in-Some
 invariant_of-self-in-Some g c = record {
+  named = c.args.self.now.named;
   selected = λ ready honest.
       let was = c.args.self.now.session in
       let now = c.body.new.self in
@@ -40,6 +42,7 @@ invariant_of-self-in-Some g c = record {
 
 pub invariant_of-self-in-None : goal.invariant_of-self-in-None
 invariant_of-self-in-None g c = record {
+  named = c.args.self.now.named;
   selected = λ ready honest.
       let was = c.args.self.now.session in
       let now = c.body.new.self in
