@@ -45,6 +45,14 @@ impl<S: Shelf + Drop> BookPart<S> {
         }
     }
 
+    /// Gives the shelf back, without taking memory.
+    pub fn into_shelf(self) -> S
+        ensures { S.seen result ≡ seen_of self }
+    {
+        let mut desk = self.desk;
+        take(&mut desk)
+    }
+
     /// Reads the shelf. `BadState` and `BadJournal`: its files hold no book, and this is the first line that shows it.
     pub fn open(&mut self) -> Result<(), OutsideFault>
         ensures book { OnOk result (IsBook (kept_of self.new)) }

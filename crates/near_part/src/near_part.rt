@@ -7,7 +7,7 @@ ghost use Rattle.mailcore.specs.Operations.{bytes_of, expunged};
 ghost use Rattle.near_box.specs.Boxes.{TurnsMailbox, box_of, mailbox_of as mailbox_in, stored_in};
 ghost use Rattle.near_box.specs.Mailboxes.{on_store};
 ghost use Rattle.near_box.specs.NearCalls.{Ends};
-ghost use Rattle.parts.specs.Drafts.{IsDraft};
+ghost use Rattle.parts.specs.Drafts.{IsDraft, IsSomeDraft};
 ghost use Rattle.near_part.specs.Desks.{fresh_at, is_there, stored_at};
 
 use crate::desk::Desk;
@@ -42,7 +42,7 @@ impl<F: Folder + Drop> NearPart<F> {
     ghost use Rattle.outside.specs.BoxCalls.{HasNumbers};
     ghost use Rattle.outside.specs.Calls.{FromBox};
     ghost use Rattle.parts.specs.PartCalls.{Part, PartChanges};
-    ghost use Rattle.near_part.specs.NearParts.{Delivers, is_open, mailbox_of};
+    ghost use Rattle.near_part.specs.NearParts.{Delivers, is_open, mailbox_of, stored_of};
 
     /// The part over this folder, whose validity is `fresh` where it has no meta file. No box is open.
     pub fn new(alloc: Global, folder: F, fresh: NonZeroU32) -> Self
@@ -54,6 +54,14 @@ impl<F: Folder + Drop> NearPart<F> {
             fresh,
             desk: Desk::Closed(folder),
         }
+    }
+
+    /// Gives the folder back, without taking memory.
+    pub fn into_folder(self) -> F
+        ensures { (F.seen result).stored ≡ stored_of self }
+    {
+        let mut desk = self.desk;
+        take(&mut desk)
     }
 
     /// Opens the box, anew where one is open, and tells its UIDVALIDITY.
@@ -120,6 +128,7 @@ impl<F: Folder + Drop> NearPart<F> {
     pub fn draft(&mut self, uid: Uid, mark: Tuid) -> Result<Draft, OutsideFault>
         requires open { is_open self.old ≡ true }
         ensures open { is_open self.new ≡ true }
+        ensures some { IfOk result (IsSomeDraft Side.Near mark) }
         ensures told { IfErr result FromBox }
         ensures part { Part (F.is_honest ≡ true) (Answers (λ draft n. IsDraft Side.Near mark (bytes_of uid n.store) draft)) (λ _. Stays) (mailbox_of self.old) (mailbox_of self.new) result }
     {
@@ -201,6 +210,7 @@ fn draft_in<F: Folder>(
 ) -> Result<Draft, NearFault>
     ensures fresh { near.new.fresh ≡ near.old.fresh }
     ensures keeps { F.is_honest ≡ true → stored_in near.new ≡ stored_in near.old }
+    ensures some { IfOk result (IsSomeDraft Side.Near mark) }
     ensures draft { F.is_honest ≡ true → IfOk result (IsDraft Side.Near mark (bytes_of uid (mailbox_in near.old).store)) }
 {
     if !near.load(uid)? {

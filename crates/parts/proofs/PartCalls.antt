@@ -41,28 +41,26 @@ alone does d d' done = record { mid = d; before = quiet d; behind = done }
 -- ---- the outside is broken
 
 -- a call while the outside is broken
-pub stuck : {T : Type 0} (honest : Type 0) (copies : T → ℕ) (may_tell : OutsideFault → Type 0) (does : T → Effect Device) (leaves : OutsideFault → Effect Device) (d : Device) (c : Counts) (e : OutsideFault)
-    → e ≡ fault.Stopped → c.is_broken ≡ true → may_tell fault.Stopped → leaves fault.Stopped d d
-    → Call {T = T} honest (Arrives every true) copies may_tell does leaves (seen_with d c) (seen_with d c) (Err e)
-stuck honest copies may_tell does leaves d c e is broken may same =
-    subst (λ (f : OutsideFault). Call honest (Arrives every true) copies may_tell does leaves (seen_with d c) (seen_with d c) (Err f)) (sym is)
-    (record {
-      acts = record {
-        is_broken = broken;
-        counted = λ _. inl broken;
-        no_less = omega arith;
-        stuck = λ _. (refl, refl);
-        left = λ _. alone _ _ _ same;
-      };
-      counts = record {
-        told = may;
-        counted = tt;
-        refusals = omega arith;
-        faults = omega arith;
-        appends = omega arith;
-        stuck = λ _. refl;
-      };
-    })
+pub stuck : {T : Type 0} (honest : Type 0) (copies : T → ℕ) (may_tell : OutsideFault → Type 0) (does : T → Effect Device) (leaves : OutsideFault → Effect Device) (d : Device) (c : Counts)
+    → c.is_broken ≡ true → may_tell fault.Stopped → leaves fault.Stopped d d
+    → Call {T = T} honest (Arrives every true) copies may_tell does leaves (seen_with d c) (seen_with d c) (Err fault.Stopped)
+stuck honest copies may_tell does leaves d c broken may same = record {
+  acts = record {
+    is_broken = broken;
+    counted = λ _. inl broken;
+    no_less = omega arith;
+    stuck = λ _. (refl, refl);
+    left = λ _. alone _ _ _ same;
+  };
+  counts = record {
+    told = may;
+    counted = tt;
+    refusals = omega arith;
+    faults = omega arith;
+    appends = omega arith;
+    stuck = λ _. refl;
+  };
+}
 
 -- ---- a call of a part of an outside that was whole
 

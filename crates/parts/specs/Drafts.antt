@@ -25,3 +25,15 @@ abbrev pub IsDraft : Side → (mark : List ℕ) → Option (List ℕ) → Draft 
 IsDraft side mark message Absent = message ≡ None
 IsDraft side mark message Unfit = IsUnfitText side message
 IsDraft side mark message (Ready text) = IsText side mark message text.items
+
+-- the text of a copy of some message that is fit
+pub record IsSomeText (side : Side) (mark text : List ℕ) : Type 0 where
+  pub bytes : List ℕ
+  pub is_fit : fit side bytes ≡ true
+  pub text_is : text ≡ copy_text mark bytes (line_end (other side))
+
+-- what is to be written is such a text, whatever was read
+abbrev pub IsSomeDraft : Side → (mark : List ℕ) → Draft → Type 0
+IsSomeDraft side mark Absent = Unit {0}
+IsSomeDraft side mark Unfit = Unit {0}
+IsSomeDraft side mark (Ready text) = IsSomeText side mark text.items

@@ -2,7 +2,7 @@
 
 ghost use Rattle.std.specs.Prelude.{◌≡◌, IfOk, Some};
 ghost use Rattle.rules.specs.Copies.{line_end};
-ghost use Rattle.parts.specs.Drafts.{IsDraft};
+ghost use Rattle.parts.specs.Drafts.{IsDraft, IsSomeDraft};
 
 use mailcore::content::fit;
 use mailcore::copies::copy_text;
@@ -23,7 +23,8 @@ pub enum Draft {
 
 /// What is to be written of this message of a side, under this mark. `AllocError`: memory ran out.
 pub fn draft_of(alloc: Global, side: Side, message: &[u8], mark: Tuid) -> Result<Draft, AllocError>
-    ensures { IfOk result (IsDraft side mark (Some message.now)) }
+    ensures draft { IfOk result (IsDraft side mark (Some message.now)) }
+    ensures some { IfOk result (IsSomeDraft side mark) }
 {
     if !fit(side, message) {
         return Ok(Draft::Unfit);

@@ -1,6 +1,6 @@
 //! Whether calls of an outside are answered, and how many have failed.
 
-ghost use Rattle.std.specs.Prelude.{◌≡◌, true, false, OnOk, IfErr};
+ghost use Rattle.std.specs.Prelude.{◌≡◌, false};
 ghost use Rattle.outside.specs.BoxCalls.{copies_made};
 ghost use Rattle.parts.specs.Tallies.{Ended, Fails, no_copies, untouched};
 
@@ -43,15 +43,11 @@ impl Tally {
         }
     }
 
-    /// Whether a call may be made. `Stopped`: one has failed since the outside was opened.
-    pub fn check(&self) -> Result<(), OutsideFault>
-        ensures whole { OnOk result (self.now.is_broken ≡ false) }
-        ensures stopped { IfErr result (λ fault. (fault ≡ OutsideFault.Stopped) × (self.now.is_broken ≡ true)) }
+    /// Whether a call has failed since the outside was opened.
+    pub fn is_broken(&self) -> bool
+        ensures { result ≡ self.now.is_broken }
     {
-        if self.is_broken {
-            return Err(OutsideFault::Stopped);
-        }
-        Ok(())
+        self.is_broken
     }
 
     /// Ends a call with this answer, which makes no copy. A fault is counted, and from then on each call stops.
