@@ -1,0 +1,4 @@
+pub mod Mailboxes
+pub mod Changing
+pub mod EnterLemmas
+pub mod FarCalls

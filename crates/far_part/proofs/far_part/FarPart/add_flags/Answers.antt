@@ -1,0 +1,39 @@
+use Rattle.std.proofs.Common.{◌≡◌, refl, ap, sym, subst, ◌∙◌}
+use Rattle.imap_commands.specs.declared.command.StoreMode.TheVariants as modes
+use Rattle.imap_session.specs.NamedMessages.{flags_changed, stored}
+use Rattle.imap_client.specs.Boxes.{one_uid}
+use Rattle.std.proofs.lemmas.Bool.{false≢true}
+use Rattle.imap_client.specs.Sessions.{server_of}
+use Rattle.imap_session.specs.Servers.{with_selected}
+use Rattle.far_part.specs.Chosen.{IsChosen}
+use Rattle.far_part.proofs.Changing.{changes_part, changes_chosen}
+use Rattle.far_part.proofs.FarCalls.{stands_open, store_open, stored_same}
+use Rattle.far_part.proofs.Mailboxes.{has_chosen}
+use Rattle.far_part.proofs.far_part.FarPart.add_flags.Goals as goal
+
+pub invariant_of-self : goal.invariant_of-self
+invariant_of-self g c =
+    let name = c.args.self.now.account.mailbox.items in
+    let box = c.in-Open.far in
+    let new = c.add_flags.new.self in
+    let was : g.L.Link.honest new.session.wire.link → g.L.Link.honest box.session.wire.link = c.add_flags.ensures.was_honest in
+    let old = server_of box.session in
+    let chosen : g.L.Link.honest new.session.wire.link → IsChosen name old = λ h. stands_open name c.args.self.now.desk box c.in-Open.is c.args.self.now.stands (was h) in
+    let same : g.L.Link.honest new.session.wire.link → with_selected (stored modes.Add c.args.flags (one_uid c.args.uid)) old ≡ with_selected (flags_changed modes.Add c.args.uid c.args.flags) old = λ h. stored_same name old modes.Add c.args.uid c.args.flags (chosen h) (g.met.L.Link.sound box.session.wire.link (was h)) in
+    record {
+      there = refl;
+      stands = λ o h. has_chosen name (server_of new.session) (changes_chosen (g.L.Link.honest new.session.wire.link) name old (server_of new.session) (stored modes.Add c.args.flags (one_uid c.args.uid)) (flags_changed modes.Add c.args.uid c.args.flags) c.add_flags.result chosen same c.add_flags.ensures.outcome h);
+      fresh = λ e. absurd (false≢true e);
+    }
+
+pub returns-clause-part : goal.returns-clause-part
+returns-clause-part g c =
+    let name = c.args.self.now.account.mailbox.items in
+    let box = c.in-Open.far in
+    let new = c.add_flags.new.self in
+    let was : g.L.Link.honest new.session.wire.link → g.L.Link.honest box.session.wire.link = c.add_flags.ensures.was_honest in
+    let old = server_of box.session in
+    let chosen : g.L.Link.honest new.session.wire.link → IsChosen name old = λ h. stands_open name c.args.self.now.desk box c.in-Open.is c.args.self.now.stands (was h) in
+    let same : g.L.Link.honest new.session.wire.link → with_selected (stored modes.Add c.args.flags (one_uid c.args.uid)) old ≡ with_selected (flags_changed modes.Add c.args.uid c.args.flags) old = λ h. stored_same name old modes.Add c.args.uid c.args.flags (chosen h) (g.met.L.Link.sound box.session.wire.link (was h)) in
+    rw (c.told_by.ensures, sym (store_open name c.args.self.now.desk box c.in-Open.is))
+    (changes_part (g.L.Link.honest new.session.wire.link) name old (server_of new.session) (stored modes.Add c.args.flags (one_uid c.args.uid)) (flags_changed modes.Add c.args.uid c.args.flags) c.add_flags.result chosen same c.add_flags.ensures.outcome)

@@ -1,0 +1,43 @@
+use Rattle.std.proofs.Common.{◌≡◌, ◌∙◌, ℕ, List, Option, refl, sym, ap, subst}
+use Rattle.mailcore.specs.Stores.{Store}
+use Rattle.mailcore.specs.declared.side.Side.TheVariants.{Far}
+use Rattle.mailcore.specs.Operations.{bytes_of}
+use Rattle.parts.specs.declared.draft.Draft.{Draft}
+use Rattle.parts.specs.Drafts.{IsDraft}
+use Rattle.imap_client.specs.Sessions.{server_of}
+use Rattle.imap_session.specs.Servers.{Server}
+use Rattle.far_part.specs.Chosen.{IsChosen, store_at}
+use Rattle.far_part.proofs.FarCalls.{stands_open, store_open, next_open, reads_part, reads_chosen, told_ok}
+use Rattle.far_part.proofs.Mailboxes.{selected_is, sound_there}
+use Rattle.far_part.proofs.far_part.FarPart.draft.Goals as goal
+
+pub invariant_of-self : goal.invariant_of-self
+invariant_of-self g c =
+    let name = c.args.self.now.account.mailbox.items in
+    let box = c.in-Open.far in
+    let new = c.draft_in.new.far in
+    let old = server_of box.session in
+    let was : g.L.Link.honest new.session.wire.link → g.L.Link.honest box.session.wire.link = c.draft_in.ensures.was_honest in
+    let chosen : g.L.Link.honest new.session.wire.link → IsChosen name old = λ h. stands_open name c.args.self.now.desk box c.in-Open.is c.args.self.now.stands (was h) in
+    let same : g.L.Link.honest new.session.wire.link → server_of new.session ≡ old = λ h. c.draft_in.ensures.remains h (chosen h).mailbox (selected_is name old (chosen h)) in
+    record {
+      there = refl;
+      stands = λ o h. reads_chosen name old (server_of new.session) (same h) (chosen h);
+      fresh = λ e o h.
+          c.draft_in.ensures.next ∙ next_open name c.args.self.now.desk box c.in-Open.is (c.args.self.now.fresh e) (was h) ∙ ap (λ (s : Server). (store_at name s.mailboxes).next) (sym (same h));
+    }
+
+pub returns-clause-part : goal.returns-clause-part
+returns-clause-part g c =
+    let name = c.args.self.now.account.mailbox.items in
+    let box = c.in-Open.far in
+    let new = c.draft_in.new.far in
+    let old = server_of box.session in
+    let was : g.L.Link.honest new.session.wire.link → g.L.Link.honest box.session.wire.link = c.draft_in.ensures.was_honest in
+    let chosen : g.L.Link.honest new.session.wire.link → IsChosen name old = λ h. stands_open name c.args.self.now.desk box c.in-Open.is c.args.self.now.stands (was h) in
+    let same : g.L.Link.honest new.session.wire.link → server_of new.session ≡ old = λ h. c.draft_in.ensures.remains h (chosen h).mailbox (selected_is name old (chosen h)) in
+    rw (c.told_by.ensures, sym (store_open name c.args.self.now.desk box c.in-Open.is))
+    (reads_part (Draft) (g.L.Link.honest new.session.wire.link) name old (server_of new.session) (λ draft s. IsDraft Far c.args.mark (bytes_of c.args.uid s) draft) c.draft_in.result chosen same
+    (λ h.
+        let s = sound_there name old (chosen h) (g.met.L.Link.sound box.session.wire.link (was h)) in
+        c.draft_in.ensures.draft h (chosen h).mailbox (selected_is name old (chosen h)) s.store s.range.messages))

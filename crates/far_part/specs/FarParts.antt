@@ -1,0 +1,20 @@
+-- The far mailbox of an outside as the clauses of its calls name it.
+use Rattle.std.specs.Prelude.{Bool}
+use Rattle.mailcore.specs.Stores.{Store}
+use Rattle.imap_link.specs.declared.link.Link as link
+use Rattle.far_part.specs.declared.far_part.FarPart.{FarPart}
+use Rattle.far_part.specs.Chosen.{store_at}
+use Rattle.far_part.specs.Desks as desks
+
+module _ {L : Type 0} {links : link.Ghosts L} where
+  -- whether the mailbox is selected
+  abbrev pub is_open : FarPart L links → Bool
+  is_open part = desks.is_open part.desk
+
+  -- the link has kept its word
+  abbrev pub honest_of : FarPart L links → Type 0
+  honest_of part = desks.honest_at part.desk
+
+  -- what the mailbox stores at the server
+  abbrev pub store_of : FarPart L links → Store
+  store_of part = store_at part.account.mailbox.items (desks.server_at part.desk).mailboxes

@@ -1,0 +1,5 @@
+pub mod Chosen
+pub mod Adding
+pub mod FarFaults
+pub mod Desks
+pub mod FarParts
