@@ -1,3 +1,4 @@
 pub mod MatchingLemmas
 pub mod MatchedLemmas
 pub mod ChosenLemmas
+pub mod LineLemmas

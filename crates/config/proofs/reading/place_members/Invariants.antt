@@ -1,0 +1,8 @@
+use Rattle.std.proofs.Common.{ℕ}
+use Rattle.std.specs.Prelude.{All, IfSome}
+use Rattle.config.specs.Faults.{IsUpTo}
+use Rattle.config.specs.Readings.{IsLine}
+use Rattle.config.proofs.reading.place_members.Given as goal
+
+abbrev pub invariant-loop-member : goal.invariant-loop-member
+invariant-loop-member l = (last : ℕ) → All (λ m. IsLine last m.line) l.members → IfSome l.fn.first (IsUpTo last) → IfSome l.first (IsUpTo last)

@@ -1,0 +1,262 @@
+//! A configuration while it is read: what its lines say, whatever their numbers.
+
+use crate::config::{Config, Group};
+use crate::fault::FaultKind;
+use crate::keyword::{Keyword, Place};
+use crate::names::claim;
+use crate::section::{Manner, Section};
+use crate::setting::{BoxPlace, Setting};
+use crate::words::{Arguments, is_plain};
+use std::alloc::{AllocError, Global};
+use std::mem;
+
+/// What the lines so far say. A faulty line is taken as far as it can be, so that what stands behind it is read in the
+/// section that was meant.
+#[derive(Debug, Drop)]
+pub(crate) struct Draft {
+    alloc: Global,
+    /// The sections that have ended.
+    config: Config,
+    /// What was said before any section.
+    defaults: Manner,
+    section: Section,
+    /// The name of the section.
+    name: String,
+    /// The keywords of the section so far, or of the lines before any section.
+    seen: Vec<Keyword>,
+    /// The names of IMAP stores so far, also of those that are faulty.
+    imap_names: Vec<String>,
+    /// Those of Maildir stores.
+    maildir_names: Vec<String>,
+    /// Those of channels and groups together.
+    names: Vec<String>,
+    /// Those of channels.
+    channels: Vec<String>,
+    /// The channels that the last line adds to the group.
+    members: Vec<String>,
+}
+
+impl Draft {
+    /// Before the first line.
+    pub fn new(alloc: Global) -> Self {
+        Draft {
+            alloc,
+            config: Config::new(alloc),
+            defaults: Manner::new(),
+            section: Section::Start,
+            name: String::new(alloc),
+            seen: Vec::new(alloc),
+            imap_names: Vec::new(alloc),
+            maildir_names: Vec::new(alloc),
+            names: Vec::new(alloc),
+            channels: Vec::new(alloc),
+            members: Vec::new(alloc),
+        }
+    }
+
+    /// The sections that have ended.
+    pub fn into_config(self) -> Config {
+        self.config
+    }
+
+    /// Whether a section is open.
+    pub fn is_in_section(&self) -> bool {
+        self.section.place().is_section()
+    }
+
+    /// Whether the section has each keyword that it has to have.
+    pub fn is_whole(&self) -> bool {
+        let required = self.section.place().required();
+        required.iter().all(|keyword| self.seen.contains(keyword))
+    }
+
+    /// Reads a line of words. The fault is the one with the lowest number, but for keywords that the section lacks.
+    pub fn read(&mut self, keyword: &[u8], arguments: &[u8]) -> Result<(), FaultKind> {
+        let keyword = Keyword::read(keyword).ok_or(FaultKind::UnknownKeyword)?;
+        let keyword = keyword.at(self.section.place());
+        let misplaced = self.meet(keyword)?;
+        let is_plain = is_plain(arguments);
+        let arguments = Arguments::read(self.alloc, arguments)?;
+        let setting = Setting::read(self.alloc, keyword, &arguments.list)?;
+        if misplaced != Some(FaultKind::OutsideSection) && self.section.contradicts(&setting) {
+            return Err(FaultKind::WrongArguments);
+        }
+        if !is_plain || !arguments.is_closed {
+            return Err(FaultKind::BadText);
+        }
+        match misplaced {
+            Some(fault) => Err(fault),
+            None => self.set(setting),
+        }
+    }
+
+    /// Notes that a keyword stands here, and opens the section that it begins. It tells whether the keyword may not.
+    fn meet(&mut self, keyword: Keyword) -> Result<Option<FaultKind>, AllocError> {
+        if !keyword.fits(self.section.place()) {
+            return Ok(Some(FaultKind::OutsideSection));
+        }
+        if let Some(place) = keyword.section() {
+            self.open(place);
+            return Ok(None);
+        }
+        if self.seen.contains(&keyword) && !keyword.adds_up() {
+            return Ok(Some(FaultKind::KeywordTwice));
+        }
+        self.seen.push(keyword)?;
+        Ok(None)
+    }
+
+    fn open(&mut self, place: Place) {
+        self.section = Section::new(self.alloc, place);
+        self.name = String::new(self.alloc);
+        self.seen = Vec::new(self.alloc);
+    }
+
+    /// Takes what a line says.
+    fn set(&mut self, setting: Setting) -> Result<(), FaultKind> {
+        match setting {
+            Setting::Section(name) => self.set_name(name),
+            Setting::Group(name, channels) => {
+                self.members = channels;
+                self.set_name(name)
+            }
+            Setting::Channels(channels) => {
+                self.members = channels;
+                Ok(())
+            }
+            Setting::Far(place) => self.set_far(place),
+            Setting::Near(place) => self.set_near(place),
+            Setting::Sync(None) => Err(FaultKind::CellTwice),
+            setting => Ok(self.set_in_section(setting)?),
+        }
+    }
+
+    fn set_in_section(&mut self, setting: Setting) -> Result<(), AllocError> {
+        match &mut self.section {
+            Section::Start => self.defaults.set(setting),
+            Section::ImapStore(draft) => draft.set(setting),
+            Section::MaildirStore(draft) => draft.set(setting),
+            Section::Channel(draft) => draft.set(setting)?,
+            Section::Between | Section::Group => {}
+        }
+        Ok(())
+    }
+
+    /// Names the section. `DefinedTwice`: the name is another's.
+    fn set_name(&mut self, name: String) -> Result<(), FaultKind> {
+        self.name = name.clone()?;
+        match self.section.place() {
+            Place::ImapStore => claim(&mut self.imap_names, name),
+            Place::MaildirStore => claim(&mut self.maildir_names, name),
+            Place::Channel => {
+                self.channels.push(name.clone()?)?;
+                claim(&mut self.names, name)
+            }
+            _ => claim(&mut self.names, name),
+        }
+    }
+
+    /// The place of the IMAP store of this name.
+    fn imap_store(&self, name: &str) -> Option<usize> {
+        self.config
+            .imap_stores
+            .iter()
+            .position(|store| store.name.as_str() == name)
+    }
+
+    /// The place of the Maildir store of this name.
+    fn maildir_store(&self, name: &str) -> Option<usize> {
+        self.config
+            .maildir_stores
+            .iter()
+            .position(|store| store.name.as_str() == name)
+    }
+
+    /// Takes the far store and mailbox of a channel. `UnknownName`: no IMAP store above has this name.
+    fn set_far(&mut self, place: BoxPlace) -> Result<(), FaultKind> {
+        let store = self.imap_store(&place.store);
+        if let Section::Channel(draft) = &mut self.section {
+            draft.far = store;
+            draft.far_box = place.mailbox;
+        }
+        match store {
+            Some(_) => Ok(()),
+            None => Err(FaultKind::UnknownName),
+        }
+    }
+
+    /// Takes the near store and mailbox of a channel. `UnknownName`: no Maildir store above has this name.
+    fn set_near(&mut self, place: BoxPlace) -> Result<(), FaultKind> {
+        let store = self.maildir_store(&place.store);
+        if let Section::Channel(draft) = &mut self.section {
+            draft.near = store;
+            draft.near_box = place.mailbox;
+        }
+        match store {
+            Some(_) => Ok(()),
+            None => Err(FaultKind::UnknownName),
+        }
+    }
+
+    /// Ends the section, if one is open. One that lacks a keyword, or has a faulty one, goes.
+    pub fn end_section(&mut self) -> Result<(), AllocError> {
+        if !self.is_in_section() {
+            return Ok(());
+        }
+        let section = mem::replace(&mut self.section, Section::Between);
+        let name = mem::replace(&mut self.name, String::new(self.alloc));
+        self.put(section, name)
+    }
+
+    fn put(&mut self, section: Section, name: String) -> Result<(), AllocError> {
+        match section {
+            Section::ImapStore(draft) => {
+                if let Some(store) = draft.finish(name) {
+                    self.config.imap_stores.push(store)?;
+                }
+            }
+            Section::MaildirStore(draft) => {
+                if let Some(store) = draft.finish(self.alloc, name)? {
+                    self.config.maildir_stores.push(store)?;
+                }
+            }
+            Section::Channel(draft) => {
+                if let Some(channel) = draft.finish(self.alloc, name, self.defaults)? {
+                    self.config.channels.push(channel)?;
+                }
+            }
+            Section::Group => self.config.groups.push(Group {
+                name,
+                channels: Vec::new(self.alloc),
+            })?,
+            Section::Start | Section::Between => {}
+        }
+        Ok(())
+    }
+
+    /// The channels that the last line adds to the group that is open, which are given away.
+    pub fn take_members(&mut self) -> Vec<String> {
+        mem::replace(&mut self.members, Vec::new(self.alloc))
+    }
+
+    /// The place that the group has, or will have, that is open.
+    pub fn group(&self) -> usize {
+        self.config.groups.len()
+    }
+
+    /// Adds a channel to a group, and tells whether there is one of this name.
+    pub fn add_member(&mut self, group: usize, name: &str) -> Result<bool, AllocError> {
+        let Some(channel) = place_of(&self.channels, name) else {
+            return Ok(false);
+        };
+        if let Some(group) = self.config.groups.get_mut(group) {
+            group.channels.push(channel)?;
+        }
+        Ok(true)
+    }
+}
+
+/// The place of a name among others.
+fn place_of(names: &[String], name: &str) -> Option<usize> {
+    names.iter().position(|other| other.as_str() == name)
+}

@@ -1,0 +1,291 @@
+//! Sections of a configuration while they are read.
+
+use crate::config::{Boxes, Channel, ImapStore, MaildirStore};
+use crate::keyword::Place;
+use crate::patterns::Patterns;
+use crate::setting::Setting;
+use mailcore::mailbox_name::MailboxName;
+use rules::options::{Cells, Directions, Sides};
+use std::alloc::{AllocError, Global};
+
+/// The port of IMAP (RFC 9051, section 2.1).
+const PORT: u16 = 143;
+
+/// The section that is open, with what its lines have said so far.
+#[derive(Debug, Drop)]
+pub(crate) enum Section {
+    /// None, and none was.
+    Start,
+    /// None any more.
+    Between,
+    ImapStore(ImapDraft),
+    MaildirStore(MaildirDraft),
+    Channel(ChannelDraft),
+    Group,
+}
+
+impl Section {
+    /// The section that begins at this place.
+    pub fn new(alloc: Global, place: Place) -> Self {
+        match place {
+            Place::Start => Section::Start,
+            Place::Between => Section::Between,
+            Place::ImapStore => Section::ImapStore(ImapDraft::new()),
+            Place::MaildirStore => Section::MaildirStore(MaildirDraft::new()),
+            Place::Channel => Section::Channel(ChannelDraft::new(alloc)),
+            Place::Group => Section::Group,
+        }
+    }
+
+    /// Where the next line stands.
+    pub fn place(&self) -> Place {
+        match self {
+            Section::Start => Place::Start,
+            Section::Between => Place::Between,
+            Section::ImapStore(_) => Place::ImapStore,
+            Section::MaildirStore(_) => Place::MaildirStore,
+            Section::Channel(_) => Place::Channel,
+            Section::Group => Place::Group,
+        }
+    }
+
+    /// Whether a channel has both a mailbox and a pattern once this is set.
+    pub fn contradicts(&self, setting: &Setting) -> bool {
+        match self {
+            Section::Channel(draft) => match setting {
+                Setting::Patterns(_) => draft.names_a_box(),
+                _ => setting.names_a_box() && draft.has_patterns(),
+            },
+            _ => false,
+        }
+    }
+}
+
+/// An IMAP store without its name.
+#[derive(Debug, Drop)]
+pub(crate) struct ImapDraft {
+    host: Option<String>,
+    port: u16,
+    user: Option<String>,
+    pass: Option<String>,
+}
+
+impl ImapDraft {
+    fn new() -> Self {
+        ImapDraft {
+            host: None,
+            port: PORT,
+            user: None,
+            pass: None,
+        }
+    }
+
+    /// Takes what a line of the section says.
+    pub fn set(&mut self, setting: Setting) {
+        match setting {
+            Setting::Host(host) => self.host = Some(host),
+            Setting::Port(port) => self.port = port,
+            Setting::User(user) => self.user = Some(user),
+            Setting::Pass(pass) => self.pass = Some(pass),
+            _ => {}
+        }
+    }
+
+    /// The store, or none if a keyword is missing that it has to have.
+    pub fn finish(self, name: String) -> Option<ImapStore> {
+        Some(ImapStore {
+            name,
+            host: self.host?,
+            port: self.port,
+            user: self.user?,
+            pass: self.pass?,
+        })
+    }
+}
+
+/// A Maildir store without its name.
+#[derive(Debug, Drop)]
+pub(crate) struct MaildirDraft {
+    path: Option<String>,
+    inbox: Option<String>,
+}
+
+impl MaildirDraft {
+    fn new() -> Self {
+        MaildirDraft {
+            path: None,
+            inbox: None,
+        }
+    }
+
+    /// Takes what a line of the section says.
+    pub fn set(&mut self, setting: Setting) {
+        match setting {
+            Setting::Path(path) => self.path = Some(path),
+            Setting::Inbox(inbox) => self.inbox = Some(inbox),
+            _ => {}
+        }
+    }
+
+    /// The store, or none if its path is missing.
+    pub fn finish(self, alloc: Global, name: String) -> Result<Option<MaildirStore>, AllocError> {
+        let MaildirDraft { path, inbox } = self;
+        let Some(path) = path else {
+            return Ok(None);
+        };
+        let inbox = match inbox {
+            Some(inbox) => inbox,
+            None => String::from_str(alloc, "~/Maildir")?,
+        };
+        Ok(Some(MaildirStore { name, path, inbox }))
+    }
+}
+
+/// How mailboxes are synchronised, as far as lines say it.
+#[derive(Clone, Copy, Debug)]
+pub(crate) struct Manner {
+    cells: Option<Cells>,
+    create: Option<Sides>,
+    expunge: Option<Sides>,
+}
+
+impl Manner {
+    /// Nothing is said.
+    pub fn new() -> Self {
+        Manner {
+            cells: None,
+            create: None,
+            expunge: None,
+        }
+    }
+
+    /// Takes what a line says.
+    pub fn set(&mut self, setting: Setting) {
+        match setting {
+            Setting::Sync(cells) => self.cells = cells,
+            Setting::Create(sides) => self.create = Some(sides),
+            Setting::Expunge(sides) => self.expunge = Some(sides),
+            _ => {}
+        }
+    }
+}
+
+/// What is propagated where no line says it: all.
+const FULL: Cells = Cells {
+    new: BOTH_WAYS,
+    gone: BOTH_WAYS,
+    flags: BOTH_WAYS,
+};
+
+const BOTH_WAYS: Directions = Directions {
+    pull: true,
+    push: true,
+};
+
+/// The sides of Create and Expunge where no line says them.
+const NEITHER: Sides = Sides {
+    far: false,
+    near: false,
+};
+
+/// A channel without its name.
+#[derive(Debug, Drop)]
+pub(crate) struct ChannelDraft {
+    /// The place of the far store.
+    pub far: Option<usize>,
+    /// The far mailbox, if one is named.
+    pub far_box: Option<MailboxName>,
+    /// The place of the near store.
+    pub near: Option<usize>,
+    /// The near mailbox, if one is named.
+    pub near_box: Option<MailboxName>,
+    /// Its patterns so far.
+    pub patterns: Patterns,
+    /// What it says itself of how mailboxes are synchronised.
+    pub manner: Manner,
+}
+
+impl ChannelDraft {
+    fn new(alloc: Global) -> Self {
+        ChannelDraft {
+            far: None,
+            far_box: None,
+            near: None,
+            near_box: None,
+            patterns: Patterns::new(alloc),
+            manner: Manner::new(),
+        }
+    }
+
+    fn names_a_box(&self) -> bool {
+        self.far_box.is_some() || self.near_box.is_some()
+    }
+
+    fn has_patterns(&self) -> bool {
+        !self.patterns.as_slice().is_empty()
+    }
+
+    /// Takes what a line of the section says, but for its stores.
+    pub fn set(&mut self, setting: Setting) -> Result<(), AllocError> {
+        match setting {
+            Setting::Patterns(patterns) => {
+                for pattern in patterns {
+                    self.patterns.push(pattern)?;
+                }
+            }
+            setting => self.manner.set(setting),
+        }
+        Ok(())
+    }
+
+    /// The channel, or none if a store is missing.
+    pub fn finish(
+        self,
+        alloc: Global,
+        name: String,
+        defaults: Manner,
+    ) -> Result<Option<Channel>, AllocError> {
+        let ChannelDraft {
+            far,
+            far_box,
+            near,
+            near_box,
+            patterns,
+            manner,
+        } = self;
+        let (Some(far), Some(near)) = (far, near) else {
+            return Ok(None);
+        };
+        Ok(Some(Channel {
+            name,
+            far,
+            near,
+            boxes: boxes(alloc, patterns, far_box, near_box)?,
+            cells: manner.cells.or(defaults.cells).unwrap_or(FULL),
+            create: manner.create.or(defaults.create).unwrap_or(NEITHER),
+            expunge: manner.expunge.or(defaults.expunge).unwrap_or(NEITHER),
+        }))
+    }
+}
+
+/// The mailboxes of a channel with these patterns, or else with these mailboxes.
+fn boxes(
+    alloc: Global,
+    patterns: Patterns,
+    far: Option<MailboxName>,
+    near: Option<MailboxName>,
+) -> Result<Boxes, AllocError> {
+    if !patterns.as_slice().is_empty() {
+        return Ok(Boxes::Matching(patterns));
+    }
+    let far = box_or_inbox(alloc, far)?;
+    let near = box_or_inbox(alloc, near)?;
+    Ok(Boxes::Pair { far, near })
+}
+
+fn box_or_inbox(alloc: Global, mailbox: Option<MailboxName>) -> Result<MailboxName, AllocError> {
+    match mailbox {
+        Some(mailbox) => Ok(mailbox),
+        None => MailboxName::inbox(alloc),
+    }
+}
