@@ -1,0 +1,5 @@
+pub mod BookCalls
+pub mod BoxCalls
+pub mod Carrying
+pub mod CopyOctets
+pub mod Ended

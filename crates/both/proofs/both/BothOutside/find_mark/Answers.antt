@@ -1,0 +1,90 @@
+use Rattle.std.proofs.Common.{◌≡◌, ◌∙◌, ap, sym, refl, Bool, true, Option}
+use Rattle.mailcore.specs.Stores.{Store}
+use Rattle.near_box.specs.Mailboxes.{Near}
+use Rattle.book.specs.Shelves.{Files}
+use Rattle.book_part.specs.BookParts.{files_of, kept_of}
+use Rattle.book_part.specs.Kept.{Kept}
+use Rattle.far_part.specs.FarParts as fars
+use Rattle.near_part.specs.NearParts as nears
+use Rattle.mailcore.specs.Operations.{marked_from}
+use Rattle.outside.specs.Devices.{box}
+use Rattle.mailcore.specs.declared.side.Side.TheVariants as side
+use Rattle.parts.proofs.PartCalls.{stuck}
+use Rattle.both.specs.Parts.{opened_with}
+use Rattle.both.proofs.BoxCalls.{device_with, far_open, near_open, reads_call}
+use Rattle.both.proofs.both.BothOutside.find_mark.Goals as goal
+
+pub returns-then-is_broken-clause-call : goal.returns-then-is_broken-clause-call
+returns-then-is_broken-clause-call g c = stuck _ _ _ _ _ _ _ (sym c.is_broken.ensures ∙ c.if-is_broken.true) tt refl
+
+pub find_mark-answer-requires : goal.find_mark-answer-requires
+find_mark-answer-requires g c =
+    let b = c.args.self.now in
+    let far : Store = fars.store_of b.far in
+    let near : Near = nears.mailbox_of b.near in
+    let files : Files = files_of b.book in
+    let k : Option Kept = kept_of b.book in
+    let f : Bool = fars.is_open b.far in
+    let n : Bool = nears.is_open b.near in
+    record { «open» = far_open f n k (rw c.in-Far.is at c.requires.is_open) }
+
+pub returns-in-Far-clause-call : goal.returns-in-Far-clause-call
+returns-in-Far-clause-call g c =
+    let b = c.args.self.now in
+    let far : Store = fars.store_of b.far in
+    let near : Near = nears.mailbox_of b.near in
+    let files : Files = files_of b.book in
+    let k : Option Kept = kept_of b.book in
+    let f : Bool = fars.is_open b.far in
+    let n : Bool = nears.is_open b.near in
+    rw c.in-Far.is (
+    let part = c.find_mark-answer.new.self in
+    reads_call _ (fars.honest_of part) (λ found s. found ≡ marked_from c.args.mark c.args.from s) (λ found d. found ≡ marked_from c.args.mark c.args.from (box d side.Far)) far (fars.store_of part) (device_with far near files) (device_with (fars.store_of part) near files) b.tally c.end.new.self c.find_mark-answer.result c.end.result
+    (λ h. h.0) (sym c.is_broken.ensures ∙ c.if-is_broken.false) c.end.ensures c.find_mark-answer.ensures.told (ap (λ (s : Store). device_with s near files)) (λ x h. h) c.find_mark-answer.ensures.part)
+
+pub returns-in-Far-clause-opened : goal.returns-in-Far-clause-opened
+returns-in-Far-clause-opened g c =
+    let b = c.args.self.now in
+    let far : Store = fars.store_of b.far in
+    let near : Near = nears.mailbox_of b.near in
+    let files : Files = files_of b.book in
+    let k : Option Kept = kept_of b.book in
+    let f : Bool = fars.is_open b.far in
+    let n : Bool = nears.is_open b.near in
+    ap (λ (x : Bool). opened_with x n k) (c.find_mark-answer.ensures.open ∙ sym (far_open f n k (rw c.in-Far.is at c.requires.is_open)))
+
+pub find_mark-answer-requires-in-Near : goal.find_mark-answer-requires-in-Near
+find_mark-answer-requires-in-Near g c =
+    let b = c.args.self.now in
+    let far : Store = fars.store_of b.far in
+    let near : Near = nears.mailbox_of b.near in
+    let files : Files = files_of b.book in
+    let k : Option Kept = kept_of b.book in
+    let f : Bool = fars.is_open b.far in
+    let n : Bool = nears.is_open b.near in
+    record { «open» = near_open f n k (rw c.in-Near.is at c.requires.is_open) }
+
+pub returns-in-Near-clause-call : goal.returns-in-Near-clause-call
+returns-in-Near-clause-call g c =
+    let b = c.args.self.now in
+    let far : Store = fars.store_of b.far in
+    let near : Near = nears.mailbox_of b.near in
+    let files : Files = files_of b.book in
+    let k : Option Kept = kept_of b.book in
+    let f : Bool = fars.is_open b.far in
+    let n : Bool = nears.is_open b.near in
+    rw c.in-Near.is (
+    let part = c.find_mark-answer-in-Near.new.self in
+    reads_call _ (g.F.Folder.is_honest ≡ true) (λ found m. found ≡ marked_from c.args.mark c.args.from m.store) (λ found d. found ≡ marked_from c.args.mark c.args.from (box d side.Near)) near (nears.mailbox_of part) (device_with far near files) (device_with far (nears.mailbox_of part) files) b.tally c.end-in-Near.new.self c.find_mark-answer-in-Near.result c.end-in-Near.result
+    (λ h. h.1) (sym c.is_broken.ensures ∙ c.if-is_broken.false) c.end-in-Near.ensures c.find_mark-answer-in-Near.ensures.told (ap (λ (m : Near). device_with far m files)) (λ x h. h) c.find_mark-answer-in-Near.ensures.part)
+
+pub returns-in-Near-clause-opened : goal.returns-in-Near-clause-opened
+returns-in-Near-clause-opened g c =
+    let b = c.args.self.now in
+    let far : Store = fars.store_of b.far in
+    let near : Near = nears.mailbox_of b.near in
+    let files : Files = files_of b.book in
+    let k : Option Kept = kept_of b.book in
+    let f : Bool = fars.is_open b.far in
+    let n : Bool = nears.is_open b.near in
+    ap (λ (x : Bool). opened_with f x k) (c.find_mark-answer-in-Near.ensures.open ∙ sym (near_open f n k (rw c.in-Near.is at c.requires.is_open)))

@@ -1,0 +1,2 @@
+pub mod Boths
+pub mod Parts
