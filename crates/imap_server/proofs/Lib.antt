@@ -20,3 +20,5 @@ pub mod DropFeeds
 pub mod PlaceAnswers
 pub mod HostLemmas
 pub mod ServedLemmas
+pub mod OctetsFew
+pub mod UnreadFew

@@ -9,3 +9,4 @@ pub mod Matching
 pub mod Dropping
 pub mod Unreads
 pub mod Taking
+pub mod Bounds

@@ -50,6 +50,7 @@ impl Server {
     ghost use Rattle.imap_session.specs.Lines.{greeting};
     ghost use Rattle.imap_server.specs.Boxes.{all_of, AreServed};
     ghost use Rattle.imap_server.specs.Taking.{Host, Fed, Lost};
+    ghost use Rattle.imap_server.specs.Bounds.{IsBounded};
 
     /// A server with these mailboxes, for one user with a password. There is no connection.
     ///
@@ -92,6 +93,10 @@ impl Server {
         // Some of it was answered, and the connection is no more.
         ensures no_memory { IsErrOf result ServerFault.NoMemory → Lost self.old piece.now self.new }
         ensures closed { IsErrOf result ServerFault.Closed → (self.old.connection ≡ None) × (self.new ≡ self.old) }
+        // Its mailboxes keep to the limits.
+        ensures served { AreServed self.new.server.mailboxes }
+        // What waits to be answered keeps within the limits of one command.
+        ensures bounded { IsBounded self.new.connection }
     {
         let Some(unread) = self.unread.take() else {
             return Err(ServerFault::Closed);
@@ -99,10 +104,14 @@ impl Server {
         let mut out = Vec::new(self.service.alloc);
         match self.service.read(unread, piece, &mut out) {
             Ok(after) => {
+                self.service.is_served();
                 self.unread = Some(after);
                 Ok(out)
             }
-            Err(AllocError) => Err(ServerFault::NoMemory),
+            Err(AllocError) => {
+                self.service.is_served();
+                Err(ServerFault::NoMemory)
+            }
         }
     }
 

@@ -36,10 +36,17 @@ impl Service {
     ghost use Rattle.std.specs.Prelude.{◌≡◌, ◌<◌, None, Some, length, slice_get};
     ghost use Rattle.imap_session.specs.Mailboxes.{mailbox_at};
     ghost use Rattle.imap_session.specs.Servers.{is_before_login, is_logged_in, is_over, selected};
-    ghost use Rattle.imap_server.specs.Boxes.{far_of, IsServed};
+    ghost use Rattle.imap_server.specs.Boxes.{far_of, AreServed, IsServed};
     ghost use Rattle.imap_server.specs.Services.{condition_of};
     ghost use Rattle.imap_server.specs.Places.{Place};
     ghost use Rattle.imap_server.specs.Selection.{SelectedPlace};
+
+    /// Its mailboxes keep to the limits, whatever was done.
+    pub(crate) fn is_served(&self)
+        ensures { AreServed self.now.mailboxes }
+    {
+        let _mailboxes = &self.mailboxes;
+    }
 
     /// The place of the mailbox of this name.
     pub(crate) fn place_of(&self, name: &[u8]) -> Option<usize>
