@@ -6,8 +6,8 @@ use Rattle.far_part.proofs.FarCalls.{stands_open, store_open, added_part, added_
 use Rattle.far_part.proofs.Mailboxes.{has_chosen, selected_is}
 use Rattle.far_part.proofs.far_part.FarPart.append.Goals as goal
 
-pub invariant_of-self : goal.invariant_of-self
-invariant_of-self g c =
+pub invariant_of-self-2 : goal.invariant_of-self-2
+invariant_of-self-2 g c =
     let name = c.args.self.now.account.mailbox.items in
     let box = c.in-Open.far in
     let new = c.append.new.self in

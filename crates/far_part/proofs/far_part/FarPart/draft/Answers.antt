@@ -11,8 +11,8 @@ use Rattle.far_part.proofs.FarCalls.{stands_open, store_open, next_open, reads_p
 use Rattle.far_part.proofs.Mailboxes.{selected_is, sound_there}
 use Rattle.far_part.proofs.far_part.FarPart.draft.Goals as goal
 
-pub invariant_of-self : goal.invariant_of-self
-invariant_of-self g c =
+pub invariant_of-self-2 : goal.invariant_of-self-2
+invariant_of-self-2 g c =
     let name = c.args.self.now.account.mailbox.items in
     let box = c.in-Open.far in
     let new = c.draft_in.new.far in
@@ -39,5 +39,5 @@ returns-clause-part g c =
     rw (c.told_by.ensures, sym (store_open name c.args.self.now.desk box c.in-Open.is))
     (reads_part (Draft) (g.L.Link.honest new.session.wire.link) name old (server_of new.session) (λ draft s. IsDraft Far c.args.mark (bytes_of c.args.uid s) draft) c.draft_in.result chosen same
     (λ h.
-        let s = sound_there name old (chosen h) (g.met.L.Link.sound box.session.wire.link (was h)) in
-        c.draft_in.ensures.draft h (chosen h).mailbox (selected_is name old (chosen h)) s.store s.range.messages))
+    let s = sound_there name old (chosen h) (g.met.L.Link.sound box.session.wire.link (was h)) in
+    c.draft_in.ensures.draft h (chosen h).mailbox (selected_is name old (chosen h)) s.store s.range.messages))

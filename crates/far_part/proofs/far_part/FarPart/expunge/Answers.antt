@@ -12,8 +12,8 @@ use Rattle.far_part.proofs.FarCalls.{stands_open, store_open, swept_same}
 use Rattle.far_part.proofs.Mailboxes.{has_chosen}
 use Rattle.far_part.proofs.far_part.FarPart.expunge.Goals as goal
 
-pub invariant_of-self : goal.invariant_of-self
-invariant_of-self g c =
+pub invariant_of-self-2 : goal.invariant_of-self-2
+invariant_of-self-2 g c =
     let name = c.args.self.now.account.mailbox.items in
     let box = c.in-Open.far in
     let new = c.expunge.new.self in

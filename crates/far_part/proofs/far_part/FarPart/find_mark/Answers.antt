@@ -8,8 +8,8 @@ use Rattle.far_part.proofs.FarCalls.{stands_open, store_open, next_open, reads_p
 use Rattle.far_part.proofs.Mailboxes.{selected_is, sound_there}
 use Rattle.far_part.proofs.far_part.FarPart.find_mark.Goals as goal
 
-pub invariant_of-self : goal.invariant_of-self
-invariant_of-self g c =
+pub invariant_of-self-2 : goal.invariant_of-self-2
+invariant_of-self-2 g c =
     let name = c.args.self.now.account.mailbox.items in
     let box = c.in-Open.far in
     let new = c.find_mark.new.self in
@@ -21,7 +21,7 @@ invariant_of-self g c =
       there = refl;
       stands = λ o h. reads_chosen name old (server_of new.session) (same h) (chosen h);
       fresh = λ e o h.
-          c.find_mark.ensures.same.1.1 ∙ next_open name c.args.self.now.desk box c.in-Open.is (c.args.self.now.fresh e) (was h) ∙ ap (λ (s : Server). (store_at name s.mailboxes).next) (sym (same h));
+          c.find_mark.ensures.same.2 ∙ next_open name c.args.self.now.desk box c.in-Open.is (c.args.self.now.fresh e) (was h) ∙ ap (λ (s : Server). (store_at name s.mailboxes).next) (sym (same h));
     }
 
 pub returns-clause-part : goal.returns-clause-part
@@ -36,5 +36,5 @@ returns-clause-part g c =
     rw (c.told_by.ensures, sym (store_open name c.args.self.now.desk box c.in-Open.is))
     (reads_part (Option ℕ) (g.L.Link.honest new.session.wire.link) name old (server_of new.session) (λ found s. found ≡ marked_from c.args.mark c.args.from s) c.find_mark.result chosen same
     (λ h.
-        let s = sound_there name old (chosen h) (g.met.L.Link.sound box.session.wire.link (was h)) in
-        told_ok (Option ℕ) (λ found. found ≡ marked_from c.args.mark c.args.from (chosen h).mailbox.store) c.find_mark.result old (server_of new.session) (c.find_mark.ensures.outcome h (chosen h).mailbox (selected_is name old (chosen h)) s.store s.range.messages)))
+    let s = sound_there name old (chosen h) (g.met.L.Link.sound box.session.wire.link (was h)) in
+    told_ok (Option ℕ) (λ found. found ≡ marked_from c.args.mark c.args.from (chosen h).mailbox.store) c.find_mark.result old (server_of new.session) (c.find_mark.ensures.outcome h (chosen h).mailbox (selected_is name old (chosen h)) s.store s.range.messages)))

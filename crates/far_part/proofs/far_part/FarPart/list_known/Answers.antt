@@ -10,8 +10,8 @@ use Rattle.far_part.proofs.FarCalls.{stands_open, store_open, next_open, reads_p
 use Rattle.far_part.proofs.Mailboxes.{selected_is, sound_there, store_is}
 use Rattle.far_part.proofs.far_part.FarPart.list_known.Goals as goal
 
-pub invariant_of-self : goal.invariant_of-self
-invariant_of-self g c =
+pub invariant_of-self-2 : goal.invariant_of-self-2
+invariant_of-self-2 g c =
     let name = c.args.self.now.account.mailbox.items in
     let box = c.in-Open.far in
     let new = c.list.new.self in
@@ -23,7 +23,7 @@ invariant_of-self g c =
       there = refl;
       stands = λ o h. reads_chosen name old (server_of new.session) (same h) (chosen h);
       fresh = λ e o h.
-          c.list.ensures.same.1.1 ∙ next_open name c.args.self.now.desk box c.in-Open.is (c.args.self.now.fresh e) (was h) ∙ ap (λ (s : Server). (store_at name s.mailboxes).next) (sym (same h));
+          c.list.ensures.same.2 ∙ next_open name c.args.self.now.desk box c.in-Open.is (c.args.self.now.fresh e) (was h) ∙ ap (λ (s : Server). (store_at name s.mailboxes).next) (sym (same h));
     }
 
 pub returns-clause-part : goal.returns-clause-part
@@ -38,6 +38,6 @@ returns-clause-part g c =
     rw (c.told_by.ensures, sym (store_open name c.args.self.now.desk box c.in-Open.is))
     (reads_part (Listing) (g.L.Link.honest new.session.wire.link) name old (server_of new.session) (λ listing s. Shows Far s listing) c.list.result chosen same
     (λ h.
-        let s = sound_there name old (chosen h) (g.met.L.Link.sound box.session.wire.link (was h)) in
-        c.list.ensures.shows h (chosen h).mailbox (selected_is name old (chosen h)) s.store s.range.messages
-        (next_open name c.args.self.now.desk box c.in-Open.is (c.args.self.now.fresh c.requires.fresh) (was h) ∙ ap (λ (x : Store). x.next) (store_is name old (chosen h)))))
+    let s = sound_there name old (chosen h) (g.met.L.Link.sound box.session.wire.link (was h)) in
+    c.list.ensures.shows h (chosen h).mailbox (selected_is name old (chosen h)) s.store s.range.messages
+    (next_open name c.args.self.now.desk box c.in-Open.is (c.args.self.now.fresh c.requires.fresh) (was h) ∙ ap (λ (x : Store). x.next) (store_is name old (chosen h)))))
