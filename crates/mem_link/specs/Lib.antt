@@ -1,2 +1,3 @@
 pub mod MemLines
+pub mod Served
 pub mod MemLinks

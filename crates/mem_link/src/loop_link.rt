@@ -1,6 +1,7 @@
 //! A link to a server over a loopback connection.
 
 ghost use Rattle.std.specs.Prelude.{◌≡◌, ◌<◌, ◌≤◌, OnOk, Err};
+ghost use Rattle.imap_server.specs.Boxes.{AreServed};
 
 use crate::mem_link::{MemLink, PIECE_BYTES};
 use crate::schedule::Schedule;
@@ -59,7 +60,9 @@ fn connected<R: Net>(rt: &R) -> io::Result<Ends<R::Stream>> {
 
 impl<R: Net + AllocGlobal + Clone + Drop> LoopLink<R> {
     /// A link to this server, with these stops. Nothing is connected before `reconnect`.
-    pub fn new(rt: R, server: Server, schedule: Schedule) -> Self {
+    pub fn new(rt: R, server: Server, schedule: Schedule) -> Self
+        requires { AreServed server.server.mailboxes }
+    {
         let far = MemLink::new(rt.alloc(), server, schedule);
         LoopLink {
             rt,
@@ -121,6 +124,8 @@ impl<R: Net + AllocGlobal + Clone + Drop> Link for LoopLink<R> {
     ghost line = { λ l. line_of l.far };
 
     ghost stops = { λ l. stops_of l.far };
+
+    ghost sound = { λ _ kept. absurd kept };
 
     fn send(&mut self, bytes: &[u8]) -> Result<(), LinkFault> {
         let (front, stops) = match self.far.begin(bytes) {

@@ -3,6 +3,8 @@
 ghost use Rattle.std.specs.Prelude.{◌≡◌, ◌<◌, ◌≤◌, length, OnOk, OnErr, IfSome, Err};
 ghost use Rattle.imap_session.specs.Serving.{FeedsSome};
 ghost use Rattle.imap_session.specs.Lines.{Sends};
+ghost use Rattle.imap_server.specs.Boxes.{AreServed};
+ghost use Rattle.std.proofs.Props.{props};
 
 use crate::schedule::Schedule;
 use crate::unread::Unread;
@@ -28,13 +30,15 @@ pub struct MemLink {
     piece: usize,
     is_open: bool,
     stops: StopCount,
+    pub ghost served: { AreServed server.server.mailboxes } by { Prim.hlevel props },
 }
 
 impl MemLink {
     ghost use Rattle.mem_link.specs.MemLinks.{line_of, stops_of};
 
-    /// A link to this server, with these stops.
+    /// A link to this server, with these stops. The mailboxes of every server that was made are served.
     pub fn new(alloc: Global, server: Server, schedule: Schedule) -> MemLink
+        requires { AreServed server.server.mailboxes }
         ensures server { (line_of result).end.server ≡ server.server }
         ensures stops { stops_of result ≡ 0 }
     {
@@ -53,10 +57,9 @@ impl MemLink {
         ensures line { line_of result ≡ line_of self }
         ensures stops { stops_of result ≡ stops_of self }
     {
-        MemLink {
-            piece: piece.max(1),
-            ..self
-        }
+        let mut link = self;
+        link.piece = piece.max(1);
+        link
     }
 
     /// How many calls have stopped.
@@ -152,12 +155,15 @@ impl MemLink {
 
 impl Link for MemLink {
     ghost use Rattle.mem_link.specs.MemLinks.{line_of, stops_of};
+    ghost use Rattle.mem_link.specs.Served.{served_are_sound};
 
     ghost honest = { λ _. Unit {0} };
 
     ghost line = { line_of };
 
     ghost stops = { stops_of };
+
+    ghost sound = { λ m _. served_are_sound m.server.server.mailboxes m.served };
 
     fn send(&mut self, bytes: &[u8]) -> Result<(), LinkFault> {
         match self.begin(bytes) {
