@@ -1,5 +1,8 @@
 //! The link of a script, and what is made for it.
 
+ghost use Rattle.std.specs.Prelude.{IfOk};
+ghost use Rattle.imap_server.specs.Boxes.{AreServed};
+
 use crate::answer::{push_mailbox, push_replies};
 use crate::command::Use;
 use crate::failure::Failure;
@@ -79,7 +82,9 @@ impl Stage {
     }
 
     /// A server with the mailboxes so far.
-    fn server(&mut self) -> Result<Server, Failure> {
+    fn server(&mut self) -> Result<Server, Failure>
+        ensures { IfOk result (λ server. AreServed server.server.mailboxes) }
+    {
         let alloc = self.rt.alloc();
         let mailboxes = mem::replace(&mut self.mailboxes, Vec::new(alloc));
         if !are_served(&mailboxes) {
