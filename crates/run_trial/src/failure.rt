@@ -1,0 +1,73 @@
+//! Why nothing is told of a trial.
+
+use std::alloc::{AllocError, AllocFailed};
+use std::io;
+use std::io::ErrorKind;
+use sync_state::fault::BookFault;
+use thiserror::Error;
+use worlds::fault::WorldFault;
+
+/// Why nothing is told of a trial, as the program tells it.
+#[derive(Clone, Copy, Debug, PartialEq, Eq, Error)]
+pub(crate) enum Failure {
+    #[error("usage")]
+    Usage,
+    #[error("cannot read")]
+    Input,
+    #[error("world line {0}")]
+    World(usize),
+    /// A device of a trial holds what no world is. This does not come.
+    #[error("no world")]
+    NoWorld,
+    #[error("no memory")]
+    NoMemory,
+}
+
+impl Failure {
+    /// The program's exit status.
+    pub(crate) fn status(self) -> u8 {
+        match self {
+            Failure::Usage | Failure::World(_) => 2,
+            _ => 1,
+        }
+    }
+}
+
+impl From<AllocError> for Failure {
+    fn from(_fault: AllocError) -> Failure {
+        Failure::NoMemory
+    }
+}
+
+impl<T: Drop> From<AllocFailed<T>> for Failure {
+    fn from(_fault: AllocFailed<T>) -> Failure {
+        Failure::NoMemory
+    }
+}
+
+impl From<WorldFault> for Failure {
+    fn from(fault: WorldFault) -> Failure {
+        match fault {
+            WorldFault::Line(line) => Failure::World(line),
+            WorldFault::NoMemory => Failure::NoMemory,
+        }
+    }
+}
+
+impl From<BookFault> for Failure {
+    fn from(fault: BookFault) -> Failure {
+        match fault {
+            BookFault::NoMemory => Failure::NoMemory,
+            _ => Failure::NoWorld,
+        }
+    }
+}
+
+impl From<io::Error> for Failure {
+    fn from(fault: io::Error) -> Failure {
+        match fault.kind() {
+            ErrorKind::OutOfMemory => Failure::NoMemory,
+            _ => Failure::Input,
+        }
+    }
+}

@@ -1,0 +1,9 @@
+//! The run of a trial over everything that a real one has but a network and a disk: a session with a server, a folder and a shelf in
+//! memory.
+#![tactic(auto)]
+
+mod devices;
+mod failure;
+pub mod run;
+mod schedule;
+mod server;

@@ -1,0 +1,55 @@
+//! Where the link of a trial stops.
+
+use device::schedule::{Moment, Stop};
+use mem_link::command::{CommandName, Nth};
+use mem_link::schedule as link;
+use std::alloc::{AllocError, Global};
+use trial::stop::{Command, Cut, LinkStop};
+
+/// The schedule of these stops.
+pub(crate) fn schedule_of(alloc: Global, stops: &[LinkStop]) -> Result<link::Schedule, AllocError> {
+    let mut all = Vec::with_capacity(alloc, stops.len())?;
+    for stop in stops {
+        if let Some(stop) = stop_of(*stop) {
+            all.push(stop)?;
+        }
+    }
+    Ok(link::Schedule::new(all))
+}
+
+/// A stop as a link says it. There are no parts of a command.
+fn stop_of(stop: LinkStop) -> Option<link::LinkStop> {
+    match stop {
+        LinkStop::Command(stop) => command_stop(stop),
+        LinkStop::Append(append, Cut::Reply(bytes)) => Some(link::LinkStop::InReply {
+            append,
+            bytes,
+        }),
+        LinkStop::Append(append, Cut::Send(octets)) => Some(link::LinkStop::InLiteral {
+            append,
+            octets,
+        }),
+    }
+}
+
+fn command_stop(stop: Stop<Command>) -> Option<link::LinkStop> {
+    let command = Nth {
+        name: name_of(stop.call),
+        number: stop.number,
+    };
+    match stop.moment {
+        Moment::Before => Some(link::LinkStop::Before(command)),
+        Moment::After => Some(link::LinkStop::After(command)),
+        Moment::Part(_) => None,
+    }
+}
+
+fn name_of(command: Command) -> CommandName {
+    match command {
+        Command::Select => CommandName::Select,
+        Command::Fetch => CommandName::Fetch,
+        Command::Store => CommandName::Store,
+        Command::Expunge => CommandName::Expunge,
+        Command::Append => CommandName::Append,
+    }
+}

@@ -1,0 +1,72 @@
+//! The far mailbox of a trial, as the INBOX of a server, and the links to it.
+
+ghost use Rattle.std.specs.Prelude.{IfOk};
+ghost use Rattle.imap_server.specs.Boxes.{AreServed};
+
+use crate::failure::Failure;
+use far_part::account::Account;
+use imap_link::link::Link;
+use imap_server::served::are_served;
+use imap_server::server::Server;
+use mailcore::mailbox::Mailbox;
+use mem_link::loop_link::LoopLink;
+use mem_link::mem_link::MemLink;
+use std::alloc::{AllocError, Global};
+use std::net::Net;
+
+/// The one user, the password, and the mailbox.
+const USER: &[u8] = b"u";
+
+const PASSWORD: &[u8] = b"p";
+
+const MAILBOX: &[u8] = b"INBOX";
+
+/// A server with this mailbox. `NoWorld`: it has a message that cannot be sent.
+pub(crate) fn server_with(alloc: Global, far: Mailbox) -> Result<Server, Failure>
+    ensures { IfOk result (λ server. AreServed server.server.mailboxes) }
+{
+    let mut mailboxes = Vec::new(alloc);
+    mailboxes.push(far)?;
+    if !are_served(&mailboxes) {
+        return Err(Failure::NoWorld);
+    }
+    let user = Vec::from_slice(alloc, USER)?;
+    let password = Vec::from_slice(alloc, PASSWORD)?;
+    Ok(Server::new(alloc, mailboxes, user, password))
+}
+
+/// Whose mailbox it is.
+pub(crate) fn account_of(alloc: Global) -> Result<Account, AllocError> {
+    let user = Vec::from_slice(alloc, USER)?;
+    let password = Vec::from_slice(alloc, PASSWORD)?;
+    Ok(Account::new(user, password, Vec::from_slice(alloc, MAILBOX)?))
+}
+
+/// A link to a server in this process.
+pub(crate) trait TrialLink: Link {
+    /// How many calls have stopped.
+    fn stops(&self) -> usize;
+
+    /// The server.
+    fn server(&self) -> &Server;
+}
+
+impl TrialLink for MemLink {
+    fn stops(&self) -> usize {
+        self.stops()
+    }
+
+    fn server(&self) -> &Server {
+        self.server()
+    }
+}
+
+impl<R: Net + AllocGlobal + Clone + Drop> TrialLink for LoopLink<R> {
+    fn stops(&self) -> usize {
+        self.stops()
+    }
+
+    fn server(&self) -> &Server {
+        self.server()
+    }
+}
