@@ -1,7 +1,5 @@
 //! The program `mbtrial`, over readers and writers.
 
-ghost use Rattle.std.specs.Prelude.{◌≤◌};
-
 use crate::devices::Devices;
 use crate::failure::Failure;
 use crate::schedule::schedule_of;
@@ -42,9 +40,7 @@ pub fn run_trial<R: Net + AllocGlobal + Clone + Drop, I: Read, O: Write, E: Writ
     input: &mut I,
     out: &mut O,
     err: &mut E,
-) -> u8
-    ensures status { result ≤ 2 }
-{
+) -> u8 {
     match told(rt, request, input) {
         Ok((text, status)) => match print(out, text.as_bytes()) {
             Ok(()) => status,
