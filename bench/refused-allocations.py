@@ -10,7 +10,9 @@ again and looks whether they still hold it. It is run on each INPUT, once withou
 allocation refused, with the second, and so on until a run meets no refusal. A run with a refusal has to give the unbroken
 run's output and status, or nothing on standard output, `NAME: no memory` on standard error and status 1. With test_server,
 also with the stdin of its crate or with bench/few-sessions.txt, a server may answer `no memory` itself: up to there the output
-has to be the unbroken run's, and from there on the server is closed until the next connection.
+has to be the unbroken run's, and from there on the server is closed until the next connection. With test_client and
+bench/few-client-calls.txt a call may answer `NoMemory`: up to there the session has to be the unbroken run's, from there on
+its calls are stopped or not made up to the next connection, and the other sessions are the unbroken run's.
 """
 import os
 import subprocess
@@ -41,6 +43,10 @@ void *realloc(void *p, size_t n) { return is_refused() ? NULL : __libc_realloc(p
 TO_CONNECT = (b"case", b"connect", b"server", b"loopback", b"stream")
 
 
+# What stands in the script of test_client behind a call.
+TALK = (b"S: ", b"C: ", b"says ", b"sends ", b"breaks ", b"no connection")
+
+
 def run(program, text, shim, number):
     """Status, output, told faults, and whether an allocation was refused."""
     reader, writer = os.pipe()
@@ -65,6 +71,42 @@ def goes_on(program, whole, found):
     return whole[1].startswith(before) and all(line == b"  closed" for line in answers)
 
 
+def answers_of(session):
+    """The calls of a session of test_client, each with its answer."""
+    calls = []
+    for line in session.split(b"\n"):
+        if not line.startswith((b"  ", *TALK)):
+            calls.append([line, None])
+        elif line.startswith(b"  ") and not line.startswith((b"  sent ", b"  did not send ")):
+            calls[-1][1] = line
+    return calls
+
+
+def is_stuck(call, answer):
+    """Whether a call of test_client is stopped or not made, or only hands its session on."""
+    return answer in (b"  Stopped", b"  not made") or call.startswith(b"into_")
+
+
+def goes_on_calling(program, whole, found):
+    """Whether a call of test_client tells want of memory, and only those behind it on its connection are stopped."""
+    if os.path.basename(program) != "test_client" or found[0] != 0 or found[2] != b"":
+        return False
+    before, after = whole[1].split(b"\nsession "), found[1].split(b"\nsession ")
+    changed = [place for place, session in enumerate(after) if session != before[place]]
+    if len(before) != len(after) or len(changed) != 1:
+        return False
+    old, new = answers_of(before[changed[0]]), answers_of(after[changed[0]])
+    first = next((place for place, call in enumerate(new) if call != old[place]), None)
+    if first is None or new[first][1] != b"  NoMemory":
+        return False
+    for call, answer in new[first + 1 :]:
+        if call in (b"open", b"reconnect") and answer == b"  done":
+            return True
+        if answer is not None and not is_stuck(call, answer):
+            return False
+    return True
+
+
 def check(program, world, shim):
     with open(world, "rb") as file:
         text = file.read()
@@ -79,7 +121,7 @@ def check(program, world, shim):
             break
         if found == wanting:
             told += 1
-        elif found[:3] != whole[:3] and not goes_on(program, whole, found):
+        elif found[:3] != whole[:3] and not (goes_on(program, whole, found) or goes_on_calling(program, whole, found)):
             sys.exit(f"{world}: allocation {number} refused: status {found[0]}, {found[1]!r}, {found[2]!r}")
     print(f"{world}: {number - 1} allocations, of which {told} when refused end the run")
 

@@ -1,0 +1,205 @@
+//! A client, and its calls.
+
+use crate::answer::Answer;
+use crate::asking;
+use crate::call::Call;
+use crate::failure::Failure;
+use crate::script_link::ScriptLink;
+use crate::tape::Tape;
+use crate::words::is_word;
+use imap_client::far_box::FarBox;
+use imap_client::session::Session;
+use imap_commands::message::Message;
+use imap_link::fault::FarFault;
+use mailcore::flags::Flags;
+use mailcore::uid::Uid;
+use std::alloc::Global;
+use std::cell::RefCell;
+use std::mem;
+
+/// The most messages that may be removed in a call.
+const MOST_REMOVED: usize = 5000;
+
+/// What a client has.
+#[derive(Drop)]
+enum Stand<'t> {
+    Nothing,
+    Link(ScriptLink<'t>),
+    Session(Session<ScriptLink<'t>>),
+    Mailbox(FarBox<ScriptLink<'t>>),
+}
+
+/// A client of the server of a script.
+#[derive(Drop)]
+pub struct Client<'t> {
+    alloc: Global,
+    tape: &'t RefCell<Tape>,
+    stand: Stand<'t>,
+}
+
+impl<'t> Client<'t> {
+    /// One that has no link.
+    pub fn new(alloc: Global, tape: &'t RefCell<Tape>) -> Client<'t> {
+        Client {
+            alloc,
+            tape,
+            stand: Stand::Nothing,
+        }
+    }
+
+    /// Makes the call. `Script`: it may not be made so.
+    pub fn make(&mut self, call: &Call) -> Result<Answer, Failure> {
+        match call {
+            Call::Open => Ok(self.open()),
+            Call::Reconnect => Ok(self.reconnect()),
+            Call::Login(user, password) => self.login(user, password),
+            Call::Create(name) => self.create(name),
+            Call::Select(name) => self.select(name),
+            Call::Append(flags, message) => self.append(message, *flags),
+            Call::AddFlags(uid, flags) => Ok(self.add_flags(*uid, *flags)),
+            Call::RemoveFlags(uid, flags) => Ok(self.remove_flags(*uid, *flags)),
+            Call::Expunge(uids) => self.expunge(uids),
+            Call::IntoSession => Ok(self.into_session()),
+            Call::IntoLink => Ok(self.into_link()),
+        }
+    }
+
+    fn keep(&mut self, stand: Stand<'t>) {
+        self.stand = stand;
+    }
+
+    fn take(&mut self) -> Stand<'t> {
+        mem::replace(&mut self.stand, Stand::Nothing)
+    }
+
+    /// What stands in place of what the call would take, which is kept.
+    fn not_made(&mut self, stand: Stand<'t>) -> Answer {
+        self.keep(stand);
+        Answer::NotMade
+    }
+
+    fn open(&mut self) -> Answer {
+        match self.take() {
+            Stand::Nothing => self.open_over(ScriptLink::new(self.alloc, self.tape)),
+            Stand::Link(link) => self.open_over(link),
+            other => self.not_made(other),
+        }
+    }
+
+    fn open_over(&mut self, link: ScriptLink<'t>) -> Answer {
+        match Session::open(self.alloc, link) {
+            Ok(session) => {
+                self.keep(Stand::Session(session));
+                Answer::Done
+            }
+            Err((fault, link)) => {
+                self.keep(Stand::Link(link));
+                Answer::Fault(fault)
+            }
+        }
+    }
+
+    fn reconnect(&mut self) -> Answer {
+        match &mut self.stand {
+            Stand::Session(session) => Answer::of(session.reconnect()),
+            _ => Answer::NotMade,
+        }
+    }
+
+    fn login(&mut self, user: &[u8], password: &[u8]) -> Result<Answer, Failure> {
+        if !is_word(user) || !is_word(password) {
+            return Err(Failure::Script);
+        }
+        match &mut self.stand {
+            Stand::Session(session) => Ok(Answer::of(session.login(user, password))),
+            _ => Ok(Answer::NotMade),
+        }
+    }
+
+    fn create(&mut self, name: &[u8]) -> Result<Answer, Failure> {
+        if !is_word(name) {
+            return Err(Failure::Script);
+        }
+        match &mut self.stand {
+            Stand::Session(session) => Ok(Answer::of(session.create(name))),
+            _ => Ok(Answer::NotMade),
+        }
+    }
+
+    fn select(&mut self, name: &[u8]) -> Result<Answer, Failure> {
+        if !is_word(name) {
+            return Err(Failure::Script);
+        }
+        match self.take() {
+            Stand::Session(session) => Ok(self.keep_selected(session.select(name))),
+            other => Ok(self.not_made(other)),
+        }
+    }
+
+    fn keep_selected(
+        &mut self,
+        selected: Result<FarBox<ScriptLink<'t>>, (FarFault, Session<ScriptLink<'t>>)>,
+    ) -> Answer {
+        match selected {
+            Ok(mailbox) => {
+                self.keep(Stand::Mailbox(mailbox));
+                Answer::Done
+            }
+            Err((fault, session)) => {
+                self.keep(Stand::Session(session));
+                Answer::Fault(fault)
+            }
+        }
+    }
+
+    fn append(&mut self, message: &Message, flags: Flags) -> Result<Answer, Failure> {
+        match &mut self.stand {
+            Stand::Mailbox(mailbox) => asking::append(self.alloc, mailbox, message, flags),
+            _ => Ok(Answer::NotMade),
+        }
+    }
+
+    fn add_flags(&mut self, uid: Uid, flags: Flags) -> Answer {
+        match &mut self.stand {
+            Stand::Mailbox(mailbox) => Answer::of(mailbox.add_flags(uid, flags)),
+            _ => Answer::NotMade,
+        }
+    }
+
+    fn remove_flags(&mut self, uid: Uid, flags: Flags) -> Answer {
+        match &mut self.stand {
+            Stand::Mailbox(mailbox) => Answer::of(mailbox.remove_flags(uid, flags)),
+            _ => Answer::NotMade,
+        }
+    }
+
+    fn expunge(&mut self, uids: &[Uid]) -> Result<Answer, Failure> {
+        if uids.len() > MOST_REMOVED {
+            return Err(Failure::Script);
+        }
+        match &mut self.stand {
+            Stand::Mailbox(mailbox) => Ok(Answer::of(mailbox.expunge(uids))),
+            _ => Ok(Answer::NotMade),
+        }
+    }
+
+    fn into_session(&mut self) -> Answer {
+        match self.take() {
+            Stand::Mailbox(mailbox) => {
+                self.keep(Stand::Session(mailbox.into_session()));
+                Answer::Done
+            }
+            other => self.not_made(other),
+        }
+    }
+
+    fn into_link(&mut self) -> Answer {
+        match self.take() {
+            Stand::Session(session) => {
+                self.keep(Stand::Link(session.into_link()));
+                Answer::Done
+            }
+            other => self.not_made(other),
+        }
+    }
+}

@@ -1,0 +1,103 @@
+//! A link whose other end says what a script says.
+
+ghost use Rattle.std.specs.Prelude.{◌≡◌, ◌<◌, ◌≤◌, length};
+
+use crate::tape::Tape;
+use device::stop_count::StopCount;
+use imap_link::link::{Link, LinkFault};
+use std::alloc::{AllocError, Global};
+use std::cell::RefCell;
+
+/// A link whose other end says what a script says, true or not. So it is never honest in the sense of `Link`.
+#[derive(Drop)]
+pub struct ScriptLink<'t> {
+    tape: &'t RefCell<Tape>,
+    stops: StopCount,
+}
+
+impl<'t> ScriptLink<'t> {
+    /// A link over this tape.
+    pub fn new(alloc: Global, tape: &'t RefCell<Tape>) -> ScriptLink<'t> {
+        ScriptLink {
+            tape,
+            stops: StopCount::new(alloc),
+        }
+    }
+
+    // Counts a stop.
+    fn stopped(&mut self) -> LinkFault
+        ensures counted { result ≡ LinkFault.Stopped → self.old.stops < self.new.stops }
+        ensures no_less { self.old.stops ≤ self.new.stops }
+    {
+        match self.stops.push() {
+            Ok(()) => LinkFault::Stopped,
+            Err(_) => LinkFault::NoMemory,
+        }
+    }
+
+    // Sends these bytes; tells whether all of them went.
+    fn pass(&self, bytes: &[u8]) -> Result<bool, AllocError> {
+        match self.tape.try_borrow_mut() {
+            Ok(mut tape) => tape.send(bytes),
+            Err(_) => Ok(false),
+        }
+    }
+
+    // Writes the next bytes to the front of the piece, and tells how many; none at their end.
+    fn take(&self, piece: &mut [u8]) -> usize
+        ensures { result ≤ length piece.new }
+    {
+        match self.tape.try_borrow_mut() {
+            Ok(mut tape) => tape.receive(piece),
+            Err(_) => 0,
+        }
+    }
+
+    // Begins a new connection, if there is one.
+    fn connect(&self) -> Result<bool, AllocError> {
+        match self.tape.try_borrow_mut() {
+            Ok(mut tape) => tape.connect(),
+            Err(_) => Ok(false),
+        }
+    }
+}
+
+impl Link for ScriptLink<'_> {
+    ghost use Rattle.imap_client.specs.Nowhere.{no_line};
+
+    ghost honest = { λ _. ⊥ };
+
+    ghost line = { λ _. no_line };
+
+    ghost stops = { λ l. l.stops };
+
+    ghost sound = { λ l kept. absurd kept };
+
+    fn send(&mut self, bytes: &[u8]) -> Result<(), LinkFault> {
+        match self.pass(bytes) {
+            Ok(true) => Ok(()),
+            Ok(false) => Err(self.stopped()),
+            Err(_) => Err(LinkFault::NoMemory),
+        }
+    }
+
+    fn recv(&mut self, piece: &mut [u8]) -> Result<usize, LinkFault> {
+        let count = self.take(piece);
+        if count == 0 {
+            match self.stopped() {
+                LinkFault::Stopped => Ok(0),
+                LinkFault::NoMemory => Err(LinkFault::NoMemory),
+            }
+        } else {
+            Ok(count)
+        }
+    }
+
+    fn reconnect(&mut self) -> Result<(), LinkFault> {
+        match self.connect() {
+            Ok(true) => Ok(()),
+            Ok(false) => Err(self.stopped()),
+            Err(_) => Err(LinkFault::NoMemory),
+        }
+    }
+}
