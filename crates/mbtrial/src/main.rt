@@ -1,9 +1,9 @@
 //! Reads a trial from standard input, makes its run, and prints what it came to: `mbtrial [--tcp]`.
 #![tactic(auto)]
 
+use run_trial::run::{Request, run_trial};
 use std::env;
 use std::process::ExitCode;
-use run_trial::run::{Request, run_trial};
 
 /// What the arguments ask for.
 fn request_of(rt: &HostRuntime) -> Request {
@@ -12,10 +12,22 @@ fn request_of(rt: &HostRuntime) -> Request {
     };
     // The first is the program's name.
     let _program = words.next();
-    match (words.next(), words.next()) {
-        (None, None) => Request::Memory,
-        (Some(word), None) if word.as_str() == "--tcp" => Request::Loopback,
-        _ => Request::Unknown,
+    let word = words.next();
+    if words.next().is_some() {
+        return Request::Unknown;
+    }
+    match word {
+        None => Request::Memory,
+        Some(word) => named(word.as_str()),
+    }
+}
+
+/// What this argument asks for.
+fn named(word: &str) -> Request {
+    if word == "--tcp" {
+        Request::Loopback
+    } else {
+        Request::Unknown
     }
 }
 
