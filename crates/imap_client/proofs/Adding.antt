@@ -1,9 +1,8 @@
 -- A message is added to the selected mailbox.
 use Rattle.std.proofs.Common.{◌≡◌, ◌⊎◌, ◌<◌, ◌≤◌, inl, inr, ℕ, ◌+◌, Bool, true, false, List, [], ◌∷◌, ◌++◌, refl, sym, ◌∙◌, ap, subst, arith, take, length, Option, Some, None, Result, Ok, Err}
 use Rattle.std.specs.Prelude.{◌==◌, ◌&&◌, nat_le, nat_lt, if◌then◌else◌}
-use Rattle.std.specs.List.{fold}
 use Rattle.std.specs.Option.{option_map}
-use Rattle.std.proofs.lemmas.Bool.{cases_Bool, and_from, le-leb, leb-true}
+use Rattle.std.proofs.lemmas.Bool.{cases_Bool, le-leb, leb-true}
 use Rattle.mailcore.specs.Stores.{Store}
 use Rattle.mailcore.specs.Operations.{added}
 use Rattle.imap_commands.specs.declared.command.Command.{Command}
@@ -14,9 +13,9 @@ use Rattle.imap_replies.specs.declared.response.Code.TheVariants as codes_of
 use Rattle.imap_replies.specs.declared.reply.Reply.{Reply}
 use Rattle.imap_replies.specs.declared.reply.Reply.TheVariants.{Exists}
 use Rattle.imap_session.specs.Mailboxes.{FarMailbox, same_name, mailbox_at, changed}
-use Rattle.imap_session.specs.Servers.{Condition, NotAuthenticated, Authenticated, Selected, LoggedOut, Server, Quiet, is_logged_in, selected, selected_in, changed_in, with_selected}
-use Rattle.imap_session.specs.Answering.{Gives, only, done_with, refused}
-use Rattle.imap_session.specs.AppendCommand.{MayGive, grown, AppendsUnder, NoneLeft, AppendsAt, AppendsIf}
+use Rattle.imap_session.specs.Servers.{Condition, NotAuthenticated, Authenticated, Selected, LoggedOut, Server, is_logged_in, selected, selected_in, changed_in, with_selected}
+use Rattle.imap_session.specs.Answering.{done_with}
+use Rattle.imap_session.specs.AppendCommand.{grown, AppendsUnder, NoneLeft, AppendsAt, AppendsIf}
 use Rattle.imap_session.specs.Heard.{AreReplies, LeavesOut, WithoutUid}
 use Rattle.imap_session.specs.Steps.{Step}
 use Rattle.exchange_laws.specs.Ends.{MayHave, DidCommand}
@@ -27,11 +26,11 @@ use Rattle.imap_link.specs.Exchanges.{Replied}
 use Rattle.imap_client.specs.declared.given.Given.{Given}
 use Rattle.imap_client.specs.Tags.{tag_text}
 use Rattle.imap_client.specs.Exchanged.{command_at, Exchanged}
-use Rattle.imap_client.specs.Saying.{status_of, final_status, HeardOf}
+use Rattle.imap_client.specs.Saying.{final_status, HeardOf}
 use Rattle.imap_client.specs.States.{State, EndsSo}
 use Rattle.imap_client.specs.Given.{given_more, given_in, uid_told}
-use Rattle.imap_client.specs.Boxes.{selected_name, is_next, IsSelected, Becomes}
-use Rattle.imap_client.specs.Appending.{AddsUnder, AddsSome, Adds, IsTold, NoUidLeft}
+use Rattle.imap_client.specs.Boxes.{selected_name, is_next, IsSelected}
+use Rattle.imap_client.specs.Appending.{AddsUnder, AddsSome, Adds, IsTold, NoUidLeft, next_known}
 use Rattle.imap_client.proofs.Answered.{final_last, did_step, said_of}
 use Rattle.imap_client.proofs.Changed.{with_store, selected_changed, there_of}
 
@@ -240,11 +239,6 @@ told_fails None validity next f e = absurd (never_err None f e)
 told_fails (Some given) validity next f e = fails_by (given.validity == validity && nat_le next given.uid && nat_lt given.uid 4294967295) given.uid f e
 
 -- ---- the mailbox stays selected
-
--- a next UID that is known where one was told
-abbrev pub next_known : (next : ℕ) → Option ℕ → ℕ
-next_known next None = next
-next_known next (Some uid) = uid + 1
 
 known_least : (next uid : ℕ) (told : Option ℕ) → next ≤ uid → IsTold told uid → next_known next told ≤ uid + 1
 known_least next uid None least t = omega (arith, least)

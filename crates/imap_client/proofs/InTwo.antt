@@ -1,5 +1,5 @@
 -- The text of an APPEND, in the two parts in which it is sent.
-use Rattle.std.proofs.Common.{◌≡◌, ◌<◌, ◌≤◌, ◌⊎◌, inl, inr, ℕ, ◌+◌, ◌-◌, Bool, true, false, not, List, [], ◌∷◌, ◌++◌, length, refl, sym, ◌∙◌, ap, subst, append_assoc, append-nil, arith, Option, None, Some}
+use Rattle.std.proofs.Common.{◌≡◌, ◌<◌, inl, inr, ℕ, ◌-◌, Bool, true, false, not, List, [], ◌∷◌, ◌++◌, length, refl, sym, ◌∙◌, ap, subst, append_assoc, append-nil, arith, Option, None, Some}
 use Rattle.std.specs.Prelude.{◌==◌, ◌&&◌, nat_le, if◌then◌else◌}
 use Rattle.std.specs.List.{list_all}
 use Rattle.std.proofs.lemmas.Bool.{and_from, and_parts, cases_Bool, eqb-true}
@@ -8,7 +8,7 @@ use Rattle.std.proofs.lemmas.List.Folds.{list_all-append}
 use Rattle.wire_reader.specs.declared.side.Side.TheVariants.{Commands}
 use Rattle.wire_reader.specs.declared.lexical.Phase.{Phase}
 use Rattle.wire_reader.specs.declared.lexical.Phase.TheVariants as phases
-use Rattle.wire_reader.specs.Lexical.{next, restart, phase, asked, asked_by, asks, asks_from}
+use Rattle.wire_reader.specs.Lexical.{next, restart, phase, asked, asks, asks_from}
 use Rattle.wire_reader.specs.Literal.{Literal}
 use Rattle.wire_reader.specs.Spelling.{◌⨾◌, Is, crlf, is_digit}
 use Rattle.wire_reader.proofs.Lexed.{asks-append}
@@ -36,10 +36,8 @@ use Rattle.imap_session.specs.Portions.{once, goes_from, goes_in}
 use Rattle.session_laws.proofs.Gos.{goes-append}
 use Rattle.imap_client.specs.declared.addition.Addition.{Addition}
 use Rattle.imap_client.specs.Requests.{IsWord}
-use Rattle.imap_client.specs.Exchanged.{command_at}
-use Rattle.imap_client.specs.Tags.{tag_text}
 use Rattle.imap_client.specs.Appending.{FrontText, CanAdd, request_to_add, InTwo}
-use Rattle.imap_client.proofs.Plain.{no_return, calm, soft, soft_next, asked_none, calm_goes, IsCalm, tame, tame_calm, class_tame, tame_is}
+use Rattle.imap_client.proofs.Plain.{no_return, calm, soft, soft_next, asked_none, calm_goes, tame, tame_calm, class_tame, tame_is}
 use Rattle.imap_client.proofs.Completing.{tag_tame, flags_tame, tag_short, quoted_calm}
 
 -- ---- what is written

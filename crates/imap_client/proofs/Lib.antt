@@ -15,7 +15,6 @@ pub mod LoggingIn
 pub mod Creating
 pub mod Sweeping
 pub mod Flagging
-pub mod Removing
 pub mod Fetched
 pub mod Listed
 pub mod Numbered
@@ -23,3 +22,6 @@ pub mod Rows
 pub mod Marks
 pub mod BodyTold
 pub mod Staying
+pub mod Removing
+pub mod Naming
+pub mod LoggingOut

@@ -119,7 +119,7 @@ module _ (n : ℕ) (user password : List ℕ) (old : Server) (before : is_before
 
 -- ---- ENABLE
 
-same_status : (s : Status) → (let x : Option Status = Some statuses.Ok in x) ≡ Some s → s ≡ statuses.Ok
+pub same_status : (s : Status) → (let x : Option Status = Some statuses.Ok in x) ≡ Some s → s ≡ statuses.Ok
 same_status s e = cc
 
 module _ (n : ℕ) (old : Server) (logged : is_logged_in old.condition ≡ true) where

@@ -11,7 +11,7 @@ use Rattle.mailcore.specs.Mark.{is_mark as is_mark_text}
 use Rattle.mailcore.specs.Content.{LF, CR, begins_with_line_end, mark_of}
 use Rattle.mailcore.specs.Operations.{is_mark, marked_among, marked_from}
 use Rattle.mailcore.specs.Ranges.{AreInRange}
-use Rattle.mailcore.specs.Stores.{Store, IsStore}
+use Rattle.mailcore.specs.Stores.{IsStore}
 use Rattle.imap_commands.specs.declared.command.FetchItems.TheVariants as wanted
 use Rattle.imap_replies.specs.declared.reply.Reply.{Reply}
 use Rattle.imap_replies.specs.declared.reply.Reply.TheVariants.{Fetch}
@@ -21,7 +21,7 @@ use Rattle.imap_session.specs.Answering.{done}
 use Rattle.imap_session.specs.MessageCommands.{shown, fetched}
 use Rattle.imap_client.specs.Calls.{from_on}
 use Rattle.imap_client.specs.Listings.{is_uid}
-use Rattle.imap_client.specs.Markings.{marked_uid, lesser, least_more, least_marked, uid_found}
+use Rattle.imap_client.specs.Markings.{lesser, least_more, least_marked, uid_found}
 use Rattle.imap_client.proofs.Fetched.{replies_for}
 use Rattle.imap_client.proofs.Numbered.{Rise, Names, store_rises, names_from}
 use Rattle.imap_client.proofs.Rows.{uid_is}

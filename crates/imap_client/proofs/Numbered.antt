@@ -1,13 +1,12 @@
 -- Stored messages by their UIDs, and which of them a set names.
-use Rattle.std.proofs.Common.{◌≡◌, ℕ, suc, ◌+◌, ◌<◌, ◌≤◌, Bool, true, false, List, [], ◌∷◌, length, get_or, refl, sym, ◌∙◌, ap, Option, Some, None, arith}
-use Rattle.std.specs.Prelude.{All, max, nat_le, ◌||◌, ◌&&◌}
+use Rattle.std.proofs.Common.{◌≡◌, ℕ, suc, ◌+◌, ◌<◌, ◌≤◌, Bool, true, List, [], ◌∷◌, get_or, refl, ◌∙◌, ap, Option, Some, arith}
+use Rattle.std.specs.Prelude.{All, max, nat_le}
 use Rattle.std.proofs.lemmas.Bool.{le-leb, leb-true, and_from, or_left}
 use Rattle.mailcore.specs.declared.mailbox.Message.{Message}
 use Rattle.mailcore.specs.Listed.{AreRising}
 use Rattle.mailcore.specs.Ranges.{AreInRange}
 use Rattle.mailcore.specs.Stores.{Store, IsStore}
-use Rattle.wire_tokens.specs.declared.uid_set.SetItem.{SetItem}
-use Rattle.wire_tokens.specs.Sets.{names, between}
+use Rattle.wire_tokens.specs.Sets.{names}
 use Rattle.imap_session.specs.NamedMessages.{greatest, named_in}
 use Rattle.imap_client.specs.Calls.{from_on}
 

@@ -1,21 +1,19 @@
 -- What is told of all messages, where they are listed.
-use Rattle.std.proofs.Common.{◌≡◌, ℕ, ◌+◌, ◌<◌, ◌≤◌, Bool, true, false, List, [], ◌∷◌, ◌++◌, refl, sym, ◌∙◌, ap, append_assoc, append-nil, length, Option, Some, None, arith}
-use Rattle.std.specs.Prelude.{map, nat_lt, nat_le, if◌then◌else◌, ◌==◌, max}
+use Rattle.std.proofs.Common.{◌≡◌, ℕ, ◌+◌, ◌<◌, ◌≤◌, Bool, true, List, [], ◌∷◌, ◌++◌, refl, sym, ◌∙◌, ap, append_assoc, append-nil, length, Some, None, arith}
+use Rattle.std.specs.Prelude.{map, nat_lt, nat_le, if◌then◌else◌, ◌==◌}
 use Rattle.std.specs.List.{fold}
 use Rattle.std.specs.Ordering.{nat_cmp, match_ordering}
 use Rattle.std.specs.declared.cmp.Ordering.{Ordering}
 use Rattle.std.specs.declared.cmp.Ordering.TheVariants.{Less, Equal, Greater}
 use Rattle.std.specs.BTreeMap.{insert_entry}
 use Rattle.std.proofs.lemmas.Bool.{le-leb, lt-ltb, le-ltb, ne_eqb, cond-false, and_from}
-use Rattle.mailcore.specs.declared.listing.Item.{Item}
 use Rattle.mailcore.specs.declared.mailbox.Message.{Message}
 use Rattle.mailcore.specs.declared.side.Side.TheVariants.{Far}
 use Rattle.mailcore.specs.Content.{size_limit}
 use Rattle.mailcore.specs.Listed.{item_of}
 use Rattle.mailcore.specs.Ranges.{AreInRange}
-use Rattle.mailcore.specs.Stores.{Store, IsStore}
+use Rattle.mailcore.specs.Stores.{IsStore}
 use Rattle.imap_commands.specs.declared.command.FetchItems.TheVariants as wanted
-use Rattle.imap_replies.specs.declared.reply.Reply.{Reply}
 use Rattle.imap_replies.specs.declared.reply.Reply.TheVariants.{Fetch}
 use Rattle.imap_session.specs.Mailboxes.{FarMailbox}
 use Rattle.imap_session.specs.NamedMessages.{named_in}
@@ -24,7 +22,7 @@ use Rattle.imap_session.specs.MessageCommands.{shown, fetched}
 use Rattle.imap_client.specs.declared.told.Told.{Told}
 use Rattle.imap_client.specs.Calls.{from_on}
 use Rattle.imap_client.specs.Fetching.{rows_more, rows_of}
-use Rattle.imap_client.specs.Listings.{is_uid, item_told, joined, items_told}
+use Rattle.imap_client.specs.Listings.{is_uid, joined, items_told}
 use Rattle.imap_client.proofs.Fetched.{replies_for}
 use Rattle.imap_client.proofs.Numbered.{Rise, Names, store_rises, names_from}
 

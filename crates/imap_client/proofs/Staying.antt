@@ -1,5 +1,5 @@
 -- The mailbox stays selected in calls that change nothing, and what is listed of it.
-use Rattle.std.proofs.Common.{◌≡◌, ℕ, suc, ◌+◌, ◌<◌, Bool, true, false, List, [], ◌∷◌, sym, ◌∙◌, ap, subst, length, arith, Option, Some, None, Result, Ok, Err, refl}
+use Rattle.std.proofs.Common.{◌≡◌, ℕ, suc, ◌+◌, ◌<◌, true, false, List, [], ◌∷◌, sym, ◌∙◌, ap, subst, arith, Option, Some, Result, Ok, Err, refl}
 use Rattle.std.specs.Prelude.{map, max}
 use Rattle.std.specs.Option.{option_map}
 use Rattle.mailcore.specs.declared.mailbox.Message.{Message}

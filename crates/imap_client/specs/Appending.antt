@@ -1,5 +1,5 @@
 -- A message is added to a mailbox (RFC 9051, section 6.3.12).
-use Rattle.std.specs.Prelude.{◌≡◌, ◌⊎◌, ℕ, false, List, [], ◌∷◌, ◌++◌, length, Option, None, Some, Result, Ok, Err}
+use Rattle.std.specs.Prelude.{◌≡◌, ℕ, ◌+◌, false, List, [], ◌∷◌, ◌++◌, Option, None, Some, Result, Ok, Err}
 use Rattle.wire_reader.specs.Spelling.{◌⨾◌, Is, crlf}
 use Rattle.wire_tokens.specs.Atoms.{TagText}
 use Rattle.wire_tokens.specs.FlagWriting.{WrittenFlags}
@@ -46,6 +46,11 @@ pub record Adds (m : FarMailbox) (flags : ℕ) (bytes : List ℕ) (told : Option
   pub uid : ℕ
   pub under : AddsUnder m flags bytes uid old new
   pub is_told : IsTold told uid
+
+-- the next UID that is known then
+abbrev pub next_known : (next : ℕ) → Option ℕ → ℕ
+next_known next None = next
+next_known next (Some uid) = uid + 1
 
 -- the mailbox has no UID left, and nothing changed
 abbrev pub NoUidLeft : FarMailbox → Server → Server → Type 0

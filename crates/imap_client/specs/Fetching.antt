@@ -1,6 +1,6 @@
 -- What FETCH replies tell of messages (RFC 9051, section 7.5.2). Of two items of a kind the later counts, and of two replies with one
 -- UID.
-use Rattle.std.specs.Prelude.{ℕ, List, [], ◌∷◌, Option, None, Some}
+use Rattle.std.specs.Prelude.{ℕ, List, [], Option, None, Some}
 use Rattle.std.specs.List.{fold}
 use Rattle.std.specs.Ordering.{nat_cmp}
 use Rattle.std.specs.BTreeMap.{insert_entry}

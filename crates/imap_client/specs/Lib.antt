@@ -16,6 +16,8 @@ pub mod Logins
 pub mod Creations
 pub mod Appending
 pub mod Given
+pub mod MailboxNames
+pub mod Leaving
 pub mod Nowhere
 pub mod Laws
 pub mod Calls

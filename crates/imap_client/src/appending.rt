@@ -1,6 +1,6 @@
 //! Messages are added to a far mailbox (RFC 9051, section 6.3.12).
 
-ghost use Rattle.std.specs.Prelude.{◌≡◌, ◌≤◌, ◌+◌, ℕ, List, Some, true, false, length, take, drop, IfOk, IfErr};
+ghost use Rattle.std.specs.Prelude.{◌≡◌, ◌≤◌, ◌+◌, ℕ, List, Some, true, false, length, take, drop, IfOk, IfErr, OnErr};
 ghost use Rattle.imap_commands.specs.declared.command.Command.{Command};
 ghost use Rattle.imap_commands.specs.Messages.{IsMessage};
 ghost use Rattle.imap_replies.specs.declared.reply.Reply.{Reply};
@@ -11,7 +11,7 @@ ghost use Rattle.imap_session.specs.Servers.{selected};
 ghost use Rattle.exchange_laws.specs.Ends.{ends_of};
 ghost use Rattle.imap_link.specs.Buffers.{IsAnswerText};
 ghost use Rattle.imap_link.specs.Outcomes.{Outcome};
-ghost use Rattle.imap_client.specs.Appending.{Adds, AddsSome, NoUidLeft, CanAdd, request_to_add, InTwo, IsInTwo, IsFront, WaitsOr};
+ghost use Rattle.imap_client.specs.Appending.{Adds, AddsSome, NoUidLeft, next_known, CanAdd, request_to_add, InTwo, IsInTwo, IsFront, WaitsOr};
 ghost use Rattle.imap_client.specs.Boxes.{IsSelected};
 ghost use Rattle.imap_client.specs.Exchanged.{command_at, Exchanged};
 ghost use Rattle.imap_client.specs.Given.{given_in};
@@ -142,6 +142,9 @@ impl<L: Link> FarBox<L> {
         ensures was_honest { L.honest self.new.session.wire.link → L.honest self.old.session.wire.link }
         ensures stuck { self.old.session.is_ready ≡ false → self.new.session ≡ self.old.session }
         ensures ends { EndsSo 1 (state_of self.old.session) (state_of self.new.session) result }
+        ensures same { (self.new.name ≡ self.old.name) × (self.new.validity ≡ self.old.validity) }
+        ensures next { IfOk result (λ told. self.new.next ≡ next_known self.old.next told) }
+        ensures unknown { OnErr result (self.new.next ≡ self.old.next) }
         ensures outcome { L.honest self.new.session.wire.link → (m : FarMailbox) → selected (server_of self.old.session) ≡ Some m
             → Outcome (Adds m flags bytes.now) (NoUidLeft m) (AddsSome m flags bytes.now) result (server_of self.old.session) (server_of self.new.session) }
     {

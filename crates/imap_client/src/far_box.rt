@@ -39,9 +39,9 @@ pub struct FarBox<L: Link> {
     // A UID that is above those of all messages of which the server has told: those that were there when the mailbox was
     // selected, and those that were added since, where their UIDs were told.
     pub(crate) next: u32,
-    pub ghost named: { IsWord name.items },
     // The bytes of the message that was fetched last.
     pub(crate) body: Vec<u8>,
+    pub ghost named: { IsWord name.items },
     pub ghost selected: { session.is_ready ≡ true → L.honest session.wire.link
         → IsSelected name.items validity next (L.line session.wire.link).end.server } by { Prim.hlevel props },
     pub ghost numbers: { (0 < validity) × (0 < next) },
@@ -187,6 +187,7 @@ impl<L: Link> FarBox<L> {
         ensures was_honest { L.honest self.new.session.wire.link → L.honest self.old.session.wire.link }
         ensures stuck { self.old.session.is_ready ≡ false → self.new.session ≡ self.old.session }
         ensures ends { EndsSo 1 (state_of self.old.session) (state_of self.new.session) result }
+        ensures same { (self.new.name ≡ self.old.name) × (self.new.validity ≡ self.old.validity) × (self.new.next ≡ self.old.next) }
         ensures outcome { L.honest self.new.session.wire.link → (m : FarMailbox) → selected (server_of self.old.session) ≡ Some m
             → Outcome (λ _. Becomes (stored modes.Add flags (one_uid uid))) Never (Becomes (stored modes.Add flags (one_uid uid))) result
             (server_of self.old.session) (server_of self.new.session) }
@@ -200,6 +201,7 @@ impl<L: Link> FarBox<L> {
         ensures was_honest { L.honest self.new.session.wire.link → L.honest self.old.session.wire.link }
         ensures stuck { self.old.session.is_ready ≡ false → self.new.session ≡ self.old.session }
         ensures ends { EndsSo 1 (state_of self.old.session) (state_of self.new.session) result }
+        ensures same { (self.new.name ≡ self.old.name) × (self.new.validity ≡ self.old.validity) × (self.new.next ≡ self.old.next) }
         ensures outcome { L.honest self.new.session.wire.link → (m : FarMailbox) → selected (server_of self.old.session) ≡ Some m
             → Outcome (λ _. Becomes (stored modes.Remove flags (one_uid uid))) Never (Becomes (stored modes.Remove flags (one_uid uid))) result
             (server_of self.old.session) (server_of self.new.session) }
@@ -214,6 +216,7 @@ impl<L: Link> FarBox<L> {
         ensures was_honest { L.honest self.new.session.wire.link → L.honest self.old.session.wire.link }
         ensures stuck { self.old.session.is_ready ≡ false → self.new.session ≡ self.old.session }
         ensures ends { EndsSo (commands_for uids.now) (state_of self.old.session) (state_of self.new.session) result }
+        ensures same { (self.new.name ≡ self.old.name) × (self.new.validity ≡ self.old.validity) × (self.new.next ≡ self.old.next) }
         ensures outcome { L.honest self.new.session.wire.link → (m : FarMailbox) → selected (server_of self.old.session) ≡ Some m
             → Outcome (λ _. Becomes (swept (each_one uids.now))) Never (Becomes (swept (each_one uids.now))) result
             (server_of self.old.session) (server_of self.new.session) }

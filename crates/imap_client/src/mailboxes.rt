@@ -1,16 +1,26 @@
-//! Calls on the mailboxes of a server (RFC 9051, section 6.3.4).
+//! Calls on the mailboxes of a server (RFC 9051, sections 6.3.4 and 6.3.9).
 
-ghost use Rattle.std.specs.Prelude.{◌≡◌, true, false};
+ghost use Rattle.std.specs.Prelude.{◌≡◌, ◌≤◌, List, true, false, length, take, IfOk, IfErr};
+ghost use Rattle.std.specs.List.{list_all};
+ghost use Rattle.imap_replies.specs.declared.reply.Reply.{Reply};
+ghost use Rattle.imap_session.specs.Heard.{AreReplies};
+ghost use Rattle.imap_session.specs.MailboxCommands.{is_name};
 ghost use Rattle.imap_session.specs.Servers.{is_logged_in};
-ghost use Rattle.imap_link.specs.Outcomes.{Outcome};
+ghost use Rattle.imap_link.specs.Outcomes.{Outcome, Never};
 ghost use Rattle.imap_client.specs.Creations.{Makes, CannotMake};
+ghost use Rattle.imap_client.specs.Logins.{Remains};
+ghost use Rattle.imap_client.specs.MailboxNames.{TellsNames, names_in};
 ghost use Rattle.imap_client.specs.Requests.{IsWord};
+ghost use Rattle.imap_client.specs.Spoken.{Speaks};
 ghost use Rattle.imap_client.specs.States.{EndsSo};
 
 use crate::call::Call;
+use crate::names::names_in;
+use crate::reading::read_replies;
 use crate::session::Session;
 use imap_link::fault::FarFault;
 use imap_link::link::Link;
+use mailcore::mailbox_name::MailboxName;
 
 impl<L: Link> Session<L> {
     ghost use Rattle.imap_client.specs.Sessions.{state_of, server_of};
@@ -29,5 +39,35 @@ impl<L: Link> Session<L> {
         let len = self.ask(&Call::Create(name))?;
         self.done(len);
         Ok(())
+    }
+
+    /// The names of all mailboxes, in the order in which the server tells them. Names outside the limits are passed over.
+    ///
+    /// `Refused`: the server tells none.
+    pub fn list(&mut self) -> Result<Vec<MailboxName>, FarFault>
+        ensures was_honest { L.honest self.new.wire.link → L.honest self.old.wire.link }
+        ensures stuck { self.old.is_ready ≡ false → self.new ≡ self.old }
+        ensures ends { EndsSo 1 (state_of self.old) (state_of self.new) result }
+        ensures limits { IfOk result (λ names. list_all is_name names.items ≡ true) }
+        ensures outcome { L.honest self.new.wire.link → is_logged_in (server_of self.old).condition ≡ true
+            → Outcome (λ names. TellsNames names.items) Never Remains result (server_of self.old) (server_of self.new) }
+    {
+        let len = self.ask(&Call::Names)?;
+        let names = self.names(len)?;
+        self.done(len);
+        Ok(names)
+    }
+
+    // The names that the replies at the front of the buffer tell.
+    fn names(&self, len: usize) -> Result<Vec<MailboxName>, FarFault>
+        requires within { len ≤ length self.now.wire.heard.items }
+        requires speaks { Speaks (take len self.now.wire.heard.items) }
+        ensures told { IfOk result (λ names. (rs : List Reply) → AreReplies rs (take len self.now.wire.heard.items) → names.items ≡ names_in rs) }
+        ensures limits { IfOk result (λ names. list_all is_name names.items ≡ true) }
+        ensures err { IfErr result (λ fault. fault ≡ FarFault.NoMemory) }
+    {
+        let replies = read_replies(self.wire.alloc, &self.wire.heard[..len])?;
+        let names = names_in(self.wire.alloc, &replies)?;
+        Ok(names)
     }
 }

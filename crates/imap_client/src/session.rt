@@ -127,7 +127,7 @@ impl<L: Link> Session<L> {
     }
 
     // The command with the next tag. `Stopped`: there is none left.
-    fn command(&mut self, request: Request) -> Result<Command, FarFault>
+    pub(crate) fn command(&mut self, request: Request) -> Result<Command, FarFault>
         ensures same { (self.new.wire ≡ self.old.wire) × (self.new.is_ready ≡ self.old.is_ready) }
         ensures command { IfOk result (λ c. (c ≡ command_at (self.old.tags + 1) request) × (self.new.tags ≡ self.old.tags + 1)) }
         ensures stopped { IsErrOf result FarFault.Stopped → (self.old.tags ≡ 18446744073709551615) × (self.new.tags ≡ self.old.tags) }

@@ -1,11 +1,11 @@
-use Rattle.std.proofs.Common.{◌≡◌, ℕ, List, Option, Some, None, sym, ◌∙◌, ap, subst, take, Result, Ok, Err, arith}
+use Rattle.std.proofs.Common.{ℕ, List, Option, Some, sym, ◌∙◌, ap, subst, Result, Err, arith}
 use Rattle.std.specs.Prelude.{Vec}
 use Rattle.std.specs.Global.{Global}
 use Rattle.std.proofs.lemmas.Result.{err_from_is_err_and}
 use Rattle.imap_link.specs.declared.fault.FarFault.{FarFault}
-use Rattle.imap_client.specs.Bodies.{body_in, body_more, body_told, bodies_more, text_of}
+use Rattle.imap_client.specs.Bodies.{body_told, bodies_more, text_of}
 use Rattle.imap_client.specs.Readings.{ReadsAs}
-use Rattle.imap_client.proofs.BodyTold.{item_stops, reply_stops}
+use Rattle.imap_client.proofs.BodyTold.{reply_stops}
 use Rattle.imap_client.proofs.Fetched.{reads_on}
 use Rattle.imap_client.proofs.bodies.body_told.Goals as goal
 

@@ -1,4 +1,4 @@
-use Rattle.std.proofs.Common.{◌≡◌, List, ℕ, ◌++◌, [], map, sym, ◌∙◌, ap, append-nil}
+use Rattle.std.proofs.Common.{◌++◌, map, sym, ◌∙◌, ap, append-nil}
 use Rattle.std.specs.Map.{keys_of}
 use Rattle.imap_client.proofs.Listed.{rising_by_keys}
 use Rattle.imap_client.proofs.listing.items_of.Goals as goal

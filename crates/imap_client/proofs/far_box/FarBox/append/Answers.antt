@@ -1,13 +1,13 @@
-use Rattle.std.proofs.Common.{◌≡◌, ℕ, ◌+◌, List, Option, Some, sym, ◌∙◌, ap, subst, arith}
+use Rattle.std.proofs.Common.{ℕ, ◌+◌, List, sym, ◌∙◌, ap, subst, arith}
 use Rattle.imap_client.specs.Boxes.{IsSelected}
 use Rattle.imap_client.proofs.Changed.{state_of_parts}
-use Rattle.imap_client.proofs.Adding.{next_known, none_known, err_selected, ok_selected}
+use Rattle.imap_client.specs.Appending.{next_known}
+use Rattle.imap_client.proofs.Adding.{none_known, err_selected, ok_selected}
 use Rattle.imap_client.proofs.far_box.FarBox.append.Goals as goal
 
 pub invariant_of-self : goal.invariant_of-self
 invariant_of-self g c = record {
   named = c.args.self.now.named;
-  numbers = c.args.self.now.numbers;
   selected = λ ready honest.
       let it = c.args.self.now in
       let was = it.session in
@@ -18,12 +18,12 @@ invariant_of-self g c = record {
       it.name.items it.validity it.next c.args.flags c.args.bytes.now c.in_err-told.field-0.0 c.in_err-told.ensures.ends ready
       (λ before. it.selected before (c.in_err-told.ensures.was_honest honest))
       (λ s m is. c.in_err-told.ensures.outcome honest (subst (λ (n : List ℕ). IsSelected n it.validity it.next old) (sym c.deref.ensures.value) s) m is);
+  numbers = c.args.self.now.numbers;
 }
 
 pub invariant_of-self-in-Some : goal.invariant_of-self-in-Some
 invariant_of-self-in-Some g c = record {
   named = c.args.self.now.named;
-  numbers = (c.args.self.now.numbers.0, omega arith);
   selected = λ ready honest.
       let it = c.args.self.now in
       let was = it.session in
@@ -35,12 +35,12 @@ invariant_of-self-in-Some g c = record {
       it.name.items it.validity it.next c.args.flags c.args.bytes.now c.in_ok-told.told c.in_ok-told.ensures.ends
       (λ before. it.selected before (c.in_ok-told.ensures.was_honest honest))
       (λ s m is. c.in_ok-told.ensures.outcome honest (subst (λ (n : List ℕ). IsSelected n it.validity it.next old) (sym c.deref.ensures.value) s) m is));
+  numbers = (c.args.self.now.numbers.0, omega arith);
 }
 
 pub invariant_of-self-in_default : goal.invariant_of-self-in_default
 invariant_of-self-in_default g c = record {
   named = c.args.self.now.named;
-  numbers = c.args.self.now.numbers;
   selected = λ ready honest.
       let it = c.args.self.now in
       let was = it.session in
@@ -52,4 +52,5 @@ invariant_of-self-in_default g c = record {
       it.name.items it.validity it.next c.args.flags c.args.bytes.now c.in_ok-told.told c.in_ok-told.ensures.ends
       (λ before. it.selected before (c.in_ok-told.ensures.was_honest honest))
       (λ s m is. c.in_ok-told.ensures.outcome honest (subst (λ (n : List ℕ). IsSelected n it.validity it.next old) (sym c.deref.ensures.value) s) m is));
+  numbers = c.args.self.now.numbers;
 }

@@ -11,7 +11,6 @@ use Rattle.imap_client.specs.Boxes.{IsSelected}
 use Rattle.imap_client.specs.States.{EndsSo}
 use Rattle.imap_client.proofs.Adding.{AddedSo, add_exchanged, some_of, told_so, adds_so, never_protocol, told_fails}
 use Rattle.imap_client.proofs.Changed.{outcome_err, state_of_parts}
-use Rattle.imap_client.proofs.LoggingIn.{asked_ends}
 use Rattle.imap_client.proofs.Selecting.{speaks_of}
 use Rattle.imap_client.proofs.session.Session.add.Goals as goal
 

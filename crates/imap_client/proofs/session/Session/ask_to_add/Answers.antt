@@ -1,5 +1,5 @@
-use Rattle.std.proofs.Common.{◌≡◌, ℕ, ◌+◌, List, sym, ◌∙◌, ap, subst}
-use Rattle.imap_client.specs.Appending.{request_to_add, InTwo, IsInTwo}
+use Rattle.std.proofs.Common.{ℕ, ◌+◌, List, ◌∙◌, ap, subst}
+use Rattle.imap_client.specs.Appending.{request_to_add}
 use Rattle.imap_client.specs.Exchanged.{Exchanged}
 use Rattle.imap_client.specs.Tags.{tag_text}
 use Rattle.imap_client.proofs.InTwo.{addition_in_two}

@@ -1,4 +1,4 @@
-use Rattle.std.proofs.Common.{◌≡◌, Some, ℕ, ◌+◌, List, map, sym, ◌∙◌, ap, subst, take, Result, Ok, Err}
+use Rattle.std.proofs.Common.{◌≡◌, Some, ℕ, ◌+◌, List, sym, ◌∙◌, ap, subst, take, Result, Ok, Err}
 use Rattle.std.proofs.lemmas.Result.{err_from_is_err_and}
 use Rattle.mailcore.specs.Ranges.{AreInRange}
 use Rattle.mailcore.specs.Stores.{IsStore}

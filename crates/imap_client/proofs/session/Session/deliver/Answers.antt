@@ -1,4 +1,4 @@
-use Rattle.std.proofs.Common.{ℕ, List, sym, ◌∙◌, ap, subst, take, drop, Result, Ok, Err}
+use Rattle.std.proofs.Common.{ℕ, List, sym, ◌∙◌, ap, subst, take, drop, Result, Err}
 use Rattle.std.proofs.lemmas.Result.{err_from_is_err_and}
 use Rattle.imap_commands.specs.declared.command.Command.{Command}
 use Rattle.imap_session.specs.Servers.{Server}

@@ -1,0 +1,137 @@
+-- The names of a server's mailboxes are told.
+use Rattle.std.proofs.Common.{◌≡◌, ◌⊎◌, ◌<◌, inl, inr, ℕ, zero, suc, Bool, true, false, List, arith, length, [], ◌∷◌, ◌++◌, refl, sym, ◌∙◌, ap, subst, append_assoc, append-nil, take, Option, Some, None, Result, Err}
+use Rattle.std.specs.Prelude.{map, filter, nat_le, ◌&&◌, ◌==◌, slice_index, if◌then◌else◌}
+use Rattle.std.specs.List.{fold, list_all, slice_split}
+use Rattle.std.specs.Str.{IsAscii}
+use Rattle.std.proofs.lemmas.Bool.{and_parts, and_from}
+use Rattle.std.proofs.lemmas.Bool.Decides.{nat_tests}
+use Rattle.std.proofs.lemmas.List.Folds.{list_all-append}
+use Rattle.wire_strings.specs.Quotes.{unescaped}
+use Rattle.wire_strings.specs.Strings.{value_of}
+use Rattle.imap_commands.specs.declared.command.Request.TheVariants as requests
+use Rattle.imap_replies.specs.declared.reply.Reply.{Reply}
+use Rattle.imap_replies.specs.declared.reply.Reply.TheVariants.{Continue, Tagged, Notice, Capability, Enabled, List as Listed, Flags, Exists, Expunge, Fetch, Other, OtherNumbered}
+use Rattle.imap_session.specs.Servers.{Server, is_logged_in}
+use Rattle.imap_session.specs.Answering.{Gives, listed, done, out_of_place}
+use Rattle.imap_session.specs.MailboxCommands.{is_name_byte, is_part, is_name, names_matched}
+use Rattle.imap_session.specs.Heard.{AreReplies, LeavesOut, WithoutUid}
+use Rattle.imap_link.specs.declared.fault.FarFault.{FarFault}
+use Rattle.imap_link.specs.declared.fault.FarFault.TheVariants as faults
+use Rattle.imap_link.specs.Outcomes.{Outcome, Never}
+use Rattle.imap_client.specs.Tags.{tag_text}
+use Rattle.imap_client.specs.Exchanged.{command_at, Exchanged}
+use Rattle.imap_client.specs.Saying.{HeardOf}
+use Rattle.imap_client.specs.Logins.{Remains}
+use Rattle.imap_client.specs.States.{State, Asked, EndsSo}
+use Rattle.imap_client.specs.MailboxNames.{within_limits, name_told, with_name, names_more, names_in, names_of, TellsNames}
+use Rattle.imap_client.proofs.Answered.{Sure, answered}
+
+-- ---- what was said
+
+-- all but the tagged reply
+abbrev pub told_first : Server → List Reply
+told_first s = map listed (names_matched (42 ∷ []) s.mailboxes)
+
+module _ (n : ℕ) (old : Server) (logged : is_logged_in old.condition ≡ true) where
+  names_sure : Sure (command_at n (requests.List (42 ∷ []))) old (told_first old) (done (tag_text n)) old
+  names_sure = record {
+    each = λ said new step. subst (λ (b : Bool). Gives (if b then record { replies = told_first old ++ done (tag_text n) ∷ []; after = old } else out_of_place old (tag_text n)) said new) logged step;
+  }
+
+  pub names_exchanged : (result : Result ℕ FarFault) (heard : List ℕ) (new : Server) → Exchanged (command_at n (requests.List (42 ∷ []))) result heard old new
+      → Outcome {T = ℕ} (λ len s t. HeardOf (told_first old ++ done (tag_text n) ∷ []) (take len heard) × (t ≡ old)) Never (λ s t. t ≡ old) result old new
+  names_exchanged result heard new h = answered (command_at n (requests.List (42 ∷ []))) old (told_first old) (done (tag_text n)) old names_sure refl result heard new h
+
+-- ---- what it tells
+
+same_told : (h s : Reply) → (h ≡ s) ⊎ WithoutUid h s → name_told h ≡ name_told s
+same_told h s (inl e) = ap name_told e
+same_told h s (inr w) = ap name_told w.heard_is ∙ sym (ap name_told w.said_is)
+
+leaves_names : (names : List (List ℕ)) (hs ss : List Reply) → LeavesOut hs ss → fold names_more names hs ≡ fold names_more names ss
+leaves_names names [] [] l = refl
+leaves_names names [] (s ∷ ss) l = absurd l
+leaves_names names (h ∷ hs) [] l = absurd l
+leaves_names names (h ∷ hs) (s ∷ ss) l =
+    ap (λ (x : Option (List ℕ)). fold names_more (with_name names x) hs) (same_told h s l.0) ∙ leaves_names (with_name names (name_told s)) hs ss l.1
+
+by_limits : (b : Bool) (names rest : List (List ℕ)) (x : List ℕ) → with_name names (if b then Some x else None) ++ rest ≡ names ++ (if b then x ∷ rest else rest)
+by_limits true names rest x = append_assoc names (x ∷ []) rest
+by_limits false names rest x = refl
+
+listed_names : (tag : List ℕ) (names ns : List (List ℕ)) → fold names_more names (map listed ns ++ done tag ∷ []) ≡ names ++ filter is_name (map unescaped ns)
+listed_names tag names [] = sym (append-nil names)
+listed_names tag names (n ∷ ns) =
+    let x = unescaped n in
+    listed_names tag (with_name names (within_limits x)) ns ∙ by_limits (is_name x) names (filter is_name (map unescaped ns)) x
+
+pub names_told : (tag bytes : List ℕ) (old : Server) (names : List (List ℕ)) → HeardOf (told_first old ++ done tag ∷ []) bytes → ((rs : List Reply) → AreReplies rs bytes → names ≡ names_in rs) → names ≡ names_of old
+names_told tag bytes old names h told =
+    told h.replies h.spelled ∙ leaves_names [] h.replies (told_first old ++ done tag ∷ []) h.left_out ∙ listed_names tag [] (names_matched (42 ∷ []) old.mailboxes)
+
+-- ---- the limits
+
+below : (b : ℕ) → is_name_byte b ≡ true → b < 128
+below b h = grind (arith, nat_tests)
+
+all_below : (name : List ℕ) → list_all is_name_byte name ≡ true → (i : ℕ) → slice_index name i < 128
+all_below [] h i = omega arith
+all_below (b ∷ bs) h zero = below b ((and_parts (is_name_byte b) (list_all is_name_byte bs) h).0)
+all_below (b ∷ bs) h (suc i) = all_below bs ((and_parts (is_name_byte b) (list_all is_name_byte bs) h).1) i
+
+name_bytes : (name : List ℕ) → is_name name ≡ true → list_all is_name_byte name ≡ true
+name_bytes name h =
+    let front = (and_parts (nat_le (length name) 255 && list_all is_name_byte name) (list_all is_part (slice_split (λ b. b == 47) name)) h).0 in
+    (and_parts (nat_le (length name) 255) (list_all is_name_byte name) front).1
+
+pub name_is_ascii : (name : List ℕ) → is_name name ≡ true → IsAscii name
+name_is_ascii name h =
+    all_below name (name_bytes name h)
+
+by_limit : (b : Bool) (names : List (List ℕ)) (x : List ℕ) → is_name x ≡ b → list_all is_name names ≡ true → list_all is_name (with_name names (if b then Some x else None)) ≡ true
+by_limit true names x e h = list_all-append is_name names (x ∷ []) ∙ and_from (list_all is_name names) (list_all is_name (x ∷ [])) h (and_from (is_name x) true e refl)
+by_limit false names x e h = h
+
+more_within : (names : List (List ℕ)) (r : Reply) → list_all is_name names ≡ true → list_all is_name (names_more names r) ≡ true
+more_within names (Listed attributes delimiter name) h = by_limit (is_name (value_of name)) names (value_of name) refl h
+more_within names (Continue text) h = h
+more_within names (Tagged tag status text) h = h
+more_within names (Notice kind text) h = h
+more_within names (Capability abilities) h = h
+more_within names (Enabled abilities) h = h
+more_within names (Flags flags) h = h
+more_within names (Exists n) h = h
+more_within names (Expunge n) h = h
+more_within names (Fetch n items) h = h
+more_within names (Other word text) h = h
+more_within names (OtherNumbered n event text) h = h
+
+within_from : (names : List (List ℕ)) (rs : List Reply) → list_all is_name names ≡ true → list_all is_name (fold names_more names rs) ≡ true
+within_from names [] h = h
+within_from names (r ∷ rs) h = within_from (names_more names r) rs (more_within names r h)
+
+pub names_within : (names : List (List ℕ)) (rs : List Reply) → names ≡ names_in rs → list_all is_name names ≡ true
+names_within names rs e = ap (list_all is_name) e ∙ within_from [] rs refl
+
+-- ---- how the call ends
+
+module _ (T : Type 0) (r : Result T FarFault) (items : T → List (List ℕ)) (old new : Server) where
+  by_fault : (f : FarFault) (said : List Reply) (heard : List ℕ) → Outcome {T = ℕ} (λ len s t. HeardOf said (take len heard) × (t ≡ old)) Never (λ s t. t ≡ old) (Err f) old new
+      → Outcome {T = T} (λ x. TellsNames (items x)) Never Remains (Err f) old new
+  by_fault faults.Stopped said heard h = h
+  by_fault faults.Refused said heard h = h
+  by_fault faults.Protocol said heard h = h
+  by_fault faults.TooLong said heard h = h
+  by_fault faults.NoRev2 said heard h = h
+  by_fault faults.ReadOnly said heard h = h
+  by_fault faults.NoMemory said heard h = h
+
+  pub not_answered : (f : FarFault) (said : List Reply) (heard : List ℕ) → r ≡ Err f → Outcome {T = ℕ} (λ len s t. HeardOf said (take len heard) × (t ≡ old)) Never (λ s t. t ≡ old) (Err f) old new
+      → Outcome {T = T} (λ x. TellsNames (items x)) Never Remains r old new
+  not_answered f said heard e h = subst (λ (q : Result T FarFault). Outcome {T = T} (λ x. TellsNames (items x)) Never Remains q old new) (sym e) (by_fault f said heard h)
+
+  pub not_read : r ≡ Err faults.NoMemory → new ≡ old → Outcome {T = T} (λ x. TellsNames (items x)) Never Remains r old new
+  not_read e same = subst (λ (q : Result T FarFault). Outcome {T = T} (λ x. TellsNames (items x)) Never Remains q old new) (sym e) (inr same)
+
+pub not_read_ends : (T : Type 0) (r : Result T FarFault) (old new : State) → r ≡ Err faults.NoMemory → Asked old new → EndsSo 1 old new r
+not_read_ends T r old new e a = subst (λ (q : Result T FarFault). EndsSo 1 old new q) (sym e) (record { was_ready = a.was_ready; is_ready = a.begun })

@@ -1,0 +1,67 @@
+use Rattle.std.proofs.Common.{◌≡◌, [], sym, ◌∙◌, ap, subst, Result, Ok, Err}
+use Rattle.std.proofs.lemmas.Result.{err_from_is_err_and}
+use Rattle.imap_commands.specs.Writing.{Written}
+use Rattle.imap_replies.specs.declared.word.Status.TheVariants as statuses
+use Rattle.exchange_laws.specs.Ends.{ends_of}
+use Rattle.imap_link.specs.declared.fault.FarFault.{FarFault}
+use Rattle.imap_link.specs.declared.wire.Answered.{Answered}
+use Rattle.imap_link.specs.Outcomes.{Outcome, Never}
+use Rattle.imap_client.specs.Leaving.{Leaves, LeftSo}
+use Rattle.imap_client.proofs.Changed.{outcome_err}
+use Rattle.imap_client.proofs.Exchanging.{state_at}
+use Rattle.imap_client.proofs.LoggingOut.{logout_completes, left_answered, left_err, no_is_not, bad_is_not}
+use Rattle.imap_client.proofs.Still.{idle_of}
+use Rattle.imap_client.proofs.session.Session.leave.Goals as goal
+
+pub returns-in_err-answered-clause-left : goal.returns-in_err-answered-clause-left
+returns-in_err-answered-clause-left g c =
+    let p = err_from_is_err_and c.from_residual-in_err-answered.result c.from_residual-in_err-answered.ensures.1 in
+    let f = c.in_err-answered.field-0.0 in
+    let was = c.args.self.now in
+    let old = state_at was.is_ready was.tags (g.L.Link.stops was.wire.link) was.wire.heard.items in
+    let new = state_at was.is_ready was.tags (g.L.Link.stops c.finish.new.self.link) c.finish.new.self.heard.items in
+    subst (λ (r : Result (Unit {0}) FarFault). LeftSo c.args.command.now.tag old new r) (sym (p.1 ∙ ap Err p.2))
+    (left_err (Unit {0}) c.args.command.now.tag old new f c.in_err-answered.ensures.known (λ e. c.in_err-answered.ensures.stopped (ap Err e)))
+
+pub returns-in_err-answered-clause-outcome : goal.returns-in_err-answered-clause-outcome
+returns-in_err-answered-clause-outcome g c honest =
+    let p = err_from_is_err_and c.from_residual-in_err-answered.result c.from_residual-in_err-answered.ensures.1 in
+    let f = c.in_err-answered.field-0.0 in
+    let command = c.args.command.now in
+    let old = (g.L.Link.line c.args.self.now.wire.link).end.server in
+    let new = (g.L.Link.line c.finish.new.self.link).end.server in
+    let heard = c.finish.new.self.heard.items in
+    let completes = logout_completes command c.requires.logout c.deref.result.now (subst (Written command) (sym c.deref.ensures.value) c.in_ok-text.ensures) in
+    let at = idle_of (ends_of (g.L.Link.line c.args.self.now.wire.link) c.args.self.now.wire.heard.items) (c.requires.idle (c.in_err-answered.ensures.was_honest honest)) in
+    subst (λ (r : Result (Unit {0}) FarFault). Outcome (λ x. Leaves) Never Leaves r old new) (sym (p.1 ∙ ap Err p.2))
+    (outcome_err Answered (Unit {0}) (λ a s t. (a.status ≡ statuses.Ok) × Leaves s t) (λ x. Leaves) Never Leaves old new f
+    (left_answered command c.requires.logout old (Err f) heard new (c.in_err-answered.ensures.outcome honest command [] completes at)))
+
+pub returns-in-Ok-clause-outcome : goal.returns-in-Ok-clause-outcome
+returns-in-Ok-clause-outcome g c honest =
+    let command = c.args.command.now in
+    let old = (g.L.Link.line c.args.self.now.wire.link).end.server in
+    let new = (g.L.Link.line c.finish.new.self.link).end.server in
+    let completes = logout_completes command c.requires.logout c.deref.result.now (subst (Written command) (sym c.deref.ensures.value) c.in_ok-text.ensures) in
+    let at = idle_of (ends_of (g.L.Link.line c.args.self.now.wire.link) c.args.self.now.wire.heard.items) (c.requires.idle (c.in_ok-answered.ensures.was_honest honest)) in
+    (left_answered command c.requires.logout old (Ok c.in_ok-answered.answered) c.finish.new.self.heard.items new (c.in_ok-answered.ensures.outcome honest command [] completes at)).1
+
+pub returns-in-No-clause-outcome : goal.returns-in-No-clause-outcome
+returns-in-No-clause-outcome g c honest =
+    let command = c.args.command.now in
+    let old = (g.L.Link.line c.args.self.now.wire.link).end.server in
+    let new = (g.L.Link.line c.finish.new.self.link).end.server in
+    let completes = logout_completes command c.requires.logout c.deref.result.now (subst (Written command) (sym c.deref.ensures.value) c.in_ok-text.ensures) in
+    let at = idle_of (ends_of (g.L.Link.line c.args.self.now.wire.link) c.args.self.now.wire.heard.items) (c.requires.idle (c.in_ok-answered.ensures.was_honest honest)) in
+    no_is_not c.in_ok-answered.answered.status c.in-No.is
+    (left_answered command c.requires.logout old (Ok c.in_ok-answered.answered) c.finish.new.self.heard.items new (c.in_ok-answered.ensures.outcome honest command [] completes at)).0
+
+pub returns-clause-outcome : goal.returns-clause-outcome
+returns-clause-outcome g c honest =
+    let command = c.args.command.now in
+    let old = (g.L.Link.line c.args.self.now.wire.link).end.server in
+    let new = (g.L.Link.line c.finish.new.self.link).end.server in
+    let completes = logout_completes command c.requires.logout c.deref.result.now (subst (Written command) (sym c.deref.ensures.value) c.in_ok-text.ensures) in
+    let at = idle_of (ends_of (g.L.Link.line c.args.self.now.wire.link) c.args.self.now.wire.heard.items) (c.requires.idle (c.in_ok-answered.ensures.was_honest honest)) in
+    bad_is_not c.in_ok-answered.answered.status c.in-Bad.is
+    (left_answered command c.requires.logout old (Ok c.in_ok-answered.answered) c.finish.new.self.heard.items new (c.in_ok-answered.ensures.outcome honest command [] completes at)).0
