@@ -242,9 +242,23 @@ literal_octets octets t h =
     record {
       plain = (literal_fits Commands octets t h).plain;
       few = omega (
-        arith, a, b, d, four, one_is p3 false three.out,
-        ap length h.parts, length-append h.front h.back, ap length m.parts, length-append m.front m.back, ap length c.parts, length-append c.front c.back,
-        ap length f.parts, length-append f.front f.back, ap length f.first, f.second.1.long, length_most m.value m.front m.first,
+        arith,
+        a,
+        b,
+        d,
+        four,
+        one_is p3 false three.out,
+        ap length h.parts,
+        length-append h.front h.back,
+        ap length m.parts,
+        length-append m.front m.back,
+        ap length c.parts,
+        length-append c.front c.back,
+        ap length f.parts,
+        length-append f.front f.back,
+        ap length f.first,
+        f.second.1.long,
+        length_most m.value m.front m.first,
       );
     }
 

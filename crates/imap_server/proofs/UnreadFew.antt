@@ -109,8 +109,17 @@ few_unread front since o n =
     let others = no_others since 0 s n in
     let within = stays_within since 0 s n (omega (arith, count, fits)) in
     omega (
-      arith, few, come, others, within, count, ap owed there, ap (λ (x : Phase). outside_from x since) there,
-      length-append front since, length-append front b.more, outside-append Plain front b.more,
+      arith,
+      few,
+      come,
+      others,
+      within,
+      count,
+      ap owed there,
+      ap (λ (x : Phase). outside_from x since) there,
+      length-append front since,
+      length-append front b.more,
+      outside-append Plain front b.more,
     )
 
 pub bounded_by : (server : Server) (unread : Unread) → IsSound server unread → IsBounded (Some (kept_of unread))
