@@ -41,6 +41,24 @@ pub struct Session<L: Link> {
 impl<L: Link> Session<L> {
     ghost use Rattle.imap_client.specs.Sessions.{state_of, line_of, server_of};
 
+    /// A session over the link, of which no connection was made. Each call answers `Stopped`, until `reconnect`.
+    pub fn closed(alloc: Global, link: L) -> Session<L>
+        ensures link { result.wire.link ≡ link }
+        ensures ready { result.is_ready ≡ false }
+        ensures tags { result.tags ≡ 0 }
+        ensures heard { result.wire.heard.items ≡ [] }
+    {
+        Session {
+            wire: Wire {
+                link,
+                heard: Vec::new(alloc),
+                alloc,
+            },
+            tags: 0,
+            is_ready: false,
+        }
+    }
+
     /// A session over the link, in a new connection, whose greeting was heard. Beside a fault the link comes back.
     ///
     /// `Stopped`: the link stops, the bytes end, or the server greets with `* BYE`. `Protocol`: it greets with anything
@@ -51,15 +69,7 @@ impl<L: Link> Session<L> {
         ensures err { IfErr result (λ e. (L.honest e.1 → L.honest link) × IsHearing e.0 × (L.stops link ≤ L.stops e.1)) }
         ensures left { IfErr result (λ e. L.honest e.1 → Outcome (λ (_ : Unit {0}). Restarts) Never Restarts (Err e.0) (L.line link).end.server (L.line e.1).end.server) }
     {
-        let mut session = Session {
-            wire: Wire {
-                link,
-                heard: Vec::new(alloc),
-                alloc,
-            },
-            tags: 0,
-            is_ready: false,
-        };
+        let mut session = Session::closed(alloc, link);
         match session.reconnect() {
             Ok(()) => Ok(session),
             Err(fault) => Err((fault, session.into_link())),
