@@ -1,0 +1,166 @@
+#!/usr/bin/env python3
+"""Kills mbsync at random moments, and looks whether the next run brings everything to its end:
+
+    bench/killed.py [--program PROGRAM] [--rounds N] [--seed SEED]
+    bench/killed.py --self-test
+
+A round changes both sides at random (new messages, flags, removals; the far one over raw sockets to trial-imapd, the near one by
+files), starts a run and kills it by `kill -9` at a random moment, sometimes several times, sometimes with messages that come in
+between; then one run has to end well. What both sides hold then, and what the state records, is compared with a model of docs/RULES.md
+that is no code of ours: nothing may be lost, doubled or revived, each flag has to be as the rules say, each byte and each UID as it
+was, and copies have to stand in the order of their sources. Sync and Expunge are chosen anew for each round. A fault is told with its
+round and seed, and ends the script with status 1. PROGRAM is the built mbsync if it is left out; there are 200 rounds.
+
+`--self-test` tries the judge: on a synchroniser in memory that is right, and on wrong ones, each of which it has to catch."""
+import argparse
+import collections
+import os
+import signal
+import subprocess
+import sys
+import tempfile
+import time
+
+from imap_side import ImapSide
+from maildir_side import MaildirSide
+from soak import Soak
+from stand_ins import WRONG, Right
+from trial_imapd import TOP, Server, build, world
+
+MBSYNC = os.path.join(TOP, "crates", "mbsync_main", "out", "mbsync_main")
+MOST_SECONDS = 120
+CONFIGURATION = """IMAPStore far
+Host 127.0.0.1
+Port %d
+User u
+Pass p
+
+MaildirStore near
+Path %s/
+Inbox %s/INBOX
+
+Channel soak
+Far :far:
+Near :near:
+Sync %s
+Expunge %s
+SyncState *
+"""
+
+
+class Programs:
+    """trial-imapd, a Maildir folder, and the program that is tried."""
+
+    def __init__(self, program, folder, server):
+        self.program = program
+        self.folder = folder
+        self.server = server
+        self.near = MaildirSide(os.path.join(folder, "INBOX"))
+        self.seconds = collections.deque([0.2], maxlen=20)
+        self.output = ""
+
+    def far_side(self):
+        return ImapSide(self.server.port)
+
+    def near_side(self):
+        return self.near
+
+    def state(self):
+        return self.near.text(".mbsyncstate")
+
+    def told(self):
+        return self.output
+
+    def attempt(self, words, share):
+        """Runs the program, and kills it behind this share of the longest time that a run took of late."""
+        configuration = os.path.join(self.folder, "mbsyncrc")
+        with open(configuration, "w", encoding="ascii") as file:
+            file.write(CONFIGURATION % (self.server.port, self.folder, self.folder, *words))
+        state = self.state()
+        start = time.monotonic()
+        process = subprocess.Popen([self.program, "-c", configuration, "soak"], stdout=subprocess.PIPE, stderr=subprocess.STDOUT, text=True)
+        try:
+            self.output, _ = process.communicate(timeout=MOST_SECONDS if share is None else share * max(self.seconds))
+        except subprocess.TimeoutExpired:
+            process.send_signal(signal.SIGKILL)
+            self.output, _ = process.communicate()
+        if process.returncode == 0:
+            self.seconds.append(time.monotonic() - start)
+            return "ended"
+        return self.standing(state) if process.returncode == -signal.SIGKILL and share is not None else "failed"
+
+    def standing(self, state):
+        """How far a killed run has come, by its files."""
+        journal = (self.near.text(".mbsyncstate.journal") or "").split("\n")[:-1]
+        if self.state() != state:
+            return "behind the new state"
+        if "go" not in journal:
+            return "before the plan" if not journal else "in the plan"
+        done = sum(line[:2] in ("d ", "v ") for line in journal)
+        steps = sum(line[:2] == "s " for line in journal)
+        return "before the first step" if done == 0 and steps else "between steps" if done < steps else "behind the last step"
+
+
+def soak(place, seed, rounds):
+    """Rounds up to the first with something wrong; gives their number, how killed runs stood, and what is wrong."""
+    trial, stood = Soak(place, seed), collections.Counter()
+    for number in range(1, rounds + 1):
+        told = trial.round()
+        stood.update(told.kills)
+        if told.wrong:
+            return number, stood, told.wrong
+    return rounds, stood, []
+
+
+def self_test(seed, rounds):
+    """Whether the judge lets the right synchroniser pass, and catches each wrong one."""
+    failed = 0
+    for kind in (Right, *WRONG):
+        number, stood, wrong = soak(kind(seed), seed, rounds)
+        is_as_it_should = bool(wrong) == (kind is not Right)
+        failed += not is_as_it_should
+        told = f"round {number}: {wrong[0]}" if wrong else f"{number} rounds, nothing wrong, {dict(stood)}"
+        print(f"{'passed' if is_as_it_should else 'FAILED'}: {kind.__name__}: {told}")
+    print(f"{1 + len(WRONG) - failed} passed, {failed} failed")
+    return 1 if failed else 0
+
+
+def try_program(program, seed, rounds):
+    build()
+    with tempfile.TemporaryDirectory() as folder:
+        file = os.path.join(folder, "empty.world")
+        with open(file, "wb") as text:
+            text.write(world([]))
+        server = Server(file, 65535)
+        try:
+            server.connect().logout()
+            number, stood, wrong = soak(Programs(program, folder, server), seed, rounds)
+            print("killed runs: " + ", ".join(f"{count} {how}" for how, count in stood.most_common()))
+            for line in wrong:
+                print(f"seed {seed}, round {number}: {line}")
+            if wrong:
+                kept = tempfile.mkdtemp(prefix="killed-")
+                subprocess.run(["cp", "-a", folder, kept], check=True)
+                print(f"the near side is kept in {kept}")
+        finally:
+            server.stop()
+    print(f"seed {seed}: {number} rounds, " + ("something is wrong" if wrong else "nothing lost, doubled or revived"))
+    return 1 if wrong else 0
+
+
+def main():
+    words = argparse.ArgumentParser()
+    words.add_argument("--program", default=MBSYNC)
+    words.add_argument("--rounds", type=int, default=200)
+    words.add_argument("--seed", type=int, default=int(time.time()))
+    words.add_argument("--self-test", action="store_true")
+    words = words.parse_args()
+    if words.self_test:
+        sys.exit(self_test(words.seed, words.rounds))
+    if not os.access(words.program, os.X_OK):
+        sys.exit(f"{words.program} is not built")
+    sys.exit(try_program(words.program, words.seed, words.rounds))
+
+
+if __name__ == "__main__":
+    main()
