@@ -94,18 +94,16 @@ def letters(flags):
 
 
 def verdict(judge, sides, courses, state=None):
-    """The course that agrees with what is found, or none, and what is wrong, by the course that comes nearest."""
+    """The courses that agree with what is found, and what is wrong if there is none, by the course that comes nearest."""
     agreeing = [course for course in courses if not differences(sides, course.world)]
     if not agreeing:
         nearest = min(courses, key=lambda course: len(differences(sides, course.world)))
-        return None, differences(sides, nearest.world)
+        return [], differences(sides, nearest.world)
     recorded = judge.pairs_of_state(state)
-    if recorded is None:
-        return agreeing[0], []
-    with_pairs = [course for course in agreeing if pairs_of(course) == recorded]
+    with_pairs = [course for course in agreeing if recorded in (None, pairs_of(course))]
     if with_pairs:
-        return with_pairs[0], []
-    return None, [f"the state records {show(recorded)} in place of {show(pairs_of(agreeing[0]))}"]
+        return with_pairs, []
+    return [], [f"the state records {show(recorded)} in place of {show(pairs_of(agreeing[0]))}"]
 
 
 def pairs_of(course):

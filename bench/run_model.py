@@ -63,6 +63,14 @@ class World:
         pairs = {name: Pair(pair.sides, pair.flags) for name, pair in self.pairs.items()}
         return World(dict(self.far), dict(self.near), pairs, dict(self.old), self.unfit)
 
+    def trimmed(self):
+        """The same without what no later run asks: whether a message that is paired or gone was new."""
+        world = self.copy()
+        world.old = {side: frozenset(name for name in names if name in self.side(side) and name not in self.pairs)
+                     for side, names in self.old.items()}
+        world.unfit = frozenset(name for name in self.unfit if name in self.near)
+        return world
+
 
 def news(world, side, options):
     """The names of the messages of this side that are new."""
@@ -141,12 +149,21 @@ def after_kill(courses, options):
         else:
             ways.append(Course(run(course.world, options), True, course.runs))
             ways.append(Course(run(course.world, options), False, course.runs + 1))
-    return ways
+    return different(ways)
+
+
+def different(courses):
+    """Each of these once."""
+    found = []
+    for course in courses:
+        if course not in found:
+            found.append(course)
+    return found
 
 
 def after_run(courses, options):
     """What may stand behind an attempt that ended well."""
-    return [Course(course.world if course.is_pending else run(course.world, options), False, course.runs + 1) for course in courses]
+    return different(Course(course.world if course.is_pending else run(course.world, options), False, course.runs + 1) for course in courses)
 
 
 def with_arrivals(courses, arrived):

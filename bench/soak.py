@@ -4,7 +4,7 @@ from dataclasses import dataclass, field
 
 from judge import Judge, verdict
 from mail_changes import Changes, random_options
-from run_model import Course, World, after_kill, after_run, with_arrivals
+from run_model import Course, World, after_kill, after_run, different, with_arrivals
 
 MOST_MESSAGES = 30
 MOST_NEW = 8
@@ -28,7 +28,8 @@ class Soak:
         self.rng = random.Random(seed)
         self.judge = Judge()
         self.changes = Changes(place, self.judge, seed + 1)
-        self.world = World()
+        # Where the state is no text of ours, several courses may agree with what is found.
+        self.courses = [Course(World())]
 
     def sides(self):
         """What stands on both sides by name, and what is wrong with it in itself."""
@@ -39,18 +40,16 @@ class Soak:
         return self.judge.read(on_far, on_near)
 
     def change(self):
-        """Changes both sides, and the model's world with them."""
+        """Changes both sides, and the worlds of the model with them."""
         sides, _ = self.sides()
         for side, opened in (("far", self.place.far_side()), ("near", self.place.near_side())):
             with opened as target:
                 self.changes.change(target, sides[side], MOST_MESSAGES)
-            world = self.world.side(side)
-            for name in list(world):
-                if name not in sides[side]:
-                    del world[name]
-            world.update((name, flags) for name, (_, flags) in sides[side].items())
-        arrived = self.changes.arrivals(MOST_NEW)
-        self.world = with_arrivals([Course(self.world)], arrived)[0].world
+            for course in self.courses:
+                course.world.side(side).clear()
+                course.world.side(side).update((name, flags) for name, (_, flags) in sides[side].items())
+        self.courses = with_arrivals(self.courses, self.changes.arrivals(MOST_NEW))
+        return sides
 
     def killed_runs(self, words, options, courses, told):
         """One run that is killed, sometimes more, sometimes with messages that come in between."""
@@ -65,26 +64,24 @@ class Soak:
 
     def round(self):
         """Changes, killed runs, one run more; and what is wrong behind it."""
-        self.change()
+        before = self.change()
         words, options = random_options(self.rng)
-        before, told = {"far": set(self.world.far), "near": set(self.world.near)}, Told()
-        run_before = run_number(self.place.state())
-        courses = self.killed_runs(words, options, [Course(self.world)], told)
+        told, run_before = Told(), run_number(self.place.state())
+        courses = self.killed_runs(words, options, self.courses, told)
         if "failed" in told.kills or self.place.attempt(words, None) != "ended":
             told.wrong.append(f"{words}: the run failed: {self.place.told()}")
             return told
         sides, told.wrong = self.sides()
         told.wrong += self.judge.wrong_order(sides, before)
         state = self.place.state()
-        courses = after_run(courses, options)
         runs = None if run_number(state) is None else run_number(state) - (run_before or 0)
-        courses = [course for course in courses if runs in (None, course.runs)]
+        courses = [course for course in after_run(courses, options) if runs in (None, course.runs)]
         if not courses:
             told.wrong.append(f"{words}: the state counts {runs} runs, which cannot be")
             return told
-        course, wrong = verdict(self.judge, sides, courses, state)
+        agreeing, wrong = verdict(self.judge, sides, courses, state)
         told.wrong += [f"{words}: {line}" for line in wrong]
-        self.world = course.world if course else self.world
+        self.courses = different(Course(course.world.trimmed()) for course in agreeing)
         return told
 
 

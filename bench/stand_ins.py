@@ -122,15 +122,15 @@ class Right:
     def perform(self, step, is_resumed):
         kind, side, name, what = step
         target = self.sides[side]
-        uids = {name_of(data): uid for uid, _, data in target.messages()}
+        there = {name_of(data): (uid, flags) for uid, flags, data in target.messages()}
         if kind == "copy" and not (is_resumed and self.is_there(target, what)):
             flags, data = next((flags, data) for _, flags, data in self.sides[OTHER[side]].messages() if name_of(data) == name)
             line_end = b"\n" if side == "near" else b"\r\n"
             target.add(name, b"X-TUID: " + what + line_end + content(data).replace(b"\n", line_end), flags)
         elif kind == "flags":
-            target.set_flags(uids[name], None, what)
-        elif kind == "remove" and name in uids:
-            target.remove(uids[name])
+            target.set_flags(*there[name], what)
+        elif kind == "remove" and name in there:
+            target.remove(there[name][0])
 
     def is_there(self, target, mark):
         return any(data.startswith(b"X-TUID: " + mark) for _, _, data in target.messages())
