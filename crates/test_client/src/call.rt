@@ -1,9 +1,12 @@
 //! The calls of a script.
 
 use crate::failure::Failure;
-use crate::words::{read_bytes, read_flags, read_uid, read_uids, two_words};
+use crate::words::{
+    read_bytes, read_flags, read_mark, read_number, read_uid, read_uids, two_words,
+};
 use imap_commands::message::Message;
 use mailcore::flags::Flags;
+use mailcore::tuid::Tuid;
 use mailcore::uid::Uid;
 use std::alloc::Global;
 
@@ -16,10 +19,20 @@ pub enum Call {
     Reconnect,
     /// `Session::login`, with a user and a password.
     Login(Vec<u8>, Vec<u8>),
+    /// `Session::list`.
+    Names,
     /// `Session::create`, with a name.
     Create(Vec<u8>),
     /// `Session::select`, with a name.
     Select(Vec<u8>),
+    /// `Session::logout`.
+    Logout,
+    /// `FarBox::list`.
+    List,
+    /// `FarBox::fetch`.
+    Fetch(Uid),
+    /// `FarBox::find_mark`, with a mark and the least UID.
+    FindMark(Tuid, u32),
     /// `FarBox::append`, with flags and a message.
     Append(Flags, Message),
     /// `FarBox::add_flags`.
@@ -40,6 +53,9 @@ impl Call {
         match line {
             b"open" => Ok(Call::Open),
             b"reconnect" => Ok(Call::Reconnect),
+            b"names" => Ok(Call::Names),
+            b"logout" => Ok(Call::Logout),
+            b"list" => Ok(Call::List),
             b"expunge" => Ok(Call::Expunge(Vec::new(alloc))),
             b"into_session" => Ok(Call::IntoSession),
             b"into_link" => Ok(Call::IntoLink),
@@ -54,6 +70,7 @@ impl Call {
         match word {
             b"create" => Ok(Call::Create(Vec::from_slice(alloc, rest)?)),
             b"select" => Ok(Call::Select(Vec::from_slice(alloc, rest)?)),
+            b"fetch" => Ok(Call::Fetch(read_uid(rest)?)),
             b"expunge" => Ok(Call::Expunge(read_uids(alloc, rest)?)),
             _ => {
                 let (first, second) = two_words(rest)?;
@@ -70,6 +87,7 @@ impl Call {
     ) -> Result<Call, Failure> {
         match word {
             b"login" => read_login(alloc, first, second),
+            b"find_mark" => Ok(Call::FindMark(read_mark(first)?, read_number(second)?)),
             b"append" => read_append(alloc, first, second),
             b"add_flags" => Ok(Call::AddFlags(read_uid(first)?, read_flags(second)?)),
             b"remove_flags" => Ok(Call::RemoveFlags(read_uid(first)?, read_flags(second)?)),

@@ -12,6 +12,7 @@ use imap_client::session::Session;
 use imap_commands::message::Message;
 use imap_link::fault::FarFault;
 use mailcore::flags::Flags;
+use mailcore::tuid::Tuid;
 use mailcore::uid::Uid;
 use std::alloc::Global;
 use std::cell::RefCell;
@@ -53,8 +54,13 @@ impl<'t> Client<'t> {
             Call::Open => Ok(self.open()),
             Call::Reconnect => Ok(self.reconnect()),
             Call::Login(user, password) => self.login(user, password),
+            Call::Names => self.names(),
             Call::Create(name) => self.create(name),
             Call::Select(name) => self.select(name),
+            Call::Logout => Ok(self.logout()),
+            Call::List => self.list(),
+            Call::Fetch(uid) => self.fetch(*uid),
+            Call::FindMark(mark, from) => self.find_mark(*mark, *from),
             Call::Append(flags, message) => self.append(message, *flags),
             Call::AddFlags(uid, flags) => Ok(self.add_flags(*uid, *flags)),
             Call::RemoveFlags(uid, flags) => Ok(self.remove_flags(*uid, *flags)),
@@ -116,6 +122,13 @@ impl<'t> Client<'t> {
         }
     }
 
+    fn names(&mut self) -> Result<Answer, Failure> {
+        match &mut self.stand {
+            Stand::Session(session) => asking::names(self.alloc, session),
+            _ => Ok(Answer::NotMade),
+        }
+    }
+
     fn create(&mut self, name: &[u8]) -> Result<Answer, Failure> {
         if !is_word(name) {
             return Err(Failure::Script);
@@ -149,6 +162,47 @@ impl<'t> Client<'t> {
                 self.keep(Stand::Session(session));
                 Answer::Fault(fault)
             }
+        }
+    }
+
+    fn logout(&mut self) -> Answer {
+        match self.take() {
+            Stand::Session(session) => self.keep_left(session.logout()),
+            other => self.not_made(other),
+        }
+    }
+
+    fn keep_left(&mut self, left: Result<ScriptLink<'t>, (FarFault, ScriptLink<'t>)>) -> Answer {
+        match left {
+            Ok(link) => {
+                self.keep(Stand::Link(link));
+                Answer::Done
+            }
+            Err((fault, link)) => {
+                self.keep(Stand::Link(link));
+                Answer::Fault(fault)
+            }
+        }
+    }
+
+    fn list(&mut self) -> Result<Answer, Failure> {
+        match &mut self.stand {
+            Stand::Mailbox(mailbox) => asking::list(self.alloc, mailbox),
+            _ => Ok(Answer::NotMade),
+        }
+    }
+
+    fn fetch(&mut self, uid: Uid) -> Result<Answer, Failure> {
+        match &mut self.stand {
+            Stand::Mailbox(mailbox) => asking::fetch(self.alloc, mailbox, uid),
+            _ => Ok(Answer::NotMade),
+        }
+    }
+
+    fn find_mark(&mut self, mark: Tuid, from: u32) -> Result<Answer, Failure> {
+        match &mut self.stand {
+            Stand::Mailbox(mailbox) => asking::find_mark(self.alloc, mailbox, mark, from),
+            _ => Ok(Answer::NotMade),
         }
     }
 

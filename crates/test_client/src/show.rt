@@ -51,16 +51,29 @@ fn push_line(told: &mut String, line: &[u8]) -> Result<(), AllocError> {
 }
 
 /// Adds bytes, or their begin and how many they are.
-pub fn push_bytes(told: &mut String, bytes: &[u8]) -> Result<(), AllocError> {
-    let length = bytes.len();
-    let shown = if length <= SHOWN_MAX { length } else { BEGIN };
-    for &byte in bytes.iter().take(shown) {
+fn push_bytes(told: &mut String, bytes: &[u8]) -> Result<(), AllocError> {
+    for &byte in begin_of(bytes) {
         push_byte(told, byte)?;
     }
-    if shown < length {
-        write!(told, " .. ({length} bytes)")?;
+    push_length(told, bytes)
+}
+
+/// The bytes, or their begin where they are many.
+pub fn begin_of(bytes: &[u8]) -> &[u8] {
+    if bytes.len() <= SHOWN_MAX {
+        bytes
+    } else {
+        &bytes[..BEGIN]
     }
-    Ok(())
+}
+
+/// Adds how many bytes they are, where they are shown by their begin.
+pub fn push_length(told: &mut String, bytes: &[u8]) -> Result<(), AllocError> {
+    let length = bytes.len();
+    if length <= SHOWN_MAX {
+        return Ok(());
+    }
+    write!(told, " .. ({length} bytes)")
 }
 
 /// Adds a byte, or two digits for one outside 32 to 126.

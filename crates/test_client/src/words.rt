@@ -5,6 +5,7 @@ ghost use Rattle.imap_client.specs.Requests.{IsWord};
 
 use crate::failure::Failure;
 use mailcore::flags::Flags;
+use mailcore::tuid::Tuid;
 use mailcore::uid::Uid;
 use std::alloc::Global;
 use texts::cut::cut;
@@ -44,6 +45,11 @@ pub fn read_uids(alloc: Global, text: &[u8]) -> Result<Vec<Uid>, Failure> {
         }
     }
     Ok(uids)
+}
+
+/// A mark.
+pub fn read_mark(word: &[u8]) -> Result<Tuid, Failure> {
+    Tuid::read(word).ok_or(Failure::Script)
 }
 
 /// Flags by their letters, or `-` for none.
