@@ -2,19 +2,19 @@
 
 use crate::answer::Answer;
 use crate::failure::Failure;
-use crate::script_link::ScriptLink;
 use crate::told::{bytes_text, listing_text, names_text, uid_text};
 use imap_client::far_box::FarBox;
 use imap_client::session::Session;
 use imap_commands::message::Message;
 use imap_link::fault::FarFault;
+use imap_link::link::Link;
 use mailcore::flags::Flags;
 use mailcore::tuid::Tuid;
 use mailcore::uid::Uid;
 use std::alloc::Global;
 
 /// The names of all mailboxes.
-pub fn names(alloc: Global, session: &mut Session<ScriptLink<'_>>) -> Result<Answer, Failure> {
+pub fn names<L: Link>(alloc: Global, session: &mut Session<L>) -> Result<Answer, Failure> {
     match session.list() {
         Ok(names) => Ok(Answer::Told(names_text(alloc, &names)?)),
         Err(fault) => Ok(Answer::Fault(fault)),
@@ -22,7 +22,7 @@ pub fn names(alloc: Global, session: &mut Session<ScriptLink<'_>>) -> Result<Ans
 }
 
 /// What the mailbox lists.
-pub fn list(alloc: Global, mailbox: &mut FarBox<ScriptLink<'_>>) -> Result<Answer, Failure> {
+pub fn list<L: Link>(alloc: Global, mailbox: &mut FarBox<L>) -> Result<Answer, Failure> {
     match mailbox.list() {
         Ok(listing) => Ok(Answer::Told(listing_text(alloc, &listing)?)),
         Err(fault) => Ok(Answer::Fault(fault)),
@@ -30,11 +30,7 @@ pub fn list(alloc: Global, mailbox: &mut FarBox<ScriptLink<'_>>) -> Result<Answe
 }
 
 /// The bytes of a message.
-pub fn fetch(
-    alloc: Global,
-    mailbox: &mut FarBox<ScriptLink<'_>>,
-    uid: Uid,
-) -> Result<Answer, Failure> {
+pub fn fetch<L: Link>(alloc: Global, mailbox: &mut FarBox<L>, uid: Uid) -> Result<Answer, Failure> {
     match mailbox.fetch(uid) {
         Ok(bytes) => Ok(Answer::Told(bytes_text(alloc, bytes)?)),
         Err(fault) => Ok(Answer::Fault(fault)),
@@ -42,9 +38,9 @@ pub fn fetch(
 }
 
 /// The UID under which the mark stands.
-pub fn find_mark(
+pub fn find_mark<L: Link>(
     alloc: Global,
-    mailbox: &mut FarBox<ScriptLink<'_>>,
+    mailbox: &mut FarBox<L>,
     mark: Tuid,
     from: u32,
 ) -> Result<Answer, Failure> {
@@ -52,9 +48,9 @@ pub fn find_mark(
 }
 
 /// The UID of the message that was added.
-pub fn append(
+pub fn append<L: Link>(
     alloc: Global,
-    mailbox: &mut FarBox<ScriptLink<'_>>,
+    mailbox: &mut FarBox<L>,
     message: &Message,
     flags: Flags,
 ) -> Result<Answer, Failure> {

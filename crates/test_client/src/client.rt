@@ -4,18 +4,16 @@ use crate::answer::Answer;
 use crate::asking;
 use crate::call::Call;
 use crate::failure::Failure;
-use crate::script_link::ScriptLink;
-use crate::tape::Tape;
 use crate::words::is_word;
 use imap_client::far_box::FarBox;
 use imap_client::session::Session;
 use imap_commands::message::Message;
 use imap_link::fault::FarFault;
+use imap_link::link::Link;
 use mailcore::flags::Flags;
 use mailcore::tuid::Tuid;
 use mailcore::uid::Uid;
 use std::alloc::Global;
-use std::cell::RefCell;
 use std::mem;
 
 /// The most messages that may be removed in a call.
@@ -23,28 +21,26 @@ const MOST_REMOVED: usize = 5000;
 
 /// What a client has.
 #[derive(Drop)]
-enum Stand<'t> {
+enum Stand<L: Link> {
     Nothing,
-    Link(ScriptLink<'t>),
-    Session(Session<ScriptLink<'t>>),
-    Mailbox(FarBox<ScriptLink<'t>>),
+    Link(L),
+    Session(Session<L>),
+    Mailbox(FarBox<L>),
 }
 
-/// A client of the server of a script.
+/// A client over a link.
 #[derive(Drop)]
-pub struct Client<'t> {
+pub struct Client<L: Link> {
     alloc: Global,
-    tape: &'t RefCell<Tape>,
-    stand: Stand<'t>,
+    stand: Stand<L>,
 }
 
-impl<'t> Client<'t> {
-    /// One that has no link.
-    pub fn new(alloc: Global, tape: &'t RefCell<Tape>) -> Client<'t> {
+impl<L: Link + Drop> Client<L> {
+    /// One that has this link, and no session.
+    pub fn new(alloc: Global, link: L) -> Client<L> {
         Client {
             alloc,
-            tape,
-            stand: Stand::Nothing,
+            stand: Stand::Link(link),
         }
     }
 
@@ -70,29 +66,28 @@ impl<'t> Client<'t> {
         }
     }
 
-    fn keep(&mut self, stand: Stand<'t>) {
+    fn keep(&mut self, stand: Stand<L>) {
         self.stand = stand;
     }
 
-    fn take(&mut self) -> Stand<'t> {
+    fn take(&mut self) -> Stand<L> {
         mem::replace(&mut self.stand, Stand::Nothing)
     }
 
     /// What stands in place of what the call would take, which is kept.
-    fn not_made(&mut self, stand: Stand<'t>) -> Answer {
+    fn not_made(&mut self, stand: Stand<L>) -> Answer {
         self.keep(stand);
         Answer::NotMade
     }
 
     fn open(&mut self) -> Answer {
         match self.take() {
-            Stand::Nothing => self.open_over(ScriptLink::new(self.alloc, self.tape)),
             Stand::Link(link) => self.open_over(link),
             other => self.not_made(other),
         }
     }
 
-    fn open_over(&mut self, link: ScriptLink<'t>) -> Answer {
+    fn open_over(&mut self, link: L) -> Answer {
         match Session::open(self.alloc, link) {
             Ok(session) => {
                 self.keep(Stand::Session(session));
@@ -149,10 +144,7 @@ impl<'t> Client<'t> {
         }
     }
 
-    fn keep_selected(
-        &mut self,
-        selected: Result<FarBox<ScriptLink<'t>>, (FarFault, Session<ScriptLink<'t>>)>,
-    ) -> Answer {
+    fn keep_selected(&mut self, selected: Result<FarBox<L>, (FarFault, Session<L>)>) -> Answer {
         match selected {
             Ok(mailbox) => {
                 self.keep(Stand::Mailbox(mailbox));
@@ -172,7 +164,7 @@ impl<'t> Client<'t> {
         }
     }
 
-    fn keep_left(&mut self, left: Result<ScriptLink<'t>, (FarFault, ScriptLink<'t>)>) -> Answer {
+    fn keep_left(&mut self, left: Result<L, (FarFault, L)>) -> Answer {
         match left {
             Ok(link) => {
                 self.keep(Stand::Link(link));

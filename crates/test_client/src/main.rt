@@ -34,6 +34,9 @@
 //! | `cut everywhere` | the session is played anew for each place at which what the server says may end: which call is the first whose answer is another one then, and whether those behind it are stopped and send nothing |
 //! | `# ..`, and an empty line | nothing |
 //!
+//! With an argument `ADDR`, a host and a port, the calls of all sessions are made one behind another over a connection to the
+//! server there, and only the calls and their answers are printed: `bench/tcp.py`.
+//!
 //! Status 2: a line of the script is bad, and nothing is printed but its number.
 #![tactic(auto)]
 
@@ -45,6 +48,7 @@ mod client;
 mod cuts;
 mod failure;
 mod line;
+mod over_tcp;
 mod playing;
 mod script;
 mod script_link;
@@ -55,14 +59,20 @@ mod told;
 mod words;
 
 use crate::failure::Failure;
+use crate::over_tcp::played_at;
 use crate::stage::played;
+use std::env;
 use std::io::{Read, Write};
 use std::process::ExitCode;
 
 fn run(rt: &HostRuntime) -> Result<(), Failure> {
+    let mut arguments = env::args(rt)?.skip(1);
     let mut script = Vec::new(rt.alloc());
     rt.stdin().read_to_end(&mut script)?;
-    let told = played(rt.alloc(), &script)?;
+    let told = match arguments.next() {
+        Some(address) => played_at(rt, address.as_str(), &script)?,
+        None => played(rt.alloc(), &script)?,
+    };
     let mut out = rt.stdout();
     out.write_all(told.as_bytes())?;
     Ok(out.flush()?)

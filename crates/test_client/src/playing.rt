@@ -4,6 +4,7 @@ use crate::act::Act;
 use crate::answer::Answer;
 use crate::client::Client;
 use crate::failure::Failure;
+use crate::script_link::ScriptLink;
 use crate::tape::Tape;
 use std::alloc::Global;
 use std::cell::RefCell;
@@ -42,7 +43,7 @@ pub fn play(alloc: Global, acts: &[&Act], piece: usize, room: usize) -> Result<P
 }
 
 fn make_all(alloc: Global, tape: &RefCell<Tape>, acts: &[&Act]) -> Result<Vec<Outcome>, Failure> {
-    let mut client = Client::new(alloc, tape);
+    let mut client = Client::new(alloc, ScriptLink::new(alloc, tape));
     let mut outcomes = Vec::new(alloc);
     for act in acts {
         begin(tape, act)?;
