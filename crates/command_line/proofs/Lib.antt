@@ -1,0 +1,2 @@
+mod FoundLemmas
+mod SynopsisLemmas

@@ -1,0 +1,47 @@
+-- What `clap` says of the synopsis, and which fault of usage an error of its parse is.
+use Rattle.std.proofs.Common.{◌≡◌, ◌∙◌, ◌⊎◌, Bool, true, false, List, [], inl, inr, refl, subst, sym}
+use Rattle.clap.specs.Faults.{fault_of, is_simple_and_free}
+use Rattle.clap.specs.Kinds.{HasKind, IsAmong}
+use Rattle.clap.specs.Simple.{is_simple}
+use Rattle.clap.specs.Takes.{takes}
+use Rattle.clap.specs.Values.{kind_of}
+use Rattle.clap.specs.Walk.{Text}
+use Rattle.clap.specs.declared.error.Error.{Error}
+use Rattle.clap.specs.declared.error.kind.ErrorKind.TheVariants.{OutOfMemory}
+use Rattle.clap.proofs.OnLiterals.{clap_on_literals}
+use Rattle.command_line.specs.ClapFaults.{Tells}
+use Rattle.command_line.specs.Requests.{IsFault}
+use Rattle.command_line.specs.Synopsis.{synopsis}
+use Rattle.command_line.specs.declared.fault.UsageFault.{UsageFault}
+use Rattle.command_line.specs.declared.fault.UsageFault.TheVariants.{Line, NoChannel, SyncWords, NoMemory}
+
+pub synopsis_is_simple : is_simple synopsis ≡ true
+unfolding synopsis clap_on_literals
+synopsis_is_simple = refl
+
+pub synopsis_is_free : is_simple_and_free synopsis ≡ true
+unfolding synopsis clap_on_literals
+synopsis_is_free = refl
+
+-- words with another fault than want of memory are not taken
+not_taken : (words : List Text) (error : Error) → (kind_of error ≡ OutOfMemory → ⊥)
+    → (takes synopsis words ≡ true → kind_of error ≡ OutOfMemory) → takes synopsis words ≡ false
+not_taken words error other passes = go (takes synopsis words) refl
+  where
+    go : (t : Bool) → takes synopsis words ≡ t → takes synopsis words ≡ false
+    go true e = absurd (other (passes e))
+    go false e = e
+
+among : (words : List Text) (error : Error) → (kind_of error ≡ OutOfMemory → ⊥)
+    → HasKind (fault_of synopsis words) error → IsAmong (kind_of error) (fault_of synopsis words)
+among words error other (inl memory) = absurd (other memory)
+among words error other (inr kind) = kind
+
+pub told_is_fault : (words : List Text) (error : Error) (fault : UsageFault) → Tells error fault
+    → (takes synopsis words ≡ true → kind_of error ≡ OutOfMemory) → HasKind (fault_of synopsis words) error
+    → IsFault words fault
+told_is_fault words error (Line told) tells passes kind =
+    subst (λ (e : Error). IsFault words (Line e)) (sym tells.0) (not_taken words error tells.1 passes, among words error tells.1 kind)
+told_is_fault words error NoChannel tells passes kind = absurd tells
+told_is_fault words error SyncWords tells passes kind = absurd tells
+told_is_fault words error NoMemory tells passes kind = tt

@@ -1,0 +1,20 @@
+-- Which faults of usage the errors of other crates are.
+use Rattle.std.specs.Prelude.{◌≡◌, ◌≢◌}
+use Rattle.clap.specs.Values.{kind_of}
+use Rattle.clap.specs.declared.error.Error.{Error}
+use Rattle.clap.specs.declared.error.kind.ErrorKind.TheVariants.{OutOfMemory}
+use Rattle.request.specs.declared.cells.CellsFault.{CellsFault}
+use Rattle.request.specs.declared.cells.CellsFault.TheVariants as cells
+use Rattle.command_line.specs.declared.fault.UsageFault.{UsageFault}
+use Rattle.command_line.specs.declared.fault.UsageFault.TheVariants.{Line, NoChannel, SyncWords, NoMemory}
+
+-- an error of `clap` but want of memory is a fault of the line
+abbrev pub Tells : Error → UsageFault → Type 0
+Tells error (Line told) = (told ≡ error) × (kind_of error ≢ OutOfMemory)
+Tells error NoChannel = ⊥
+Tells error SyncWords = ⊥
+Tells error NoMemory = kind_of error ≡ OutOfMemory
+
+abbrev pub refusal_told : CellsFault → UsageFault
+refusal_told (cells.Refused fault) = SyncWords
+refusal_told cells.NoMemory = NoMemory

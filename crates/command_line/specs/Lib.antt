@@ -1,0 +1,5 @@
+pub mod SyncFlags
+pub mod Synopsis
+pub mod ClapFaults
+pub mod Requests
+pub mod Statuses

@@ -1,0 +1,8 @@
+//! The command line of `mbsync`: its words, the request that they name, and what is told where they name none.
+#![tactic(auto)]
+
+pub mod fault;
+pub mod read;
+mod sync_flag;
+mod synopsis;
+pub mod tell;
