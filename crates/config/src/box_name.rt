@@ -4,8 +4,9 @@ ghost use Rattle.std.specs.Prelude.{◌≡◌, ◌==◌};
 ghost use Rattle.std.specs.List.{list_all, slice_split};
 ghost use Rattle.config.specs.BoxNames.{is_box_name, is_name_byte, is_part};
 
-/// Whether this is a name within the limits.
-pub(crate) fn is_box_name(name: &[u8]) -> bool
+/// Whether this is a name within the limits: 1 to 255 printable ASCII characters without `*`, `%`, `"` and `\`, and between slashes
+/// neither nothing nor `.` nor `..`.
+pub fn is_box_name(name: &[u8]) -> bool
     ensures { result ≡ is_box_name name.now }
 {
     name.len() <= 255 && all_name_bytes(name) && all_parts(name)

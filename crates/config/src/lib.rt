@@ -2,7 +2,7 @@
 //! the patterns of a channel choose.
 #![tactic(auto)]
 
-mod box_name;
+pub mod box_name;
 pub mod config;
 mod draft;
 pub mod fault;

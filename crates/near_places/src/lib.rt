@@ -1,0 +1,9 @@
+//! Where the near mailboxes of `mbsync` are: the folders of a Maildir store, the names that they stand for, and the lock of each.
+#![tactic(auto)]
+
+pub mod boxes;
+pub mod fresh;
+pub mod home;
+pub mod lock;
+pub mod refusal;
+mod tree;

@@ -1,0 +1,71 @@
+//! The lock of a near mailbox: of all processes one at a time may synchronise it.
+
+use crate::refusal::Refusal;
+use std::alloc::{AllocError, AllocFailed};
+use std::fs::{File, OpenOptions, TryLockError};
+use std::os::unix::fs::OpenOptionsExt;
+use std::rt::Files;
+use thiserror::Error;
+
+/// The file of the lock, in the folder of the mailbox. It stays there.
+const LOCK: &str = ".mbsyncstate.lock";
+
+/// Who may read and write the file, where it is new: its owner.
+const FILE_MODE: u32 = 0o600;
+
+/// Why a lock is not taken.
+#[derive(Debug, Drop, Error)]
+pub enum LockFault {
+    /// Another process holds it.
+    #[error("locked")]
+    Held,
+    /// Its file does not open.
+    #[error("{0}")]
+    Refused(Refusal),
+}
+
+impl From<AllocError> for LockFault {
+    fn from(fault: AllocError) -> LockFault {
+        LockFault::Refused(Refusal::from(fault))
+    }
+}
+
+impl<T: Drop> From<AllocFailed<T>> for LockFault {
+    fn from(fault: AllocFailed<T>) -> LockFault {
+        LockFault::Refused(Refusal::from(fault))
+    }
+}
+
+/// The lock of a near mailbox. It is held until the value is dropped, and not longer than the process lives: a file that a killed
+/// process left behind is no lock.
+#[derive(Drop)]
+pub struct Lock {
+    _file: File,
+}
+
+impl Lock {
+    /// Takes the lock of the mailbox in this folder, without waiting.
+    ///
+    /// `Held`: another process has it. `Refused`: the file of the lock cannot be opened or locked; its path is told.
+    pub fn take<R: Files<File = File> + AllocGlobal>(
+        rt: &R,
+        folder: &str,
+    ) -> Result<Self, LockFault> {
+        let path = format!(in rt.alloc(); "{folder}/{LOCK}")?;
+        let mut options = OpenOptions::new();
+        options.write(true).create(true).mode(FILE_MODE);
+        let file = match options.open(rt, path.as_str()) {
+            Ok(file) => file,
+            Err(error) => return Err(refused(rt, path.as_str(), &error)),
+        };
+        match file.try_lock() {
+            Ok(()) => Ok(Lock { _file: file }),
+            Err(TryLockError::WouldBlock) => Err(LockFault::Held),
+            Err(TryLockError::Error(error)) => Err(refused(rt, path.as_str(), &error)),
+        }
+    }
+}
+
+fn refused<R: AllocGlobal>(rt: &R, path: &str, error: &std::io::Error) -> LockFault {
+    LockFault::Refused(Refusal::at(rt.alloc(), path, error))
+}
