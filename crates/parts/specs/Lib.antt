@@ -2,3 +2,4 @@ pub mod PartCalls
 pub mod Tallies
 pub mod Devices
 pub mod Drafts
+pub mod Stops
