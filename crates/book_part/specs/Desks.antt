@@ -1,5 +1,5 @@
 -- Where the shelf is, as the calls of the book are seen.
-use Rattle.std.specs.Prelude.{Bool, true, false, Option, None, Some}
+use Rattle.std.specs.Prelude.{Bool, true, false, not, Option, None, Some}
 use Rattle.device.specs.Calls.{Seen}
 use Rattle.book.specs.declared.shelf.Shelf as shelf
 use Rattle.book.specs.MemShelves.{empty}
@@ -23,6 +23,12 @@ module _ {S : Type 0} {shelves : shelf.Ghosts S} where
   seen_at (Closed shelf) = shelves.seen shelf
   seen_at (Open book) = shelves.seen book.shelf
   seen_at Moving = nowhere
+
+  -- whether calls go on: a closed shelf is whole, a book has not failed
+  abbrev pub goes_on : Desk S shelves → Bool
+  goes_on (Closed shelf) = not (shelves.seen shelf).is_broken
+  goes_on (Open book) = book.is_ready
+  goes_on Moving = false
 
   -- what was read of it
   abbrev pub kept_at : Desk S shelves → Option Kept

@@ -2,7 +2,7 @@
 
 ghost use Rattle.std.specs.Prelude.{◌≡◌, true, false, None, Some, OnOk, IfOk, IfErr};
 ghost use Rattle.std.specs.Option.{option_map};
-ghost use Rattle.book_part.specs.Desks.{is_there, seen_at};
+ghost use Rattle.book_part.specs.Desks.{goes_on, is_there, seen_at};
 
 use crate::desk::Desk;
 use crate::told::{told, told_by};
@@ -32,11 +32,13 @@ impl<S: Shelf + Drop> BookPart<S> {
     ghost use Rattle.outside.specs.Calls.{FromBook, FromShelf};
     ghost use Rattle.parts.specs.PartCalls.{Part, PartChanges};
     ghost use Rattle.book_part.specs.Kept.{AreCommitted, FromLog, IsBook, IsHeld, IsRead, LeavesUnread, OfKept, ReadsFiles, TakesCommit, TakesLog, TakesPlan, journal_of, state_of, turned};
-    ghost use Rattle.book_part.specs.BookParts.{files_of, kept_of, seen_of};
+    ghost use Rattle.parts.specs.Stops.{standing_at};
+    ghost use Rattle.book_part.specs.BookParts.{Stops, files_of, kept_of, seen_of, standing_of};
 
     /// The part over this shelf. No book is open.
     pub fn new(alloc: Global, shelf: S) -> Self
         ensures seen { seen_of result ≡ S.seen shelf }
+        ensures standing { standing_of result ≡ standing_at (S.seen shelf) }
         ensures kept { kept_of result ≡ None }
     {
         BookPart {
@@ -57,6 +59,7 @@ impl<S: Shelf + Drop> BookPart<S> {
     pub fn open(&mut self) -> Result<(), OutsideFault>
         ensures book { OnOk result (IsBook (kept_of self.new)) }
         ensures told { IfErr result FromShelf }
+        ensures stops { Stops self.old self.new result }
         ensures part { Part (S.is_honest ≡ true) (λ _. ReadsFiles (kept_of self.new)) LeavesUnread (files_of self.old) (files_of self.new) result }
     {
         let shelf = take(&mut self.desk);
@@ -100,6 +103,7 @@ impl<S: Shelf + Drop> BookPart<S> {
         requires read { IsRead (kept_of self.old) }
         ensures kept { OnOk result (kept_of self.new ≡ turned (λ _. Missing) (kept_of self.old)) }
         ensures told { IfErr result FromBook }
+        ensures stops { Stops self.old self.new result }
         ensures part { PartChanges (S.is_honest ≡ true) (λ _. OfKept (λ p. Turns p Missing) (kept_of self.old)) (OfKept (λ p. TurnsHalf p Missing) (kept_of self.old)) (files_of self.old) (files_of self.new) result }
     {
         let Desk::Open(book) = &mut self.desk else {
@@ -113,6 +117,7 @@ impl<S: Shelf + Drop> BookPart<S> {
         requires read { IsRead (kept_of self.old) }
         ensures kept { OnOk result (kept_of self.new ≡ turned mended (kept_of self.old)) }
         ensures told { IfErr result FromBook }
+        ensures stops { Stops self.old self.new result }
         ensures part { PartChanges (S.is_honest ≡ true) (λ _. OfKept (λ p. Turns p (mended p)) (kept_of self.old)) (OfKept (λ p. TurnsHalf p p) (kept_of self.old)) (files_of self.old) (files_of self.new) result }
     {
         let Desk::Open(book) = &mut self.desk else {
@@ -126,6 +131,7 @@ impl<S: Shelf + Drop> BookPart<S> {
         requires takes { TakesPlan (kept_of self.old) plan }
         ensures kept { OnOk result (kept_of self.new ≡ turned (λ _. begun plan) (kept_of self.old)) }
         ensures told { IfErr result FromBook }
+        ensures stops { Stops self.old self.new result }
         ensures part { PartChanges (S.is_honest ≡ true) (λ _. OfKept (λ _. Turns Missing (begun plan)) (kept_of self.old)) (OfKept (λ _. TurnsHalf Missing Useless) (kept_of self.old)) (files_of self.old) (files_of self.new) result }
     {
         let Desk::Open(book) = &mut self.desk else {
@@ -141,6 +147,7 @@ impl<S: Shelf + Drop> BookPart<S> {
         requires takes { TakesLog (kept_of self.old) step (as_done copy) }
         ensures kept { OnOk result (kept_of self.new ≡ turned (λ p. logged_more p (as_done copy)) (kept_of self.old)) }
         ensures told { IfErr result (FromLog (kept_of self.old) (as_done copy)) }
+        ensures stops { Stops self.old self.new result }
         ensures part { PartChanges (S.is_honest ≡ true) (λ _. OfKept (λ p. Turns p (logged_more p (as_done copy))) (kept_of self.old)) (OfKept (λ p. TurnsHalf p (torn p)) (kept_of self.old)) (files_of self.old) (files_of self.new) result }
     {
         let Desk::Open(book) = &mut self.desk else {
@@ -154,6 +161,7 @@ impl<S: Shelf + Drop> BookPart<S> {
         requires takes { TakesLog (kept_of self.old) step Void }
         ensures kept { OnOk result (kept_of self.new ≡ turned (λ p. logged_more p Void) (kept_of self.old)) }
         ensures told { IfErr result FromBook }
+        ensures stops { Stops self.old self.new result }
         ensures part { PartChanges (S.is_honest ≡ true) (λ _. OfKept (λ p. Turns p (logged_more p Void)) (kept_of self.old)) (OfKept (λ p. TurnsHalf p (torn p)) (kept_of self.old)) (files_of self.old) (files_of self.new) result }
     {
         let Desk::Open(book) = &mut self.desk else {
@@ -168,6 +176,7 @@ impl<S: Shelf + Drop> BookPart<S> {
         ensures kept { OnOk result (AreCommitted (kept_of self.old) (kept_of self.new)) }
         ensures held { OnOk result (S.is_honest ≡ true → IsHeld (kept_of self.new) (files_of self.new)) }
         ensures told { IfErr result FromBook }
+        ensures stops { Stops self.old self.new result }
         ensures part { PartChanges (S.is_honest ≡ true) (λ _. OfKept CommitsTo (kept_of self.old)) (OfKept CommitsHalf (kept_of self.old)) (files_of self.old) (files_of self.new) result }
     {
         let Desk::Open(book) = &mut self.desk else {
@@ -179,6 +188,7 @@ impl<S: Shelf + Drop> BookPart<S> {
     /// Closes the book, if one is open, and opens the shelf again.
     pub fn reopen(&mut self)
         ensures seen { seen_of self.new ≡ record (seen_of self.old) { is_broken = false } }
+        ensures standing { standing_of self.new ≡ record (standing_of self.old) { is_ready = true } }
         ensures kept { kept_of self.new ≡ None }
     {
         let mut shelf = take(&mut self.desk);
@@ -190,7 +200,8 @@ impl<S: Shelf + Drop> BookPart<S> {
 /// Takes the shelf, closed. What is left is to be replaced.
 fn take<S: Shelf + Drop>(desk: &mut Desk<S>) -> S
     requires there { is_there desk.old ≡ true }
-    ensures { S.seen result ≡ seen_at desk.old }
+    ensures seen { S.seen result ≡ seen_at desk.old }
+    ensures whole { goes_on desk.old ≡ true → (S.seen result).is_broken ≡ false }
 {
     match std::mem::replace(desk, Desk::Moving) {
         Desk::Closed(shelf) => shelf,
