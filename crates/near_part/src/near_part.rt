@@ -8,7 +8,9 @@ ghost use Rattle.near_box.specs.Boxes.{TurnsMailbox, box_of, mailbox_of as mailb
 ghost use Rattle.near_box.specs.Mailboxes.{on_store};
 ghost use Rattle.near_box.specs.NearCalls.{Ends};
 ghost use Rattle.parts.specs.Drafts.{IsDraft, IsSomeDraft};
-ghost use Rattle.near_part.specs.Desks.{fresh_at, is_there, stored_at};
+ghost use Rattle.parts.specs.Stops.{StopsSo};
+ghost use Rattle.near_part.specs.NearFaults.{told_by};
+ghost use Rattle.near_part.specs.Desks.{folder_stops_at, fresh_at, goes_on, is_there, standing_in, stored_at};
 
 use crate::desk::Desk;
 use crate::told::{told, told_by};
@@ -42,11 +44,13 @@ impl<F: Folder + Drop> NearPart<F> {
     ghost use Rattle.outside.specs.BoxCalls.{HasNumbers};
     ghost use Rattle.outside.specs.Calls.{FromBox};
     ghost use Rattle.parts.specs.PartCalls.{Part, PartChanges};
-    ghost use Rattle.near_part.specs.NearParts.{Delivers, is_open, mailbox_of, stored_of};
+    ghost use Rattle.parts.specs.Stops.{standing_at};
+    ghost use Rattle.near_part.specs.NearParts.{Delivers, OpenStops, Stops, folder_of, is_open, mailbox_of, standing_of, stored_of};
 
     /// The part over this folder, whose validity is `fresh` where it has no meta file. No box is open.
     pub fn new(alloc: Global, folder: F, fresh: NonZeroU32) -> Self
         ensures mailbox { mailbox_of result ≡ near_of (non_zero_u32_get fresh) (F.seen folder).stored }
+        ensures standing { standing_of result ≡ standing_at (F.seen folder) }
         ensures closed { is_open result ≡ false }
     {
         NearPart {
@@ -68,6 +72,7 @@ impl<F: Folder + Drop> NearPart<F> {
     pub fn open(&mut self) -> Result<u32, OutsideFault>
         ensures open { OnOk result (is_open self.new ≡ true) }
         ensures told { IfErr result FromBox }
+        ensures stops { OpenStops self.old self.new result }
         ensures part { Part (F.is_honest ≡ true) (Answers (λ validity n. validity ≡ n.store.validity)) (λ _. Stays) (mailbox_of self.old) (mailbox_of self.new) result }
     {
         let folder = take(&mut self.desk);
@@ -89,6 +94,7 @@ impl<F: Folder + Drop> NearPart<F> {
         requires open { is_open self.old ≡ true }
         ensures open { is_open self.new ≡ true }
         ensures told { IfErr result FromBox }
+        ensures stops { Stops self.old self.new result }
         ensures part { PartChanges (F.is_honest ≡ true) (λ _ old new. new ≡ admitted_near old) AdmitsSome (mailbox_of self.old) (mailbox_of self.new) result }
     {
         let Desk::Open(near) = &mut self.desk else {
@@ -103,6 +109,7 @@ impl<F: Folder + Drop> NearPart<F> {
         ensures open { is_open self.new ≡ true }
         ensures numbers { IfOk result HasNumbers }
         ensures told { IfErr result FromBox }
+        ensures stops { Stops self.old self.new result }
         ensures part { Part (F.is_honest ≡ true) (Answers (λ listing n. ShowsAbove Side.Near from n.store listing)) (λ _. Stays) (mailbox_of self.old) (mailbox_of self.new) result }
     {
         let Desk::Open(near) = &mut self.desk else {
@@ -116,6 +123,7 @@ impl<F: Folder + Drop> NearPart<F> {
         requires open { is_open self.old ≡ true }
         ensures open { is_open self.new ≡ true }
         ensures told { IfErr result FromBox }
+        ensures stops { Stops self.old self.new result }
         ensures part { Part (F.is_honest ≡ true) (Answers (λ found n. found ≡ marked_from mark from n.store)) (λ _. Stays) (mailbox_of self.old) (mailbox_of self.new) result }
     {
         let Desk::Open(near) = &mut self.desk else {
@@ -130,6 +138,7 @@ impl<F: Folder + Drop> NearPart<F> {
         ensures open { is_open self.new ≡ true }
         ensures some { IfOk result (IsSomeDraft Side.Near mark) }
         ensures told { IfErr result FromBox }
+        ensures stops { Stops self.old self.new result }
         ensures part { Part (F.is_honest ≡ true) (Answers (λ draft n. IsDraft Side.Near mark (bytes_of uid n.store) draft)) (λ _. Stays) (mailbox_of self.old) (mailbox_of self.new) result }
     {
         let Desk::Open(near) = &mut self.desk else {
@@ -143,6 +152,7 @@ impl<F: Folder + Drop> NearPart<F> {
         requires open { is_open self.old ≡ true }
         ensures open { is_open self.new ≡ true }
         ensures told { IfErr result FromBox }
+        ensures stops { Stops self.old self.new result }
         ensures part { PartChanges (F.is_honest ≡ true) (Delivers bytes.now flags) SetsAside (mailbox_of self.old) (mailbox_of self.new) result }
     {
         let Desk::Open(near) = &mut self.desk else {
@@ -156,6 +166,7 @@ impl<F: Folder + Drop> NearPart<F> {
         requires open { is_open self.old ≡ true }
         ensures open { is_open self.new ≡ true }
         ensures told { IfErr result FromBox }
+        ensures stops { Stops self.old self.new result }
         ensures part { PartChanges (F.is_honest ≡ true) (λ _ old new. new ≡ on_store (flags_added uid flags) old) Nothing (mailbox_of self.old) (mailbox_of self.new) result }
     {
         let Desk::Open(near) = &mut self.desk else {
@@ -169,6 +180,7 @@ impl<F: Folder + Drop> NearPart<F> {
         requires open { is_open self.old ≡ true }
         ensures open { is_open self.new ≡ true }
         ensures told { IfErr result FromBox }
+        ensures stops { Stops self.old self.new result }
         ensures part { PartChanges (F.is_honest ≡ true) (λ _ old new. new ≡ on_store (flags_removed uid flags) old) Nothing (mailbox_of self.old) (mailbox_of self.new) result }
     {
         let Desk::Open(near) = &mut self.desk else {
@@ -182,6 +194,7 @@ impl<F: Folder + Drop> NearPart<F> {
         requires open { is_open self.old ≡ true }
         ensures open { is_open self.new ≡ true }
         ensures told { IfErr result FromBox }
+        ensures stops { Stops self.old self.new result }
         ensures part { PartChanges (F.is_honest ≡ true) (λ _ old new. new ≡ on_store (expunged (uid ∷ [])) old) Nothing (mailbox_of self.old) (mailbox_of self.new) result }
     {
         let Desk::Open(near) = &mut self.desk else {
@@ -193,6 +206,7 @@ impl<F: Folder + Drop> NearPart<F> {
     /// Closes the box, if one is open, and opens the folder again.
     pub fn reopen(&mut self)
         ensures mailbox { mailbox_of self.new ≡ mailbox_of self.old }
+        ensures standing { folder_of self.new ≡ record (folder_of self.old) { is_ready = true } }
         ensures closed { is_open self.new ≡ false }
     {
         let mut folder = take(&mut self.desk);
@@ -209,6 +223,7 @@ fn draft_in<F: Folder>(
     mark: Tuid,
 ) -> Result<Draft, NearFault>
     ensures fresh { near.new.fresh ≡ near.old.fresh }
+    ensures stops { StopsSo (standing_in near.old) (standing_in near.new) (told_by result) }
     ensures keeps { F.is_honest ≡ true → stored_in near.new ≡ stored_in near.old }
     ensures some { IfOk result (IsSomeDraft Side.Near mark) }
     ensures draft { F.is_honest ≡ true → IfOk result (IsDraft Side.Near mark (bytes_of uid (mailbox_in near.old).store)) }
@@ -230,7 +245,9 @@ fn expunge_in<F: Folder>(near: &mut NearBox<F>, uid: Uid) -> Result<(), NearFaul
 /// Takes the folder, closed. What is left is to be replaced.
 fn take<F: Folder + Drop>(desk: &mut Desk<F>) -> F
     requires there { is_there desk.old ≡ true }
-    ensures { (F.seen result).stored ≡ stored_at desk.old }
+    ensures stored { (F.seen result).stored ≡ stored_at desk.old }
+    ensures stops { (F.seen result).stops ≡ folder_stops_at desk.old }
+    ensures whole { goes_on desk.old ≡ true → (F.seen result).is_broken ≡ false }
 {
     match std::mem::replace(desk, Desk::Moving) {
         Desk::Closed(folder) => folder,
