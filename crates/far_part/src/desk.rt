@@ -1,17 +1,18 @@
 //! Where the link of an outside is.
 
 use imap_client::far_box::FarBox;
+use imap_client::session::Session;
 use imap_link::link::Link;
 
-/// A link: by itself, or below the mailbox that is selected over it.
+/// A session over the link: by itself, or below the mailbox that is selected in it.
 #[derive(Drop)]
 pub(crate) enum Desk<L: Link> {
-    /// No mailbox is selected.
-    Closed(L),
+    /// No mailbox is selected: none was yet, or the last attempt has failed. The link is connected anew before one is.
+    Closed(Session<L>),
     /// This one is.
     Open(FarBox<L>),
     /// It was to be selected again, and could not be: no call is answered until the link is connected anew.
-    Lost(L),
+    Lost(Session<L>),
     /// It is being moved from the one to the other: in a call alone.
     Moving,
 }

@@ -1,9 +1,9 @@
 //! The far mailbox of an outside.
 
-ghost use Rattle.std.specs.Prelude.{◌≡◌, true, false, Some, OnOk, IfOk, IfErr};
+ghost use Rattle.std.specs.Prelude.{◌≡◌, true, false, Some, Ok, Err, OnOk, IfOk, IfErr};
 ghost use Rattle.std.proofs.Props.{props};
 ghost use Rattle.imap_client.specs.Logins.{Remains};
-ghost use Rattle.imap_client.specs.Sessions.{server_of};
+ghost use Rattle.imap_client.specs.Sessions.{server_of, state_of};
 ghost use Rattle.imap_session.specs.Mailboxes.{FarMailbox};
 ghost use Rattle.imap_session.specs.Servers.{selected};
 ghost use Rattle.mailcore.specs.Operations.{bytes_of};
@@ -11,13 +11,16 @@ ghost use Rattle.mailcore.specs.Ranges.{AreInRange};
 ghost use Rattle.mailcore.specs.Stores.{IsStore};
 ghost use Rattle.parts.specs.Drafts.{IsDraft, IsSomeDraft};
 ghost use Rattle.far_part.specs.Chosen.{Enters, KeepsMailboxes};
-ghost use Rattle.far_part.specs.Desks.{honest_at, is_there, server_at, KnowsNext, StandsAt};
+ghost use Rattle.far_part.specs.Desks.{honest_at, is_there, server_at, state_at, KnowsNext, StandsAt};
+ghost use Rattle.far_part.specs.FarFaults.{told, told_by};
+ghost use Rattle.far_part.specs.FarStops.{StopsHere, StopsWith};
 
 use crate::account::Account;
 use crate::desk::Desk;
 use crate::entering::{log_in, select};
 use crate::told::{told, told_by};
 use imap_client::far_box::FarBox;
+use imap_client::session::Session;
 use imap_link::fault::FarFault;
 use imap_link::link::Link;
 use mailcore::flags::Flags;
@@ -47,27 +50,27 @@ pub struct FarPart<L: Link> {
 impl<L: Link + Drop> FarPart<L> {
     ghost use Rattle.device.specs.Calls.{Answers, Nothing, Stays};
     ghost use Rattle.mailcore.specs.Operations.{Shows, flags_added, flags_removed, marked_from};
-    ghost use Rattle.outside.specs.BoxCalls.{HasNumbers};
-    ghost use Rattle.outside.specs.BoxCalls.{removed};
+    ghost use Rattle.outside.specs.BoxCalls.{HasNumbers, removed};
     ghost use Rattle.mailcore.specs.declared.side.Side.TheVariants.{Far};
     ghost use Rattle.outside.specs.Calls.{FromBox};
     ghost use Rattle.parts.specs.PartCalls.{Part, PartChanges};
     ghost use Rattle.far_part.specs.Chosen.{store_at};
     ghost use Rattle.imap_commands.specs.Messages.{IsMessage};
     ghost use Rattle.far_part.specs.Adding.{Adds};
-    ghost use Rattle.far_part.specs.FarParts.{honest_of, is_open, store_of};
+    ghost use Rattle.far_part.specs.FarParts.{Stops, honest_of, is_open, standing_of, store_of};
 
     /// The part over this link. No mailbox is selected.
     pub fn new(alloc: Global, account: Account, link: L) -> Self
         ensures store { store_of result ≡ store_at account.mailbox.items (L.line link).end.server.mailboxes }
         ensures was_honest { honest_of result → L.honest link }
         ensures honest { L.honest link → honest_of result }
+        ensures standing { standing_of result ≡ record { is_ready = true; stops = L.stops link } }
         ensures closed { is_open result ≡ false }
     {
         FarPart {
             alloc,
             account,
-            desk: Desk::Closed(link),
+            desk: Desk::Closed(Session::closed(alloc, link)),
             is_fresh: false,
         }
     }
@@ -77,19 +80,20 @@ impl<L: Link + Drop> FarPart<L> {
         ensures open { OnOk result (is_open self.new ≡ true) }
         ensures was_honest { honest_of self.new → honest_of self.old }
         ensures told { IfErr result FromBox }
+        ensures stops { Stops self.old self.new result }
         ensures part { Part (honest_of self.new) (Answers (λ validity s. validity ≡ s.validity)) (λ _. Stays) (store_of self.old) (store_of self.new) result }
     {
         self.is_fresh = false;
         let desk = std::mem::replace(&mut self.desk, Desk::Moving);
-        match enter(self.alloc, &self.account, desk) {
+        match enter(&self.account, desk) {
             Ok(far) => {
                 let validity = far.validity();
                 self.desk = Desk::Open(far);
                 self.is_fresh = true;
                 Ok(validity)
             }
-            Err((fault, link)) => {
-                self.desk = Desk::Closed(link);
+            Err((fault, session)) => {
+                self.desk = Desk::Closed(session);
                 Err(told(fault))
             }
         }
@@ -102,6 +106,7 @@ impl<L: Link + Drop> FarPart<L> {
         ensures was_honest { honest_of self.new → honest_of self.old }
         ensures numbers { IfOk result HasNumbers }
         ensures told { IfErr result FromBox }
+        ensures stops { Stops self.old self.new result }
         ensures part { Part (honest_of self.new) (Answers (λ listing s. Shows Far s listing)) (λ _. Stays) (store_of self.old) (store_of self.new) result }
     {
         if !self.is_fresh {
@@ -118,6 +123,7 @@ impl<L: Link + Drop> FarPart<L> {
         ensures was_honest { honest_of self.new → honest_of self.old }
         ensures numbers { IfOk result HasNumbers }
         ensures told { IfErr result FromBox }
+        ensures stops { Stops self.old self.new result }
         ensures part { Part (honest_of self.new) (Answers (λ listing s. Shows Far s listing)) (λ _. Stays) (store_of self.old) (store_of self.new) result }
     {
         let Desk::Open(far) = &mut self.desk else {
@@ -133,17 +139,18 @@ impl<L: Link + Drop> FarPart<L> {
         ensures fresh { OnOk result (self.new.is_fresh ≡ true) }
         ensures was_honest { honest_of self.new → honest_of self.old }
         ensures told { IfErr result FromBox }
+        ensures stops { Stops self.old self.new result }
         ensures store { honest_of self.new → store_of self.new ≡ store_of self.old }
     {
         let desk = std::mem::replace(&mut self.desk, Desk::Moving);
-        match enter(self.alloc, &self.account, desk) {
+        match enter(&self.account, desk) {
             Ok(far) => {
                 self.desk = Desk::Open(far);
                 self.is_fresh = true;
                 Ok(())
             }
-            Err((fault, link)) => {
-                self.desk = Desk::Lost(link);
+            Err((fault, session)) => {
+                self.desk = Desk::Lost(session);
                 Err(told(fault))
             }
         }
@@ -155,6 +162,7 @@ impl<L: Link + Drop> FarPart<L> {
         ensures open { is_open self.new ≡ true }
         ensures was_honest { honest_of self.new → honest_of self.old }
         ensures told { IfErr result FromBox }
+        ensures stops { Stops self.old self.new result }
         ensures part { Part (honest_of self.new) (Answers (λ found s. found ≡ marked_from mark from s)) (λ _. Stays) (store_of self.old) (store_of self.new) result }
     {
         let Desk::Open(far) = &mut self.desk else {
@@ -170,6 +178,7 @@ impl<L: Link + Drop> FarPart<L> {
         ensures was_honest { honest_of self.new → honest_of self.old }
         ensures some { IfOk result (IsSomeDraft Far mark) }
         ensures told { IfErr result FromBox }
+        ensures stops { Stops self.old self.new result }
         ensures part { Part (honest_of self.new) (Answers (λ draft s. IsDraft Far mark (bytes_of uid s) draft)) (λ _. Stays) (store_of self.old) (store_of self.new) result }
     {
         let Desk::Open(far) = &mut self.desk else {
@@ -185,6 +194,7 @@ impl<L: Link + Drop> FarPart<L> {
         ensures open { is_open self.new ≡ true }
         ensures was_honest { honest_of self.new → honest_of self.old }
         ensures told { IfErr result FromBox }
+        ensures stops { Stops self.old self.new result }
         ensures part { PartChanges (honest_of self.new) (Adds bytes.now flags) Nothing (store_of self.old) (store_of self.new) result }
     {
         self.is_fresh = false;
@@ -200,6 +210,7 @@ impl<L: Link + Drop> FarPart<L> {
         ensures open { is_open self.new ≡ true }
         ensures was_honest { honest_of self.new → honest_of self.old }
         ensures told { IfErr result FromBox }
+        ensures stops { Stops self.old self.new result }
         ensures part { PartChanges (honest_of self.new) (λ _ old new. new ≡ flags_added uid flags old) Nothing (store_of self.old) (store_of self.new) result }
     {
         self.is_fresh = false;
@@ -215,6 +226,7 @@ impl<L: Link + Drop> FarPart<L> {
         ensures open { is_open self.new ≡ true }
         ensures was_honest { honest_of self.new → honest_of self.old }
         ensures told { IfErr result FromBox }
+        ensures stops { Stops self.old self.new result }
         ensures part { PartChanges (honest_of self.new) (λ _ old new. new ≡ flags_removed uid flags old) Nothing (store_of self.old) (store_of self.new) result }
     {
         self.is_fresh = false;
@@ -230,6 +242,7 @@ impl<L: Link + Drop> FarPart<L> {
         ensures open { is_open self.new ≡ true }
         ensures was_honest { honest_of self.new → honest_of self.old }
         ensures told { IfErr result FromBox }
+        ensures stops { Stops self.old self.new result }
         ensures part { PartChanges (honest_of self.new) (λ _ old new. new ≡ removed Far uid old) Nothing (store_of self.old) (store_of self.new) result }
     {
         self.is_fresh = false;
@@ -243,11 +256,12 @@ impl<L: Link + Drop> FarPart<L> {
     pub fn reopen(&mut self)
         ensures store { store_of self.new ≡ store_of self.old }
         ensures was_honest { honest_of self.new → honest_of self.old }
+        ensures standing { standing_of self.new ≡ record (standing_of self.old) { is_ready = true } }
         ensures closed { is_open self.new ≡ false }
     {
         self.is_fresh = false;
-        let link = link_of(std::mem::replace(&mut self.desk, Desk::Moving));
-        self.desk = Desk::Closed(link);
+        let session = session_of(std::mem::replace(&mut self.desk, Desk::Moving));
+        self.desk = Desk::Closed(session);
     }
 
     /// Gives the link back.
@@ -255,38 +269,47 @@ impl<L: Link + Drop> FarPart<L> {
         ensures { store_at self.account.mailbox.items (L.line result).end.server.mailboxes ≡ store_of self }
     {
         let FarPart { desk, .. } = self;
-        link_of(desk)
+        session_of(desk).into_link()
     }
 }
 
-/// The link, by itself.
-fn link_of<L: Link + Drop>(desk: Desk<L>) -> L
+/// The session, by itself.
+fn session_of<L: Link + Drop>(desk: Desk<L>) -> Session<L>
     requires there { is_there desk ≡ true }
-    ensures server { (L.line result).end.server ≡ server_at desk }
-    ensures was_honest { L.honest result → honest_at desk }
+    ensures server { server_of result ≡ server_at desk }
+    ensures was_honest { L.honest result.wire.link → honest_at desk }
+    ensures stops { L.stops result.wire.link ≡ (state_at desk).stops }
 {
     match desk {
-        Desk::Closed(link) | Desk::Lost(link) => link,
-        Desk::Open(far) => far.into_session().into_link(),
+        Desk::Closed(session) | Desk::Lost(session) => session,
+        Desk::Open(far) => far.into_session(),
         Desk::Moving => unreachable!(),
     }
 }
 
-/// Selects the mailbox of the account, over a new connection where none is selected. Beside a fault the link comes back.
+/// Selects the mailbox of the account, over a new connection where none is selected. Beside a fault the session comes back.
 fn enter<L: Link + Drop>(
-    alloc: Global,
     account: &Account,
     desk: Desk<L>,
-) -> Result<FarBox<L>, (FarFault, L)>
+) -> Result<FarBox<L>, (FarFault, Session<L>)>
     requires there { is_there desk ≡ true }
     requires stands { StandsAt account.now.mailbox.items desk }
     ensures ok { IfOk result (λ b. (L.honest b.session.wire.link → honest_at desk)
         × (L.honest b.session.wire.link → Enters account.now.mailbox.items b.validity b.next (server_at desk) (server_of b.session))) }
-    ensures err { IfErr result (λ e. (L.honest e.1 → honest_at desk) × (L.honest e.1 → KeepsMailboxes (server_at desk) (L.line e.1).end.server)) }
+    ensures err { IfErr result (λ e. (L.honest e.1.wire.link → honest_at desk)
+        × (L.honest e.1.wire.link → KeepsMailboxes (server_at desk) (server_of e.1))) }
+    ensures goes_on { IfOk result (λ b. StopsWith (state_at desk) (state_of b.session) (Ok tt)) }
+    ensures stops { IfErr result (λ e. StopsWith (state_at desk) (state_of e.1) (Err (told e.0))) }
 {
     let session = match desk {
-        Desk::Closed(link) | Desk::Lost(link) => log_in(alloc, account, link)?,
         Desk::Open(far) => far.into_session(),
+        Desk::Closed(session) | Desk::Lost(session) => {
+            let mut session = session;
+            if let Err(fault) = log_in(account, &mut session) {
+                return Err((fault, session));
+            }
+            session
+        }
         Desk::Moving => unreachable!(),
     };
     select(session, &account.mailbox)
@@ -301,6 +324,7 @@ fn draft_in<L: Link + Drop>(
 ) -> Result<Draft, FarFault>
     ensures was_honest { L.honest far.new.session.wire.link → L.honest far.old.session.wire.link }
     ensures next { far.new.next ≡ far.old.next }
+    ensures stops { StopsHere (state_of far.old.session) (state_of far.new.session) (told_by result) }
     ensures remains { L.honest far.new.session.wire.link → (m : FarMailbox) → selected (server_of far.old.session) ≡ Some m → Remains (server_of far.old.session) (server_of far.new.session) }
     ensures some { IfOk result (IsSomeDraft Side.Far mark) }
     ensures draft { L.honest far.new.session.wire.link → (m : FarMailbox) → selected (server_of far.old.session) ≡ Some m → IsStore m.store → AreInRange m.store.messages

@@ -4,6 +4,7 @@ use Rattle.imap_client.specs.Sessions.{server_of}
 use Rattle.far_part.specs.Chosen.{IsChosen}
 use Rattle.far_part.proofs.FarCalls.{stands_open, store_open, added_part, added_chosen}
 use Rattle.far_part.proofs.Mailboxes.{has_chosen, selected_is}
+use Rattle.far_part.proofs.StopCalls.{open_stops}
 use Rattle.far_part.proofs.far_part.FarPart.append.Goals as goal
 
 pub invariant_of-self-2 : goal.invariant_of-self-2
@@ -29,3 +30,6 @@ returns-clause-part g c =
     rw (c.told_by.ensures, sym (store_open name c.args.self.now.desk box c.in-Open.is))
     (added_part (g.L.Link.honest new.session.wire.link) name old (server_of new.session) c.args.bytes.now c.args.flags c.append.result chosen
     (λ h. c.append.ensures.outcome h (chosen h).mailbox (selected_is name old (chosen h))))
+
+pub returns-clause-stops : goal.returns-clause-stops
+returns-clause-stops g c = rw c.told_by.ensures (open_stops 1 c.args.self.now.desk c.in-Open.far c.append.new.self c.append.result c.in-Open.is c.append.ensures.ends)

@@ -9,6 +9,7 @@ use Rattle.imap_session.specs.Servers.{Server}
 use Rattle.far_part.specs.Chosen.{IsChosen, store_at}
 use Rattle.far_part.proofs.FarCalls.{stands_open, store_open, next_open, reads_part, reads_chosen, told_ok}
 use Rattle.far_part.proofs.Mailboxes.{selected_is, sound_there}
+use Rattle.far_part.proofs.StopCalls.{along}
 use Rattle.far_part.proofs.far_part.FarPart.draft.Goals as goal
 
 pub invariant_of-self-2 : goal.invariant_of-self-2
@@ -41,3 +42,6 @@ returns-clause-part g c =
     (λ h.
     let s = sound_there name old (chosen h) (g.met.L.Link.sound box.session.wire.link (was h)) in
     c.draft_in.ensures.draft h (chosen h).mailbox (selected_is name old (chosen h)) s.store s.range.messages))
+
+pub returns-clause-stops : goal.returns-clause-stops
+returns-clause-stops g c = rw c.told_by.ensures (along c.args.self.now.desk c.in-Open.far c.draft_in.new.far c.draft_in.result c.in-Open.is c.draft_in.ensures.stops)

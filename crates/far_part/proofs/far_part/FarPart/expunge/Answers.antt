@@ -10,6 +10,7 @@ use Rattle.far_part.specs.Chosen.{IsChosen}
 use Rattle.far_part.proofs.Changing.{changes_part, changes_chosen}
 use Rattle.far_part.proofs.FarCalls.{stands_open, store_open, swept_same}
 use Rattle.far_part.proofs.Mailboxes.{has_chosen}
+use Rattle.far_part.proofs.StopCalls.{open_stops}
 use Rattle.far_part.proofs.far_part.FarPart.expunge.Goals as goal
 
 pub invariant_of-self-2 : goal.invariant_of-self-2
@@ -38,3 +39,6 @@ returns-clause-part g c =
     let same : g.L.Link.honest new.session.wire.link → with_selected (swept (each_one (c.args.uid ∷ []))) old ≡ with_selected (removed Far c.args.uid) old = λ h. swept_same name old c.args.uid (chosen h) (g.met.L.Link.sound box.session.wire.link (was h)) in
     rw (c.told_by.ensures, sym (store_open name c.args.self.now.desk box c.in-Open.is))
     (changes_part (g.L.Link.honest new.session.wire.link) name old (server_of new.session) (swept (each_one (c.args.uid ∷ []))) (removed Far c.args.uid) c.expunge.result chosen same c.expunge.ensures.outcome)
+
+pub returns-clause-stops : goal.returns-clause-stops
+returns-clause-stops g c = rw c.told_by.ensures (open_stops 1 c.args.self.now.desk c.in-Open.far c.expunge.new.self c.expunge.result c.in-Open.is c.expunge.ensures.ends)

@@ -6,6 +6,7 @@ use Rattle.imap_session.specs.Servers.{Server}
 use Rattle.far_part.specs.Chosen.{IsChosen, store_at}
 use Rattle.far_part.proofs.FarCalls.{stands_open, store_open, next_open, reads_part, reads_chosen, told_ok}
 use Rattle.far_part.proofs.Mailboxes.{selected_is, sound_there}
+use Rattle.far_part.proofs.StopCalls.{open_stops}
 use Rattle.far_part.proofs.far_part.FarPart.find_mark.Goals as goal
 
 pub invariant_of-self-2 : goal.invariant_of-self-2
@@ -38,3 +39,6 @@ returns-clause-part g c =
     (λ h.
     let s = sound_there name old (chosen h) (g.met.L.Link.sound box.session.wire.link (was h)) in
     told_ok (Option ℕ) (λ found. found ≡ marked_from c.args.mark c.args.from (chosen h).mailbox.store) c.find_mark.result old (server_of new.session) (c.find_mark.ensures.outcome h (chosen h).mailbox (selected_is name old (chosen h)) s.store s.range.messages)))
+
+pub returns-clause-stops : goal.returns-clause-stops
+returns-clause-stops g c = rw c.told_by.ensures (open_stops 1 c.args.self.now.desk c.in-Open.far c.find_mark.new.self c.find_mark.result c.in-Open.is c.find_mark.ensures.ends)

@@ -8,6 +8,7 @@ use Rattle.imap_session.specs.Servers.{Server}
 use Rattle.far_part.specs.Chosen.{IsChosen, store_at}
 use Rattle.far_part.proofs.FarCalls.{stands_open, store_open, next_open, reads_part, reads_chosen, told_ok}
 use Rattle.far_part.proofs.Mailboxes.{selected_is, sound_there, store_is}
+use Rattle.far_part.proofs.StopCalls.{open_stops}
 use Rattle.far_part.proofs.far_part.FarPart.list_known.Goals as goal
 
 pub invariant_of-self-2 : goal.invariant_of-self-2
@@ -41,3 +42,6 @@ returns-clause-part g c =
     let s = sound_there name old (chosen h) (g.met.L.Link.sound box.session.wire.link (was h)) in
     c.list.ensures.shows h (chosen h).mailbox (selected_is name old (chosen h)) s.store s.range.messages
     (next_open name c.args.self.now.desk box c.in-Open.is (c.args.self.now.fresh c.requires.fresh) (was h) ∙ ap (λ (x : Store). x.next) (store_is name old (chosen h)))))
+
+pub returns-clause-stops : goal.returns-clause-stops
+returns-clause-stops g c = rw c.told_by.ensures (open_stops 1 c.args.self.now.desk c.in-Open.far c.list.new.self c.list.result c.in-Open.is c.list.ensures.ends)

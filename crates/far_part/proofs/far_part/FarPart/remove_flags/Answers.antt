@@ -9,6 +9,7 @@ use Rattle.far_part.specs.Chosen.{IsChosen}
 use Rattle.far_part.proofs.Changing.{changes_part, changes_chosen}
 use Rattle.far_part.proofs.FarCalls.{stands_open, store_open, stored_same}
 use Rattle.far_part.proofs.Mailboxes.{has_chosen}
+use Rattle.far_part.proofs.StopCalls.{open_stops}
 use Rattle.far_part.proofs.far_part.FarPart.remove_flags.Goals as goal
 
 pub invariant_of-self-2 : goal.invariant_of-self-2
@@ -37,3 +38,6 @@ returns-clause-part g c =
     let same : g.L.Link.honest new.session.wire.link → with_selected (stored modes.Remove c.args.flags (one_uid c.args.uid)) old ≡ with_selected (flags_changed modes.Remove c.args.uid c.args.flags) old = λ h. stored_same name old modes.Remove c.args.uid c.args.flags (chosen h) (g.met.L.Link.sound box.session.wire.link (was h)) in
     rw (c.told_by.ensures, sym (store_open name c.args.self.now.desk box c.in-Open.is))
     (changes_part (g.L.Link.honest new.session.wire.link) name old (server_of new.session) (stored modes.Remove c.args.flags (one_uid c.args.uid)) (flags_changed modes.Remove c.args.uid c.args.flags) c.remove_flags.result chosen same c.remove_flags.ensures.outcome)
+
+pub returns-clause-stops : goal.returns-clause-stops
+returns-clause-stops g c = rw c.told_by.ensures (open_stops 1 c.args.self.now.desk c.in-Open.far c.remove_flags.new.self c.remove_flags.result c.in-Open.is c.remove_flags.ensures.ends)
