@@ -1,6 +1,6 @@
 -- From what a call of the far box does to the selected mailbox to what the part says of it.
-use Rattle.std.proofs.Common.{◌≡◌, ℕ, List, Option, Some, Result, Ok, Err, refl, sym, ap, subst, ◌∙◌, inl, inr, ◌⊎◌}
-use Rattle.device.specs.Calls.{Effect, Leaves, Nothing, Stays}
+use Rattle.std.proofs.Common.{◌≡◌, ℕ, List, Some, Result, Ok, Err, sym, ap, subst, ◌∙◌, inl, inr}
+use Rattle.device.specs.Calls.{Effect, Leaves, Nothing}
 use Rattle.mailcore.specs.Stores.{Store}
 use Rattle.imap_link.specs.declared.fault.FarFault.{FarFault}
 use Rattle.imap_link.specs.declared.fault.FarFault.TheVariants as far
@@ -9,21 +9,10 @@ use Rattle.imap_session.specs.Mailboxes.{FarMailbox}
 use Rattle.imap_session.specs.Servers.{Server, selected, with_selected}
 use Rattle.exchange_laws.specs.Ends.{MayHave}
 use Rattle.imap_client.specs.Boxes.{Becomes}
-use Rattle.outside.specs.declared.fault.OutsideFault.{OutsideFault}
-use Rattle.outside.specs.Calls.{FromBox}
-use Rattle.parts.specs.PartCalls.{DoesSome, LeavesSome, Part, PartChanges}
+use Rattle.parts.specs.PartCalls.{DoesSome, LeavesSome, PartChanges}
 use Rattle.far_part.specs.Chosen.{IsChosen, store_at}
 use Rattle.far_part.specs.FarFaults.{told, told_by}
 use Rattle.far_part.proofs.Mailboxes.{selected_is, changed_chosen, changed_store}
-
-pub told_from : (e : FarFault) → FromBox (told e)
-told_from far.Stopped = tt
-told_from far.Refused = tt
-told_from far.Protocol = tt
-told_from far.TooLong = tt
-told_from far.NoRev2 = tt
-told_from far.ReadOnly = tt
-told_from far.NoMemory = tt
 
 -- ---- a call that changes the selected mailbox
 

@@ -8,9 +8,8 @@ use Rattle.mailcore.specs.Stores.{Store}
 use Rattle.mailcore.specs.declared.mailbox.Message.{Message}
 use Rattle.mailcore.specs.declared.side.Side.TheVariants.{Far}
 use Rattle.imap_commands.specs.declared.command.StoreMode.{StoreMode}
-use Rattle.imap_session.specs.Mailboxes.{FarMailbox}
 use Rattle.imap_session.specs.NamedMessages.{flags_changed, stored, swept}
-use Rattle.imap_session.specs.Servers.{Server, selected, with_selected}
+use Rattle.imap_session.specs.Servers.{Server, with_selected}
 use Rattle.imap_link.specs.declared.fault.FarFault.{FarFault}
 use Rattle.imap_link.specs.declared.fault.FarFault.TheVariants as far
 use Rattle.imap_link.specs.declared.link.Link as link
@@ -33,7 +32,7 @@ use Rattle.far_part.specs.declared.desk.Desk.{Desk}
 use Rattle.far_part.specs.declared.desk.Desk.TheVariants.{Open}
 use Rattle.far_part.specs.Adding.{Adds}
 use Rattle.far_part.specs.Chosen.{HasChosen, IsChosen, store_at}
-use Rattle.far_part.specs.Desks.{StandsAt, KnowsNext, server_at, honest_at}
+use Rattle.far_part.specs.Desks.{StandsAt, KnowsNext, server_at}
 use Rattle.far_part.specs.FarFaults.{told, told_by}
 use Rattle.far_part.proofs.Mailboxes.{has_chosen, selected_is, changed_chosen, changed_store, chosen_of, sound_there, store_is}
 

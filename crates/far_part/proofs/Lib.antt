@@ -1,5 +1,4 @@
 pub mod Mailboxes
 pub mod Changing
-pub mod EnterLemmas
 pub mod FarCalls
 pub mod StopCalls

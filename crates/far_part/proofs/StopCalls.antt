@@ -8,13 +8,13 @@ use Rattle.imap_link.specs.declared.link.Link as link
 use Rattle.imap_client.specs.declared.far_box.FarBox.{FarBox}
 use Rattle.imap_client.specs.declared.session.Session.{Session}
 use Rattle.imap_client.specs.Sessions as sessions
-use Rattle.imap_client.specs.States.{State, StopCause, EndsSo, Goes, Halts, Opened, SendStops, Failed as WasFailed, Broken as WasBroken, Bye as SaidBye, UsedUp as AreUsedUp}
+use Rattle.imap_client.specs.States.{State, StopCause, EndsSo, SendStops, Failed as WasFailed, Broken as WasBroken, Bye as SaidBye, UsedUp as AreUsedUp}
 use Rattle.imap_client.specs.Tags.{tag_text}
 use Rattle.outside.specs.declared.fault.OutsideFault.{OutsideFault}
 use Rattle.outside.specs.declared.fault.OutsideFault.TheVariants as outside
 use Rattle.far_part.specs.declared.desk.Desk.{Desk}
-use Rattle.far_part.specs.declared.desk.Desk.TheVariants.{Closed, Open, Lost, Moving}
-use Rattle.far_part.specs.Desks.{is_open, is_selected, state_at}
+use Rattle.far_part.specs.declared.desk.Desk.TheVariants.{Closed, Open, Lost}
+use Rattle.far_part.specs.Desks.{state_at}
 use Rattle.far_part.specs.FarFaults.{told, told_by}
 use Rattle.far_part.specs.FarStops.{FarCause, Failed, Broken, Bye, UsedUp, StopsHere, StopsWith, renewed}
 
@@ -121,13 +121,6 @@ fault_stops T old new ready far.ReadOnly stops = tt
 fault_stops T old new ready far.NoMemory stops = tt
 
 module _ {L : Type 0} {links : link.Ghosts L} where
-  -- a mailbox is said to be open and none is selected: the part had failed before
-  pub lost_failed : (desk : Desk L links) → is_open desk ≡ true → is_selected desk ≡ false → (state_at desk).is_ready ≡ false
-  lost_failed (Closed session) «open» none = absurd (false≢true «open»)
-  lost_failed (Open box) «open» none = absurd (false≢true (sym none))
-  lost_failed (Lost session) «open» none = refl
-  lost_failed Moving «open» none = absurd (false≢true «open»)
-
   pub along : {T : Type 0} (desk : Desk L links) (old new : FarBox L links) (answer : Result T FarFault)
       → desk ≡ Open old → StopsHere (sessions.state_of old.session) (sessions.state_of new.session) (told_by answer) → StopsHere (state_at desk) (sessions.state_of new.session) (told_by answer)
   along desk old new answer is stops = subst (λ (d : Desk L links). StopsHere (state_at d) (sessions.state_of new.session) (told_by answer)) (sym is) stops

@@ -1,5 +1,5 @@
 -- Why a call of the far mailbox stops.
-use Rattle.std.specs.Prelude.{◌≡◌, ◌<◌, ℕ, Bool, true, false, List, Result}
+use Rattle.std.specs.Prelude.{◌≡◌, ◌<◌, ℕ, true, false, List, Result}
 use Rattle.imap_link.specs.Buffers.{SaysBye}
 use Rattle.imap_client.specs.States.{State}
 use Rattle.imap_client.specs.Tags.{LAST_TAG}

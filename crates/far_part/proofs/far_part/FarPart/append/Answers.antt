@@ -1,4 +1,4 @@
-use Rattle.std.proofs.Common.{◌≡◌, refl, sym}
+use Rattle.std.proofs.Common.{refl, sym}
 use Rattle.std.proofs.lemmas.Bool.{false≢true}
 use Rattle.imap_client.specs.Sessions.{server_of}
 use Rattle.far_part.specs.Chosen.{IsChosen}

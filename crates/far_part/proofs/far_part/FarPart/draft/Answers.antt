@@ -1,5 +1,4 @@
-use Rattle.std.proofs.Common.{◌≡◌, ◌∙◌, ℕ, List, Option, refl, sym, ap, subst}
-use Rattle.mailcore.specs.Stores.{Store}
+use Rattle.std.proofs.Common.{◌≡◌, ◌∙◌, refl, sym, ap}
 use Rattle.mailcore.specs.declared.side.Side.TheVariants.{Far}
 use Rattle.mailcore.specs.Operations.{bytes_of}
 use Rattle.parts.specs.declared.draft.Draft.{Draft}
@@ -7,7 +6,7 @@ use Rattle.parts.specs.Drafts.{IsDraft}
 use Rattle.imap_client.specs.Sessions.{server_of}
 use Rattle.imap_session.specs.Servers.{Server}
 use Rattle.far_part.specs.Chosen.{IsChosen, store_at}
-use Rattle.far_part.proofs.FarCalls.{stands_open, store_open, next_open, reads_part, reads_chosen, told_ok}
+use Rattle.far_part.proofs.FarCalls.{stands_open, store_open, next_open, reads_part, reads_chosen}
 use Rattle.far_part.proofs.Mailboxes.{selected_is, sound_there}
 use Rattle.far_part.proofs.StopCalls.{along}
 use Rattle.far_part.proofs.far_part.FarPart.draft.Goals as goal

@@ -1,5 +1,4 @@
-use Rattle.std.proofs.Common.{◌≡◌, ◌∙◌, ℕ, List, Option, refl, sym, ap, subst}
-use Rattle.mailcore.specs.Stores.{Store}
+use Rattle.std.proofs.Common.{◌≡◌, ◌∙◌, ℕ, Option, refl, sym, ap}
 use Rattle.mailcore.specs.Operations.{marked_from}
 use Rattle.imap_client.specs.Sessions.{server_of}
 use Rattle.imap_session.specs.Servers.{Server}

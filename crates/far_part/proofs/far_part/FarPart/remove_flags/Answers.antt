@@ -1,4 +1,4 @@
-use Rattle.std.proofs.Common.{◌≡◌, refl, ap, sym, subst, ◌∙◌}
+use Rattle.std.proofs.Common.{◌≡◌, refl, sym}
 use Rattle.imap_commands.specs.declared.command.StoreMode.TheVariants as modes
 use Rattle.imap_session.specs.NamedMessages.{flags_changed, stored}
 use Rattle.imap_client.specs.Boxes.{one_uid}
