@@ -123,7 +123,7 @@ ended_done ours alone w options d e = record { state = e.state; pending = Missin
 -- ---- in the words of the rules
 
 -- where nobody adds any, the world of the listings is the opening, admitted under some UIDs
-admitted_is : (w now : World) → Grows true w now → now.waiting ≡ [] → (uids : List ℕ) × AreAdmission w uids now.near.next × (now ≡ admitted_under uids now.near.next w)
+pub admitted_is : (w now : World) → Grows true w now → now.waiting ≡ [] → (uids : List ℕ) × AreAdmission w uids now.near.next × (now ≡ admitted_under uids now.near.next w)
 admitted_is w now g none =
     let nobody = g.nobody refl in
     let all : g.named ++ now.waiting ≡ w.waiting = merge_alone w.waiting g.arrived (g.named ++ now.waiting) g.merged nobody.1 in

@@ -72,12 +72,6 @@ fit_few [] (r ∷ rs) f = absurd f
 fit_few (s ∷ ss) [] f = omega arith
 fit_few (s ∷ ss) (r ∷ rs) f = omega (arith, fit_few ss rs f.1)
 
-pub fit_before : (steps : List Step) (results : List (Option ℕ)) (x : Option ℕ) → Fit steps (results ++ x ∷ []) → Fit steps results
-fit_before [] [] x f = tt
-fit_before [] (r ∷ rs) x f = absurd f
-fit_before (s ∷ ss) [] x f = tt
-fit_before (s ∷ ss) (r ∷ rs) x f = (f.0, fit_before ss rs x f.1)
-
 pub fit_last : (steps : List Step) (log : List Logged) (s : Step) (r : Logged) → Fit steps (results_of (log ++ r ∷ [])) → next_of steps log ≡ Some s → is_some (result_of r) ≡ makes_copy s
 fit_last [] log s r f is = cc
 fit_last (t ∷ ss) [] s r f is = let same : t ≡ s = cc in subst (λ (x : Step). is_some (result_of r) ≡ makes_copy x) same f.0
