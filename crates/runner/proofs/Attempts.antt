@@ -25,7 +25,7 @@ use Rattle.mailcore.specs.declared.side.Side.{Side}
 use Rattle.runner.specs.declared.fault.RunFault.{RunFault}
 use Rattle.runner.specs.declared.pass.Pass.{Pass}
 use Rattle.runner.specs.declared.fault.RunFault.TheVariants as run
-use Rattle.runner.specs.Faults.{IsCaused, LeavesRun, Reasons, because, call_fault}
+use Rattle.runner.specs.Faults.{IsCaused, IsLastRun, LeavesRun, Reasons, because, call_fault, or_unread}
 use Rattle.runner.specs.Parts.{IsStuck, Left}
 use Rattle.runner.specs.Answers.{Answers, IsAsked, Moves, RunsBy, as_read, run_of}
 use Rattle.runner.specs.Attempts.{AnswersAt, AnswersLast, AtOpening, Began, ChangedLast, HasNoNext, MetStops, TellsNoNext, TriedAt, failed_before, found_by}
@@ -141,6 +141,19 @@ no_next (out.BadState line) k t = absurd t
 no_next (out.BadJournal line) k t = t
 no_next out.NoMemory k t = tt
 
+-- a reading that shows it
+pub last_run : (opened : Option Opened) (last : SyncState) (m d' : Device) → state_of opened ≡ Some last → d' ≡ m → IsHeld opened m → last.run + 1 ≡ 2 ^ 64 → IsLastRun d'.files (out.BadState 2)
+last_run None last m d' e is held n = absurd held
+last_run (Some o) last m d' e is held n =
+    let same : o.state ≡ last = cc in
+    record {
+      line = refl;
+      state = o.state;
+      pending = o.pending;
+      held = subst (λ (d : Device). Holds d.files o.state o.pending) (sym is) held;
+      greatest = ap (λ (s : SyncState). s.run + 1) same ∙ n;
+    }
+
 last_read : (opened : Option Opened) (last s : SyncState) (p : Pending) (d : Device) → state_of opened ≡ Some last → IsHeld opened d → Holds d.files s p → last.run ≡ s.run
 last_read None last s p d e held k = absurd held
 last_read (Some o) last s p d e held k =
@@ -235,17 +248,19 @@ pub stuck_more : {T : Type 0} (n : ℕ) (start now s1 s2 : Seen) (r : Result T R
 stuck_more n start now s1 s2 r first e stuck l b = let k = stuck_first n start now s1 s2 r (omega (arith, l)) first e stuck b in k.1
 
 -- a fault that is counted in one attempt is counted in all
-pub caused_since : (c : Reasons) (repeats : Type 0) (f : RunFault) (s0 s1 s2 : Seen) → s0.refusals ≤ s1.refusals → s0.faults ≤ s1.faults → s0.appends ≤ s1.appends → (f ≡ run.Stopped → ⊥) → (c.repeats → repeats) → IsCaused c f s1 s2 → IsCaused (because (λ side. Unit {0}) repeats) f s0 s2
-caused_since c repeats run.Stopped s0 s1 s2 r b a n g k = absurd (n refl)
-caused_since c repeats (run.Refused step) s0 s1 s2 r b a n g k = omega (arith, r, k)
-caused_since c repeats (run.ValidityChanged side) s0 s1 s2 r b a n g k = tt
-caused_since c repeats (run.BadState line) s0 s1 s2 r b a n g k = tt
-caused_since c repeats (run.BadJournal line) s0 s1 s2 r b a n g k = tt
-caused_since c repeats (run.StoreFault side code) s0 s1 s2 r b a n g (inl k) = inl (omega (arith, b, k))
-caused_since c repeats (run.StoreFault side code) s0 s1 s2 r b a n g (inr (inl k)) = inr (inl (omega (arith, r, k)))
-caused_since c repeats (run.StoreFault side code) s0 s1 s2 r b a n g (inr (inr k)) = inr (inr (record { far = k.far; protocol = k.protocol; copied = let m = k.copied in omega (arith, a, m) }))
-caused_since c repeats run.MarksRepeat s0 s1 s2 r b a n g k = g k
-caused_since c repeats run.NoMemory s0 s1 s2 r b a n g k = tt
+pub caused_since : (c : Reasons) (repeats : Type 0) (unread : OutsideFault → Type 0) (f : RunFault) (s0 s1 s2 : Seen) → s0.refusals ≤ s1.refusals → s0.faults ≤ s1.faults → s0.appends ≤ s1.appends → (f ≡ run.Stopped → ⊥) → (c.repeats → repeats) → ((e : OutsideFault) → c.unread e → unread e) → IsCaused c f s1 s2
+    → IsCaused (or_unread unread (because (λ side. Unit {0}) repeats)) f s0 s2
+caused_since c repeats unread run.Stopped s0 s1 s2 r b a n g u k = absurd (n refl)
+caused_since c repeats unread (run.Refused step) s0 s1 s2 r b a n g u k = omega (arith, r, k)
+caused_since c repeats unread (run.ValidityChanged side) s0 s1 s2 r b a n g u k = tt
+caused_since c repeats unread (run.BadState line) s0 s1 s2 r b a n g u (inl k) = inl k
+caused_since c repeats unread (run.BadState line) s0 s1 s2 r b a n g u (inr k) = inr (u (out.BadState line) k)
+caused_since c repeats unread (run.BadJournal line) s0 s1 s2 r b a n g u k = u (out.BadJournal line) k
+caused_since c repeats unread (run.StoreFault side code) s0 s1 s2 r b a n g u (inl k) = inl (omega (arith, b, k))
+caused_since c repeats unread (run.StoreFault side code) s0 s1 s2 r b a n g u (inr (inl k)) = inr (inl (omega (arith, r, k)))
+caused_since c repeats unread (run.StoreFault side code) s0 s1 s2 r b a n g u (inr (inr k)) = inr (inr (record { far = k.far; protocol = k.protocol; copied = let m = k.copied in omega (arith, a, m) }))
+caused_since c repeats unread run.MarksRepeat s0 s1 s2 r b a n g u k = g k
+caused_since c repeats unread run.NoMemory s0 s1 s2 r b a n g u k = tt
 
 -- ---- the last attempt
 
@@ -268,12 +283,12 @@ last_answers ours alone opening options n fixed start now s1 stream drawn pass f
   answers = answers (subst (λ (d : Device). TriedAt ours alone opening fixed d) (sym (found_device n now s1 e)) t);
 }
 
-pub changed_last : (ours : List ℕ → Bool) (alone : Bool) (opening : Opening) (h repeats : Type 0) (n tries : ℕ) (fixed : Option ℕ) (start now s1 s2 : Seen) (stream drawn : Stream) (side : Side) (f : RunFault) → (n ≡ 0 → now ≡ start) → (n ≡ 0 → drawn ≡ stream) → Moves stream drawn → s1 ≡ found_by n now → TriedAt ours alone opening fixed now.device
-    → n < tries → f ≡ run.ValidityChanged side → h → IsCaused (because (TellsChanged h alone s1.device s2.device) repeats) f s1 s2 → ChangedLast ours alone opening tries side start.device stream s2.device
+pub changed_last : (ours : List ℕ → Bool) (alone : Bool) (opening : Opening) (h repeats : Type 0) (unread : OutsideFault → Type 0) (n tries : ℕ) (fixed : Option ℕ) (start now s1 s2 : Seen) (stream drawn : Stream) (side : Side) (f : RunFault) → (n ≡ 0 → now ≡ start) → (n ≡ 0 → drawn ≡ stream) → Moves stream drawn → s1 ≡ found_by n now → TriedAt ours alone opening fixed now.device
+    → n < tries → f ≡ run.ValidityChanged side → h → IsCaused (or_unread unread (because (TellsChanged h alone s1.device s2.device) repeats)) f s1 s2 → ChangedLast ours alone opening tries side start.device stream s2.device
 unfolding began_at
-changed_last ours alone opening h repeats n tries fixed start now s1 s2 stream drawn side f first undrawn moved e t few is honest caused =
+changed_last ours alone opening h repeats unread n tries fixed start now s1 s2 stream drawn side f first undrawn moved e t few is honest caused =
     let b = began_at ours alone opening n fixed start now s1 stream drawn first undrawn moved e t in
-    let told : TellsChanged h alone s1.device s2.device side = subst (λ (x : RunFault). IsCaused (because (TellsChanged h alone s1.device s2.device) repeats) x s1 s2) is caused in
+    let told : TellsChanged h alone s1.device s2.device side = subst (λ (x : RunFault). IsCaused (or_unread unread (because (TellsChanged h alone s1.device s2.device) repeats)) x s1 s2) is caused in
     let held = underway_files ours alone opening s1.device b.underway in
     record {
       earlier = n;

@@ -1,38 +1,20 @@
 -- From the calls of the outside to parts, and from parts to longer ones.
-use Rattle.std.proofs.Common.{◌≡◌, ◌⊎◌, ◌≤◌, ◌<◌, ◌+◌, inl, inr, ⊎_elim, ℕ, true, false, Result, Ok, Err, refl, ◌∙◌, ap, arith}
+use Rattle.std.proofs.Common.{◌≡◌, ◌⊎◌, ◌≤◌, ◌<◌, ◌+◌, inl, inr, ⊎_elim, ℕ, true, false, Option, Result, Ok, Err, refl, ◌∙◌, ap, subst, arith}
 use Rattle.device.specs.Calls.{Effect}
 use Rattle.mailcore.specs.declared.side.Side.{Side}
+use Rattle.sync_state.specs.declared.journal.Logged.{Logged}
 use Rattle.outside.specs.declared.fault.OutsideFault.{OutsideFault}
 use Rattle.outside.specs.declared.fault.OutsideFault.TheVariants as out
+use Rattle.outside.specs.BookCalls.{FromLog}
 use Rattle.outside.specs.Calls.{Call, FromBook, FromBox, IsCounted, Seen}
 use Rattle.outside.specs.Devices.{Device}
+use Rattle.outside.specs.Opened.{Opened}
 use Rattle.runner.specs.declared.fault.RunFault.{RunFault}
 use Rattle.runner.specs.declared.fault.RunFault.TheVariants as run
 use Rattle.runner.specs.Faults.{IsCaused, IsLost, LeavesRun, Reasons, call_fault, step_fault}
 use Rattle.runner.specs.Parts.{Left, Never, NoLess, Part, PartOr, Passed}
 
--- ---- why a fault is told
-
-abbrev StopCount : OutsideFault → Seen → Seen → Type 0
-StopCount e old new = e ≡ out.Stopped → (old.is_broken ≡ true) ⊎ (old.stops < new.stops)
-
-caused_by : (reasons : Reasons) (e : OutsideFault) (number : ℕ) (s0 s1 : Seen) → StopCount e s0 s1 → IsCounted e s0 s1 → IsCaused reasons (step_fault e number) s0 s1
-caused_by reasons out.Stopped number s0 s1 stop h = stop refl
-caused_by reasons out.Refused number s0 s1 stop h = h
-caused_by reasons (out.Box side code) number s0 s1 stop h = inl h
-caused_by reasons (out.BadState line) number s0 s1 stop h = tt
-caused_by reasons (out.BadJournal line) number s0 s1 stop h = tt
-caused_by reasons out.NoMemory number s0 s1 stop h = tt
-
-called_by : (reasons : Reasons) (e : OutsideFault) (s0 s1 : Seen) → StopCount e s0 s1 → IsCounted e s0 s1 → IsCaused reasons (call_fault e) s0 s1
-called_by reasons out.Stopped s0 s1 stop h = stop refl
-called_by reasons out.Refused s0 s1 stop h = inr (inl h)
-called_by reasons (out.Box side code) s0 s1 stop h = inl h
-called_by reasons (out.BadState line) s0 s1 stop h = tt
-called_by reasons (out.BadJournal line) s0 s1 stop h = tt
-called_by reasons out.NoMemory s0 s1 stop h = tt
-
--- ---- what a fault leaves
+-- ---- a bad line of the state or the journal
 
 -- a fault that tells nothing of the state or the journal
 abbrev pub TellsNoBook : OutsideFault → Type 0
@@ -58,6 +40,55 @@ from_book (out.Box side number) h = tt
 from_book (out.BadState line) h = h
 from_book (out.BadJournal line) h = h
 from_book out.NoMemory h = tt
+
+-- a bad line has its reason
+pub record HasLine (reasons : Reasons) (e : OutsideFault) : Type 0 where
+  pub state : (line : ℕ) → e ≡ out.BadState line → (line ≡ 0) ⊎ reasons.unread e
+  pub journal : (line : ℕ) → e ≡ out.BadJournal line → reasons.unread e
+
+none_bad : {reasons : Reasons} (e : OutsideFault) → TellsNoBook e → HasLine reasons e
+none_bad e t = record {
+  state = λ line is. absurd (subst (λ (x : OutsideFault). TellsNoBook x) is t);
+  journal = λ line is. absurd (subst (λ (x : OutsideFault). TellsNoBook x) is t);
+}
+
+pub line_of_box : {reasons : Reasons} (e : OutsideFault) → FromBox e → HasLine reasons e
+line_of_box e h = none_bad e (from_box e h)
+
+pub line_of_book : {reasons : Reasons} (e : OutsideFault) → FromBook e → HasLine reasons e
+line_of_book e h = none_bad e (from_book e h)
+
+pub line_of_log : {reasons : Reasons} (opened : Option Opened) (logged : Logged) (e : OutsideFault) → FromLog opened logged e → HasLine reasons e
+line_of_log opened logged e h = record {
+  state = λ line is. inl (subst (λ (x : OutsideFault). FromLog opened logged x) is h).0;
+  journal = λ line is. absurd (subst (λ (x : OutsideFault). FromLog opened logged x) is h);
+}
+
+pub line_of_shelf : {reasons : Reasons} (e : OutsideFault) → reasons.unread e → HasLine reasons e
+line_of_shelf e u = record { state = λ line is. inr u; journal = λ line is. u }
+
+-- ---- why a fault is told
+
+abbrev StopCount : OutsideFault → Seen → Seen → Type 0
+StopCount e old new = e ≡ out.Stopped → (old.is_broken ≡ true) ⊎ (old.stops < new.stops)
+
+caused_by : (reasons : Reasons) (e : OutsideFault) (number : ℕ) (s0 s1 : Seen) → StopCount e s0 s1 → IsCounted e s0 s1 → HasLine reasons e → IsCaused reasons (step_fault e number) s0 s1
+caused_by reasons out.Stopped number s0 s1 stop h t = stop refl
+caused_by reasons out.Refused number s0 s1 stop h t = h
+caused_by reasons (out.Box side code) number s0 s1 stop h t = inl h
+caused_by reasons (out.BadState line) number s0 s1 stop h t = t.state line refl
+caused_by reasons (out.BadJournal line) number s0 s1 stop h t = t.journal line refl
+caused_by reasons out.NoMemory number s0 s1 stop h t = tt
+
+called_by : (reasons : Reasons) (e : OutsideFault) (s0 s1 : Seen) → StopCount e s0 s1 → IsCounted e s0 s1 → HasLine reasons e → IsCaused reasons (call_fault e) s0 s1
+called_by reasons out.Stopped s0 s1 stop h t = stop refl
+called_by reasons out.Refused s0 s1 stop h t = inr (inl h)
+called_by reasons (out.Box side code) s0 s1 stop h t = inl h
+called_by reasons (out.BadState line) s0 s1 stop h t = t.state line refl
+called_by reasons (out.BadJournal line) s0 s1 stop h t = t.journal line refl
+called_by reasons out.NoMemory s0 s1 stop h t = tt
+
+-- ---- what a fault leaves
 
 pub after_step : (u : Device → Type 0) (e : OutsideFault) (number : ℕ) (s0 s1 : Seen) → IsCounted e s0 s1 → TellsNoBook e → u s1.device → LeavesRun u (step_fault e number) s0 s1
 after_step u out.Stopped number s0 s1 h t k = k
@@ -86,16 +117,6 @@ leaves_map u v (run.BadJournal line) s0 s1 g k = k
 leaves_map u v run.MarksRepeat s0 s1 g k = g k
 leaves_map u v run.NoMemory s0 s1 g k = g k
 
-pub leaves_any : (u : Device → Type 0) (f : RunFault) (s0 s1 : Seen) → LeavesRun u f s0 s1 → u s1.device
-leaves_any u run.Stopped s0 s1 k = k
-leaves_any u (run.Refused step) s0 s1 k = k
-leaves_any u (run.StoreFault side code) s0 s1 k = k.0
-leaves_any u (run.ValidityChanged side) s0 s1 k = k
-leaves_any u (run.BadState line) s0 s1 k = absurd k
-leaves_any u (run.BadJournal line) s0 s1 k = absurd k
-leaves_any u run.MarksRepeat s0 s1 k = k
-leaves_any u run.NoMemory s0 s1 k = k
-
 -- ---- one call
 
 module _ {T : Type 0} (honest : Type 0) (from : Device → Type 0) (others : Effect Device) (copies : T → ℕ) (tells : OutsideFault → Type 0) (does : T → Effect Device) (leaves : OutsideFault → Effect Device) (s0 s1 : Seen) where
@@ -117,23 +138,23 @@ module _ {T : Type 0} (honest : Type 0) (from : Device → Type 0) (others : Eff
   no_less e c = let a = c.acts in let n = c.counts in record { stops = a.no_less; refusals = n.refusals; faults = n.faults; appends = n.appends }
 
   -- that had a fault while a step was performed
-  pub left_step : {reasons : Reasons} (underway : Device → Type 0) (number : ℕ) (e : OutsideFault) → Call honest others copies tells does leaves s0 s1 (Err e) → ((m : Device) → from s0.device → others s0.device m → leaves e m s1.device → tells e → TellsNoBook e × underway s1.device) → Left reasons honest from underway (step_fault e number) s0 s1
-  left_step underway number e c f =
+  pub left_step : {reasons : Reasons} (underway : Device → Type 0) (number : ℕ) (e : OutsideFault) → Call honest others copies tells does leaves s0 s1 (Err e) → (tells e → HasLine reasons e) → ((m : Device) → from s0.device → others s0.device m → leaves e m s1.device → tells e → TellsNoBook e × underway s1.device) → Left reasons honest from underway (step_fault e number) s0 s1
+  left_step underway number e c line f =
       let a = c.acts in
       let n = c.counts in
       record {
-        caused = caused_by _ e number s0 s1 a.counted n.counted;
+        caused = caused_by _ e number s0 s1 a.counted n.counted (line n.told);
         no_less = no_less e c;
         left = λ h at. let k = a.left h in let r = f k.mid at k.before k.behind n.told in after_step underway e number s0 s1 n.counted r.0 r.1;
       }
 
   -- that had one else
-  pub left_call : {reasons : Reasons} (underway : Device → Type 0) (e : OutsideFault) → Call honest others copies tells does leaves s0 s1 (Err e) → ((m : Device) → from s0.device → others s0.device m → leaves e m s1.device → tells e → TellsNoBook e × underway s1.device) → Left reasons honest from underway (call_fault e) s0 s1
-  left_call underway e c f =
+  pub left_call : {reasons : Reasons} (underway : Device → Type 0) (e : OutsideFault) → Call honest others copies tells does leaves s0 s1 (Err e) → (tells e → HasLine reasons e) → ((m : Device) → from s0.device → others s0.device m → leaves e m s1.device → tells e → TellsNoBook e × underway s1.device) → Left reasons honest from underway (call_fault e) s0 s1
+  left_call underway e c line f =
       let a = c.acts in
       let n = c.counts in
       record {
-        caused = called_by _ e s0 s1 a.counted n.counted;
+        caused = called_by _ e s0 s1 a.counted n.counted (line n.told);
         no_less = no_less e c;
         left = λ h at. let k = a.left h in let r = f k.mid at k.before k.behind n.told in after_call underway e s0 s1 n.counted r.0 r.1;
       }
@@ -171,8 +192,8 @@ later reasons (run.StoreFault side code) s0 s1 s2 w s r b a (inl h) = inl (omega
 later reasons (run.StoreFault side code) s0 s1 s2 w s r b a (inr (inl h)) = inr (inl (omega arith))
 later reasons (run.StoreFault side code) s0 s1 s2 w s r b a (inr (inr h)) = inr (inr (record { far = h.far; protocol = h.protocol; copied = let k = h.copied in omega arith }))
 later reasons (run.ValidityChanged side) s0 s1 s2 w s r b a h = h
-later reasons (run.BadState line) s0 s1 s2 w s r b a h = tt
-later reasons (run.BadJournal line) s0 s1 s2 w s r b a h = tt
+later reasons (run.BadState line) s0 s1 s2 w s r b a h = h
+later reasons (run.BadJournal line) s0 s1 s2 w s r b a h = h
 later reasons run.MarksRepeat s0 s1 s2 w s r b a h = h
 later reasons run.NoMemory s0 s1 s2 w s r b a h = tt
 
@@ -188,16 +209,16 @@ leaves_later u run.MarksRepeat s0 s1 s2 r b k = k
 leaves_later u run.NoMemory s0 s1 s2 r b k = k
 
 pub left_after : {reasons : Reasons} (h0 h1 : Type 0) (a b underway : Device → Type 0) (m : ℕ) (f : RunFault) (s0 s1 s2 : Seen) → (h1 → h0) → Passed h0 a b m s0 s1 → Left reasons h1 b underway f s1 s2 → Left reasons h1 a underway f s0 s2
-left_after h0 h1 a b underway m f s0 s1 s2 honest p q = record {
-  caused = later _ f s0 s1 s2 p.is_whole p.stops p.refusals p.faults (omega (arith, p.appends)) q.caused;
+left_after {reasons} h0 h1 a b underway m f s0 s1 s2 honest p q = record {
+  caused = later reasons f s0 s1 s2 p.is_whole p.stops p.refusals p.faults (omega (arith, p.appends)) q.caused;
   no_less = let n = q.no_less in record { stops = omega (arith, p.stops, n.stops); refusals = omega (arith, p.refusals, n.refusals); faults = omega (arith, p.faults, n.faults); appends = omega (arith, p.appends, n.appends) };
   left = λ h at. leaves_later underway f s0 s1 s2 p.refusals p.faults (q.left h (p.reaches (honest h) at));
 }
 
 -- a fault of the run's own, behind a part that went
 pub left_here : {reasons : Reasons} (h : Type 0) (a b underway : Device → Type 0) (m : ℕ) (f : RunFault) (s0 s1 : Seen) → Passed h a b m s0 s1 → IsCaused reasons f s1 s1 → (b s1.device → LeavesRun underway f s0 s1) → Left reasons h a underway f s0 s1
-left_here h a b underway m f s0 s1 p caused g = record {
-  caused = later _ f s0 s1 s1 p.is_whole p.stops p.refusals p.faults (omega (arith, p.appends)) caused;
+left_here {reasons} h a b underway m f s0 s1 p caused g = record {
+  caused = later reasons f s0 s1 s1 p.is_whole p.stops p.refusals p.faults (omega (arith, p.appends)) caused;
   no_less = record { stops = omega (arith, p.stops); refusals = omega (arith, p.refusals); faults = omega (arith, p.faults); appends = omega (arith, p.appends) };
   left = λ honest at. g (p.reaches honest at);
 }
@@ -250,29 +271,39 @@ add_none n = omega arith
 
 -- ---- the same part for other reasons
 
-caused_told : (c c' : Reasons) (f : RunFault) (s0 s1 : Seen) → ((side : Side) → c.changed side → c'.changed side) → (c.repeats → c'.repeats) → IsCaused c f s0 s1 → IsCaused c' f s0 s1
-caused_told c c' run.Stopped s0 s1 g k h = h
-caused_told c c' (run.Refused step) s0 s1 g k h = h
-caused_told c c' (run.ValidityChanged side) s0 s1 g k h = g side h
-caused_told c c' (run.BadState line) s0 s1 g k h = h
-caused_told c c' (run.BadJournal line) s0 s1 g k h = h
-caused_told c c' (run.StoreFault side code) s0 s1 g k h = h
-caused_told c c' run.MarksRepeat s0 s1 g k h = k h
-caused_told c c' run.NoMemory s0 s1 g k h = h
+-- the reasons of one part are reasons of another
+pub record AreReasons (c c' : Reasons) : Type 0 where
+  pub changed : (side : Side) → c.changed side → c'.changed side
+  pub repeats : c.repeats → c'.repeats
+  pub unread : (e : OutsideFault) → c.unread e → c'.unread e
 
-pub left_told : (c c' : Reasons) (h : Type 0) (a underway : Device → Type 0) (f : RunFault) (s0 s1 : Seen) → ((side : Side) → c.changed side → c'.changed side) → (c.repeats → c'.repeats) → Left c h a underway f s0 s1 → Left c' h a underway f s0 s1
-left_told c c' h a underway f s0 s1 g k l = record { caused = caused_told c c' f s0 s1 g k l.caused; no_less = l.no_less; left = l.left }
+caused_told : (c c' : Reasons) (f : RunFault) (s0 s1 : Seen) → AreReasons c c' → IsCaused c f s0 s1 → IsCaused c' f s0 s1
+caused_told c c' run.Stopped s0 s1 k h = h
+caused_told c c' (run.Refused step) s0 s1 k h = h
+caused_told c c' (run.ValidityChanged side) s0 s1 k h = k.changed side h
+caused_told c c' (run.BadState line) s0 s1 k (inl h) = inl h
+caused_told c c' (run.BadState line) s0 s1 k (inr h) = inr (k.unread (out.BadState line) h)
+caused_told c c' (run.BadJournal line) s0 s1 k h = k.unread (out.BadJournal line) h
+caused_told c c' (run.StoreFault side code) s0 s1 k h = h
+caused_told c c' run.MarksRepeat s0 s1 k h = k.repeats h
+caused_told c c' run.NoMemory s0 s1 k h = h
 
-pub part_told : {T : Type 0} (c c' : Reasons) (h : Type 0) (a underway : Device → Type 0) (copies : T → ℕ) (reaches : T → Device → Type 0) (s0 s1 : Seen) (r : Result T RunFault) → ((side : Side) → c.changed side → c'.changed side) → (c.repeats → c'.repeats) → PartOr c h a underway copies reaches s0 s1 r → PartOr c' h a underway copies reaches s0 s1 r
-part_told c c' h a underway copies reaches s0 s1 (Ok x) g k p = p
-part_told c c' h a underway copies reaches s0 s1 (Err e) g k p = left_told c c' h a underway e s0 s1 g k p
+pub left_told : (c c' : Reasons) (h : Type 0) (a underway : Device → Type 0) (f : RunFault) (s0 s1 : Seen) → AreReasons c c' → Left c h a underway f s0 s1 → Left c' h a underway f s0 s1
+left_told c c' h a underway f s0 s1 k l = record { caused = caused_told c c' f s0 s1 k l.caused; no_less = l.no_less; left = l.left }
+
+pub part_told : {T : Type 0} (c c' : Reasons) (h : Type 0) (a underway : Device → Type 0) (copies : T → ℕ) (reaches : T → Device → Type 0) (s0 s1 : Seen) (r : Result T RunFault) → AreReasons c c' → PartOr c h a underway copies reaches s0 s1 r → PartOr c' h a underway copies reaches s0 s1 r
+part_told c c' h a underway copies reaches s0 s1 (Ok x) k p = p
+part_told c c' h a underway copies reaches s0 s1 (Err e) k p = left_told c c' h a underway e s0 s1 k p
 
 -- a part that never tells one
+none_told : (c : Reasons) → AreReasons Never c
+none_told c = record { changed = λ side n. absurd n; repeats = λ n. absurd n; unread = λ e n. absurd n }
+
 pub left_never : {c : Reasons} (h : Type 0) (a underway : Device → Type 0) (f : RunFault) (s0 s1 : Seen) → Left Never h a underway f s0 s1 → Left c h a underway f s0 s1
-left_never h a underway f s0 s1 l = left_told Never _ h a underway f s0 s1 (λ side n. absurd n) (λ n. absurd n) l
+left_never h a underway f s0 s1 l = left_told Never _ h a underway f s0 s1 (none_told _) l
 
 pub part_never : {T : Type 0} (c : Reasons) (h : Type 0) (a underway : Device → Type 0) (copies : T → ℕ) (reaches : T → Device → Type 0) (s0 s1 : Seen) (r : Result T RunFault) → Part h a underway copies reaches s0 s1 r → PartOr c h a underway copies reaches s0 s1 r
-part_never c h a underway copies reaches s0 s1 r p = part_told Never _ h a underway copies reaches s0 s1 r (λ side n. absurd n) (λ n. absurd n) p
+part_never c h a underway copies reaches s0 s1 r p = part_told Never _ h a underway copies reaches s0 s1 r (none_told _) p
 
 -- ---- the same part that leaves another condition
 

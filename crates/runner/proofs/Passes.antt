@@ -1,5 +1,5 @@
 -- How the parts of a run join.
-use Rattle.std.proofs.Common.{◌≡◌, ◌⊎◌, ◌≤◌, ◌+◌, ◌-◌, inl, inr, ℕ, Bool, true, List, [], ◌∷◌, All, length, drop, Option, Some, None, unwrap_or, Result, Ok, Err, IfOk, Vec, refl, sym, ◌∙◌, ap, subst, arith, length-append}
+use Rattle.std.proofs.Common.{◌≡◌, ◌⊎◌, ◌≤◌, ◌+◌, ◌-◌, inl, inr, ℕ, Bool, true, List, [], ◌∷◌, All, length, drop, Option, Some, None, unwrap_or, Result, Ok, Err, IfOk, OnOk, Vec, refl, sym, ◌∙◌, ap, subst, arith, length-append}
 use Rattle.std.proofs.lemmas.List.{length-drop, length-map}
 use Rattle.std.specs.Global.{Global}
 use Rattle.rand_core.specs.Stream.{Stream}
@@ -11,6 +11,7 @@ use Rattle.rules.specs.declared.plan.Plan.{Plan}
 use Rattle.rules.specs.declared.plan.Step.{Step}
 use Rattle.rules.specs.declared.state.SyncState.{SyncState}
 use Rattle.rules.specs.Outcome.{count_new}
+use Rattle.rules.specs.Opening.{IsOpening}
 use Rattle.rules.specs.Scene.{scene}
 use Rattle.rules.specs.World.{World, IsInOrder}
 use Rattle.planner.specs.Written.{marks_of}
@@ -29,11 +30,11 @@ use Rattle.outside.specs.Calls.{Seen}
 use Rattle.outside.specs.Opened.{IsBook, IsHeld, IsRead, Opened, TakesCommit, journal_in, state_of, turned, with_box}
 use Rattle.mailcore.specs.declared.side.Side.TheVariants.{Far, Near}
 use Rattle.underway.specs.Conditions.{IsOver, IsPending, Underway}
-use Rattle.underway.specs.Endings.{DoneAt}
+use Rattle.underway.specs.Endings.{DoneAt, IsDone}
 use Rattle.underway.specs.Moments.{PlannedAt}
 use Rattle.underway.specs.Openings.{Grows, IsIdle, Opening, Since, Unplanned}
 use Rattle.underway.specs.Plans.{IsPlanned}
-use Rattle.underway.proofs.Ends.{ended, ended_done, half_ended}
+use Rattle.underway.proofs.Ends.{done_is_done, ended, ended_done, half_ended}
 use Rattle.underway.proofs.Growth.{since_map}
 use Rattle.runner.specs.declared.fault.RunFault.{RunFault}
 use Rattle.runner.specs.declared.fault.RunFault.TheVariants as run
@@ -41,9 +42,10 @@ use Rattle.runner.specs.declared.pass.Pass.{Pass}
 use Rattle.runner.specs.declared.pass.Pass.TheVariants.{Already, Ran, Finished}
 use Rattle.runner.specs.declared.performed.Performed.{Performed}
 use Rattle.runner.specs.Faults.{IsCaused, LeavesRun, Reasons}
-use Rattle.runner.specs.Answers.{Answers, AnswersTo, AreUnfit, AtEnd, IsAsked, IsDrawn, IsPlanFault, IsRest, IsRestOf, IsRun, Reaches, RunsBy, as_read, run_of}
+use Rattle.runner.specs.Answers.{Answers, AnswersTo, AreUnfit, AtEnd, IsAsked, IsDrawn, IsEntry, IsPlanFault, IsRest, IsRestOf, IsRun, Reaches, RunsBy, as_read, made_in, run_of}
 use Rattle.runner.specs.Before.{AreShown, BothListed, HasNoPlan, HasNone, HasPlan, IsKnown, IsMade, IsTakenUp}
 use Rattle.runner.specs.Going.{AreOpen, AtReady, HasLogged, HasUntorn, IsGoing, IsUntorn, log_at, logged_of, logs_of, next_at, no_journal, plan_at, steps_of}
+use Rattle.runner.specs.Parts.{PartOr}
 use Rattle.runner.proofs.Logging.{of_book}
 use Rattle.runner.proofs.PlanFacts.{no_pairs}
 use Rattle.runner.proofs.Readings.{planned_files, turned_open, turned_state}
@@ -328,8 +330,8 @@ pub caused_plan : (reasons : Reasons) (f : RunFault) (s0 s1 : Seen) → IsPlanFa
 caused_plan reasons run.Stopped s0 s1 h g k = absurd h
 caused_plan reasons (run.Refused step) s0 s1 h g k = absurd h
 caused_plan reasons (run.ValidityChanged side) s0 s1 h g k = g side refl
-caused_plan reasons (run.BadState line) s0 s1 h g k = tt
-caused_plan reasons (run.BadJournal line) s0 s1 h g k = tt
+caused_plan reasons (run.BadState line) s0 s1 h g k = absurd h
+caused_plan reasons (run.BadJournal line) s0 s1 h g k = absurd h
 caused_plan reasons (run.StoreFault side number) s0 s1 h g k = absurd h
 caused_plan reasons run.MarksRepeat s0 s1 h g k = k refl
 caused_plan reasons run.NoMemory s0 s1 h g k = tt
@@ -355,3 +357,14 @@ none_few opened e = rw e (omega arith)
 
 pub whole_steps : (opened : Option Opened) (performed : List Performed) → log_at opened ≡ [] → steps_of performed ≡ drop (length (log_at opened)) (plan_at opened).steps → steps_of performed ≡ (plan_at opened).steps
 whole_steps opened performed e s = s ∙ ap (λ (l : List Logged). drop (length l) (plan_at opened).steps) e
+
+-- ---- where nobody else adds messages
+
+pub over_alike : (ours : List ℕ → Bool) (alone : Bool) (opening : Opening) (d : Device) → alone ≡ true → IsOpening opening.world → IsOver ours alone opening d → IsDone opening.world opening.options d
+over_alike ours alone opening d nobody sound over = done_is_done ours opening d sound (subst (λ (x : Bool). IsOver ours x opening d) nobody over)
+
+pub pass_alike : (reasons : Reasons) (honest : Type 0) (ours : List ℕ → Bool) (alone : Bool) (opening : Opening) (run : ℕ) (options : Options) (stream : Stream) (s0 s1 : Seen) (r : Result Pass RunFault)
+    → PartOr reasons honest (IsEntry ours alone opening run options stream) (Underway ours alone opening) made_in (λ _. Reaches ours alone opening run) s0 s1 r
+    → OnOk r (honest → alone ≡ true → IsEntry ours alone opening run options stream s0.device → opening.world.state.run + 1 ≤ run → IsOpening opening.world → IsDone opening.world opening.options s1.device)
+pass_alike reasons honest ours alone opening run options stream s0 s1 (Ok x) p = λ h nobody at least sound. let r = p.reaches h at in over_alike ours alone opening s1.device nobody sound (r.done least)
+pass_alike reasons honest ours alone opening run options stream s0 s1 (Err e) p = tt

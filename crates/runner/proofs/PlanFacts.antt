@@ -15,7 +15,7 @@ use Rattle.rules.specs.PlanEntries.{PlanAgrees}
 use Rattle.rules.specs.Plans.{AreInRange, IsHighest, IsPlan}
 use Rattle.rules.specs.Scene.{Scene, scene}
 use Rattle.rules.specs.World.{World, scene_of, store}
-use Rattle.planner.specs.Written.{all_notes, all_steps, all_unfit, marks_of, side_with}
+use Rattle.planner.specs.Written.{all_notes, all_steps, marks_of, side_with}
 use Rattle.book.specs.Agreement.{Agrees}
 use Rattle.book.specs.BookLogs.{fresh}
 use Rattle.book.specs.Books.{IsSound}
@@ -24,7 +24,7 @@ use Rattle.rand_core.specs.Stream.{Stream}
 use Rattle.outside.specs.BoxCalls.{HasNumbers}
 use Rattle.outside.specs.Opened.{IsRead, Opened, TakesPlan, state_of}
 use Rattle.underway.specs.Plans.{IsPlanned, first_uid}
-use Rattle.runner.specs.Answers.{AreDrawn, AreUnfit, IsDrawn, Moves, run_of}
+use Rattle.runner.specs.Answers.{AreDrawn, Moves, run_of}
 use Rattle.runner.specs.Before.{AreShown, HasNoJournal}
 use Rattle.runner.proofs.Fitness.{count_same, highest_same, notes_same, steps_same}
 
@@ -58,16 +58,6 @@ takes_plan (Some o) s plan e none has run room agrees =
       next = omega arith;
       agrees = subst (λ (x : SyncState). Agrees x.entries (fresh plan)) (sym same) (begun_agrees s.entries plan agrees);
     }
-
-pub drawn_plan : (opened : Option Opened) (s : SyncState) (stream : Stream) (far near : Listing) (options : Options) (plan : Plan) (marks : List (List ℕ)) → state_of opened ≡ Some s → AreDrawn stream far near s options marks → marks_of plan.steps ≡ marks → plan.steps ≡ all_steps (scene far near s options) marks → IsDrawn opened stream far near options plan.steps
-drawn_plan None s stream far near options plan marks e d given steps = cc
-drawn_plan (Some o) s stream far near options plan marks e d given steps =
-    let same : o.state ≡ s = cc in
-    rw (given, same) (d, steps)
-
-pub unfit_of : (opened : Option Opened) (s : SyncState) (far near : Listing) (options : Options) (unfit : List (Side × ℕ)) → state_of opened ≡ Some s → unfit ≡ all_unfit (scene far near s options) → AreUnfit opened far near options unfit
-unfit_of None s far near options unfit e u = cc
-unfit_of (Some o) s far near options unfit e u = let same : o.state ≡ s = cc in rw same u
 
 pub journal_read : (opened : Option Opened) → HasNoJournal opened → IsRead opened
 journal_read None h = h

@@ -122,6 +122,10 @@ no_line files s p (out.BadJournal line) h k t = by_fault (held_open files s p (b
     by_fault (inr e) = cc
 no_line files s p out.NoMemory h k t = tt
 
+-- what was told of the files is so of those that stand there
+pub unread_files : (e : OutsideFault) (m d' : Device) → d' ≡ m → TellsFiles e m.files → TellsFiles e d'.files
+unread_files e m d' is t = subst (λ (d : Device). TellsFiles e d.files) (sym is) t
+
 module _ (ours : List ℕ → Bool) (alone : Bool) (opening : Opening) where
   stands_files : (w : World) (plan : Plan) (log : List Logged) (torn : Bool) (d : Device) → Stands ours alone w opening.options plan log torn d → Holds d.files w.state (with_log plan log torn)
   stands_files w plan log torn d (inl k) = let at = k.1 in at.files

@@ -4,7 +4,6 @@ use Rattle.mailcore.specs.declared.side.Side.{Side}
 use Rattle.mailcore.specs.declared.side.Side.TheVariants.{Far, Near}
 use Rattle.mailcore.specs.declared.listing.Listing.{Listing}
 use Rattle.rules.specs.declared.state.SyncState.{SyncState}
-use Rattle.sync_state.specs.declared.journal.Journal.{Journal}
 use Rattle.book.specs.declared.book.Pending.{Pending}
 use Rattle.book.specs.declared.book.Pending.TheVariants.{Missing, Useless, Planned}
 use Rattle.book.specs.Books.{Holds, Turns}
@@ -18,46 +17,12 @@ use Rattle.rules.specs.Outcome.{changed_side}
 use Rattle.outside.specs.BookCalls.{OfBook}
 use Rattle.outside.specs.BoxCalls.{Admits}
 use Rattle.outside.specs.Devices.{Device, box}
-use Rattle.outside.specs.Opened.{IsHeld, Opened, journal_in, journal_of, state_of, turned, with_box}
+use Rattle.outside.specs.Opened.{IsHeld, Opened, state_of, turned, with_box}
 use Rattle.runner.specs.Before.{HasNoJournal, HasNoPlan}
 use Rattle.runner.specs.Answers.{as_read}
-use Rattle.runner.specs.Validities.{BothSame, HasChanged, HasOther, HasSame, HaveValidities, IsKept, IsOther, IsSame, KeepsValidities, ListsChanged, TellsChange, TellsChanged, TellsOther, TellsUnlessSame, after_run, named_after, plan_validity, recorded, recorded_in, state_validity}
+use Rattle.runner.specs.Validities.{BothSame, HasChanged, HasOther, HasSame, HaveValidities, IsKept, IsOther, IsSame, KeepsValidities, ListsChanged, TellsChange, TellsChanged, TellsOther, TellsUnlessSame, after_run, named_after, recorded, recorded_in}
 
 -- ---- which one is recorded
-
-pub recorded_plan : (opened : Option Opened) (j : Journal) (side : Side) → journal_of opened ≡ Some j → recorded_in opened side ≡ Some (plan_validity j.plan side)
-recorded_plan None j side e = cc
-recorded_plan (Some o) j side e = of_pending o.pending e
-  where
-    of_pending : (p : Pending) → journal_in p ≡ Some j → recorded o.state p side ≡ Some (plan_validity j.plan side)
-    of_pending Missing e = cc
-    of_pending Useless e = cc
-    of_pending (Planned written) e = let same : written.journal ≡ j = cc in ap (λ (x : Journal). Some (plan_validity x.plan side)) same
-
-pub recorded_state : (opened : Option Opened) (s : SyncState) (side : Side) → journal_of opened ≡ None → state_of opened ≡ Some s → recorded_in opened side ≡ after_run s side
-recorded_state None s side e f = cc
-recorded_state (Some o) s side e f = of_pending o.pending e
-  where
-    same : o.state ≡ s
-    same = cc
-
-    of_pending : (p : Pending) → journal_in p ≡ None → recorded o.state p side ≡ after_run s side
-    of_pending Missing e = ap (λ (x : SyncState). after_run x side) same
-    of_pending Useless e = ap (λ (x : SyncState). after_run x side) same
-    of_pending (Planned written) e = cc
-
-named_none : (run validity : ℕ) → run ≡ 0 → named_after run validity ≡ None
-named_none run validity e = rw e refl
-
-named_some : (run validity : ℕ) → (run ≡ 0 → ⊥) → named_after run validity ≡ Some validity
-named_some zero validity f = absurd (f refl)
-named_some (suc n) validity f = grind (arith, common_steps)
-
-pub none_recorded : (s : SyncState) (side : Side) → s.run ≡ 0 → after_run s side ≡ None
-none_recorded s side e = named_none s.run (state_validity s side) e
-
-pub some_recorded : (s : SyncState) (side : Side) → (s.run ≡ 0 → ⊥) → after_run s side ≡ Some (state_validity s side)
-some_recorded s side f = named_some s.run (state_validity s side) f
 
 -- an open box records no other
 boxed_recorded : (side at : Side) (opened : Option Opened) → recorded_in (with_box side opened) at ≡ recorded_in opened at

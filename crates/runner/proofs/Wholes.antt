@@ -66,6 +66,3 @@ sets_where_none set cleared e = rw e (either (not (set == 0)))
     either : (b : Bool) → (b || true) ≡ true
     either true = refl
     either false = refl
-
-pub sets_later : (set cleared : ℕ) → (set == 0) ≡ true → (cleared == 0) ≡ false → sets_first set cleared ≡ false
-sets_later set cleared e f = rw (e, f) refl

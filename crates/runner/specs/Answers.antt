@@ -13,6 +13,7 @@ use Rattle.rules.specs.Scene.{scene}
 use Rattle.planner.specs.Written.{all_steps, all_unfit, marks_of}
 use Rattle.book.specs.declared.book.Pending.{Pending}
 use Rattle.book.specs.declared.book.Pending.TheVariants.{Missing, Useless, Planned}
+use Rattle.book.specs.Books.{Holds}
 use Rattle.outside.specs.Devices.{Device}
 use Rattle.outside.specs.Opened.{Opened}
 use Rattle.underway.specs.Conditions.{IsOver, Underway}
@@ -106,6 +107,10 @@ as_read s p = Some (record { state = s; pending = p; far = false; near = false }
 abbrev pub run_of : Option Opened → ℕ
 run_of None = 0
 run_of (Some o) = o.state.run
+
+-- so much is so of the state and the journal that the files hold
+abbrev pub OfFiles : (honest : Type 0) → Device → (SyncState → Pending → Type 0) → Type 0
+OfFiles honest d P = honest → (s : SyncState) (p : Pending) → Holds d.files s p → P s p
 
 -- how many copies a pass made
 abbrev pub made_in : Pass → ℕ

@@ -23,6 +23,11 @@ pub record AtOpening (ours : List ℕ → Bool) (alone : Bool) (opening : Openin
   pub room : opening.world.state.run + 1 < 2 ^ 64
   pub open_run : Unplanned alone opening d ⊎ IsPending ours alone opening d
 
+-- so much is so where this began at an opening, on an outside that has kept its word, under the options of the call and marks that
+-- nobody else writes
+abbrev pub FromOpening : (honest : Type 0) → (List ℕ → Bool) → Bool → Opening → Options → Stream → (start : Device) → Type 0 → Type 0
+FromOpening honest ours alone opening options stream start P = honest → IsAsked ours opening options stream → AtOpening ours alone opening start → P
+
 -- where `settle` may stand between two attempts: its run is fixed once a reading was not stopped
 abbrev pub TriedAt : (List ℕ → Bool) → Bool → Opening → (fixed : Option ℕ) → Device → Type 0
 TriedAt ours alone opening None d = AtOpening ours alone opening d

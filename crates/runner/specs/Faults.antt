@@ -1,9 +1,14 @@
 -- How the faults of the outside are told by a run, and what a fault of a run says.
-use Rattle.std.specs.Prelude.{◌≡◌, ◌<◌, ◌⊎◌, ℕ, true}
+use Rattle.std.specs.Prelude.{◌≡◌, ◌<◌, ◌⊎◌, ◌+◌, ◌^◌, ℕ, true}
 use Rattle.mailcore.specs.declared.side.Side.{Side}
 use Rattle.mailcore.specs.declared.side.Side.TheVariants.{Far}
+use Rattle.rules.specs.declared.state.SyncState.{SyncState}
+use Rattle.book.specs.declared.book.Pending.{Pending}
+use Rattle.book.specs.Books.{Holds}
+use Rattle.book.specs.Shelves.{Files}
 use Rattle.outside.specs.declared.fault.OutsideFault.{OutsideFault}
 use Rattle.outside.specs.declared.fault.OutsideFault.TheVariants as out
+use Rattle.outside.specs.BookCalls.{TellsFiles}
 use Rattle.outside.specs.Calls.{Seen}
 use Rattle.outside.specs.Devices.{Device}
 use Rattle.runner.specs.declared.fault.RunFault.{RunFault}
@@ -35,21 +40,45 @@ pub record IsLost (side : Side) (number : ℕ) (old new : Seen) : Type 0 where
   pub protocol : number ≡ 3
   pub copied : old.appends < new.appends
 
--- what stands behind two faults of the run's own: that a side's UIDVALIDITY has changed, and that marks repeat
+-- the files hold no book, and this is the first line that shows it
+abbrev pub TellsUnread : (honest : Type 0) → Device → OutsideFault → Type 0
+TellsUnread honest d fault = honest → TellsFiles fault d.files
+
+-- the state's run has the greatest number, which is told of line 2
+pub record IsLastRun (files : Files) (fault : OutsideFault) : Type 0 where
+  pub line : fault ≡ out.BadState 2
+  pub state : SyncState
+  pub pending : Pending
+  pub held : Holds files state pending
+  pub greatest : state.run + 1 ≡ 2 ^ 64
+
+-- no run comes behind what the files hold: they hold no book, or their state's run has the greatest number
+abbrev pub TellsNoRun : (honest : Type 0) → Device → OutsideFault → Type 0
+TellsNoRun honest d fault = honest → TellsFiles fault d.files ⊎ IsLastRun d.files fault
+
+-- what stands behind faults of the run's own: that a side's UIDVALIDITY has changed, that marks repeat, and that a line of the state
+-- or the journal is bad
 pub record Reasons : Type 1 where
   pub changed : Side → Type 0
   pub repeats : Type 0
+  pub unread : OutsideFault → Type 0
 
+-- where the shelf was read, no line of it is bad
 abbrev pub because : (changed : Side → Type 0) → (repeats : Type 0) → Reasons
-because changed repeats = record { changed = changed; repeats = repeats }
+because changed repeats = record { changed = changed; repeats = repeats; unread = λ fault. ⊥ }
 
--- a call stopped, was refused or had another fault, by the counts; the faults of the run's own have their reasons
+-- where it is read too
+abbrev pub or_unread : (unread : OutsideFault → Type 0) → Reasons → Reasons
+or_unread unread reasons = record reasons { unread = unread }
+
+-- A call stopped, was refused or had another fault, by the counts; the faults of the run's own have their reasons. Line 0 of the state:
+-- its run is not the one before, or the UID of a copy is taken.
 abbrev pub IsCaused : Reasons → RunFault → Seen → Seen → Type 0
 IsCaused reasons run.Stopped old new = (old.is_broken ≡ true) ⊎ (old.stops < new.stops)
 IsCaused reasons (run.Refused step) old new = old.refusals < new.refusals
 IsCaused reasons (run.ValidityChanged side) old new = reasons.changed side
-IsCaused reasons (run.BadState line) old new = Unit {0}
-IsCaused reasons (run.BadJournal line) old new = Unit {0}
+IsCaused reasons (run.BadState line) old new = (line ≡ 0) ⊎ reasons.unread (out.BadState line)
+IsCaused reasons (run.BadJournal line) old new = reasons.unread (out.BadJournal line)
 IsCaused reasons (run.StoreFault side number) old new = (old.faults < new.faults) ⊎ ((old.refusals < new.refusals) ⊎ IsLost side number old new)
 IsCaused reasons run.MarksRepeat old new = reasons.repeats
 IsCaused reasons run.NoMemory old new = Unit {0}

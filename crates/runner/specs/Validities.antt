@@ -88,6 +88,10 @@ pub record IsKept (alone : Bool) (d d' : Device) : Type 0 where
   pub validities : KeepsValidities d d'
   pub same : alone ≡ true → d' ≡ d
 
+-- where nobody adds messages, both mailboxes are as they were
+abbrev pub LeavesBoxes : (honest : Type 0) → (alone : Bool) → (d d' : Device) → Type 0
+LeavesBoxes honest alone d d' = honest → alone ≡ true → (d'.far ≡ d.far) × (d'.near ≡ d.near)
+
 -- ---- when a change is told
 
 -- only where this side has changed, and nothing else has

@@ -45,11 +45,14 @@ fn changed_uid(direction: Direction, far: Uid, near: Uid) -> Uid
 fn set_flags<O: Outside>(outside: &mut O, number: usize, flags: &FlagStep) -> Result<(), RunFault>
     ghost opening: { Opening }
     requires going { IsGoing (O.opened outside.old) }
-    requires next { next_at (O.opened outside.old) ≡ Some (step.Flags flags.now.direction flags.now.far flags.now.near flags.now.set flags.now.cleared) }
+    requires next { next_at (O.opened outside.old) ≡ Some (step.Flags flags.now.direction flags.now.far flags.now.near flags.now.set
+        flags.now.cleared) }
     requires whole { (O.seen outside.old).is_broken ≡ false }
     ensures was_honest { O.honest outside.new → O.honest outside.old }
     ensures opened { O.opened outside.new ≡ O.opened outside.old }
-    ensures part { Part (O.honest outside.new) (AtReady O.ours O.alone opening (O.opened outside.old) true) (Underway O.ours O.alone opening) (λ _. 0) (λ _. AtBegun O.ours O.alone opening (O.opened outside.old) (sets_first flags.now.set flags.now.cleared)) (O.seen outside.old) (O.seen outside.new) result }
+    ensures part { Part (O.honest outside.new) (AtReady O.ours O.alone opening (O.opened outside.old) true)
+        (Underway O.ours O.alone opening) (λ _. 0) (λ _. AtBegun O.ours O.alone opening (O.opened outside.old)
+        (sets_first flags.now.set flags.now.cleared)) (O.seen outside.old) (O.seen outside.new) result }
 {
     if flags.set.is_empty() && !flags.cleared.is_empty() {
         return Ok(());
@@ -66,11 +69,14 @@ fn set_flags<O: Outside>(outside: &mut O, number: usize, flags: &FlagStep) -> Re
 fn clear_flags<O: Outside>(outside: &mut O, number: usize, flags: &FlagStep) -> Result<(), RunFault>
     ghost opening: { Opening }
     requires going { IsGoing (O.opened outside.old) }
-    requires next { next_at (O.opened outside.old) ≡ Some (step.Flags flags.now.direction flags.now.far flags.now.near flags.now.set flags.now.cleared) }
+    requires next { next_at (O.opened outside.old) ≡ Some (step.Flags flags.now.direction flags.now.far flags.now.near flags.now.set
+        flags.now.cleared) }
     requires whole { (O.seen outside.old).is_broken ≡ false }
     ensures was_honest { O.honest outside.new → O.honest outside.old }
     ensures opened { O.opened outside.new ≡ O.opened outside.old }
-    ensures part { Part (O.honest outside.new) (AtBegun O.ours O.alone opening (O.opened outside.old) (sets_first flags.now.set flags.now.cleared)) (Underway O.ours O.alone opening) (λ _. 0) (λ _. AtDone O.ours O.alone opening (O.opened outside.old) Done) (O.seen outside.old) (O.seen outside.new) result }
+    ensures part { Part (O.honest outside.new) (AtBegun O.ours O.alone opening (O.opened outside.old)
+        (sets_first flags.now.set flags.now.cleared)) (Underway O.ours O.alone opening) (λ _. 0)
+        (λ _. AtDone O.ours O.alone opening (O.opened outside.old) Done) (O.seen outside.old) (O.seen outside.new) result }
 {
     if flags.cleared.is_empty() {
         return Ok(());
@@ -91,12 +97,15 @@ pub(crate) fn carry_flags<O: Outside>(
 ) -> Result<StepResult, RunFault>
     ghost opening: { Opening }
     requires going { IsGoing (O.opened outside.old) }
-    requires next { next_at (O.opened outside.old) ≡ Some (step.Flags flags.now.direction flags.now.far flags.now.near flags.now.set flags.now.cleared) }
+    requires next { next_at (O.opened outside.old) ≡ Some (step.Flags flags.now.direction flags.now.far flags.now.near flags.now.set
+        flags.now.cleared) }
     requires whole { (O.seen outside.old).is_broken ≡ false }
     ensures was_honest { O.honest outside.new → O.honest outside.old }
     ensures opened { O.opened outside.new ≡ O.opened outside.old }
     ensures fits { IfOk result (λ r. logged_of r ≡ Done) }
-    ensures part { Part (O.honest outside.new) (AtReady O.ours O.alone opening (O.opened outside.old) true) (Underway O.ours O.alone opening) made_by (λ r. AtDone O.ours O.alone opening (O.opened outside.old) (logged_of r)) (O.seen outside.old) (O.seen outside.new) result }
+    ensures part { Part (O.honest outside.new) (AtReady O.ours O.alone opening (O.opened outside.old) true)
+        (Underway O.ours O.alone opening) made_by (λ r. AtDone O.ours O.alone opening (O.opened outside.old) (logged_of r))
+        (O.seen outside.old) (O.seen outside.new) result }
 {
     set_flags(outside, number, flags)?;
     clear_flags(outside, number, flags)?;
@@ -117,7 +126,9 @@ pub(crate) fn mark_deleted<O: Outside>(
     ensures was_honest { O.honest outside.new → O.honest outside.old }
     ensures opened { O.opened outside.new ≡ O.opened outside.old }
     ensures fits { IfOk result (λ r. logged_of r ≡ Done) }
-    ensures part { Part (O.honest outside.new) (AtReady O.ours O.alone opening (O.opened outside.old) true) (Underway O.ours O.alone opening) made_by (λ r. AtDone O.ours O.alone opening (O.opened outside.old) (logged_of r)) (O.seen outside.old) (O.seen outside.new) result }
+    ensures part { Part (O.honest outside.new) (AtReady O.ours O.alone opening (O.opened outside.old) true)
+        (Underway O.ours O.alone opening) made_by (λ r. AtDone O.ours O.alone opening (O.opened outside.old) (logged_of r))
+        (O.seen outside.old) (O.seen outside.new) result }
 {
     let side = direction.target();
     let uid = changed_uid(direction, far, near);
@@ -140,7 +151,9 @@ pub(crate) fn remove<O: Outside>(
     ensures was_honest { O.honest outside.new → O.honest outside.old }
     ensures opened { O.opened outside.new ≡ O.opened outside.old }
     ensures fits { IfOk result (λ r. logged_of r ≡ Done) }
-    ensures part { Part (O.honest outside.new) (AtReady O.ours O.alone opening (O.opened outside.old) true) (Underway O.ours O.alone opening) made_by (λ r. AtDone O.ours O.alone opening (O.opened outside.old) (logged_of r)) (O.seen outside.old) (O.seen outside.new) result }
+    ensures part { Part (O.honest outside.new) (AtReady O.ours O.alone opening (O.opened outside.old) true)
+        (Underway O.ours O.alone opening) made_by (λ r. AtDone O.ours O.alone opening (O.opened outside.old) (logged_of r))
+        (O.seen outside.old) (O.seen outside.new) result }
 {
     match outside.expunge(side, uid) {
         Ok(()) => Ok(StepResult::Plain),

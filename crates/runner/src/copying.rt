@@ -30,7 +30,9 @@ fn seek<O: Outside>(
     requires next { CopiesUnder (O.opened outside.old) direction mark }
     ensures was_honest { O.honest outside.new → O.honest outside.old }
     ensures opened { O.opened outside.new ≡ O.opened outside.old }
-    ensures part { Part (O.honest outside.new) (AtReady O.ours O.alone opening (O.opened outside.old) true) (Underway O.ours O.alone opening) (λ _. 0) (AtSought O.ours O.alone opening (O.opened outside.old)) (O.seen outside.old) (O.seen outside.new) result }
+    ensures part { Part (O.honest outside.new) (AtReady O.ours O.alone opening (O.opened outside.old) true)
+        (Underway O.ours O.alone opening) (λ _. 0) (AtSought O.ours O.alone opening (O.opened outside.old)) (O.seen outside.old)
+        (O.seen outside.new) result }
 {
     let side = direction.target();
     let from = first_uid(outside, side);
@@ -52,7 +54,8 @@ fn find_copy<O: Outside>(
     requires next { CopiesUnder (O.opened outside.old) direction mark }
     ensures was_honest { O.honest outside.new → O.honest outside.old }
     ensures opened { O.opened outside.new ≡ O.opened outside.old }
-    ensures part { Part (O.honest outside.new) (AtCopied O.ours O.alone opening (O.opened outside.old)) (Underway O.ours O.alone opening) (λ _. 0) (FoundCopy O.ours O.alone opening (O.opened outside.old)) (O.seen outside.old) (O.seen outside.new) result }
+    ensures part { Part (O.honest outside.new) (AtCopied O.ours O.alone opening (O.opened outside.old)) (Underway O.ours O.alone opening)
+        (λ _. 0) (FoundCopy O.ours O.alone opening (O.opened outside.old)) (O.seen outside.old) (O.seen outside.new) result }
 {
     let side = direction.target();
     let from = first_uid(outside, side);
@@ -77,7 +80,9 @@ fn copy<O: Outside>(
     ensures was_honest { O.honest outside.new → O.honest outside.old }
     ensures opened { O.opened outside.new ≡ O.opened outside.old }
     ensures fits { IfOk result (λ r. LogsNew (logged_of r)) }
-    ensures part { Part (O.honest outside.new) (AtReady O.ours O.alone opening (O.opened outside.old) false) (Underway O.ours O.alone opening) made_by (λ r. AtDone O.ours O.alone opening (O.opened outside.old) (logged_of r)) (O.seen outside.old) (O.seen outside.new) result }
+    ensures part { Part (O.honest outside.new) (AtReady O.ours O.alone opening (O.opened outside.old) false)
+        (Underway O.ours O.alone opening) made_by (λ r. AtDone O.ours O.alone opening (O.opened outside.old) (logged_of r))
+        (O.seen outside.old) (O.seen outside.new) result }
 {
     let carried = match outside.carry(direction, uid, mark, flags) {
         Ok(carried) => carried,
@@ -112,7 +117,9 @@ pub(crate) fn bring<O: Outside>(
     ensures was_honest { O.honest outside.new → O.honest outside.old }
     ensures opened { O.opened outside.new ≡ O.opened outside.old }
     ensures fits { IfOk result (λ r. LogsNew (logged_of r)) }
-    ensures part { Part (O.honest outside.new) (AtReady O.ours O.alone opening (O.opened outside.old) is_taken_up) (Underway O.ours O.alone opening) made_by (λ r. AtDone O.ours O.alone opening (O.opened outside.old) (logged_of r)) (O.seen outside.old) (O.seen outside.new) result }
+    ensures part { Part (O.honest outside.new) (AtReady O.ours O.alone opening (O.opened outside.old) is_taken_up)
+        (Underway O.ours O.alone opening) made_by (λ r. AtDone O.ours O.alone opening (O.opened outside.old) (logged_of r))
+        (O.seen outside.old) (O.seen outside.new) result }
 {
     if !is_taken_up {
         return copy(outside, number, direction, uid, flags, mark);

@@ -8,9 +8,9 @@ ghost use Rattle.outside.specs.BoxCalls.{HasNumbers};
 ghost use Rattle.outside.specs.Opened.{IsBook, IsHeld, IsOpen, IsRead, TakesPlan, state_of, turned, with_box};
 ghost use Rattle.underway.specs.Conditions.{Underway};
 ghost use Rattle.underway.specs.Openings.{Opening};
-ghost use Rattle.runner.specs.Faults.{because};
-ghost use Rattle.runner.specs.Parts.{IsStuck, Part, PartOr};
-ghost use Rattle.runner.specs.Validities.{BothSame, HasSame, HaveValidities, IsKept, KeepsValidities, TellsChange, TellsOther, recorded_in};
+ghost use Rattle.runner.specs.Faults.{TellsUnread, because, or_unread};
+ghost use Rattle.runner.specs.Parts.{IsStuck, Never, Part, PartOr};
+ghost use Rattle.runner.specs.Validities.{BothSame, HasSame, HaveValidities, IsKept, KeepsValidities, LeavesBoxes, TellsChange, TellsOther, recorded_in};
 ghost use Rattle.runner.specs.Going.{AreOpen, AtReady};
 ghost use Rattle.runner.specs.Before.{BothListed, FarListed, HasNoPlan, HasNone, HasPlan, IsClear, IsKnown, IsMade, IsTakenUp};
 
@@ -28,7 +28,9 @@ pub(crate) fn recall<O: Outside>(outside: &mut O) -> Result<(), RunFault>
     ensures held { OnOk result (O.honest outside.new → IsHeld (O.opened outside.new) (O.seen outside.old).device) }
     ensures kept { OnOk result (O.honest outside.new → IsKept O.alone (O.seen outside.old).device (O.seen outside.new).device) }
     ensures stuck { IsStuck (O.seen outside.old) (O.seen outside.new) result }
-    ensures part { Part (O.honest outside.new) (Underway O.ours O.alone opening) (Underway O.ours O.alone opening) (λ _. 0) (λ _. IsKnown O.ours O.alone opening (O.opened outside.new)) (O.seen outside.old) (O.seen outside.new) result }
+    ensures part { PartOr (or_unread (TellsUnread (O.honest outside.new) (O.seen outside.new).device) Never) (O.honest outside.new)
+        (Underway O.ours O.alone opening) (Underway O.ours O.alone opening)
+        (λ _. 0) (λ _. IsKnown O.ours O.alone opening (O.opened outside.new)) (O.seen outside.old) (O.seen outside.new) result }
 {
     match outside.open_book() {
         Ok(()) => Ok(()),
@@ -43,8 +45,9 @@ pub(crate) fn forget<O: Outside>(outside: &mut O) -> Result<(), RunFault>
     requires whole { (O.seen outside.old).is_broken ≡ false }
     ensures was_honest { O.honest outside.new → O.honest outside.old }
     ensures state { OnOk result (state_of (O.opened outside.new) ≡ state_of (O.opened outside.old)) }
-    ensures stores { OnOk result (O.honest outside.new → O.alone ≡ true → ((O.seen outside.new).device.far ≡ (O.seen outside.old).device.far) × ((O.seen outside.new).device.near ≡ (O.seen outside.old).device.near)) }
-    ensures part { Part (O.honest outside.new) (IsKnown O.ours O.alone opening (O.opened outside.old)) (Underway O.ours O.alone opening) (λ _. 0) (λ _. IsKnown O.ours O.alone opening (O.opened outside.new)) (O.seen outside.old) (O.seen outside.new) result }
+    ensures stores { OnOk result (LeavesBoxes (O.honest outside.new) O.alone (O.seen outside.old).device (O.seen outside.new).device) }
+    ensures part { Part (O.honest outside.new) (IsKnown O.ours O.alone opening (O.opened outside.old)) (Underway O.ours O.alone opening)
+        (λ _. 0) (λ _. IsKnown O.ours O.alone opening (O.opened outside.new)) (O.seen outside.old) (O.seen outside.new) result }
 {
     if outside.pending().is_some() {
         return Ok(());
@@ -61,7 +64,8 @@ pub(crate) fn untear<O: Outside>(outside: &mut O) -> Result<(), RunFault>
     requires plan { HasPlan (O.opened outside.old) }
     ensures was_honest { O.honest outside.new → O.honest outside.old }
     ensures opened { OnOk result (O.opened outside.new ≡ turned mended (O.opened outside.old)) }
-    ensures part { Part (O.honest outside.new) (IsTakenUp O.ours O.alone opening (O.opened outside.old)) (Underway O.ours O.alone opening) (λ _. 0) (λ _. AtReady O.ours O.alone opening (O.opened outside.new) true) (O.seen outside.old) (O.seen outside.new) result }
+    ensures part { Part (O.honest outside.new) (IsTakenUp O.ours O.alone opening (O.opened outside.old)) (Underway O.ours O.alone opening)
+        (λ _. 0) (λ _. AtReady O.ours O.alone opening (O.opened outside.new) true) (O.seen outside.old) (O.seen outside.new) result }
 {
     match outside.mend() {
         Ok(()) => Ok(()),
@@ -76,7 +80,8 @@ fn empty<O: Outside>(outside: &mut O) -> Result<(), RunFault>
     ensures was_honest { O.honest outside.new → O.honest outside.old }
     ensures opened { OnOk result (O.opened outside.new ≡ turned (λ _. Missing) (O.opened outside.old)) }
     ensures validities { OnOk result (O.honest outside.new → KeepsValidities (O.seen outside.old).device (O.seen outside.new).device) }
-    ensures part { Part (O.honest outside.new) (HasNone O.alone opening (O.opened outside.old)) (Underway O.ours O.alone opening) (λ _. 0) (λ _. IsClear O.alone opening (O.opened outside.new) false) (O.seen outside.old) (O.seen outside.new) result }
+    ensures part { Part (O.honest outside.new) (HasNone O.alone opening (O.opened outside.old)) (Underway O.ours O.alone opening) (λ _. 0)
+        (λ _. IsClear O.alone opening (O.opened outside.new) false) (O.seen outside.old) (O.seen outside.new) result }
 {
     match outside.discard() {
         Ok(()) => Ok(()),
@@ -91,7 +96,8 @@ fn admit<O: Outside>(outside: &mut O) -> Result<(), RunFault>
     ensures was_honest { O.honest outside.new → O.honest outside.old }
     ensures opened { O.opened outside.new ≡ O.opened outside.old }
     ensures validities { OnOk result (O.honest outside.new → KeepsValidities (O.seen outside.old).device (O.seen outside.new).device) }
-    ensures part { Part (O.honest outside.new) (IsClear O.alone opening (O.opened outside.old) false) (Underway O.ours O.alone opening) (λ _. 0) (λ _. IsClear O.alone opening (O.opened outside.new) true) (O.seen outside.old) (O.seen outside.new) result }
+    ensures part { Part (O.honest outside.new) (IsClear O.alone opening (O.opened outside.old) false) (Underway O.ours O.alone opening)
+        (λ _. 0) (λ _. IsClear O.alone opening (O.opened outside.new) true) (O.seen outside.old) (O.seen outside.new) result }
 {
     match outside.admit() {
         Ok(()) => Ok(()),
@@ -107,7 +113,8 @@ pub(crate) fn clear<O: Outside>(outside: &mut O) -> Result<(), RunFault>
     ensures was_honest { O.honest outside.new → O.honest outside.old }
     ensures opened { OnOk result (O.opened outside.new ≡ turned (λ _. Missing) (O.opened outside.old)) }
     ensures validities { OnOk result (O.honest outside.new → KeepsValidities (O.seen outside.old).device (O.seen outside.new).device) }
-    ensures part { Part (O.honest outside.new) (HasNone O.alone opening (O.opened outside.old)) (Underway O.ours O.alone opening) (λ _. 0) (λ _. IsClear O.alone opening (O.opened outside.new) true) (O.seen outside.old) (O.seen outside.new) result }
+    ensures part { Part (O.honest outside.new) (HasNone O.alone opening (O.opened outside.old)) (Underway O.ours O.alone opening) (λ _. 0)
+        (λ _. IsClear O.alone opening (O.opened outside.new) true) (O.seen outside.old) (O.seen outside.new) result }
 {
     empty(outside)?;
     admit(outside)
@@ -122,7 +129,8 @@ fn list_far<O: Outside>(outside: &mut O) -> Result<Listing, RunFault>
     ensures numbers { IfOk result HasNumbers }
     ensures validities { OnOk result (O.honest outside.new → KeepsValidities (O.seen outside.old).device (O.seen outside.new).device) }
     ensures validity { IfOk result (λ far. O.honest outside.new → far.validity ≡ (O.seen outside.new).device.far.validity) }
-    ensures part { Part (O.honest outside.new) (IsClear O.alone opening (O.opened outside.old) true) (Underway O.ours O.alone opening) (λ _. 0) (λ far. FarListed O.alone opening (O.opened outside.old) far) (O.seen outside.old) (O.seen outside.new) result }
+    ensures part { Part (O.honest outside.new) (IsClear O.alone opening (O.opened outside.old) true) (Underway O.ours O.alone opening)
+        (λ _. 0) (λ far. FarListed O.alone opening (O.opened outside.old) far) (O.seen outside.old) (O.seen outside.new) result }
 {
     match outside.list_far() {
         Ok(far) => Ok(far),
@@ -140,7 +148,9 @@ fn list_near<O: Outside>(outside: &mut O, far: &Listing) -> Result<Listing, RunF
     ensures numbers { IfOk result HasNumbers }
     ensures validities { OnOk result (O.honest outside.new → KeepsValidities (O.seen outside.old).device (O.seen outside.new).device) }
     ensures validity { IfOk result (λ near. O.honest outside.new → near.validity ≡ (O.seen outside.new).device.near.store.validity) }
-    ensures part { Part (O.honest outside.new) (FarListed O.alone opening (O.opened outside.old) far.now) (Underway O.ours O.alone opening) (λ _. 0) (λ near. BothListed O.ours O.alone opening (O.opened outside.old) far.now near) (O.seen outside.old) (O.seen outside.new) result }
+    ensures part { Part (O.honest outside.new) (FarListed O.alone opening (O.opened outside.old) far.now) (Underway O.ours O.alone opening)
+        (λ _. 0) (λ near. BothListed O.ours O.alone opening (O.opened outside.old) far.now near) (O.seen outside.old) (O.seen outside.new)
+        result }
 {
     let pushed = outside.state().max_pushed;
     match outside.list_near(pushed) {
@@ -168,7 +178,9 @@ pub(crate) fn list_both<O: Outside>(outside: &mut O) -> Result<Listings, RunFaul
     ensures far_numbers { IfOk result (λ both. HasNumbers both.far) }
     ensures near_numbers { IfOk result (λ both. HasNumbers both.near) }
     ensures validities { IfOk result (λ both. O.honest outside.new → HaveValidities both.far both.near (O.seen outside.old).device) }
-    ensures part { Part (O.honest outside.new) (IsClear O.alone opening (O.opened outside.old) true) (Underway O.ours O.alone opening) (λ _. 0) (λ both. BothListed O.ours O.alone opening (O.opened outside.old) both.far both.near) (O.seen outside.old) (O.seen outside.new) result }
+    ensures part { Part (O.honest outside.new) (IsClear O.alone opening (O.opened outside.old) true) (Underway O.ours O.alone opening)
+        (λ _. 0) (λ both. BothListed O.ours O.alone opening (O.opened outside.old) both.far both.near) (O.seen outside.old)
+        (O.seen outside.new) result }
 {
     let far = list_far(outside)?;
     let near = list_near(outside, &far)?;
@@ -181,7 +193,8 @@ pub(crate) fn write_plan<O: Outside>(outside: &mut O, plan: Plan) -> Result<(), 
     requires takes { TakesPlan (O.opened outside.old) plan }
     ensures was_honest { O.honest outside.new → O.honest outside.old }
     ensures opened { OnOk result (O.opened outside.new ≡ turned (λ _. begun plan) (O.opened outside.old)) }
-    ensures part { Part (O.honest outside.new) (IsMade O.ours O.alone opening (O.opened outside.old) plan) (Underway O.ours O.alone opening) (λ _. 0) (λ _. AtReady O.ours O.alone opening (O.opened outside.new) false) (O.seen outside.old) (O.seen outside.new) result }
+    ensures part { Part (O.honest outside.new) (IsMade O.ours O.alone opening (O.opened outside.old) plan) (Underway O.ours O.alone opening)
+        (λ _. 0) (λ _. AtReady O.ours O.alone opening (O.opened outside.new) false) (O.seen outside.old) (O.seen outside.new) result }
 {
     match outside.begin(plan) {
         Ok(()) => Ok(()),
@@ -216,8 +229,12 @@ fn open_one<O: Outside>(outside: &mut O, side: Side) -> Result<(), RunFault>
     requires read { IsRead (O.opened outside.old) }
     ensures was_honest { O.honest outside.new → O.honest outside.old }
     ensures opened { OnOk result (O.opened outside.new ≡ with_box side (O.opened outside.old)) }
-    ensures kept { OnOk result (O.honest outside.new → HasSame (O.opened outside.old) side (O.seen outside.new).device × IsKept O.alone (O.seen outside.old).device (O.seen outside.new).device) }
-    ensures part { PartOr (because (TellsOther (O.honest outside.new) O.alone (O.opened outside.old) side (O.seen outside.old).device (O.seen outside.new).device) ⊥) (O.honest outside.new) (IsKnown O.ours O.alone opening (O.opened outside.old)) (Underway O.ours O.alone opening) (λ _. 0) (λ _. IsKnown O.ours O.alone opening (O.opened outside.new)) (O.seen outside.old) (O.seen outside.new) result }
+    ensures kept { OnOk result (O.honest outside.new → HasSame (O.opened outside.old) side (O.seen outside.new).device × IsKept O.alone
+        (O.seen outside.old).device (O.seen outside.new).device) }
+    ensures part { PartOr (because (TellsOther (O.honest outside.new) O.alone (O.opened outside.old) side (O.seen outside.old).device
+        (O.seen outside.new).device) ⊥) (O.honest outside.new) (IsKnown O.ours O.alone opening (O.opened outside.old))
+        (Underway O.ours O.alone opening) (λ _. 0) (λ _. IsKnown O.ours O.alone opening (O.opened outside.new)) (O.seen outside.old)
+        (O.seen outside.new) result }
 {
     let recorded = recorded_validity(outside, side);
     match outside.open_box(side) {
@@ -241,8 +258,12 @@ pub(crate) fn open_boxes<O: Outside>(outside: &mut O) -> Result<(), RunFault>
     requires read { IsRead (O.opened outside.old) }
     ensures was_honest { O.honest outside.new → O.honest outside.old }
     ensures opened { OnOk result (O.opened outside.new ≡ with_box Side.Near (with_box Side.Far (O.opened outside.old))) }
-    ensures kept { OnOk result (O.honest outside.new → BothSame (O.opened outside.old) (O.seen outside.new).device × IsKept O.alone (O.seen outside.old).device (O.seen outside.new).device) }
-    ensures part { PartOr (because (TellsChange (O.honest outside.new) O.alone (O.opened outside.old) (O.seen outside.old).device (O.seen outside.new).device) ⊥) (O.honest outside.new) (IsKnown O.ours O.alone opening (O.opened outside.old)) (Underway O.ours O.alone opening) (λ _. 0) (λ _. IsKnown O.ours O.alone opening (O.opened outside.new)) (O.seen outside.old) (O.seen outside.new) result }
+    ensures kept { OnOk result (O.honest outside.new → BothSame (O.opened outside.old) (O.seen outside.new).device × IsKept O.alone
+        (O.seen outside.old).device (O.seen outside.new).device) }
+    ensures part { PartOr (because (TellsChange (O.honest outside.new) O.alone (O.opened outside.old) (O.seen outside.old).device
+        (O.seen outside.new).device) ⊥) (O.honest outside.new) (IsKnown O.ours O.alone opening (O.opened outside.old))
+        (Underway O.ours O.alone opening) (λ _. 0) (λ _. IsKnown O.ours O.alone opening (O.opened outside.new)) (O.seen outside.old)
+        (O.seen outside.new) result }
 {
     open_one(outside, Side::Far)?;
     open_one(outside, Side::Near)

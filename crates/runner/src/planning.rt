@@ -63,12 +63,14 @@ pub(crate) fn make_plan<O: Outside, R: Rng>(
     requires near_numbers { HasNumbers both.now.near }
     ensures takes { IfOk result (λ p. TakesPlan (O.opened outside.now) p) }
     ensures drawn { IfOk result (λ p. IsDrawn (O.opened outside.now) (R.stream rng.old) both.now.far both.now.near options.now p.steps) }
-    ensures plan { IfOk result (λ p. (w : World) → IsInOrder w → state_of (O.opened outside.now) ≡ Some w.state → AreShown w.state.max_pushed w both.now.far both.now.near
+    ensures plan { IfOk result (λ p. (w : World) → IsInOrder w → state_of (O.opened outside.now) ≡ Some w.state → AreShown
+        w.state.max_pushed w both.now.far both.now.near
         → All (λ mark. O.ours mark ≡ true) (marks_of p.steps) → IsPlanned O.ours w options.now p) }
     ensures moved { Moves (R.stream rng.old) (R.stream rng.new) }
     ensures fault { IfErr result IsPlanFault }
     ensures repeats { IfErr result (λ fault. fault ≡ RunFault.MarksRepeat → HasRepeats (R.stream rng.old)) }
-    ensures changed { IfErr result (λ fault. (side : Side) → fault ≡ RunFault.ValidityChanged side → ListsChanged (O.opened outside.now) both.now.far both.now.near side) }
+    ensures changed { IfErr result (λ fault. (side : Side) → fault ≡ RunFault.ValidityChanged side → ListsChanged (O.opened outside.now)
+        both.now.far both.now.near side) }
 {
     let state = outside.state();
     let marks = marks_for(alloc, rng, both, state, options)?;

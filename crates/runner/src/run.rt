@@ -1,18 +1,17 @@
 //! A whole run: it is begun, or taken up where its plan is pending, and its state is committed.
 
 ghost use Rattle.std.specs.Prelude.{◌≡◌, ◌≤◌, ◌<◌, ◌+◌, ◌^◌, [], None, Some, OnOk, IfOk, true, false};
-ghost use Rattle.rules.specs.declared.state.SyncState.{SyncState};
-ghost use Rattle.book.specs.declared.book.Pending.{Pending};
-ghost use Rattle.book.specs.Books.{Holds};
+ghost use Rattle.rules.specs.Opening.{IsOpening};
 ghost use Rattle.outside.specs.Opened.{IsBook, IsRead, TakesCommit};
 ghost use Rattle.underway.specs.Conditions.{Underway};
+ghost use Rattle.underway.specs.Endings.{IsDone};
 ghost use Rattle.underway.specs.Openings.{Opening};
-ghost use Rattle.runner.specs.Faults.{because};
+ghost use Rattle.runner.specs.Faults.{TellsUnread, because, or_unread};
 ghost use Rattle.runner.specs.Parts.{IsStuck, Part, PartOr};
-ghost use Rattle.runner.specs.Validities.{TellsChange, TellsChanged, TellsUnlessSame};
+ghost use Rattle.runner.specs.Validities.{LeavesBoxes, TellsChange, TellsChanged, TellsUnlessSame};
 ghost use Rattle.runner.specs.Going.{AreOpen, AtReady, IsGoing, log_at, next_at, plan_at};
 ghost use Rattle.runner.specs.Before.{HasNoPlan, HasPlan, IsKnown, IsTakenUp};
-ghost use Rattle.runner.specs.Answers.{Answers, AnswersTo, AtEnd, HasRepeats, IsChosen, IsEntry, IsKnownEntry, IsRun, Moves, Reaches, RunsBy, as_read, made_in, run_of};
+ghost use Rattle.runner.specs.Answers.{Answers, AnswersTo, AtEnd, HasRepeats, IsChosen, IsEntry, IsKnownEntry, IsRun, Moves, OfFiles, Reaches, RunsBy, as_read, made_in, run_of};
 
 use crate::fault::{RunFault, call_fault};
 use crate::opening::{clear, forget, list_both, open_boxes, recall, untear, write_plan};
@@ -33,7 +32,8 @@ fn conclude<O: Outside>(outside: &mut O, is_taken_up: bool) -> Result<(), RunFau
     requires takes { TakesCommit (O.opened outside.old) }
     requires ended { next_at (O.opened outside.old) ≡ None }
     ensures was_honest { O.honest outside.new → O.honest outside.old }
-    ensures part { Part (O.honest outside.new) (AtReady O.ours O.alone opening (O.opened outside.old) is_taken_up) (Underway O.ours O.alone opening) (λ _. 0) (λ _. AtEnd O.ours O.alone opening) (O.seen outside.old) (O.seen outside.new) result }
+    ensures part { Part (O.honest outside.new) (AtReady O.ours O.alone opening (O.opened outside.old) is_taken_up)
+        (Underway O.ours O.alone opening) (λ _. 0) (λ _. AtEnd O.ours O.alone opening) (O.seen outside.old) (O.seen outside.new) result }
 {
     match outside.commit() {
         Ok(()) => Ok(()),
@@ -55,9 +55,13 @@ fn propose<O: Outside, R: Rng>(
     ensures was_honest { O.honest outside.new → O.honest outside.old }
     ensures going { OnOk result (IsGoing (O.opened outside.new)) }
     ensures log { OnOk result (log_at (O.opened outside.new) ≡ []) }
-    ensures run { IfOk result (λ unfit. IsRun (O.opened outside.old) options.now (R.stream rng.old) (plan_at (O.opened outside.new)).steps unfit.items) }
+    ensures run { IfOk result (λ unfit. IsRun (O.opened outside.old) options.now (R.stream rng.old) (plan_at (O.opened outside.new)).steps
+        unfit.items) }
     ensures moved { Moves (R.stream rng.old) (R.stream rng.new) }
-    ensures part { PartOr (because (TellsUnlessSame (O.honest outside.new) (O.opened outside.old) (O.seen outside.old).device) (HasRepeats (R.stream rng.old))) (O.honest outside.new) (IsChosen O.ours O.alone opening (O.opened outside.old) options.now (R.stream rng.old)) (Underway O.ours O.alone opening) (λ _. 0) (λ _. AtReady O.ours O.alone opening (O.opened outside.new) false) (O.seen outside.old) (O.seen outside.new) result }
+    ensures part { PartOr (because (TellsUnlessSame (O.honest outside.new) (O.opened outside.old) (O.seen outside.old).device)
+        (HasRepeats (R.stream rng.old))) (O.honest outside.new)
+        (IsChosen O.ours O.alone opening (O.opened outside.old) options.now (R.stream rng.old)) (Underway O.ours O.alone opening) (λ _. 0)
+        (λ _. AtReady O.ours O.alone opening (O.opened outside.new) false) (O.seen outside.old) (O.seen outside.new) result }
 {
     clear(outside)?;
     let both = list_both(outside)?;
@@ -83,7 +87,10 @@ fn begin<O: Outside, R: Rng>(
     ensures runs { IfOk result (RunsBy (O.opened outside.old) options.now (R.stream rng.old)) }
     ensures fresh { IfOk result (λ pass. pass ≡ Pass.Already → ⊥) }
     ensures moved { Moves (R.stream rng.old) (R.stream rng.new) }
-    ensures part { PartOr (because (TellsUnlessSame (O.honest outside.new) (O.opened outside.old) (O.seen outside.old).device) (HasRepeats (R.stream rng.old))) (O.honest outside.new) (IsChosen O.ours O.alone opening (O.opened outside.old) options.now (R.stream rng.old)) (Underway O.ours O.alone opening) made_in (λ _. AtEnd O.ours O.alone opening) (O.seen outside.old) (O.seen outside.new) result }
+    ensures part { PartOr (because (TellsUnlessSame (O.honest outside.new) (O.opened outside.old) (O.seen outside.old).device)
+        (HasRepeats (R.stream rng.old))) (O.honest outside.new)
+        (IsChosen O.ours O.alone opening (O.opened outside.old) options.now (R.stream rng.old)) (Underway O.ours O.alone opening) made_in
+        (λ _. AtEnd O.ours O.alone opening) (O.seen outside.old) (O.seen outside.new) result }
 {
     let unfit = propose(alloc, outside, options, rng)?;
     let performed = carry_out(alloc, outside, false)?;
@@ -100,7 +107,8 @@ fn resume<O: Outside>(alloc: Global, outside: &mut O) -> Result<Pass, RunFault>
     ensures was_honest { O.honest outside.new → O.honest outside.old }
     ensures answer { IfOk result (AnswersTo (run_of (O.opened outside.old) + 1) (O.opened outside.old)) }
     ensures finished { IfOk result (λ pass. pass ≡ Pass.Already → ⊥) }
-    ensures part { Part (O.honest outside.new) (IsTakenUp O.ours O.alone opening (O.opened outside.old)) (Underway O.ours O.alone opening) made_in (λ _. AtEnd O.ours O.alone opening) (O.seen outside.old) (O.seen outside.new) result }
+    ensures part { Part (O.honest outside.new) (IsTakenUp O.ours O.alone opening (O.opened outside.old)) (Underway O.ours O.alone opening)
+        made_in (λ _. AtEnd O.ours O.alone opening) (O.seen outside.old) (O.seen outside.new) result }
 {
     untear(outside)?;
     let performed = carry_out(alloc, outside, true)?;
@@ -115,8 +123,9 @@ fn skip<O: Outside>(outside: &mut O) -> Result<Pass, RunFault>
     requires whole { (O.seen outside.old).is_broken ≡ false }
     ensures was_honest { O.honest outside.new → O.honest outside.old }
     ensures answer { IfOk result (λ pass. pass ≡ Pass.Already) }
-    ensures stores { OnOk result (O.honest outside.new → O.alone ≡ true → ((O.seen outside.new).device.far ≡ (O.seen outside.old).device.far) × ((O.seen outside.new).device.near ≡ (O.seen outside.old).device.near)) }
-    ensures part { Part (O.honest outside.new) (IsKnown O.ours O.alone opening (O.opened outside.old)) (Underway O.ours O.alone opening) made_in (λ _. Reaches O.ours O.alone opening (run_of (O.opened outside.old))) (O.seen outside.old) (O.seen outside.new) result }
+    ensures stores { OnOk result (LeavesBoxes (O.honest outside.new) O.alone (O.seen outside.old).device (O.seen outside.new).device) }
+    ensures part { Part (O.honest outside.new) (IsKnown O.ours O.alone opening (O.opened outside.old)) (Underway O.ours O.alone opening)
+        made_in (λ _. Reaches O.ours O.alone opening (run_of (O.opened outside.old))) (O.seen outside.old) (O.seen outside.new) result }
 {
     forget(outside)?;
     Ok(Pass::Already)
@@ -138,7 +147,10 @@ fn work<O: Outside, R: Rng>(
     ensures runs { IfOk result (RunsBy (O.opened outside.old) options.now (R.stream rng.old)) }
     ensures fresh { IfOk result (λ pass. pass ≡ Pass.Already → ⊥) }
     ensures moved { Moves (R.stream rng.old) (R.stream rng.new) }
-    ensures part { PartOr (because (TellsUnlessSame (O.honest outside.new) (O.opened outside.old) (O.seen outside.old).device) (HasRepeats (R.stream rng.old))) (O.honest outside.new) (IsKnownEntry O.ours O.alone opening (O.opened outside.old) (run_of (O.opened outside.old) + 1) options.now (R.stream rng.old)) (Underway O.ours O.alone opening) made_in (λ _. AtEnd O.ours O.alone opening) (O.seen outside.old) (O.seen outside.new) result }
+    ensures part { PartOr (because (TellsUnlessSame (O.honest outside.new) (O.opened outside.old) (O.seen outside.old).device)
+        (HasRepeats (R.stream rng.old))) (O.honest outside.new)
+        (IsKnownEntry O.ours O.alone opening (O.opened outside.old) (run_of (O.opened outside.old) + 1) options.now (R.stream rng.old))
+        (Underway O.ours O.alone opening) made_in (λ _. AtEnd O.ours O.alone opening) (O.seen outside.old) (O.seen outside.new) result }
 {
     if outside.pending().is_some() {
         resume(alloc, outside)
@@ -162,7 +174,10 @@ fn open_and_work<O: Outside, R: Rng>(
     ensures runs { IfOk result (RunsBy (O.opened outside.old) options.now (R.stream rng.old)) }
     ensures fresh { IfOk result (λ pass. pass ≡ Pass.Already → ⊥) }
     ensures moved { Moves (R.stream rng.old) (R.stream rng.new) }
-    ensures part { PartOr (because (TellsChange (O.honest outside.new) O.alone (O.opened outside.old) (O.seen outside.old).device (O.seen outside.new).device) (HasRepeats (R.stream rng.old))) (O.honest outside.new) (IsKnownEntry O.ours O.alone opening (O.opened outside.old) (run_of (O.opened outside.old) + 1) options.now (R.stream rng.old)) (Underway O.ours O.alone opening) made_in (λ _. AtEnd O.ours O.alone opening) (O.seen outside.old) (O.seen outside.new) result }
+    ensures part { PartOr (because (TellsChange (O.honest outside.new) O.alone (O.opened outside.old) (O.seen outside.old).device
+        (O.seen outside.new).device) (HasRepeats (R.stream rng.old))) (O.honest outside.new)
+        (IsKnownEntry O.ours O.alone opening (O.opened outside.old) (run_of (O.opened outside.old) + 1) options.now (R.stream rng.old))
+        (Underway O.ours O.alone opening) made_in (λ _. AtEnd O.ours O.alone opening) (O.seen outside.old) (O.seen outside.new) result }
 {
     open_boxes(outside)?;
     work(alloc, outside, options, rng)
@@ -182,9 +197,13 @@ fn take_up<O: Outside, R: Rng>(
     ensures was_honest { O.honest outside.new → O.honest outside.old }
     ensures answer { IfOk result (AnswersTo run (O.opened outside.old)) }
     ensures runs { IfOk result (RunsBy (O.opened outside.old) options.now (R.stream rng.old)) }
-    ensures stores { IfOk result (λ pass. pass ≡ Pass.Already → O.honest outside.new → O.alone ≡ true → ((O.seen outside.new).device.far ≡ (O.seen outside.old).device.far) × ((O.seen outside.new).device.near ≡ (O.seen outside.old).device.near)) }
+    ensures stores { IfOk result (λ pass. pass ≡ Pass.Already → LeavesBoxes (O.honest outside.new) O.alone (O.seen outside.old).device
+        (O.seen outside.new).device) }
     ensures moved { Moves (R.stream rng.old) (R.stream rng.new) }
-    ensures part { PartOr (because (TellsChange (O.honest outside.new) O.alone (O.opened outside.old) (O.seen outside.old).device (O.seen outside.new).device) (HasRepeats (R.stream rng.old))) (O.honest outside.new) (IsKnownEntry O.ours O.alone opening (O.opened outside.old) run options.now (R.stream rng.old)) (Underway O.ours O.alone opening) made_in (λ _. Reaches O.ours O.alone opening run) (O.seen outside.old) (O.seen outside.new) result }
+    ensures part { PartOr (because (TellsChange (O.honest outside.new) O.alone (O.opened outside.old) (O.seen outside.old).device
+        (O.seen outside.new).device) (HasRepeats (R.stream rng.old))) (O.honest outside.new)
+        (IsKnownEntry O.ours O.alone opening (O.opened outside.old) run options.now (R.stream rng.old)) (Underway O.ours O.alone opening)
+        made_in (λ _. Reaches O.ours O.alone opening run) (O.seen outside.old) (O.seen outside.new) result }
 {
     let last = outside.state().run;
     if run <= last {
@@ -211,8 +230,9 @@ pub fn pass<O: Outside, R: Rng>(
     ensures was_honest { O.honest outside.new → O.honest outside.old }
 
     // What is answered goes by what the files held, and what is run by the marks that the generator gave.
-    ensures answer { IfOk result (λ pass. O.honest outside.new → (s : SyncState) (p : Pending) → Holds (O.seen outside.old).device.files s p → Answers run s p pass) }
-    ensures runs { IfOk result (λ pass. O.honest outside.new → (s : SyncState) (p : Pending) → Holds (O.seen outside.old).device.files s p → RunsBy (as_read s p) options.now (R.stream rng.old) pass) }
+    ensures answer { IfOk result (λ pass. OfFiles (O.honest outside.new) (O.seen outside.old).device (λ s p. Answers run s p pass)) }
+    ensures runs { IfOk result (λ pass. OfFiles (O.honest outside.new) (O.seen outside.old).device
+        (λ s p. RunsBy (as_read s p) options.now (R.stream rng.old) pass)) }
 
     // The generator moves by whole pairs, so that later marks are its own as well.
     ensures moved { Moves (R.stream rng.old) (R.stream rng.new) }
@@ -221,12 +241,22 @@ pub fn pass<O: Outside, R: Rng>(
     ensures stuck { IsStuck (O.seen outside.old) (O.seen outside.new) result }
 
     // A run that was made leaves both mailboxes as they are.
-    ensures stores { IfOk result (λ pass. pass ≡ Pass.Already → O.honest outside.new → O.alone ≡ true → ((O.seen outside.new).device.far ≡ (O.seen outside.old).device.far) × ((O.seen outside.new).device.near ≡ (O.seen outside.old).device.near)) }
+    ensures stores { IfOk result (λ pass. pass ≡ Pass.Already → LeavesBoxes (O.honest outside.new) O.alone (O.seen outside.old).device
+        (O.seen outside.new).device) }
 
     // A run that is underway is still underway after any fault, and over where it answers. `ValidityChanged` comes only where that
     // side's UIDVALIDITY is not the recorded one, far before near, and nothing has changed then; `MarksRepeat` only where the generator's
-    // draws do.
-    ensures part { PartOr (because (TellsChanged (O.honest outside.new) O.alone (O.seen outside.old).device (O.seen outside.new).device) (HasRepeats (R.stream rng.old))) (O.honest outside.new) (IsEntry O.ours O.alone opening run options.now (R.stream rng.old)) (Underway O.ours O.alone opening) made_in (λ _. Reaches O.ours O.alone opening run) (O.seen outside.old) (O.seen outside.new) result }
+    // draws do; a line of the state or the journal is told only where the files that stand there hold no book, but line 0 of the state.
+    ensures part { PartOr (or_unread (TellsUnread (O.honest outside.new) (O.seen outside.new).device)
+        (because (TellsChanged (O.honest outside.new) O.alone (O.seen outside.old).device (O.seen outside.new).device)
+        (HasRepeats (R.stream rng.old))))
+        (O.honest outside.new) (IsEntry O.ours O.alone opening run options.now (R.stream rng.old)) (Underway O.ours O.alone opening)
+        made_in (λ _. Reaches O.ours O.alone opening run) (O.seen outside.old) (O.seen outside.new) result }
+
+    // Where nobody else adds messages, both mailboxes and the state are alike to the outcome that the rules name for the opening.
+    ensures alike { OnOk result (O.honest outside.new → O.alone ≡ true → IsEntry O.ours O.alone opening run options.now (R.stream rng.old)
+        (O.seen outside.old).device → opening.world.state.run + 1 ≤ run
+        → IsOpening opening.world → IsDone opening.world opening.options (O.seen outside.new).device) }
 {
     recall(outside)?;
     take_up(alloc, outside, run, options, rng)

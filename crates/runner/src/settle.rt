@@ -2,16 +2,15 @@
 
 ghost use Rattle.std.specs.Prelude.{◌≡◌, ◌≤◌, ◌+◌, ◌^◌, None, Some, OnOk, OnErr, IfOk, IfErr, IsErrOf, true, false, ℕ};
 ghost use Rattle.mailcore.specs.declared.side.Side.{Side};
-ghost use Rattle.rules.specs.declared.state.SyncState.{SyncState};
-ghost use Rattle.book.specs.declared.book.Pending.{Pending};
-ghost use Rattle.book.specs.Books.{Holds};
+ghost use Rattle.rules.specs.Opening.{IsOpening};
 ghost use Rattle.underway.specs.Conditions.{IsOver, Underway};
+ghost use Rattle.underway.specs.Endings.{IsDone};
 ghost use Rattle.underway.specs.Openings.{Opening};
-ghost use Rattle.runner.specs.Faults.{IsCaused, LeavesRun, because};
-ghost use Rattle.runner.specs.Parts.{IsStuck, Part, PartOr};
+ghost use Rattle.runner.specs.Faults.{IsCaused, LeavesRun, TellsNoRun, because, or_unread};
+ghost use Rattle.runner.specs.Parts.{IsStuck, Never, PartOr};
 ghost use Rattle.runner.specs.Validities.{IsKept, TellsChanged};
-ghost use Rattle.runner.specs.Answers.{HasRepeats, IsAsked, Moves, WillRepeat, made_in};
-ghost use Rattle.runner.specs.Attempts.{AnswersAt, AnswersLast, AtOpening, ChangedLast, HasNoNext, IsTried, MetStops, TriedAt, failed_before, found_by};
+ghost use Rattle.runner.specs.Answers.{HasRepeats, Moves, OfFiles, WillRepeat, made_in};
+ghost use Rattle.runner.specs.Attempts.{AnswersAt, AnswersLast, AtOpening, ChangedLast, FromOpening, HasNoNext, IsTried, MetStops, TriedAt, failed_before, found_by};
 
 use crate::fault::{RunFault, call_fault};
 use crate::pass::{Pass, Settled};
@@ -28,7 +27,10 @@ fn next_run<O: Outside>(outside: &mut O) -> Result<u64, RunFault>
     ensures kept { OnOk result (O.honest outside.new → IsKept O.alone (O.seen outside.old).device (O.seen outside.new).device) }
     ensures greatest { HasNoNext (O.honest outside.new) O.alone (O.seen outside.old).device (O.seen outside.new).device result }
     ensures stuck { IsStuck (O.seen outside.old) (O.seen outside.new) result }
-    ensures part { Part (O.honest outside.new) (AtOpening O.ours O.alone opening) (AtOpening O.ours O.alone opening) (λ _. 0) (λ number d. (number ≡ opening.world.state.run + 1) × AtOpening O.ours O.alone opening d) (O.seen outside.old) (O.seen outside.new) result }
+    ensures part { PartOr (or_unread (TellsNoRun (O.honest outside.new) (O.seen outside.new).device) Never) (O.honest outside.new)
+        (AtOpening O.ours O.alone opening) (AtOpening O.ours O.alone opening)
+        (λ _. 0) (λ number d. (number ≡ opening.world.state.run + 1) × AtOpening O.ours O.alone opening d) (O.seen outside.old)
+        (O.seen outside.new) result }
 {
     match outside.open_book() {
         Ok(()) => {
@@ -52,7 +54,9 @@ fn fix_run<O: Outside>(outside: &mut O, run: &mut Option<u64>) -> Result<u64, Ru
     ensures kept { OnOk result (O.honest outside.new → IsKept O.alone (O.seen outside.old).device (O.seen outside.new).device) }
     ensures greatest { run.old ≡ None → HasNoNext (O.honest outside.new) O.alone (O.seen outside.old).device (O.seen outside.new).device result }
     ensures stuck { IsStuck (O.seen outside.old) (O.seen outside.new) result }
-    ensures part { Part (O.honest outside.new) (TriedAt O.ours O.alone opening run.old) (TriedAt O.ours O.alone opening run.new) (λ _. 0) (λ _. TriedAt O.ours O.alone opening run.new) (O.seen outside.old) (O.seen outside.new) result }
+    ensures part { PartOr (or_unread (TellsNoRun (O.honest outside.new) (O.seen outside.new).device) Never) (O.honest outside.new)
+        (TriedAt O.ours O.alone opening run.old) (TriedAt O.ours O.alone opening run.new)
+        (λ _. 0) (λ _. TriedAt O.ours O.alone opening run.new) (O.seen outside.old) (O.seen outside.new) result }
 {
     if let Some(number) = *run {
         return Ok(number);
@@ -74,11 +78,17 @@ fn attempt<O: Outside, R: Rng>(
     requires whole { (number : ℕ) → run.old ≡ Some number → (O.seen outside.old).is_broken ≡ false }
     ensures was_honest { O.honest outside.new → O.honest outside.old }
     ensures moved { Moves (R.stream rng.old) (R.stream rng.new) }
-    ensures answer { IfOk result (λ pass. O.honest outside.new → TriedAt O.ours O.alone opening run.old (O.seen outside.old).device → AnswersAt (opening.world.state.run + 1) options.now pass (O.seen outside.old).device (R.stream rng.old)) }
+    ensures answer { IfOk result (λ pass. O.honest outside.new → TriedAt O.ours O.alone opening run.old (O.seen outside.old).device
+        → AnswersAt (opening.world.state.run + 1) options.now pass (O.seen outside.old).device (R.stream rng.old)) }
     ensures greatest { run.old ≡ None → HasNoNext (O.honest outside.new) O.alone (O.seen outside.old).device (O.seen outside.new).device result }
-    ensures unfixed { run.old ≡ None → O.honest outside.new → (s : SyncState) (p : Pending) → Holds (O.seen outside.old).device.files s p → s.run + 1 ≡ 2 ^ 64 → run.new ≡ None }
+    ensures unfixed { run.old ≡ None → OfFiles (O.honest outside.new) (O.seen outside.old).device (λ s p. s.run + 1 ≡ 2 ^ 64 → run.new ≡ None) }
     ensures stuck { IsStuck (O.seen outside.old) (O.seen outside.new) result }
-    ensures part { PartOr (because (TellsChanged (O.honest outside.new) O.alone (O.seen outside.old).device (O.seen outside.new).device) (HasRepeats (R.stream rng.old))) (O.honest outside.new) (IsTried O.ours O.alone opening options.now (R.stream rng.old) run.old) (IsTried O.ours O.alone opening options.now (R.stream rng.new) run.new) made_in (λ _. IsOver O.ours O.alone opening) (O.seen outside.old) (O.seen outside.new) result }
+    ensures part { PartOr (or_unread (TellsNoRun (O.honest outside.new) (O.seen outside.new).device)
+        (because (TellsChanged (O.honest outside.new) O.alone (O.seen outside.old).device (O.seen outside.new).device)
+        (HasRepeats (R.stream rng.old))))
+        (O.honest outside.new) (IsTried O.ours O.alone opening options.now (R.stream rng.old) run.old)
+        (IsTried O.ours O.alone opening options.now (R.stream rng.new) run.new)
+        made_in (λ _. IsOver O.ours O.alone opening) (O.seen outside.old) (O.seen outside.new) result }
 {
     let number = fix_run(outside, run)?;
     pass(alloc, outside, number, options, rng)
@@ -113,17 +123,32 @@ pub fn settle<O: Outside, R: Rng>(
     ensures moved { Moves (R.stream rng.old) (R.stream rng.new) }
 
     // From an opening, the run is over where it answers, and underway after any fault.
-    ensures done { OnOk result (O.honest outside.new → IsAsked O.ours opening options.now (R.stream rng.old) → AtOpening O.ours O.alone opening (O.seen outside.old).device → IsOver O.ours O.alone opening (O.seen outside.new).device) }
-    ensures left { IfErr result (λ fault. O.honest outside.new → IsAsked O.ours opening options.now (R.stream rng.old) → AtOpening O.ours O.alone opening (O.seen outside.old).device → LeavesRun (Underway O.ours O.alone opening) fault (O.seen outside.old) (O.seen outside.new)) }
+    ensures done { OnOk result (FromOpening (O.honest outside.new) O.ours O.alone opening options.now (R.stream rng.old) (O.seen outside.old).device
+        (IsOver O.ours O.alone opening (O.seen outside.new).device)) }
+    ensures left { IfErr result (λ fault. FromOpening (O.honest outside.new) O.ours O.alone opening options.now (R.stream rng.old)
+        (O.seen outside.old).device
+        (LeavesRun (Underway O.ours O.alone opening) fault (O.seen outside.old) (O.seen outside.new))) }
+
+    // Where nobody else adds messages, both mailboxes and the state are alike then to the outcome that the rules name for the opening.
+    ensures alike { OnOk result (FromOpening (O.honest outside.new) O.ours O.alone opening options.now (R.stream rng.old) (O.seen outside.old).device
+        (O.alone ≡ true → IsOpening opening.world → IsDone opening.world opening.options (O.seen outside.new).device)) }
 
     // What the last attempt answered goes by the files that it found: the run was made already, or a plan of it was pending, or none was.
-    ensures answer { IfOk result (λ s. O.honest outside.new → IsAsked O.ours opening options.now (R.stream rng.old) → AtOpening O.ours O.alone opening (O.seen outside.old).device → AnswersLast O.ours O.alone opening options.now s.stops s.last (O.seen outside.old).device (R.stream rng.old)) }
+    ensures answer { IfOk result (λ s. FromOpening (O.honest outside.new) O.ours O.alone opening options.now (R.stream rng.old)
+        (O.seen outside.old).device
+        (AnswersLast O.ours O.alone opening options.now s.stops s.last (O.seen outside.old).device (R.stream rng.old))) }
 
     // Behind `ValidityChanged` nothing has changed but what the attempts before the last have done.
-    ensures changed { IfErr result (λ fault. (side : Side) → fault ≡ RunFault.ValidityChanged side → O.honest outside.new → IsAsked O.ours opening options.now (R.stream rng.old) → AtOpening O.ours O.alone opening (O.seen outside.old).device → ChangedLast O.ours O.alone opening tries side (O.seen outside.old).device (R.stream rng.old) (O.seen outside.new).device) }
+    ensures changed { IfErr result (λ fault. (side : Side) → fault ≡ RunFault.ValidityChanged side
+        → FromOpening (O.honest outside.new) O.ours O.alone opening options.now (R.stream rng.old) (O.seen outside.old).device
+        (ChangedLast O.ours O.alone opening tries side (O.seen outside.old).device (R.stream rng.old) (O.seen outside.new).device)) }
 
-    // A refusal, another fault of a box, or a copy that was lost stands in the counts, and marks repeat only where the draws do.
-    ensures caused { IfErr result (λ fault. (fault ≡ RunFault.Stopped → ⊥) → IsCaused (because (λ side. Unit {0}) (WillRepeat (R.stream rng.old))) fault (O.seen outside.old) (O.seen outside.new)) }
+    // A refusal, another fault of a box, or a copy that was lost stands in the counts, and marks repeat only where the draws do. A line of
+    // the state or the journal is told only where the files that stand there hold no book from it on, but line 0 of the state, and but
+    // `BadState(2)` where their run has the greatest number.
+    ensures caused { IfErr result (λ fault. (fault ≡ RunFault.Stopped → ⊥)
+        → IsCaused (or_unread (TellsNoRun (O.honest outside.new) (O.seen outside.new).device)
+        (because (λ side. Unit {0}) (WillRepeat (R.stream rng.old)))) fault (O.seen outside.old) (O.seen outside.new)) }
 
     // Behind the greatest run number there is no other.
     ensures greatest { HasNoNext (O.honest outside.new) O.alone (O.seen outside.old).device (O.seen outside.new).device result }

@@ -38,7 +38,9 @@ fn perform<O: Outside>(
     ensures was_honest { O.honest outside.new → O.honest outside.old }
     ensures opened { O.opened outside.new ≡ O.opened outside.old }
     ensures fits { IfOk result (λ r. FitsStep step.now (logged_of r)) }
-    ensures part { Part (O.honest outside.new) (AtReady O.ours O.alone opening (O.opened outside.old) is_taken_up) (Underway O.ours O.alone opening) made_by (λ r. AtDone O.ours O.alone opening (O.opened outside.old) (logged_of r)) (O.seen outside.old) (O.seen outside.new) result }
+    ensures part { Part (O.honest outside.new) (AtReady O.ours O.alone opening (O.opened outside.old) is_taken_up)
+        (Underway O.ours O.alone opening) made_by (λ r. AtDone O.ours O.alone opening (O.opened outside.old) (logged_of r))
+        (O.seen outside.old) (O.seen outside.new) result }
 {
     match *step {
         Step::New {
@@ -88,7 +90,9 @@ fn write<O: Outside>(outside: &mut O, number: usize, logged: Logged) -> Result<(
     requires takes { TakesLog (O.opened outside.old) number logged }
     ensures was_honest { O.honest outside.new → O.honest outside.old }
     ensures opened { OnOk result (O.opened outside.new ≡ turned (λ p. logged_more p logged) (O.opened outside.old)) }
-    ensures call { Writes (O.honest outside.new) (Arrives O.ours O.alone) (FromLog (O.opened outside.old) logged) (OfBook (λ p. Turns p (logged_more p logged)) (O.opened outside.old)) (OfBook (λ p. TurnsHalf p (torn p)) (O.opened outside.old)) (O.seen outside.old) (O.seen outside.new) result }
+    ensures call { Writes (O.honest outside.new) (Arrives O.ours O.alone) (FromLog (O.opened outside.old) logged)
+        (OfBook (λ p. Turns p (logged_more p logged)) (O.opened outside.old)) (OfBook (λ p. TurnsHalf p (torn p)) (O.opened outside.old))
+        (O.seen outside.old) (O.seen outside.new) result }
 {
     match logged {
         Logged::Copied(copy) => outside.done(number, Some(copy)),
@@ -105,7 +109,9 @@ fn log<O: Outside>(outside: &mut O, number: usize, became: &StepResult) -> Resul
     requires fits { FitsNext (next_at (O.opened outside.old)) (logged_of became.now) }
     ensures was_honest { O.honest outside.new → O.honest outside.old }
     ensures opened { OnOk result (HasLogged (O.opened outside.old) (O.opened outside.new) (logged_of became.now ∷ [])) }
-    ensures part { Part (O.honest outside.new) (AtDone O.ours O.alone opening (O.opened outside.old) (logged_of became.now)) (Underway O.ours O.alone opening) (λ _. 0) (λ _. AtReady O.ours O.alone opening (O.opened outside.new) false) (O.seen outside.old) (O.seen outside.new) result }
+    ensures part { Part (O.honest outside.new) (AtDone O.ours O.alone opening (O.opened outside.old) (logged_of became.now))
+        (Underway O.ours O.alone opening) (λ _. 0) (λ _. AtReady O.ours O.alone opening (O.opened outside.new) false) (O.seen outside.old)
+        (O.seen outside.new) result }
 {
     match write(outside, number, logged_as(became)) {
         Ok(()) => Ok(()),
@@ -128,7 +134,9 @@ fn advance<O: Outside>(
     ensures was_honest { O.honest outside.new → O.honest outside.old }
     ensures opened { IfOk result (λ p. HasLogged (O.opened outside.old) (O.opened outside.new) (logged_of p.result ∷ [])) }
     ensures step { IfOk result (λ p. p.step ≡ step) }
-    ensures part { Part (O.honest outside.new) (AtReady O.ours O.alone opening (O.opened outside.old) is_taken_up) (Underway O.ours O.alone opening) (λ p. made_by p.result) (λ _. AtReady O.ours O.alone opening (O.opened outside.new) is_taken_up) (O.seen outside.old) (O.seen outside.new) result }
+    ensures part { Part (O.honest outside.new) (AtReady O.ours O.alone opening (O.opened outside.old) is_taken_up)
+        (Underway O.ours O.alone opening) (λ p. made_by p.result) (λ _. AtReady O.ours O.alone opening (O.opened outside.new) is_taken_up)
+        (O.seen outside.old) (O.seen outside.new) result }
 {
     let result = perform(outside, number, &step, is_taken_up)?;
     log(outside, number, &result)?;
@@ -147,8 +155,11 @@ pub(crate) fn carry_out<O: Outside>(
     ensures was_honest { O.honest outside.new → O.honest outside.old }
     ensures opened { IfOk result (λ performed. HasLogged (O.opened outside.old) (O.opened outside.new) (logs_of performed.items)) }
     ensures ended { OnOk result (next_at (O.opened outside.new) ≡ None) }
-    ensures steps { IfOk result (λ performed. steps_of performed.items ≡ drop (length (log_at (O.opened outside.old))) (plan_at (O.opened outside.old)).steps) }
-    ensures part { Part (O.honest outside.new) (AtReady O.ours O.alone opening (O.opened outside.old) is_taken_up) (Underway O.ours O.alone opening) (λ performed. made performed.items) (λ _. AtReady O.ours O.alone opening (O.opened outside.new) is_taken_up) (O.seen outside.old) (O.seen outside.new) result }
+    ensures steps { IfOk result (λ performed. steps_of performed.items ≡ drop (length (log_at (O.opened outside.old)))
+        (plan_at (O.opened outside.old)).steps) }
+    ensures part { Part (O.honest outside.new) (AtReady O.ours O.alone opening (O.opened outside.old) is_taken_up)
+        (Underway O.ours O.alone opening) (λ performed. made performed.items)
+        (λ _. AtReady O.ours O.alone opening (O.opened outside.new) is_taken_up) (O.seen outside.old) (O.seen outside.new) result }
 {
     let mut performed = Vec::new(alloc);
     while let Some((number, step)) = next_step(outside) {

@@ -3,7 +3,7 @@ use Rattle.std.proofs.lemmas.Bool.{eqb-true}
 use Rattle.sync_state.specs.declared.journal.Logged.TheVariants.{Done}
 use Rattle.underway.specs.Conditions.{Underway}
 use Rattle.runner.specs.Going.{AtBegun, sets_first}
-use Rattle.runner.proofs.PartCalls.{from_box, left_step, passed_call, passed_none}
+use Rattle.runner.proofs.PartCalls.{from_box, left_step, line_of_box, passed_call, passed_none}
 use Rattle.runner.proofs.Stages.{begun_arrives, begun_underway, clear_called, clear_uncalled, done_underway, left_by}
 use Rattle.runner.proofs.Wholes.{sets_none, sets_where_none}
 use Rattle.runner.proofs.changing.clear_flags.Goals as goal
@@ -40,7 +40,7 @@ returns-in-Err-clause-part g c =
     let f = c.args.flags.now in
     let made = sets_first f.set f.cleared in
     let s1 = g.O.Outside.seen c.remove_flags.new.self in
-    rw c.step_fault.ensures (left_step _ _ _ _ _ _ _ _ _ _ c.args.number _ c.in-Err.ensures.call
+    rw c.step_fault.ensures (left_step _ _ _ _ _ _ _ _ _ _ c.args.number _ c.in-Err.ensures.call (line_of_box _)
     (λ m at a own told. (
       from_box c.in-Err.fault told,
       left_by (Underway ours alone g.opening) _ _ c.in-Err.fault m s1.device own

@@ -1,7 +1,7 @@
 use Rattle.std.proofs.Common.{true}
 use Rattle.underway.specs.Conditions.{Underway}
 use Rattle.runner.specs.Going.{sets_first}
-use Rattle.runner.proofs.PartCalls.{from_box, left_step, passed_call}
+use Rattle.runner.proofs.PartCalls.{from_box, left_step, line_of_box, passed_call}
 use Rattle.runner.proofs.Stages.{begun_underway, left_by, ready_arrives, ready_underway, set_called}
 use Rattle.runner.proofs.changing.set_flags.Goals as goal
 
@@ -25,7 +25,7 @@ returns-in-Err-clause-part g c =
     let opened = g.O.Outside.opened c.args.outside.now in
     let f = c.args.flags.now in
     let s1 = g.O.Outside.seen c.add_flags.new.self in
-    rw c.step_fault.ensures (left_step _ _ _ _ _ _ _ _ _ _ c.args.number _ c.in-Err.ensures.call
+    rw c.step_fault.ensures (left_step _ _ _ _ _ _ _ _ _ _ c.args.number _ c.in-Err.ensures.call (line_of_box _)
     (λ m at a own told. (
       from_box c.in-Err.fault told,
       left_by (Underway ours alone g.opening) _ _ c.in-Err.fault m s1.device own

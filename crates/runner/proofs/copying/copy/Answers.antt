@@ -2,7 +2,7 @@ use Rattle.std.proofs.Common.{None, refl, rules, arith}
 use Rattle.std.proofs.lemmas.Result.{err_from_is_err_and}
 use Rattle.mailcore.specs.declared.side.Side.TheVariants.{Far, Near}
 use Rattle.runner.specs.Going.{AtCopied, CopiesUnder}
-use Rattle.runner.proofs.PartCalls.{from_box, left_after, left_lost, left_step, passed_after, passed_call}
+use Rattle.runner.proofs.PartCalls.{from_box, left_after, left_lost, left_step, line_of_box, passed_after, passed_call}
 use Rattle.runner.proofs.Stages.{carry_left, carry_told, carry_untold, never_absent, never_unfit}
 use Rattle.runner.proofs.copying.copy.Goals as goal
 
@@ -23,7 +23,7 @@ returns-in-Err-clause-part g c =
     let alone = g.O.Outside.alone in
     let opened = g.O.Outside.opened c.args.outside.now in
     let s1 = g.O.Outside.seen c.carry.new.self in
-    rw c.step_fault.ensures (left_step _ _ _ _ _ _ _ _ _ _ c.args.number _ c.in-Err.ensures.call
+    rw c.step_fault.ensures (left_step _ _ _ _ _ _ _ _ _ _ c.args.number _ c.in-Err.ensures.call (line_of_box _)
     (λ m at a own told. (from_box c.in-Err.fault told, carry_left ours alone g.opening opened c.args.direction c.args.uid c.args.flags c.args.mark c.requires.1.1 c.in-Err.fault _ m s1.device a at own)))
 
 pub returns-in-Absent-clause-part : goal.returns-in-Absent-clause-part

@@ -1,5 +1,5 @@
-use Rattle.runner.proofs.PartCalls.{left_call, passed_call, stuck_call, whole_call}
-use Rattle.runner.proofs.Readings.{held_before, read_known, unread_left}
+use Rattle.runner.proofs.PartCalls.{left_call, line_of_shelf, passed_call, stuck_call, whole_call}
+use Rattle.runner.proofs.Readings.{held_before, read_known, unread_files, unread_left}
 use Rattle.runner.proofs.Validities.{kept_read}
 use Rattle.underway.proofs.Arrived.{underway_arrives}
 use Rattle.runner.proofs.opening.recall.Goals as goal
@@ -14,7 +14,9 @@ returns-in-Err-clause-part g c =
     let ours = g.O.Outside.ours in
     let alone = g.O.Outside.alone in
     let s1 = g.O.Outside.seen c.open_book.new.self in
-    rw c.call_fault.ensures (left_call _ _ _ _ _ _ _ _ _ _ _ c.in-Err.ensures.call (λ m at a own told. unread_left ours alone g.opening c.in-Err.fault m s1.device (underway_arrives ours alone g.opening _ m a at) own.0 own.1 told))
+    rw c.call_fault.ensures (left_call _ _ _ _ _ _ _ _ _ _ _ c.in-Err.ensures.call
+    (λ told. line_of_shelf _ (λ honest. let w = c.in-Err.ensures.call in let acts = w.acts in let l = acts.left honest in unread_files c.in-Err.fault l.mid s1.device l.behind.0 l.behind.1))
+    (λ m at a own told. unread_left ours alone g.opening c.in-Err.fault m s1.device (underway_arrives ours alone g.opening _ m a at) own.0 own.1 told))
 
 pub returns-in-Ok-clause-held : goal.returns-in-Ok-clause-held
 returns-in-Ok-clause-held g c = λ honest. let w = c.in-Ok.ensures.call in let acts = w.acts in let e = acts.effect honest in held_before g.O.Outside.ours g.O.Outside.alone g.opening _ _ e.mid e.before e.behind.1

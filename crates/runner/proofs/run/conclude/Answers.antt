@@ -1,6 +1,6 @@
 use Rattle.underway.specs.Conditions.{Underway}
 use Rattle.runner.proofs.Passes.{end_underway, ended_at, half_ended_at}
-use Rattle.runner.proofs.PartCalls.{from_book, left_call, passed_call}
+use Rattle.runner.proofs.PartCalls.{from_book, left_call, line_of_book, passed_call}
 use Rattle.runner.proofs.Stages.{left_by, ready_arrives, ready_underway}
 use Rattle.runner.proofs.run.conclude.Goals as goal
 
@@ -16,7 +16,7 @@ returns-in-Err-clause-part g c =
     let opened = g.O.Outside.opened c.args.outside.now in
     let seek = c.args.is_taken_up in
     let s1 = g.O.Outside.seen c.commit.new.self in
-    rw c.call_fault.ensures (left_call _ _ _ _ _ _ _ _ _ _ _ c.in-Err.ensures.call (λ m at a own told. (
+    rw c.call_fault.ensures (left_call _ _ _ _ _ _ _ _ _ _ _ c.in-Err.ensures.call (line_of_book _) (λ m at a own told. (
       from_book c.in-Err.fault told,
       left_by (Underway ours alone g.opening) _ _ c.in-Err.fault m s1.device own
           (ready_underway ours alone g.opening opened seek m (ready_arrives ours alone g.opening opened seek _ m a at))

@@ -1,4 +1,4 @@
-use Rattle.std.proofs.Common.{◌≡◌, ◌≤◌, ◌+◌, arith, rules}
+use Rattle.std.proofs.Common.{◌≡◌, ◌≤◌, ◌+◌, inl, refl, arith, rules}
 use Rattle.runner.specs.Answers.{IsKnownEntry, Reaches, run_of}
 use Rattle.runner.proofs.PartCalls.{left_here, part_never, part_weaker, passed_none}
 use Rattle.runner.proofs.Passes.{end_reaches, known_least, run_of_state}
@@ -38,7 +38,7 @@ returns-then-run-last-gt1-clause-part g c =
     let s = g.O.Outside.seen c.args.outside.now in
     let same = run_of_state opened c.state.result.now c.state.ensures.state in
     let entry = IsKnownEntry ours alone g.opening opened c.args.run c.args.options.now (g.R.Rng.stream c.args.rng.now) in
-    left_here _ entry entry _ 0 _ s s (passed_none _ entry entry s c.requires.1.1.1 (λ k. k)) tt (λ k. let m = k.most in let l = known_least ours alone g.opening opened s.device k.known in omega (arith, same, m, l, c.if-run-last.false, c.if-run-last-gt1.true))
+    left_here _ entry entry _ 0 _ s s (passed_none _ entry entry s c.requires.1.1.1 (λ k. k)) (inl refl) (λ k. let m = k.most in let l = known_least ours alone g.opening opened s.device k.known in omega (arith, same, m, l, c.if-run-last.false, c.if-run-last-gt1.true))
 
 pub returns-then-run-last-clause-moved : goal.returns-then-run-last-clause-moved
 returns-then-run-last-clause-moved g c = moved_none _

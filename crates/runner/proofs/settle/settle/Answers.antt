@@ -3,8 +3,10 @@ use Rattle.outside.specs.Calls.{Seen}
 use Rattle.underway.specs.Conditions.{Underway}
 use Rattle.runner.specs.declared.pass.Pass.{Pass}
 use Rattle.runner.specs.Attempts.{IsTried}
+use Rattle.runner.specs.Faults.{TellsNoRun}
 use Rattle.runner.proofs.Attempts.{caused_since, changed_last, failed_few, found_device, greatest_since, kept_none, last_answers, leaves_since, moved_twice, stops_kept, stops_more, stuck_first, stuck_more, tried_underway}
 use Rattle.runner.proofs.PartCalls.{leaves_map}
+use Rattle.runner.proofs.Passes.{over_alike}
 use Rattle.runner.proofs.PlanFacts.{moved_none}
 use Rattle.runner.proofs.settle.settle.Goals as goal
 
@@ -136,7 +138,7 @@ returns-in-Err-clause-changed g c = λ side is h asked at.
     let s2 = g.O.Outside.seen c.attempt.new.outside in
     let t = i.left (c.again.ensures.was_honest (c.attempt.ensures.was_honest h)) asked at in
     let part = c.in-Err.ensures.part in
-    changed_last g.O.Outside.ours g.O.Outside.alone g.opening _ _ c.loop-tried.tried c.args.tries c.loop-tried.run s0 now s1 s2 _ _ side c.in-Err.fault i.first i.undrawn i.moved c.again.ensures.seen t.tried (omega arith) is h part.caused
+    changed_last g.O.Outside.ours g.O.Outside.alone g.opening _ _ (TellsNoRun (g.O.Outside.honest c.attempt.new.outside) (g.O.Outside.seen c.attempt.new.outside).device) c.loop-tried.tried c.args.tries c.loop-tried.run s0 now s1 s2 _ _ side c.in-Err.fault i.first i.undrawn i.moved c.again.ensures.seen t.tried (omega arith) is h part.caused
 
 pub returns-in-Err-clause-caused : goal.returns-in-Err-clause-caused
 returns-in-Err-clause-caused g c = λ other.
@@ -149,7 +151,7 @@ returns-in-Err-clause-caused g c = λ other.
     let refusals : s0.refusals ≤ s1.refusals = (let k = i.refusals in let r = ap (λ (s : Seen). s.refusals) e in omega (arith, k, r)) in
     let faults : s0.faults ≤ s1.faults = (let k = i.faults in let r = ap (λ (s : Seen). s.faults) e in omega (arith, k, r)) in
     let appends : s0.appends ≤ s1.appends = (let k = i.appends in let r = ap (λ (s : Seen). s.appends) e in omega (arith, k, r)) in
-    caused_since _ _ c.in-Err.fault s0 s1 s2 refusals faults appends other (λ k. (g.R.Rng.stream c.loop-tried.rng, i.moved, k)) part.caused
+    caused_since _ _ (TellsNoRun (g.O.Outside.honest c.attempt.new.outside) (g.O.Outside.seen c.attempt.new.outside).device) c.in-Err.fault s0 s1 s2 refusals faults appends other (λ k. (g.R.Rng.stream c.loop-tried.rng, i.moved, k)) (λ e t. t) part.caused
 
 pub returns-in-Err-clause-greatest : goal.returns-in-Err-clause-greatest
 returns-in-Err-clause-greatest g c = λ h s p held is.
@@ -180,3 +182,6 @@ returns-in-Ok-clause-done g c = λ h asked at.
     let device = found_device c.loop-tried.tried now s1 c.again.ensures.seen in
     let part = c.in-Ok.ensures.part in
     part.reaches h (subst before (sym device) (i.left (c.again.ensures.was_honest (c.attempt.ensures.was_honest h)) asked at))
+
+pub returns-in-Ok-clause-alike : goal.returns-in-Ok-clause-alike
+returns-in-Ok-clause-alike g c = λ h asked at nobody sound. over_alike g.O.Outside.ours g.O.Outside.alone g.opening (g.O.Outside.seen c.attempt.new.outside).device nobody sound (returns-in-Ok-clause-done g c h asked at)

@@ -1,6 +1,6 @@
 use Rattle.std.proofs.Common.{[], ◌∷◌}
 use Rattle.runner.specs.Going.{HasLogged, logged_of}
-use Rattle.runner.proofs.PartCalls.{left_step, passed_call}
+use Rattle.runner.proofs.PartCalls.{left_step, line_of_log, passed_call}
 use Rattle.runner.proofs.Logging.{takes_log, has_logged, log_made, log_left}
 use Rattle.runner.proofs.steps.log.Goals as goal
 
@@ -33,5 +33,5 @@ returns-in-Err-clause-part g c =
     let opened = g.O.Outside.opened c.args.outside.now in
     let s1 = g.O.Outside.seen c.write.new.outside in
     let logged = logged_of c.args.became.now in
-    rw c.step_fault.ensures (left_step _ _ _ _ _ _ _ _ _ _ c.args.number _ (rw c.logged_as.ensures at c.in-Err.ensures.call)
+    rw c.step_fault.ensures (left_step _ _ _ _ _ _ _ _ _ _ c.args.number _ (rw c.logged_as.ensures at c.in-Err.ensures.call) (line_of_log opened logged _)
     (λ m at a own told. log_left ours alone g.opening opened logged c.in-Err.fault _ m s1.device c.requires.1.0 a at told own))
