@@ -1,0 +1,33 @@
+//! Laws that show that the words of a run mean what they say, each shown by a function that does nothing: what worlds have in common
+//! that are alike, and what a device says that a run is underway on.
+#![tactic(auto)]
+
+ghost use Rattle.alike_laws.specs.Runs as run;
+ghost use Rattle.alike_laws.specs.Worlds as world;
+
+/// Worlds that are alike have as many messages on each side, and as many entries.
+pub fn alike_worlds_have_as_many()
+    ensures messages { world.HaveAsManyMessages }
+    ensures entries { world.HaveAsManyEntries }
+{}
+
+/// A next run is called for the same on the world that was found as on the outcome, up to the UIDs, and for nothing else. The state that
+/// was found has its entries in order, as each that is read; the outcome may have them in any.
+pub fn next_runs_are_alike()
+    ensures called { world.NextIsOfOutcome }
+    ensures no_more { world.NextIsNoMore }
+    ensures in_order { world.NextIsInOrder }
+{}
+
+/// A device on which a run is underway has one plan, or none: the same for whatever the run is said to have begun with.
+pub fn underway_has_one_plan()
+    ensures plan { run.OnePlan }
+    ensures state { run.OneState }
+    ensures either { run.PlannedOrNot }
+{}
+
+/// Where a run is done, the next one may begin with the world that the device holds.
+pub fn done_begins_the_next_run()
+    ensures unplanned { run.DoneIsUnplanned }
+    ensures opening { run.DoneIsOpening }
+{}
