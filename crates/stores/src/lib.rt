@@ -1,0 +1,6 @@
+//! The stores whose mailboxes `mbsync` synchronises, as traits: what they are asked for, and why they do not answer.
+#![tactic(auto)]
+
+pub mod channel_box;
+pub mod fault;
+pub mod stores;

@@ -1,0 +1,35 @@
+//! The stores that channels are synchronised over.
+
+ghost use Rattle.std.specs.Prelude.{◌≡◌, true};
+ghost use Rattle.rules.specs.Options.{covers};
+
+use crate::channel_box::ChannelBox;
+use crate::fault::{ListFault, StoreFault};
+use config::config::{ImapStore, MaildirStore};
+use mailcore::mailbox_name::MailboxName;
+use mailcore::side::Side;
+use outside::outside::Outside;
+
+/// Stores whose mailboxes can be listed, and nothing else: through this trait no mailbox is made or synchronised.
+pub trait BoxLists {
+    /// The names of the mailboxes of a far store, INBOX among them if it is there. Names beyond the limits are left out: 1 to 255
+    /// printable ASCII characters without `* % " \`, and no empty part, `.` or `..` between slashes.
+    fn far_boxes(&mut self, store: &ImapStore) -> Result<Vec<MailboxName>, ListFault>;
+
+    /// The names of the mailboxes of a near store, INBOX among them if it is there, within the same limits.
+    fn near_boxes(&mut self, store: &MaildirStore) -> Result<Vec<MailboxName>, ListFault>;
+}
+
+/// Stores whose mailboxes can be synchronised.
+pub trait Stores: BoxLists {
+    /// Both sides of a mailbox, and its state.
+    type Outside: Outside;
+
+    /// Makes this side of a mailbox, which is absent there. Only a side that the channel's Create covers is made.
+    fn make(&mut self, side: Side, place: ChannelBox<'_>) -> Result<(), StoreFault>
+        requires { covers place.of.channel.now.create side ≡ true };
+
+    /// Opens both sides of a mailbox, takes its lock, and lends them as one outside. The lock is held until the next call of `outside`, or
+    /// until the stores are dropped.
+    fn outside(&mut self, place: ChannelBox<'_>) -> Result<&mut Self::Outside, StoreFault>;
+}
