@@ -5,7 +5,6 @@
 pub mod attempts;
 pub mod count;
 pub mod folder;
-pub mod performed;
 pub mod read;
 pub mod report;
 pub mod shelf;

@@ -3,7 +3,7 @@
 ghost use Rattle.std.specs.Prelude.{◌≡◌};
 ghost use Rattle.trial.specs.Reports.{fault_number, status_of};
 
-use crate::performed::PerformedLine;
+use reports::performed::PerformedLine;
 use runner::fault::RunFault;
 use runner::pass::{Pass, Settled};
 use runner::performed::Performed;
