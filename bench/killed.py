@@ -72,7 +72,7 @@ class Programs:
         return self.output
 
     def attempt(self, words, share):
-        """Runs the program, and kills it behind this share of the longest time that a run took of late."""
+        """Runs the program, and kills it behind this share of the time that three of four runs took of late."""
         configuration = os.path.join(self.folder, "mbsyncrc")
         with open(configuration, "w", encoding="ascii") as file:
             file.write(CONFIGURATION % (self.server.port, self.folder, self.folder, *words))
@@ -80,7 +80,7 @@ class Programs:
         start = time.monotonic()
         process = subprocess.Popen([self.program, "-c", configuration, "soak"], stdout=subprocess.PIPE, stderr=subprocess.STDOUT, text=True)
         try:
-            self.output, _ = process.communicate(timeout=MOST_SECONDS if share is None else share * max(self.seconds))
+            self.output, _ = process.communicate(timeout=MOST_SECONDS if share is None else share * self.usual())
         except subprocess.TimeoutExpired:
             process.send_signal(signal.SIGKILL)
             self.output, _ = process.communicate()
@@ -88,6 +88,9 @@ class Programs:
             self.seconds.append(time.monotonic() - start)
             return "ended"
         return self.standing(state) if process.returncode == -signal.SIGKILL and share is not None else "failed"
+
+    def usual(self):
+        return sorted(self.seconds)[3 * len(self.seconds) // 4]
 
     def standing(self, state):
         """How far a killed run has come, by its files."""
