@@ -3,3 +3,4 @@ pub mod BoxCalls
 pub mod Carrying
 pub mod CopyOctets
 pub mod Ended
+pub mod Whys

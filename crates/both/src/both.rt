@@ -1,6 +1,6 @@
 //! The outside of a run over any link, folder and shelf.
 
-ghost use Rattle.std.specs.Prelude.{◌≡◌, true, IfErr};
+ghost use Rattle.std.specs.Prelude.{◌≡◌, true, Ok, IfErr, IfOk, OnOk, IsErrOf};
 
 use book::shelf::Shelf;
 use book_part::book_part::BookPart;
@@ -40,7 +40,7 @@ impl<L: Link + Drop, F: Folder + Drop, S: Shelf + Drop> Both<L, F, S> {
     ghost use Rattle.parts.specs.Tallies.{untouched};
     ghost use Rattle.far_part.specs.FarParts as fars;
     ghost use Rattle.near_part.specs.NearParts as nears;
-    ghost use Rattle.both.specs.Boths.{device_of, honest_of, opened_of, seen_of};
+    ghost use Rattle.both.specs.Boths.{CopyCause, device_of, honest_of, opened_of, seen_of};
 
     /// The outside of these parts, of which no call was made.
     pub fn new(alloc: Global, far: FarPart<L>, near: NearPart<F>, book: BookPart<S>) -> Self
@@ -74,6 +74,7 @@ impl<L: Link + Drop, F: Folder + Drop, S: Shelf + Drop> Both<L, F, S> {
         ensures opened { opened_of self.new ≡ opened_of self.old }
         ensures tally { self.new.tally ≡ self.old.tally }
         ensures told { IfErr result FromBox }
+        ensures why { IsErrOf result OutsideFault.Stopped → CopyCause self.old self.new }
         ensures part { Part (honest_of self.new) (Carry Direction.Pull uid flags mark) (LeavesBy (Carry Direction.Pull uid flags mark) (SetsAside Side.Near)) (device_of self.old) (device_of self.new) result }
     {
         let text = match self.far.draft(uid, mark)? {
@@ -93,6 +94,7 @@ impl<L: Link + Drop, F: Folder + Drop, S: Shelf + Drop> Both<L, F, S> {
         ensures opened { opened_of self.new ≡ opened_of self.old }
         ensures tally { self.new.tally ≡ self.old.tally }
         ensures told { IfErr result FromBox }
+        ensures why { IsErrOf result OutsideFault.Stopped → CopyCause self.old self.new }
         ensures part { Part (honest_of self.new) (Carry Direction.Push uid flags mark) (LeavesBy (Carry Direction.Push uid flags mark) (SetsAside Side.Far)) (device_of self.old) (device_of self.new) result }
     {
         let text = match self.near.draft(uid, mark)? {
@@ -106,8 +108,22 @@ impl<L: Link + Drop, F: Folder + Drop, S: Shelf + Drop> Both<L, F, S> {
 }
 
 impl<L: Link + Drop, F: Folder + Drop, S: Shelf + Drop> Outside for Both<L, F, S> {
+    ghost use Rattle.device.specs.Calls.{Nothing};
+    ghost use Rattle.mailcore.specs.Operations.{flags_added, flags_removed, marked_from};
+    ghost use Rattle.mailcore.specs.Sides.{target};
+    ghost use Rattle.sync_state.specs.declared.journal.Logged.TheVariants.{Void};
+    ghost use Rattle.book.specs.declared.book.Pending.TheVariants.{Missing, Useless};
+    ghost use Rattle.book.specs.Books.{mended, torn, Turns as TurnsJournal, TurnsHalf};
+    ghost use Rattle.book.specs.BookLogs.{begun, as_done, logged_more};
+    ghost use Rattle.book.specs.Commits.{CommitsHalf, CommitsTo};
+    ghost use Rattle.outside.specs.Arrivals.{Arrives};
+    ghost use Rattle.outside.specs.Devices.{box};
+    ghost use Rattle.outside.specs.Calls.{Call, FromBook, FromBox, FromShelf, LeavesBy};
+    ghost use Rattle.outside.specs.Opened.{IsBook, IsHeld, IsOpen, IsRead, AreCommitted, TakesCommit, TakesLog, TakesPlan, turned, with_box};
+    ghost use Rattle.outside.specs.BookCalls.{FromLog, LeavesUnread, ReadsBook};
+    ghost use Rattle.outside.specs.BoxCalls.{Admits, AdmitsPart, Carry, HasNumbers, ListsFar, ListsNear, SetsAside, Turns, copies_made, removed};
     ghost use Rattle.parts.specs.Devices.{every};
-    ghost use Rattle.both.specs.Boths.{honest_of, opened_of, seen_of};
+    ghost use Rattle.both.specs.Boths.{BookCall, BoxChange, BoxRead, ByBook, ByCopy, ByFar, ByNear, ByOpening, BySide, honest_of, opened_of, seen_of};
 
     ghost honest = { honest_of };
 
@@ -119,7 +135,12 @@ impl<L: Link + Drop, F: Folder + Drop, S: Shelf + Drop> Outside for Both<L, F, S
 
     ghost opened = { opened_of };
 
-    fn open_book(&mut self) -> Result<(), OutsideFault> {
+    fn open_book(&mut self) -> Result<(), OutsideFault>
+        ensures was_honest { honest_of self.new → honest_of self.old }
+        ensures book { OnOk result (IsBook (opened_of self.new)) }
+        ensures call { Call (honest_of self.new) (Arrives every true) (λ _. 0) FromShelf (λ _. ReadsBook (opened_of self.new)) LeavesUnread (seen_of self.old) (seen_of self.new) result }
+        ensures why { IsErrOf result OutsideFault.Stopped → ByBook self.old self.new }
+    {
         if self.tally.is_broken() {
             return Err(OutsideFault::Stopped);
         }
@@ -135,7 +156,13 @@ impl<L: Link + Drop, F: Folder + Drop, S: Shelf + Drop> Outside for Both<L, F, S
         self.book.pending()
     }
 
-    fn discard(&mut self) -> Result<(), OutsideFault> {
+    fn discard(&mut self) -> Result<(), OutsideFault>
+        requires read { IsRead (opened_of self.old) }
+        ensures was_honest { honest_of self.new → honest_of self.old }
+        ensures opened { OnOk result (opened_of self.new ≡ turned (λ _. Missing) (opened_of self.old)) }
+        ensures call { BookCall FromBook (λ p. TurnsJournal p Missing) (λ p. TurnsHalf p Missing) self.old self.new result }
+        ensures why { IsErrOf result OutsideFault.Stopped → ByBook self.old self.new }
+    {
         if self.tally.is_broken() {
             return Err(OutsideFault::Stopped);
         }
@@ -143,7 +170,13 @@ impl<L: Link + Drop, F: Folder + Drop, S: Shelf + Drop> Outside for Both<L, F, S
         self.tally.end(answer)
     }
 
-    fn mend(&mut self) -> Result<(), OutsideFault> {
+    fn mend(&mut self) -> Result<(), OutsideFault>
+        requires read { IsRead (opened_of self.old) }
+        ensures was_honest { honest_of self.new → honest_of self.old }
+        ensures opened { OnOk result (opened_of self.new ≡ turned mended (opened_of self.old)) }
+        ensures call { BookCall FromBook (λ p. TurnsJournal p (mended p)) (λ p. TurnsHalf p p) self.old self.new result }
+        ensures why { IsErrOf result OutsideFault.Stopped → ByBook self.old self.new }
+    {
         if self.tally.is_broken() {
             return Err(OutsideFault::Stopped);
         }
@@ -151,7 +184,13 @@ impl<L: Link + Drop, F: Folder + Drop, S: Shelf + Drop> Outside for Both<L, F, S
         self.tally.end(answer)
     }
 
-    fn begin(&mut self, plan: Plan) -> Result<(), OutsideFault> {
+    fn begin(&mut self, plan: Plan) -> Result<(), OutsideFault>
+        requires takes { TakesPlan (opened_of self.old) plan }
+        ensures was_honest { honest_of self.new → honest_of self.old }
+        ensures opened { OnOk result (opened_of self.new ≡ turned (λ _. begun plan) (opened_of self.old)) }
+        ensures call { BookCall FromBook (λ _. TurnsJournal Missing (begun plan)) (λ _. TurnsHalf Missing Useless) self.old self.new result }
+        ensures why { IsErrOf result OutsideFault.Stopped → ByBook self.old self.new }
+    {
         if self.tally.is_broken() {
             return Err(OutsideFault::Stopped);
         }
@@ -159,7 +198,13 @@ impl<L: Link + Drop, F: Folder + Drop, S: Shelf + Drop> Outside for Both<L, F, S
         self.tally.end(answer)
     }
 
-    fn done(&mut self, step: usize, copy: Option<Uid>) -> Result<(), OutsideFault> {
+    fn done(&mut self, step: usize, copy: Option<Uid>) -> Result<(), OutsideFault>
+        requires takes { TakesLog (opened_of self.old) step (as_done copy) }
+        ensures was_honest { honest_of self.new → honest_of self.old }
+        ensures opened { OnOk result (opened_of self.new ≡ turned (λ p. logged_more p (as_done copy)) (opened_of self.old)) }
+        ensures call { BookCall (FromLog (opened_of self.old) (as_done copy)) (λ p. TurnsJournal p (logged_more p (as_done copy))) (λ p. TurnsHalf p (torn p)) self.old self.new result }
+        ensures why { IsErrOf result OutsideFault.Stopped → ByBook self.old self.new }
+    {
         if self.tally.is_broken() {
             return Err(OutsideFault::Stopped);
         }
@@ -167,7 +212,13 @@ impl<L: Link + Drop, F: Folder + Drop, S: Shelf + Drop> Outside for Both<L, F, S
         self.tally.end(answer)
     }
 
-    fn void(&mut self, step: usize) -> Result<(), OutsideFault> {
+    fn void(&mut self, step: usize) -> Result<(), OutsideFault>
+        requires takes { TakesLog (opened_of self.old) step Void }
+        ensures was_honest { honest_of self.new → honest_of self.old }
+        ensures opened { OnOk result (opened_of self.new ≡ turned (λ p. logged_more p Void) (opened_of self.old)) }
+        ensures call { BookCall FromBook (λ p. TurnsJournal p (logged_more p Void)) (λ p. TurnsHalf p (torn p)) self.old self.new result }
+        ensures why { IsErrOf result OutsideFault.Stopped → ByBook self.old self.new }
+    {
         if self.tally.is_broken() {
             return Err(OutsideFault::Stopped);
         }
@@ -175,7 +226,14 @@ impl<L: Link + Drop, F: Folder + Drop, S: Shelf + Drop> Outside for Both<L, F, S
         self.tally.end(answer)
     }
 
-    fn commit(&mut self) -> Result<(), OutsideFault> {
+    fn commit(&mut self) -> Result<(), OutsideFault>
+        requires takes { TakesCommit (opened_of self.old) }
+        ensures was_honest { honest_of self.new → honest_of self.old }
+        ensures opened { OnOk result (AreCommitted (opened_of self.old) (opened_of self.new)) }
+        ensures held { result ≡ Ok tt → honest_of self.new → IsHeld (opened_of self.new) (seen_of self.new).device }
+        ensures call { BookCall FromBook CommitsTo CommitsHalf self.old self.new result }
+        ensures why { IsErrOf result OutsideFault.Stopped → ByBook self.old self.new }
+    {
         if self.tally.is_broken() {
             return Err(OutsideFault::Stopped);
         }
@@ -183,7 +241,12 @@ impl<L: Link + Drop, F: Folder + Drop, S: Shelf + Drop> Outside for Both<L, F, S
         self.tally.end(answer)
     }
 
-    fn open_box(&mut self, side: Side) -> Result<u32, OutsideFault> {
+    fn open_box(&mut self, side: Side) -> Result<u32, OutsideFault>
+        ensures was_honest { honest_of self.new → honest_of self.old }
+        ensures opened { OnOk result (opened_of self.new ≡ with_box side (opened_of self.old)) }
+        ensures call { BoxRead (λ validity d. validity ≡ (box d side).validity) self.old self.new result }
+        ensures why { IsErrOf result OutsideFault.Stopped → ByOpening side self.old self.new }
+    {
         if self.tally.is_broken() {
             return Err(OutsideFault::Stopped);
         }
@@ -199,7 +262,13 @@ impl<L: Link + Drop, F: Folder + Drop, S: Shelf + Drop> Outside for Both<L, F, S
         }
     }
 
-    fn admit(&mut self) -> Result<(), OutsideFault> {
+    fn admit(&mut self) -> Result<(), OutsideFault>
+        requires is_open { IsOpen Side.Near (opened_of self.old) }
+        ensures was_honest { honest_of self.new → honest_of self.old }
+        ensures opened { opened_of self.new ≡ opened_of self.old }
+        ensures call { BoxChange Admits AdmitsPart self.old self.new result }
+        ensures why { IsErrOf result OutsideFault.Stopped → ByNear self.old self.new }
+    {
         if self.tally.is_broken() {
             return Err(OutsideFault::Stopped);
         }
@@ -207,7 +276,14 @@ impl<L: Link + Drop, F: Folder + Drop, S: Shelf + Drop> Outside for Both<L, F, S
         self.tally.end(answer)
     }
 
-    fn list_far(&mut self) -> Result<Listing, OutsideFault> {
+    fn list_far(&mut self) -> Result<Listing, OutsideFault>
+        requires is_open { IsOpen Side.Far (opened_of self.old) }
+        ensures was_honest { honest_of self.new → honest_of self.old }
+        ensures opened { opened_of self.new ≡ opened_of self.old }
+        ensures numbers { IfOk result HasNumbers }
+        ensures call { BoxRead ListsFar self.old self.new result }
+        ensures why { IsErrOf result OutsideFault.Stopped → ByFar self.old self.new }
+    {
         if self.tally.is_broken() {
             return Err(OutsideFault::Stopped);
         }
@@ -215,7 +291,14 @@ impl<L: Link + Drop, F: Folder + Drop, S: Shelf + Drop> Outside for Both<L, F, S
         self.tally.end(answer)
     }
 
-    fn list_near(&mut self, from: u32) -> Result<Listing, OutsideFault> {
+    fn list_near(&mut self, from: u32) -> Result<Listing, OutsideFault>
+        requires is_open { IsOpen Side.Near (opened_of self.old) }
+        ensures was_honest { honest_of self.new → honest_of self.old }
+        ensures opened { opened_of self.new ≡ opened_of self.old }
+        ensures numbers { IfOk result HasNumbers }
+        ensures call { BoxRead (ListsNear from) self.old self.new result }
+        ensures why { IsErrOf result OutsideFault.Stopped → ByNear self.old self.new }
+    {
         if self.tally.is_broken() {
             return Err(OutsideFault::Stopped);
         }
@@ -228,7 +311,13 @@ impl<L: Link + Drop, F: Folder + Drop, S: Shelf + Drop> Outside for Both<L, F, S
         side: Side,
         mark: Tuid,
         from: u32,
-    ) -> Result<Option<Uid>, OutsideFault> {
+    ) -> Result<Option<Uid>, OutsideFault>
+        requires is_open { IsOpen side (opened_of self.old) }
+        ensures was_honest { honest_of self.new → honest_of self.old }
+        ensures opened { opened_of self.new ≡ opened_of self.old }
+        ensures call { BoxRead (λ found d. found ≡ marked_from mark from (box d side)) self.old self.new result }
+        ensures why { IsErrOf result OutsideFault.Stopped → BySide side self.old self.new }
+    {
         if self.tally.is_broken() {
             return Err(OutsideFault::Stopped);
         }
@@ -250,7 +339,14 @@ impl<L: Link + Drop, F: Folder + Drop, S: Shelf + Drop> Outside for Both<L, F, S
         uid: Uid,
         mark: Tuid,
         flags: Flags,
-    ) -> Result<Carried, OutsideFault> {
+    ) -> Result<Carried, OutsideFault>
+        requires far_open { IsOpen Side.Far (opened_of self.old) }
+        requires near_open { IsOpen Side.Near (opened_of self.old) }
+        ensures was_honest { honest_of self.new → honest_of self.old }
+        ensures opened { opened_of self.new ≡ opened_of self.old }
+        ensures call { Call (honest_of self.new) (Arrives every true) copies_made FromBox (Carry direction uid flags mark) (LeavesBy (Carry direction uid flags mark) (SetsAside (target direction))) (seen_of self.old) (seen_of self.new) result }
+        ensures why { IsErrOf result OutsideFault.Stopped → ByCopy self.old self.new }
+    {
         if self.tally.is_broken() {
             return Err(OutsideFault::Stopped);
         }
@@ -266,7 +362,13 @@ impl<L: Link + Drop, F: Folder + Drop, S: Shelf + Drop> Outside for Both<L, F, S
         }
     }
 
-    fn add_flags(&mut self, side: Side, uid: Uid, flags: Flags) -> Result<(), OutsideFault> {
+    fn add_flags(&mut self, side: Side, uid: Uid, flags: Flags) -> Result<(), OutsideFault>
+        requires is_open { IsOpen side (opened_of self.old) }
+        ensures was_honest { honest_of self.new → honest_of self.old }
+        ensures opened { opened_of self.new ≡ opened_of self.old }
+        ensures call { BoxChange (Turns side (flags_added uid flags)) Nothing self.old self.new result }
+        ensures why { IsErrOf result OutsideFault.Stopped → BySide side self.old self.new }
+    {
         if self.tally.is_broken() {
             return Err(OutsideFault::Stopped);
         }
@@ -282,7 +384,13 @@ impl<L: Link + Drop, F: Folder + Drop, S: Shelf + Drop> Outside for Both<L, F, S
         }
     }
 
-    fn remove_flags(&mut self, side: Side, uid: Uid, flags: Flags) -> Result<(), OutsideFault> {
+    fn remove_flags(&mut self, side: Side, uid: Uid, flags: Flags) -> Result<(), OutsideFault>
+        requires is_open { IsOpen side (opened_of self.old) }
+        ensures was_honest { honest_of self.new → honest_of self.old }
+        ensures opened { opened_of self.new ≡ opened_of self.old }
+        ensures call { BoxChange (Turns side (flags_removed uid flags)) Nothing self.old self.new result }
+        ensures why { IsErrOf result OutsideFault.Stopped → BySide side self.old self.new }
+    {
         if self.tally.is_broken() {
             return Err(OutsideFault::Stopped);
         }
@@ -298,7 +406,13 @@ impl<L: Link + Drop, F: Folder + Drop, S: Shelf + Drop> Outside for Both<L, F, S
         }
     }
 
-    fn expunge(&mut self, side: Side, uid: Uid) -> Result<(), OutsideFault> {
+    fn expunge(&mut self, side: Side, uid: Uid) -> Result<(), OutsideFault>
+        requires is_open { IsOpen side (opened_of self.old) }
+        ensures was_honest { honest_of self.new → honest_of self.old }
+        ensures opened { opened_of self.new ≡ opened_of self.old }
+        ensures call { BoxChange (Turns side (removed side uid)) Nothing self.old self.new result }
+        ensures why { IsErrOf result OutsideFault.Stopped → BySide side self.old self.new }
+    {
         if self.tally.is_broken() {
             return Err(OutsideFault::Stopped);
         }

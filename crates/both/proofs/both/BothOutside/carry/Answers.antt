@@ -1,4 +1,4 @@
-use Rattle.std.proofs.Common.{◌∙◌, ap, sym, refl, inl, Bool, Option}
+use Rattle.std.proofs.Common.{inr, ◌∙◌, ap, sym, refl, inl, Bool, Option}
 use Rattle.mailcore.specs.Stores.{Store}
 use Rattle.near_box.specs.Mailboxes.{Near}
 use Rattle.book.specs.Shelves.{Files}
@@ -13,6 +13,7 @@ use Rattle.outside.specs.Calls.{FromBox, LeavesBy}
 use Rattle.parts.proofs.PartCalls.{lacks_changes, part_call, stuck}
 use Rattle.both.specs.Boths.{device_of}
 use Rattle.both.proofs.BoxCalls.{far_open, near_open}
+use Rattle.both.proofs.Whys.{told_before}
 use Rattle.both.proofs.both.BothOutside.carry.Goals as goal
 
 pub returns-then-is_broken-clause-call : goal.returns-then-is_broken-clause-call
@@ -53,3 +54,13 @@ returns-in-Push-clause-call g c =
     let b' = c.push-answer.new.self in
     rw (c.in-Push.is, ← c.push-answer.ensures.tally) (part_call _ copies_made FromBox (Carry direction.Push c.args.uid c.args.flags c.args.mark) (LeavesBy (Carry direction.Push c.args.uid c.args.flags c.args.mark) (SetsAside side.Far)) (device_of b) (device_of b') b'.tally c.end_carry-in-Push.new.self c.push-answer.result c.end_carry-in-Push.result
     (lacks_changes (Carry direction.Push c.args.uid c.args.flags c.args.mark) (SetsAside side.Far)) (ap (λ t. t.is_broken) c.push-answer.ensures.tally ∙ sym c.is_broken.ensures ∙ c.if-is_broken.false) c.end_carry-in-Push.ensures tt c.push-answer.ensures.told c.push-answer.ensures.part)
+
+pub returns-in-Pull-clause-why : goal.returns-in-Pull-clause-why
+returns-in-Pull-clause-why g c =
+    let b' = c.pull-answer.new.self in
+    λ stopped. inr (c.pull-answer.ensures.why (told_before copies_made c.pull-answer.result c.end_carry.result b'.tally c.end_carry.new.self c.end_carry.ensures stopped))
+
+pub returns-in-Push-clause-why : goal.returns-in-Push-clause-why
+returns-in-Push-clause-why g c =
+    let b' = c.push-answer.new.self in
+    λ stopped. inr (c.push-answer.ensures.why (told_before copies_made c.push-answer.result c.end_carry-in-Push.result b'.tally c.end_carry-in-Push.new.self c.end_carry-in-Push.ensures stopped))

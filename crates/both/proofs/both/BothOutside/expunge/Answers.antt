@@ -1,4 +1,4 @@
-use Rattle.std.proofs.Common.{◌≡◌, ◌∙◌, ap, sym, refl, inl, Bool, true, Option}
+use Rattle.std.proofs.Common.{inr, ◌≡◌, ◌∙◌, ap, sym, refl, inl, Bool, true, Option}
 use Rattle.mailcore.specs.Stores.{Store}
 use Rattle.near_box.specs.Mailboxes.{Near}
 use Rattle.book.specs.Shelves.{Files}
@@ -15,6 +15,8 @@ use Rattle.mailcore.specs.declared.side.Side.TheVariants as side
 use Rattle.parts.proofs.PartCalls.{stuck}
 use Rattle.both.specs.Parts.{opened_with}
 use Rattle.both.proofs.BoxCalls.{changes_call, device_with, far_open, near_open, near_removed}
+use Rattle.far_part.specs.FarStops.{FarCause}
+use Rattle.both.proofs.Whys.{why_stopped}
 use Rattle.both.proofs.both.BothOutside.expunge.Goals as goal
 
 pub returns-then-is_broken-clause-call : goal.returns-then-is_broken-clause-call
@@ -91,3 +93,10 @@ returns-in-Near-clause-opened g c =
     let f : Bool = fars.is_open b.far in
     let n : Bool = nears.is_open b.near in
     ap (λ (x : Bool). opened_with f x k) (c.expunge-answer-in-Near.ensures.open ∙ sym (near_open f n k (rw c.in-Near.is at c.requires.is_open)))
+
+pub returns-in-Far-clause-why : goal.returns-in-Far-clause-why
+returns-in-Far-clause-why g c =
+    let b = c.args.self.now in
+    let part = c.expunge-answer.new.self in
+    rw c.in-Far.is
+    (λ stopped. inr (why_stopped _ (FarCause (fars.state_of b.far) (fars.state_of part)) (fars.standing_of b.far) (fars.standing_of part) c.expunge-answer.result c.end.result b.tally c.end.new.self c.expunge-answer.ensures.stops c.end.ensures stopped))

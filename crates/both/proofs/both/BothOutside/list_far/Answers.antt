@@ -1,4 +1,4 @@
-use Rattle.std.proofs.Common.{◌∙◌, ap, sym, refl, Bool, Option}
+use Rattle.std.proofs.Common.{inr, ◌∙◌, ap, sym, refl, Bool, Option}
 use Rattle.mailcore.specs.Stores.{Store}
 use Rattle.near_box.specs.Mailboxes.{Near}
 use Rattle.book.specs.Shelves.{Files}
@@ -13,6 +13,8 @@ use Rattle.parts.proofs.PartCalls.{stuck}
 use Rattle.both.specs.Parts.{opened_with}
 use Rattle.both.proofs.BoxCalls.{device_with, far_open, reads_call}
 use Rattle.both.proofs.Ended.{if_ok}
+use Rattle.far_part.specs.FarStops.{FarCause}
+use Rattle.both.proofs.Whys.{why_stopped}
 use Rattle.both.proofs.both.BothOutside.list_far.Goals as goal
 
 pub returns-then-is_broken-clause-call : goal.returns-then-is_broken-clause-call
@@ -55,3 +57,9 @@ returns-clause-opened g c =
 
 pub returns-clause-numbers : goal.returns-clause-numbers
 returns-clause-numbers g c = if_ok _ c.list-answer.result c.end.result c.args.self.now.tally c.end.new.self HasNumbers c.end.ensures c.list-answer.ensures.numbers
+
+pub returns-clause-why : goal.returns-clause-why
+returns-clause-why g c =
+    let b = c.args.self.now in
+    let part = c.list-answer.new.self in
+    λ stopped. inr (why_stopped _ (FarCause (fars.state_of b.far) (fars.state_of part)) (fars.standing_of b.far) (fars.standing_of part) c.list-answer.result c.end.result b.tally c.end.new.self c.list-answer.ensures.stops c.end.ensures stopped)

@@ -1,4 +1,4 @@
-use Rattle.std.proofs.Common.{◌≡◌, ◌∙◌, ap, sym, refl, Bool, true, Option}
+use Rattle.std.proofs.Common.{inr, ◌≡◌, ◌∙◌, ap, sym, refl, Bool, true, Option}
 use Rattle.mailcore.specs.Stores.{Store}
 use Rattle.near_box.specs.Mailboxes.{Near}
 use Rattle.book.specs.Shelves.{Files}
@@ -11,6 +11,8 @@ use Rattle.mailcore.specs.declared.side.Side.TheVariants as side
 use Rattle.parts.proofs.PartCalls.{stuck}
 use Rattle.both.proofs.BoxCalls.{device_with, far_opened, near_opened, reads_call}
 use Rattle.both.proofs.Ended.{on_ok}
+use Rattle.far_part.specs.FarStops.{FarCause}
+use Rattle.both.proofs.Whys.{why_stopped}
 use Rattle.both.proofs.both.BothOutside.open_box.Goals as goal
 
 pub returns-then-is_broken-clause-call : goal.returns-then-is_broken-clause-call
@@ -67,3 +69,10 @@ returns-in-Near-clause-opened g c =
     let n : Bool = nears.is_open b.near in
     let part = c.open-answer-in-Near.new.self in
     rw c.in-Near.is (on_ok _ c.open-answer-in-Near.result c.end-in-Near.result b.tally c.end-in-Near.new.self _ _ (near_opened f n (nears.is_open part) k) c.end-in-Near.ensures c.open-answer-in-Near.ensures.open)
+
+pub returns-in-Far-clause-why : goal.returns-in-Far-clause-why
+returns-in-Far-clause-why g c =
+    let b = c.args.self.now in
+    let part = c.open-answer.new.self in
+    rw c.in-Far.is
+    (λ stopped. inr (why_stopped _ (FarCause (fars.state_of b.far) (fars.state_of part)) (fars.standing_of b.far) (fars.standing_of part) c.open-answer.result c.end.result b.tally c.end.new.self c.open-answer.ensures.stops c.end.ensures stopped))
