@@ -1,0 +1,4 @@
+pub mod Verdicts
+pub mod Streams
+pub mod Refusals
+pub mod Openings

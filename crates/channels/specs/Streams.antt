@@ -1,0 +1,19 @@
+-- What is written where, of streams whose bytes are known.
+use Rattle.std.specs.Prelude.{◌≡◌, ℕ, ⊤, List, length, take, Option, None, Some}
+use Rattle.std.specs.Io.KnownBytes.{Keeps}
+use Rattle.channels.specs.declared.verdict.Verdict.{Verdict}
+use Rattle.channels.specs.declared.verdict.Verdict.TheVariants.{Clean, Faulty, Over}
+
+-- all that was to be written stands behind what was there: so it is only where no write failed
+abbrev pub Extends : Option (List ℕ) → Option (List ℕ) → Type 0
+Extends None new = ⊤
+Extends (Some xs) None = ⊥
+Extends (Some xs) (Some ys) = take (length xs) ys ≡ xs
+
+-- a fault was told
+abbrev pub IsTold : Verdict → Type 0
+IsTold verdict = verdict ≡ Clean → ⊥
+
+-- nothing was written to standard error, unless a fault was told
+abbrev pub IsQuiet : (old new : Option (List ℕ)) → Verdict → Type 0
+IsQuiet old new verdict = verdict ≡ Clean → Keeps old new

@@ -1,0 +1,70 @@
+//! What a command line comes to: channels in an order, or why nothing is done.
+
+ghost use Rattle.std.specs.Prelude.{◌≡◌, IfErr, IsErr};
+ghost use Rattle.channels.specs.Refusals.{IsRefused, status_of};
+
+use choosing::chosen::{chosen_places, unknown_name};
+use config::config::Config;
+use request::cells::{CellsFault, cells};
+use request::request::Request;
+use rules::options::Cells;
+use std::alloc::{AllocError, Global};
+use thiserror::Error;
+
+/// The channels that a command line names, and what it says of their runs.
+#[derive(Drop)]
+pub(crate) struct Course {
+    /// The places of the channels in the configuration, in the order in which they run.
+    pub(crate) places: Vec<usize>,
+    /// The cells that stand in place of every channel's.
+    pub(crate) cells: Option<Cells>,
+}
+
+/// Why nothing of a command line is done, as it is told.
+#[derive(Clone, Copy, Debug, PartialEq, Eq, Error)]
+pub(crate) enum Refusal<'a> {
+    /// This name is neither a channel nor a group.
+    #[error("unknown {0}")]
+    Unknown(&'a str),
+    /// The words of Sync are refused.
+    #[error("sync words")]
+    SyncWords,
+    /// A growth was refused.
+    #[error("no memory")]
+    NoMemory,
+}
+
+impl Refusal<'_> {
+    /// The exit status.
+    pub(crate) fn status(self) -> u8
+        ensures { result ≡ status_of self.entry }
+    {
+        match self {
+            Refusal::Unknown(_) | Refusal::SyncWords => 2,
+            Refusal::NoMemory => 1,
+        }
+    }
+}
+
+/// What a command line comes to. Words of Sync that are refused are told first, and then the first name that is unknown.
+pub(crate) fn course_of<'a>(
+    alloc: Global,
+    config: &Config,
+    request: &'a Request,
+) -> Result<Course, Refusal<'a>>
+    ensures refused { IsRefused config.now request.now → IsErr result }
+    ensures usage { IfErr result (λ refusal. status_of refusal ≡ 2 → IsRefused config.now request.now) }
+{
+    let cells = match cells(alloc, &request.sync_words) {
+        Ok(cells) => cells,
+        Err(CellsFault::Refused(_)) => return Err(Refusal::SyncWords),
+        Err(CellsFault::NoMemory) => return Err(Refusal::NoMemory),
+    };
+    if let Some(name) = unknown_name(config, &request.chosen) {
+        return Err(Refusal::Unknown(name));
+    }
+    match chosen_places(alloc, config, &request.chosen) {
+        Ok(places) => Ok(Course { places, cells }),
+        Err(AllocError) => Err(Refusal::NoMemory),
+    }
+}

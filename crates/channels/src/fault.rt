@@ -1,0 +1,31 @@
+//! Why a mailbox was not synchronised.
+
+use mailcore::side::Side;
+use rules::plan::Step;
+use runner::fault::RunFault;
+use stores::fault::StoreFault;
+
+/// Why a mailbox was not synchronised.
+#[derive(Debug, Drop)]
+pub(crate) enum BoxFault {
+    /// It is absent on this side, and the channel's Create does not cover the side.
+    Absent(Side),
+    /// A store does not open.
+    CannotOpen(String),
+    /// Another process holds its lock.
+    Locked,
+    /// The server said no to a step: its number, counted from 1, and the step, if it could be read again.
+    Refused(usize, Option<Step>),
+    /// Another fault of the run, or of a call before it.
+    Run(RunFault),
+}
+
+impl From<StoreFault> for BoxFault {
+    fn from(fault: StoreFault) -> BoxFault {
+        match fault {
+            StoreFault::CannotOpen(name) => BoxFault::CannotOpen(name),
+            StoreFault::Locked => BoxFault::Locked,
+            StoreFault::Box(fault) => BoxFault::Run(fault),
+        }
+    }
+}

@@ -1,0 +1,51 @@
+//! Which mailboxes a channel has, and on which sides they are there.
+
+ghost use Rattle.std.specs.Prelude.{◌≡◌};
+
+use choosing::boxes::{boxes_among, stands_in};
+use config::patterns::Patterns;
+use mailcore::mailbox_name::MailboxName;
+use rules::options::Sides;
+use std::alloc::{AllocError, Global};
+use stores::channel_box::ChannelStores;
+use stores::fault::ListFault;
+use stores::stores::BoxLists;
+
+/// The mailboxes of both stores of a channel.
+#[derive(Drop)]
+pub(crate) struct Found {
+    far: Vec<MailboxName>,
+    near: Vec<MailboxName>,
+}
+
+impl Found {
+    /// Lists the mailboxes of both stores, the far one first.
+    pub(crate) fn of<S: BoxLists>(
+        of: ChannelStores<'_>,
+        stores: &mut S,
+    ) -> Result<Self, ListFault> {
+        let far = stores.far_boxes(of.far_store)?;
+        let near = stores.near_boxes(of.near_store)?;
+        Ok(Found { far, near })
+    }
+
+    /// The mailboxes of either store that the patterns choose, in the order of their bytes.
+    pub(crate) fn matching(
+        &self,
+        alloc: Global,
+        patterns: &Patterns,
+    ) -> Result<Vec<MailboxName>, ListFault> {
+        match boxes_among(alloc, patterns, &self.far, &self.near) {
+            Ok(boxes) => Ok(boxes),
+            Err(AllocError) => Err(ListFault::NoMemory),
+        }
+    }
+
+    /// The sides on which a mailbox is absent.
+    pub(crate) fn absent(&self, far: &MailboxName, near: &MailboxName) -> Sides {
+        Sides {
+            far: !stands_in(&self.far, far),
+            near: !stands_in(&self.near, near),
+        }
+    }
+}

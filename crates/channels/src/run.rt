@@ -1,0 +1,116 @@
+//! What a command line asks for, over any stores.
+
+ghost use Rattle.std.specs.Prelude.{◌≡◌, ◌≤◌, ◌<◌, IsSome, IfOk, OnOk};
+ghost use Rattle.std.specs.Io.KnownBytes.{Keeps};
+ghost use Rattle.choosing.specs.Chosen.{unknown_among};
+ghost use Rattle.channels.specs.Refusals.{IsRefused};
+ghost use Rattle.channels.specs.Streams.{Extends, IsQuiet};
+
+use crate::course::{Course, course_of};
+use crate::listing::list_channel;
+use crate::settling::{ChannelWork, settle_channel};
+use crate::telling::tell_no_channel;
+use crate::verdict::Verdict;
+use choosing::scope::options_of;
+use config::config::Config;
+use rand_core::Rng;
+use request::request::Request;
+use rules::options::Cells;
+use std::alloc::Global;
+use std::io;
+use std::io::Write;
+use stores::channel_box::ChannelStores;
+use stores::stores::Stores;
+
+/// A command line and its configuration.
+#[derive(Clone, Copy)]
+struct LineWork<'a> {
+    alloc: Global,
+    config: &'a Config,
+    request: &'a Request,
+}
+
+/// Does what a command line asks for: lists the mailboxes of the channels that it names, or synchronises them one after another, and
+/// prints to `out` what it does (docs/FORMATS.md, "Performed lines"). Faults are told on `err`, and the next mailbox follows. It gives
+/// the exit status: 0 where no fault was told, else 1. After a failed write nothing more is done, and the status is 1.
+///
+/// Status 2: a name is neither a channel nor a group, or the words of Sync are refused; then no store was opened.
+pub fn run_config<S: Stores, R: Rng, O: Write, E: Write>(
+    alloc: Global,
+    config: &Config,
+    request: &Request,
+    stores: &mut S,
+    rng: &mut R,
+    out: &mut O,
+    err: &mut E,
+) -> u8
+    ensures status { result ≤ 2 }
+    ensures clean { result ≡ 0 → Keeps (E.contents err.old) (E.contents err.new) }
+    ensures whole { result ≡ 0 → Extends (O.contents out.old) (O.contents out.new) }
+    ensures usage { result ≡ 2 → IsRefused config.now request.now }
+    ensures refused { IsRefused config.now request.now → (0 < result) × (stores.new ≡ stores.old) × (rng.new ≡ rng.old) × (out.new ≡ out.old) }
+{
+    let work = LineWork {
+        alloc,
+        config,
+        request,
+    };
+    match course_of(alloc, config, request) {
+        Ok(course) => match run_course(work, &course, stores, rng, out, err) {
+            Ok(verdict) => verdict.status(),
+            Err(_) => 1,
+        },
+        Err(refusal) => match writeln!(err, "mbsync: {refusal}") {
+            Ok(()) => refusal.status(),
+            Err(_) => 1,
+        },
+    }
+}
+
+/// Lists or synchronises the mailboxes of these channels, one channel after another.
+#[tactic(auto, using(crate::proofs::StreamLemmas::stream_steps))]
+fn run_course<S: Stores, R: Rng, O: Write, E: Write>(
+    work: LineWork<'_>,
+    course: &Course,
+    stores: &mut S,
+    rng: &mut R,
+    out: &mut O,
+    err: &mut E,
+) -> io::Result<Verdict>
+    ensures quiet { IfOk result (IsQuiet (E.contents err.old) (E.contents err.new)) }
+    ensures whole { OnOk result (Extends (O.contents out.old) (O.contents out.new)) }
+{
+    let mut verdict = Verdict::Clean;
+    for place in &course.places {
+        verdict = verdict.and(run_place(work, course.cells, *place, stores, rng, out, err)?);
+    }
+    Ok(verdict)
+}
+
+/// Lists or synchronises the mailboxes of the channel of this place.
+fn run_place<S: Stores, R: Rng, O: Write, E: Write>(
+    work: LineWork<'_>,
+    cells: Option<Cells>,
+    place: usize,
+    stores: &mut S,
+    rng: &mut R,
+    out: &mut O,
+    err: &mut E,
+) -> io::Result<Verdict>
+    ensures quiet { IfOk result (IsQuiet (E.contents err.old) (E.contents err.new)) }
+    ensures whole { OnOk result (Extends (O.contents out.old) (O.contents out.new)) }
+{
+    let Some(of) = ChannelStores::at(work.config, place) else {
+        return tell_no_channel(err);
+    };
+    if work.request.lists {
+        return list_channel(work.alloc, of, stores, out, err);
+    }
+    let options = options_of(of.channel, cells, work.request.expunges);
+    let channel_work = ChannelWork {
+        alloc: work.alloc,
+        of,
+        options: &options,
+    };
+    settle_channel(channel_work, stores, rng, out, err)
+}

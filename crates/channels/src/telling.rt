@@ -1,0 +1,119 @@
+//! What is printed of a channel's mailboxes, and what is told of faults (docs/FORMATS.md, "Performed lines").
+
+ghost use Rattle.std.specs.Prelude.{◌≡◌, IfOk, OnOk};
+ghost use Rattle.channels.specs.Streams.{Extends, IsTold};
+
+use crate::fault::BoxFault;
+use crate::verdict::Verdict;
+use config::config::Channel;
+use mailcore::mailbox_name::MailboxName;
+use mailcore::side::Side;
+use reports::fault_text::FaultText;
+use runner::fault::RunFault;
+use std::io::Write;
+use std::{fmt, io};
+use stores::channel_box::ChannelBox;
+use stores::fault::ListFault;
+use worlds::plan_lines::{StepLine, side_word};
+
+/// Prints which mailbox is listed, or synchronised from now on.
+pub(crate) fn print_box<O: Write>(
+    out: &mut O,
+    channel: &Channel,
+    far: &MailboxName,
+) -> io::Result<()>
+    ensures { OnOk result (Extends (O.contents out.old) (O.contents out.new)) }
+{
+    writeln!(out, "{}:{}", channel.name.as_str(), far.as_str())?;
+    out.flush()
+}
+
+/// Prints the lines of an answer.
+pub(crate) fn print_text<O: Write>(out: &mut O, text: &str) -> io::Result<()>
+    ensures { OnOk result (Extends (O.contents out.old) (O.contents out.new)) }
+{
+    out.write_all(text.as_bytes())?;
+    out.flush()
+}
+
+/// Tells why the mailboxes of a channel are not listed.
+pub(crate) fn tell_list<E: Write>(err: &mut E, fault: &ListFault) -> io::Result<Verdict>
+    ensures { IfOk result IsTold }
+{
+    writeln!(err, "mbsync: {fault}")?;
+    Ok(Verdict::Over)
+}
+
+/// Tells that a channel or a store of it is not in the configuration. This does not come where the configuration was read from a file.
+pub(crate) fn tell_no_channel<E: Write>(err: &mut E) -> io::Result<Verdict>
+    ensures { IfOk result IsTold }
+{
+    writeln!(err, "mbsync: config")?;
+    Ok(Verdict::Over)
+}
+
+/// Tells why a mailbox was not synchronised, and on a second line what can be done, where that is known.
+pub(crate) fn tell<E: Write>(
+    err: &mut E,
+    place: ChannelBox<'_>,
+    fault: &BoxFault,
+) -> io::Result<Verdict>
+    ensures { IfOk result IsTold }
+{
+    if let BoxFault::CannotOpen(name) = fault {
+        writeln!(err, "mbsync: cannot open {name}")?;
+        return Ok(Verdict::Over);
+    }
+    let (channel, far) = (place.of.channel.name.as_str(), place.far.as_str());
+    writeln!(err, "mbsync: {channel}:{far}: {}", BoxFaultText(fault))?;
+    advise(err, fault)?;
+    Ok(Verdict::Faulty)
+}
+
+/// Why a mailbox was not synchronised, as a text without an end of line.
+#[derive(Drop)]
+struct BoxFaultText<'a>(&'a BoxFault);
+
+impl fmt::Display for BoxFaultText<'_> {
+    fn fmt<W: fmt::Write>(&self, f: &mut fmt::Formatter<W>) -> fmt::Result {
+        match self.0 {
+            BoxFault::Absent(side) => write!(f, "absent {}", side_word(*side)),
+            BoxFault::CannotOpen(name) => write!(f, "cannot open {name}"),
+            BoxFault::Locked => f.write_str("locked"),
+            BoxFault::Refused(number, _) => write!(f, "refused step {number}"),
+            BoxFault::Run(fault) => write!(f, "{}", FaultText(*fault)),
+        }
+    }
+}
+
+/// Tells what can be done, where that is known, on a line that begins with two spaces.
+fn advise<E: Write>(err: &mut E, fault: &BoxFault) -> io::Result<()> {
+    match fault {
+        BoxFault::Absent(Side::Far) => writeln!(
+            err,
+            "  Create Far or Create Both in this channel would make it"
+        ),
+        BoxFault::Absent(Side::Near) => writeln!(
+            err,
+            "  Create Near or Create Both in this channel would make it"
+        ),
+        BoxFault::Locked => writeln!(
+            err,
+            "  another process synchronises this box: run again when it has ended"
+        ),
+        BoxFault::Refused(number, Some(step)) => {
+            writeln!(
+                err,
+                "  step {number} is {}: the server does not take it",
+                StepLine(step)
+            )
+        }
+        BoxFault::Run(RunFault::BadState(_)) => {
+            writeln!(
+                err,
+                "  .mbsyncstate is no state of this program: without it the box starts over, and each message is new on both sides"
+            )
+        }
+        _ => Ok(()),
+    }
+}

@@ -1,0 +1,37 @@
+//! Whether faults were told.
+
+ghost use Rattle.std.specs.Prelude.{◌≡◌};
+ghost use Rattle.channels.specs.Verdicts.{both, status_of};
+
+/// What was told of what was asked for.
+#[derive(Clone, Copy, Debug, PartialEq, Eq)]
+pub(crate) enum Verdict {
+    /// No fault.
+    Clean,
+    /// A fault.
+    Faulty,
+    /// That a store does not open: no other mailbox of the channel is tried.
+    Over,
+}
+
+impl Verdict {
+    /// What was told of both, of which the other came later.
+    pub(crate) fn and(self, later: Verdict) -> Verdict
+        ensures { result ≡ both self later }
+    {
+        match (self, later) {
+            (verdict, Verdict::Clean) => verdict,
+            (_, verdict) => verdict,
+        }
+    }
+
+    /// The exit status.
+    pub(crate) fn status(self) -> u8
+        ensures { result ≡ status_of self }
+    {
+        match self {
+            Verdict::Clean => 0,
+            Verdict::Faulty | Verdict::Over => 1,
+        }
+    }
+}
