@@ -2,3 +2,5 @@ pub mod Verdicts
 pub mod Streams
 pub mod Refusals
 pub mod Openings
+pub mod Lines
+pub mod Founds

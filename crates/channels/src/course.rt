@@ -1,7 +1,9 @@
 //! What a command line comes to: channels in an order, or why nothing is done.
 
-ghost use Rattle.std.specs.Prelude.{◌≡◌, IfErr, IsErr};
-ghost use Rattle.channels.specs.Refusals.{IsRefused, status_of};
+ghost use Rattle.std.specs.Prelude.{◌≡◌, IfErr, IfOk, IfSome, IsErr, Ok};
+ghost use Rattle.choosing.specs.Chosen.{chosen_among, unknown_among};
+ghost use Rattle.request.specs.Cells.{line_cells};
+ghost use Rattle.channels.specs.Refusals.{IsRefused, IsUnknown, status_of};
 
 use choosing::chosen::{chosen_places, unknown_name};
 use config::config::Config;
@@ -46,23 +48,26 @@ impl Refusal<'_> {
     }
 }
 
-/// What a command line comes to. Words of Sync that are refused are told first, and then the first name that is unknown.
+/// What a command line comes to. The first name that is unknown is told before words of Sync that are refused.
 pub(crate) fn course_of<'a>(
     alloc: Global,
     config: &Config,
     request: &'a Request,
 ) -> Result<Course, Refusal<'a>>
+    ensures places { IfOk result (λ course. course.places.items ≡ chosen_among config.now request.now.chosen) }
+    ensures cells { IfOk result (λ course. line_cells request.now.sync_words.items ≡ Ok course.cells) }
+    ensures unknown { IfSome (unknown_among config.now request.now.chosen) (IsUnknown result) }
     ensures refused { IsRefused config.now request.now → IsErr result }
     ensures usage { IfErr result (λ refusal. status_of refusal ≡ 2 → IsRefused config.now request.now) }
 {
+    if let Some(name) = unknown_name(config, &request.chosen) {
+        return Err(Refusal::Unknown(name));
+    }
     let cells = match cells(alloc, &request.sync_words) {
         Ok(cells) => cells,
         Err(CellsFault::Refused(_)) => return Err(Refusal::SyncWords),
         Err(CellsFault::NoMemory) => return Err(Refusal::NoMemory),
     };
-    if let Some(name) = unknown_name(config, &request.chosen) {
-        return Err(Refusal::Unknown(name));
-    }
     match chosen_places(alloc, config, &request.chosen) {
         Ok(places) => Ok(Course { places, cells }),
         Err(AllocError) => Err(Refusal::NoMemory),

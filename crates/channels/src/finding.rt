@@ -1,6 +1,8 @@
 //! Which mailboxes a channel has, and on which sides they are there.
 
-ghost use Rattle.std.specs.Prelude.{◌≡◌};
+ghost use Rattle.std.specs.Prelude.{◌≡◌, ℕ, Bool, List, IfOk};
+ghost use Rattle.channels.specs.Founds.{absent_in};
+ghost use Rattle.choosing.specs.Boxes.{Tells, boxes_among};
 
 use choosing::boxes::{boxes_among, stands_in};
 use config::patterns::Patterns;
@@ -34,7 +36,9 @@ impl Found {
         &self,
         alloc: Global,
         patterns: &Patterns,
-    ) -> Result<Vec<MailboxName>, ListFault> {
+    ) -> Result<Vec<MailboxName>, ListFault>
+        ensures { IfOk result (λ boxes. (is_chosen : List ℕ → Bool) → Tells is_chosen patterns.now → boxes.items ≡ boxes_among is_chosen self.now.far.items self.now.near.items) }
+    {
         match boxes_among(alloc, patterns, &self.far, &self.near) {
             Ok(boxes) => Ok(boxes),
             Err(AllocError) => Err(ListFault::NoMemory),
@@ -42,7 +46,9 @@ impl Found {
     }
 
     /// The sides on which a mailbox is absent.
-    pub(crate) fn absent(&self, far: &MailboxName, near: &MailboxName) -> Sides {
+    pub(crate) fn absent(&self, far: &MailboxName, near: &MailboxName) -> Sides
+        ensures { result ≡ absent_in self.now.far.items self.now.near.items far.now near.now }
+    {
         Sides {
             far: !stands_in(&self.far, far),
             near: !stands_in(&self.near, near),

@@ -1,6 +1,10 @@
 //! The mailboxes of channels as `-l` prints them.
 
-ghost use Rattle.std.specs.Prelude.{◌≡◌, IfOk, OnOk};
+ghost use Rattle.std.specs.Prelude.{◌≡◌, IfOk, OnOk, string_bytes};
+ghost use Rattle.std.specs.Io.KnownBytes.{Appends};
+ghost use Rattle.std.specs.List.{flat_map};
+ghost use Rattle.channels.specs.Founds.{IsPair};
+ghost use Rattle.channels.specs.Lines.{box_line};
 ghost use Rattle.channels.specs.Streams.{Extends, IsQuiet};
 
 use crate::finding::Found;
@@ -25,6 +29,7 @@ pub(crate) fn list_channel<S: BoxLists, O: Write, E: Write>(
     out: &mut O,
     err: &mut E,
 ) -> io::Result<Verdict>
+    ensures unopened { IsPair of.entry.channel.now.boxes → stores.new ≡ stores.old }
     ensures quiet { IfOk result (IsQuiet (E.contents err.old) (E.contents err.new)) }
     ensures whole { OnOk result (Extends (O.contents out.old) (O.contents out.new)) }
 {

@@ -1,6 +1,7 @@
 //! The mailboxes of channels as they are synchronised.
 
-ghost use Rattle.std.specs.Prelude.{◌≡◌, IfOk, OnOk};
+ghost use Rattle.std.specs.Prelude.{◌≡◌, Err, IfOk, IfSome, IsSome, OnOk};
+ghost use Rattle.choosing.specs.Scope.{uncovered};
 ghost use Rattle.channels.specs.Streams.{Extends, IsQuiet};
 
 use crate::fault::BoxFault;
@@ -143,7 +144,10 @@ fn make_absent<S: Stores>(
     place: ChannelBox<'_>,
     absent: Sides,
     stores: &mut S,
-) -> Result<(), BoxFault> {
+) -> Result<(), BoxFault>
+    ensures told { IfSome (uncovered absent place.entry.of.channel.now.create) (λ side. result ≡ Err (BoxFault.Absent side)) }
+    ensures nothing { IsSome (uncovered absent place.entry.of.channel.now.create) → stores.new ≡ stores.old }
+{
     if let Some(side) = uncovered(absent, place.of.channel.create) {
         return Err(BoxFault::Absent(side));
     }

@@ -1,6 +1,8 @@
 //! What is printed of a channel's mailboxes, and what is told of faults (docs/FORMATS.md, "Performed lines").
 
-ghost use Rattle.std.specs.Prelude.{◌≡◌, IfOk, OnOk};
+ghost use Rattle.std.specs.Prelude.{◌≡◌, IfOk, OnOk, string_bytes};
+ghost use Rattle.std.specs.Io.KnownBytes.{Appends};
+ghost use Rattle.channels.specs.Lines.{box_line};
 ghost use Rattle.channels.specs.Streams.{Extends, IsTold};
 
 use crate::fault::BoxFault;
@@ -22,7 +24,8 @@ pub(crate) fn print_box<O: Write>(
     channel: &Channel,
     far: &MailboxName,
 ) -> io::Result<()>
-    ensures { OnOk result (Extends (O.contents out.old) (O.contents out.new)) }
+    ensures text { OnOk result (Appends (O.contents out.old) (O.contents out.new) (box_line (string_bytes channel.now.name) far.now)) }
+    ensures whole { OnOk result (Extends (O.contents out.old) (O.contents out.new)) }
 {
     writeln!(out, "{}:{}", channel.name.as_str(), far.as_str())?;
     out.flush()
