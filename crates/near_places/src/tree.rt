@@ -42,7 +42,8 @@ pub(crate) fn boxes_under<'a, R: Files + AllocGlobal + Clone + Drop>(
     rt: &'a R,
     root: &'a str,
 ) -> Result<Vec<String>, Refusal> {
-    let mut walk = Walk::new(rt, root)?;
+    let mut walk = Walk::new(rt, root);
+    walk.begin()?;
     for _ in 0..u64::MAX {
         let Some(folder) = walk.ahead.pop() else {
             break;
@@ -78,19 +79,26 @@ struct Walk<'a, R: Files + AllocGlobal + Clone + Drop> {
 }
 
 impl<'a, R: Files + AllocGlobal + Clone + Drop> Walk<'a, R> {
-    fn new(rt: &'a R, root: &'a str) -> Result<Self, AllocError> {
+    fn new(rt: &'a R, root: &'a str) -> Self {
         let alloc = rt.alloc();
-        let mut ahead = Vec::new(alloc);
-        ahead.push(Folder {
-            way: String::new(alloc),
-            above: Vec::new(alloc),
-        })?;
-        Ok(Walk {
+        Walk {
             rt,
             root,
-            ahead,
+            ahead: Vec::new(alloc),
             names: Vec::new(alloc),
-        })
+        }
+    }
+
+    /// Keeps the root to be read, if it is there.
+    fn begin(&mut self) -> Result<(), Refusal> {
+        let alloc = self.rt.alloc();
+        if let Some(identity) = self.folder_at(self.root)? {
+            let mut above = Vec::new(alloc);
+            above.push(identity)?;
+            let way = String::new(alloc);
+            self.ahead.push(Folder { way, above })?;
+        }
+        Ok(())
     }
 
     /// Looks at what stands in a folder.
@@ -98,6 +106,7 @@ impl<'a, R: Files + AllocGlobal + Clone + Drop> Walk<'a, R> {
         let path = self.path_of(folder.way.as_str())?;
         let entries = match fs::read_dir(self.rt, path.as_str()) {
             Ok(entries) => entries,
+            // It was just removed.
             Err(error) if error.kind() == ErrorKind::NotFound => return Ok(()),
             Err(error) => return Err(Refusal::at(self.rt.alloc(), path.as_str(), &error)),
         };
