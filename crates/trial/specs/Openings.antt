@@ -1,13 +1,23 @@
--- An opening of a run.
+-- What a run of a trial goes by: its marks, and its opening.
 use Rattle.std.specs.Prelude.{[]}
+use Rattle.rand_core.specs.Steps.{steps_u64_low, stream_of}
+use Rattle.rand_core.specs.Stream.{Stream}
+use Rattle.mailcore.specs.Stores.{Store}
 use Rattle.rules.specs.declared.options.Options.{Options}
 use Rattle.rules.specs.declared.state.SyncState.{SyncState}
-use Rattle.outside.specs.Devices.{Device}
-use Rattle.underway.specs.Openings.{Opening, world_at}
+use Rattle.worlds.specs.Trial.{trial_step}
+use Rattle.underway.specs.Openings.{Opening}
+
+-- what the generator of a trial gives, from its first word on
+abbrev pub trial_stream : Stream
+trial_stream = stream_of (steps_u64_low trial_step) 0
+
+abbrev pub no_messages : Store
+no_messages = record { validity = 0; next = 0; messages = [] }
 
 abbrev pub no_state : SyncState
 no_state = record { run = 0; far_validity = 0; near_validity = 0; max_pulled = 0; max_pushed = 0; entries = [] }
 
--- a first run on this device
-abbrev pub first_on : Device → Options → Opening
-first_on d options = record { world = world_at d no_state; options = options; called = options }
+-- an opening with nothing in it, for who says nothing of one
+abbrev pub no_opening : Options → Opening
+no_opening options = record { world = record { far = no_messages; near = no_messages; waiting = []; state = no_state }; options = options; called = options }

@@ -1,6 +1,16 @@
 //! The run of a trial, over any outside.
 
-ghost use Rattle.std.specs.Prelude.{◌≡◌, ◌≤◌, ◌+◌, false, IfOk, IsErrOf};
+ghost use Rattle.std.specs.Prelude.{◌≡◌, ◌≤◌, IfErr, IfOk, IsErrOf, OnOk, true};
+ghost use Rattle.mailcore.specs.declared.side.Side.{Side};
+ghost use Rattle.rules.specs.Opening.{IsOpening};
+ghost use Rattle.underway.specs.Conditions.{IsOver, Underway};
+ghost use Rattle.underway.specs.Endings.{IsDone};
+ghost use Rattle.underway.specs.Openings.{Opening};
+ghost use Rattle.runner.specs.Answers.{WillRepeat};
+ghost use Rattle.runner.specs.Attempts.{AnswersLast, ChangedLast, FromOpening, HasNoNext, MetStops, failed_before};
+ghost use Rattle.runner.specs.Faults.{IsCaused, LeavesRun, TellsNoRun, because, or_unread};
+ghost use Rattle.runner.specs.Parts.{IsStuck};
+ghost use Rattle.trial.specs.Openings.{trial_stream};
 
 use outside::outside::Outside;
 use rules::options::Options;
@@ -10,7 +20,7 @@ use runner::settle::settle;
 use std::alloc::Global;
 use worlds::trial_generator::TrialGenerator;
 
-/// Carries out one run in up to `tries` attempts, with the marks of the trial generator. What is answered, and what stands after a
+/// Carries out one run in up to `tries` attempts, with the marks of the trial generator: what is answered, and what stands after a
 /// fault, is as of `settle`.
 pub fn settle_trial<O: Outside>(
     alloc: Global,
@@ -18,10 +28,33 @@ pub fn settle_trial<O: Outside>(
     options: &Options,
     tries: u32,
 ) -> Result<Settled, RunFault>
-    requires whole { (O.seen outside.old).is_broken ≡ false }
+    ghost opening: { Opening }
     ensures was_honest { O.honest outside.new → O.honest outside.old }
-    ensures stops { IfOk result (λ s. (O.seen outside.old).stops + s.stops ≤ (O.seen outside.new).stops) }
-    ensures stopped { IsErrOf result RunFault.Stopped → (O.seen outside.old).stops + tries ≤ (O.seen outside.new).stops }
+
+    // From an opening, the run is over where it answers, and underway after any fault.
+    ensures done { OnOk result (FromOpening (O.honest outside.new) O.ours O.alone opening options.now trial_stream (O.seen outside.old).device
+        (IsOver O.ours O.alone opening (O.seen outside.new).device)) }
+    ensures left { IfErr result (λ fault. FromOpening (O.honest outside.new) O.ours O.alone opening options.now trial_stream (O.seen outside.old).device
+        (LeavesRun (Underway O.ours O.alone opening) fault (O.seen outside.old) (O.seen outside.new))) }
+
+    // Where nobody else adds messages, both mailboxes and the state are alike then to the outcome that the rules name for the opening.
+    ensures alike { OnOk result (FromOpening (O.honest outside.new) O.ours O.alone opening options.now trial_stream (O.seen outside.old).device
+        (O.alone ≡ true → IsOpening opening.world → IsDone opening.world opening.options (O.seen outside.new).device)) }
+
+    // What the last attempt answered goes by the files that it found, and what stands behind a fault by what the attempts did and counted.
+    ensures answer { IfOk result (λ s. FromOpening (O.honest outside.new) O.ours O.alone opening options.now trial_stream (O.seen outside.old).device
+        (AnswersLast O.ours O.alone opening options.now s.stops s.last (O.seen outside.old).device trial_stream)) }
+    ensures changed { IfErr result (λ fault. (side : Side) → fault ≡ RunFault.ValidityChanged side
+        → FromOpening (O.honest outside.new) O.ours O.alone opening options.now trial_stream (O.seen outside.old).device
+        (ChangedLast O.ours O.alone opening tries side (O.seen outside.old).device trial_stream (O.seen outside.new).device)) }
+    ensures caused { IfErr result (λ fault. (fault ≡ RunFault.Stopped → ⊥)
+        → IsCaused (or_unread (TellsNoRun (O.honest outside.new) (O.seen outside.new).device) (because (λ side. Unit {0}) (WillRepeat trial_stream))) fault (O.seen outside.old) (O.seen outside.new)) }
+    ensures greatest { HasNoNext (O.honest outside.new) O.alone (O.seen outside.old).device (O.seen outside.new).device result }
+
+    // Each attempt but the last met a stop, and each of all where that is what is answered.
+    ensures stops { IfOk result (λ s. MetStops s.stops (O.seen outside.old) (O.seen outside.new) × (failed_before (O.seen outside.old) ≤ s.stops)) }
+    ensures stopped { IsErrOf result RunFault.Stopped → MetStops tries (O.seen outside.old) (O.seen outside.new) }
+    ensures stuck { tries ≤ 1 → IsStuck (O.seen outside.old) (O.seen outside.new) result }
 {
     settle(alloc, outside, options, tries, &mut TrialGenerator::new())
 }

@@ -1,0 +1,20 @@
+-- The generator of a trial stands before its first word.
+use Rattle.trial.proofs.attempts.settle_trial.Goals as goal
+
+pub returns-clause-done : goal.returns-clause-done
+returns-clause-done g c = rw c.new.ensures at c.settle.ensures.done
+
+pub returns-clause-left : goal.returns-clause-left
+returns-clause-left g c = rw c.new.ensures at c.settle.ensures.left
+
+pub returns-clause-alike : goal.returns-clause-alike
+returns-clause-alike g c = rw c.new.ensures at c.settle.ensures.alike
+
+pub returns-clause-answer : goal.returns-clause-answer
+returns-clause-answer g c = rw c.new.ensures at c.settle.ensures.answer
+
+pub returns-clause-changed : goal.returns-clause-changed
+returns-clause-changed g c = rw c.new.ensures at c.settle.ensures.changed
+
+pub returns-clause-caused : goal.returns-clause-caused
+returns-clause-caused g c = rw c.new.ensures at c.settle.ensures.caused
