@@ -1,7 +1,7 @@
 #!/usr/bin/env python3
 """Kills mbsync at random moments, and looks whether the next run brings everything to its end:
 
-    bench/killed.py [--program PROGRAM] [--rounds N] [--seed SEED]
+    bench/killed.py [--program PROGRAM] [--rounds N] [--seed SEED] [--calls]
     bench/killed.py --self-test
 
 A round changes both sides at random (new messages, flags, removals; the far one over raw sockets to trial-imapd, the near one by
@@ -9,12 +9,15 @@ files), starts a run and kills it by `kill -9` at a random moment, sometimes sev
 between; then one run has to end well. What both sides hold then, and what the state records, is compared with a model of docs/RULES.md
 that is no code of ours: nothing may be lost, doubled or revived, each flag has to be as the rules say, each byte and each UID as it
 was, and copies have to stand in the order of their sources. Sync and Expunge are chosen anew for each round. A fault is told with its
-round and seed, and ends the script with status 1. PROGRAM is the built mbsync if it is left out; there are 200 rounds.
+round and seed, and ends the script with status 1. PROGRAM is the built mbsync if it is left out; there are 200 rounds. With `--calls`
+a run is killed where a system call begins that is chosen at random, with the help of strace.
 
 `--self-test` tries the judge: on a synchroniser in memory that is right, and on wrong ones, each of which it has to catch."""
 import argparse
 import collections
 import os
+import random
+import shutil
 import signal
 import subprocess
 import sys
@@ -23,6 +26,7 @@ import time
 
 from imap_side import ImapSide
 from maildir_side import MaildirSide
+from measured import STRACE_ROW
 from soak import Soak
 from stand_ins import WRONG, Right
 from trial_imapd import TOP, Server, build, world
@@ -48,16 +52,64 @@ SyncState *
 """
 
 
+class Seconds:
+    """Kills behind some time."""
+
+    def __init__(self):
+        self.usual = collections.deque([0.2], maxlen=20)
+        self.output = ""
+
+    def run(self, command, share):
+        """The status of a run, which is killed behind this share of the time that three of four runs took of late."""
+        most = MOST_SECONDS if share is None else share * sorted(self.usual)[3 * len(self.usual) // 4]
+        start = time.monotonic()
+        process = subprocess.Popen(command, stdout=subprocess.PIPE, stderr=subprocess.STDOUT, text=True)
+        try:
+            self.output, _ = process.communicate(timeout=most)
+        except subprocess.TimeoutExpired:
+            process.send_signal(signal.SIGKILL)
+            self.output, _ = process.communicate()
+        if process.returncode == 0:
+            self.usual.append(time.monotonic() - start)
+        return process.returncode
+
+
+class Calls(Seconds):
+    """Kills at a system call: strace counts the calls of a name, and sends the signal where one of them begins."""
+
+    NAMES = ["rename", "write", "fsync", "unlink", "openat", "close", "read", "sendto", "recvfrom", "getdents64"]
+
+    def __init__(self, rng):
+        super().__init__()
+        self.rng = rng
+        self.counts = {name: 20 for name in self.NAMES}
+
+    def run(self, command, share):
+        if share is None:
+            return self.counted(command)
+        name = self.rng.choice([name for name in self.NAMES if self.counts[name]])
+        number = 1 + int(share * self.counts[name])
+        kill = ["-e", f"trace={name}", "-e", f"inject={name}:signal=KILL:when={number}"]
+        return super().run(["strace", "-f", "-qq", "-o", os.devnull, *kill, *command], None)
+
+    def counted(self, command):
+        """The status of a run to its end, whose calls are counted."""
+        with tempfile.NamedTemporaryFile("r") as table:
+            status = super().run(["strace", "-f", "-c", "-o", table.name, *command], None)
+            found = {name: int(count) for count, name in STRACE_ROW.findall(table.read())}
+        self.counts = {name: max(found.get(name, 0), 9 * self.counts[name] // 10) for name in self.NAMES}
+        return status
+
+
 class Programs:
     """trial-imapd, a Maildir folder, and the program that is tried."""
 
-    def __init__(self, program, folder, server):
+    def __init__(self, program, folder, server, moments):
         self.program = program
         self.folder = folder
         self.server = server
         self.near = MaildirSide(os.path.join(folder, "INBOX"))
-        self.seconds = collections.deque([0.2], maxlen=20)
-        self.output = ""
+        self.moments = moments
 
     def far_side(self):
         return ImapSide(self.server.port)
@@ -68,29 +120,19 @@ class Programs:
     def state(self):
         return self.near.text(".mbsyncstate")
 
-    def told(self):
-        return self.output
-
     def attempt(self, words, share):
-        """Runs the program, and kills it behind this share of the time that three of four runs took of late."""
+        """Runs the program, and kills it behind this share of what a run usually takes, or not for none."""
         configuration = os.path.join(self.folder, "mbsyncrc")
         with open(configuration, "w", encoding="ascii") as file:
             file.write(CONFIGURATION % (self.server.port, self.folder, self.folder, *words))
         state = self.state()
-        start = time.monotonic()
-        process = subprocess.Popen([self.program, "-c", configuration, "soak"], stdout=subprocess.PIPE, stderr=subprocess.STDOUT, text=True)
-        try:
-            self.output, _ = process.communicate(timeout=MOST_SECONDS if share is None else share * self.usual())
-        except subprocess.TimeoutExpired:
-            process.send_signal(signal.SIGKILL)
-            self.output, _ = process.communicate()
-        if process.returncode == 0:
-            self.seconds.append(time.monotonic() - start)
+        status = self.moments.run([self.program, "-c", configuration, "soak"], share)
+        if status == 0:
             return "ended"
-        return self.standing(state) if process.returncode == -signal.SIGKILL and share is not None else "failed"
+        return self.standing(state) if status == -signal.SIGKILL and share is not None else "failed"
 
-    def usual(self):
-        return sorted(self.seconds)[3 * len(self.seconds) // 4]
+    def told(self):
+        return self.moments.output
 
     def standing(self, state):
         """How far a killed run has come, by its files."""
@@ -128,7 +170,7 @@ def self_test(seed, rounds):
     return 1 if failed else 0
 
 
-def try_program(program, seed, rounds):
+def try_program(program, seed, rounds, moments):
     build()
     with tempfile.TemporaryDirectory() as folder:
         file = os.path.join(folder, "empty.world")
@@ -137,7 +179,7 @@ def try_program(program, seed, rounds):
         server = Server(file, 65535)
         try:
             server.connect().logout()
-            number, stood, wrong = soak(Programs(program, folder, server), seed, rounds)
+            number, stood, wrong = soak(Programs(program, folder, server, moments), seed, rounds)
             print("killed runs: " + ", ".join(f"{count} {how}" for how, count in stood.most_common()))
             for line in wrong:
                 print(f"seed {seed}, round {number}: {line}")
@@ -156,13 +198,17 @@ def main():
     words.add_argument("--program", default=MBSYNC)
     words.add_argument("--rounds", type=int, default=200)
     words.add_argument("--seed", type=int, default=int(time.time()))
+    words.add_argument("--calls", action="store_true")
     words.add_argument("--self-test", action="store_true")
     words = words.parse_args()
     if words.self_test:
         sys.exit(self_test(words.seed, words.rounds))
     if not os.access(words.program, os.X_OK):
         sys.exit(f"{words.program} is not built")
-    sys.exit(try_program(words.program, words.seed, words.rounds))
+    if words.calls and shutil.which("strace") is None:
+        sys.exit("strace is not installed")
+    moments = Calls(random.Random(words.seed)) if words.calls else Seconds()
+    sys.exit(try_program(words.program, words.seed, words.rounds, moments))
 
 
 if __name__ == "__main__":
