@@ -19,7 +19,7 @@ use Rattle.parts.specs.Devices.{every, seen_with}
 use Rattle.parts.specs.PartCalls.{Part, PartChanges}
 use Rattle.parts.specs.Tallies.{Counts, Ended}
 use Rattle.parts.proofs.PartCalls.{Lacks, changed_along, lacks_changes, part_call}
-use Rattle.book_part.specs.Kept.{Kept, AreCommitted, FromLog, IsBook, IsHeld, IsRead, LeavesUnread, OfKept, ReadsFiles, TakesCommit, TakesLog, TakesPlan, journal_of, state_of, turned}
+use Rattle.book_part.specs.Kept.{Kept, AreCommitted, FromLog, IsBook, IsHeld, IsRead, LeavesUnread, OfKept, ReadsFiles, TakesCommit, TakesLog, TakesPlan, turned}
 use Rattle.both.specs.Parts.{opened_with}
 
 -- ---- what was read
@@ -47,14 +47,6 @@ is_book f n (Some k) h = h
 pub is_held : (f n : Bool) (k : Option Kept) (d : Device) → IsHeld k d.files → opened.IsHeld (opened_with f n k) d
 is_held f n None d h = h
 is_held f n (Some k) d h = h
-
-pub same_state : (f n : Bool) (k : Option Kept) → opened.state_of (opened_with f n k) ≡ state_of k
-same_state f n None = refl
-same_state f n (Some k) = refl
-
-pub same_journal : (f n : Bool) (k : Option Kept) → opened.journal_of (opened_with f n k) ≡ journal_of k
-same_journal f n None = refl
-same_journal f n (Some k) = refl
 
 pub is_turned : (f n : Bool) (change : Pending → Pending) (k k' : Option Kept) → k' ≡ turned change k → opened_with f n k' ≡ opened.turned change (opened_with f n k)
 is_turned f n change None k' h = ap (opened_with f n) h

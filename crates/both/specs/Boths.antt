@@ -1,5 +1,5 @@
 -- The outside over a link, a folder and a shelf, as its calls are seen.
-use Rattle.std.specs.Prelude.{◌≡◌, ◌⊎◌, ℕ, true, Option, Result}
+use Rattle.std.specs.Prelude.{◌≡◌, ◌⊎◌, true, Option, Result}
 use Rattle.book.specs.declared.shelf.Shelf as shelf
 use Rattle.imap_link.specs.declared.link.Link as link
 use Rattle.maildir.specs.declared.folder.Folder as folder
