@@ -22,6 +22,7 @@ import signal
 import subprocess
 import sys
 import tempfile
+import threading
 import time
 
 from imap_side import ImapSide
@@ -110,6 +111,7 @@ class Programs:
         self.server = server
         self.near = MaildirSide(os.path.join(folder, "INBOX"))
         self.moments = moments
+        self.rng = random.Random(0)
 
     def far_side(self):
         return ImapSide(self.server.port)
@@ -120,13 +122,15 @@ class Programs:
     def state(self):
         return self.near.text(".mbsyncstate")
 
-    def attempt(self, words, share):
-        """Runs the program, and kills it behind this share of what a run usually takes, or not for none."""
+    def attempt(self, words, share, deliver):
+        """Runs the program, and kills it behind this share of what a run usually takes, or not for none. Meanwhile `deliver` is called."""
         configuration = os.path.join(self.folder, "mbsyncrc")
         with open(configuration, "w", encoding="ascii") as file:
             file.write(CONFIGURATION % (self.server.port, self.folder, self.folder, *words))
-        state = self.state()
+        state, delivery = self.state(), threading.Timer(self.rng.random() * 0.1, deliver or int)
+        delivery.start()
         status = self.moments.run([self.program, "-c", configuration, "soak"], share)
+        delivery.join()
         if status == 0:
             return "ended"
         return self.standing(state) if status == -signal.SIGKILL and share is not None else "failed"

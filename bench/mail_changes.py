@@ -50,13 +50,18 @@ class Changes:
         data = b"".join(line + end for line, end in zip(lines, ends))
         return name, data if self.rng.random() < 0.9 else data + b"no line end"
 
-    def add(self, side, target):
-        """Adds a message; gives side, name, flags and whether it can be copied."""
+    def new(self, side):
+        """A message that is to be added: name, bytes, flags, and whether it can be copied."""
         name, data = self.message(side)
         flags, is_fit = random_flags(self.rng), True
         if side == "near" and self.rng.random() < 0.03:
             data, is_fit = data + b"\0", False
         self.judge.know(side, name, data)
+        return name, data, flags, is_fit
+
+    def add(self, side, target):
+        """Adds a message; gives side, name, flags and whether it can be copied."""
+        name, data, flags, is_fit = self.new(side)
         target.add(name, data, flags)
         return side, name, flags, is_fit
 

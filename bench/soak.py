@@ -1,6 +1,7 @@
 """Rounds of changes, killed runs and a last run, over a place that has both sides and a synchroniser."""
 import random
 from dataclasses import dataclass, field
+from functools import partial
 
 from judge import Judge, verdict
 from mail_changes import Changes, random_options
@@ -20,8 +21,8 @@ class Told:
 
 class Soak:
     """A place has `far_side()` and `near_side()` (to be used in a `with`; `messages`, `add`, `set_flags`, `remove`), `state()` (the text
-    of the state, or none), and `attempt(words, share)`: a run that is killed behind this share of the usual time, or not for none;
-    it gives a word for how the run stood, `ended`, or `failed`."""
+    of the state, or none), and `attempt(words, share, deliver)`: a run that is killed behind this share of the usual time, or not for
+    none, and during which `deliver` is called, if there is one. It gives a word for how the run stood, `ended`, or `failed`."""
 
     def __init__(self, place, seed):
         self.place = place
@@ -51,13 +52,25 @@ class Soak:
         self.courses = with_arrivals(self.courses, self.changes.arrivals(MOST_NEW))
         return sides
 
+    def attempt(self, words, options, courses, share):
+        """A run, sometimes with a message that is delivered meanwhile; gives how it stood, and what may stand behind it."""
+        delivered, deliver = [], None
+        if self.rng.random() < 0.3:
+            name, data, flags, is_fit = self.changes.new("near")
+            delivered = [("near", name, flags, is_fit)]
+            deliver = partial(self.place.near_side().add, name, data, flags)
+        how = self.place.attempt(words, share, deliver)
+        behind = after_run if how == "ended" else after_kill
+        ways = behind(with_arrivals(courses, delivered), options)
+        return how, different(ways + with_arrivals(behind(courses, options), delivered)) if delivered else ways
+
     def killed_runs(self, words, options, courses, told):
         """One run that is killed, sometimes more, sometimes with messages that come in between."""
         while not told.kills or self.rng.random() < 0.25:
-            told.kills.append(self.place.attempt(words, self.rng.random() * 1.1))
-            if told.kills[-1] == "failed":
+            how, courses = self.attempt(words, options, courses, self.rng.random() * 1.1)
+            told.kills.append(how)
+            if how == "failed":
                 return courses
-            courses = after_run(courses, options) if told.kills[-1] == "ended" else after_kill(courses, options)
             if self.rng.random() < 0.5:
                 courses = with_arrivals(courses, self.changes.arrivals(MOST_ARRIVALS))
         return courses
@@ -66,16 +79,18 @@ class Soak:
         """Changes, killed runs, one run more; and what is wrong behind it."""
         before = self.change()
         words, options = random_options(self.rng)
-        told, run_before = Told(), run_number(self.place.state())
+        told, run_before, how = Told(), run_number(self.place.state()), "failed"
         courses = self.killed_runs(words, options, self.courses, told)
-        if "failed" in told.kills or self.place.attempt(words, None) != "ended":
+        if "failed" not in told.kills:
+            how, courses = self.attempt(words, options, courses, None)
+        if "failed" in (how, *told.kills):
             told.wrong.append(f"{words}: the run failed: {self.place.told()}")
             return told
         sides, told.wrong = self.sides()
         told.wrong += self.judge.wrong_order(sides, before)
         state = self.place.state()
         runs = None if run_number(state) is None else run_number(state) - (run_before or 0)
-        courses = [course for course in after_run(courses, options) if runs in (None, course.runs)]
+        courses = [course for course in courses if runs in (None, course.runs)]
         if not courses:
             told.wrong.append(f"{words}: the state counts {runs} runs, which cannot be")
             return told

@@ -1,6 +1,5 @@
 """A synchroniser in memory that is right, and some that are wrong, each in one way: the judge has to tell them apart."""
 import random
-from contextlib import contextmanager
 
 from mail_changes import EXPUNGE_WORDS, SYNC_WORDS
 from run_model import OTHER, Options, Pair, World, content, name_of, run
@@ -11,11 +10,17 @@ class Killed(Exception):
 
 
 class MemorySide:
-    """A mailbox."""
+    """A mailbox, also to be used in a `with`."""
 
     def __init__(self):
         self.next = 1
         self.by_uid = {}
+
+    def __enter__(self):
+        return self
+
+    def __exit__(self, *_):
+        pass
 
     def messages(self):
         return [(uid, flags, data) for uid, (flags, data) in self.by_uid.items()]
@@ -42,13 +47,11 @@ class Right:
         self.left = None
         self.used = [40]
 
-    @contextmanager
     def far_side(self):
-        yield self.sides["far"]
+        return self.sides["far"]
 
-    @contextmanager
     def near_side(self):
-        yield self.sides["near"]
+        return self.sides["near"]
 
     def state(self):
         return None
@@ -64,7 +67,9 @@ class Right:
             if self.left < 0:
                 raise Killed
 
-    def attempt(self, words, share):
+    def attempt(self, words, share, deliver):
+        if deliver:
+            deliver()
         self.left = None if share is None else int(share * max(self.used[-10:]))
         self.used.append(0)
         options = Options(SYNC_WORDS[words[0]], EXPUNGE_WORDS[words[1]])
