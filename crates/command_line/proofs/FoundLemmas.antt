@@ -1,14 +1,13 @@
 -- What the getters of `clap`'s matches read, by the rows of the matches.
-use Rattle.std.proofs.Common.{◌≡◌, ◌∙◌, ℕ, List, [], ◌∷◌, Option, Some, None, ap, sym, refl, map, option_map}
-use Rattle.std.specs.Prelude.{find, option_and_then, unwrap_or}
+use Rattle.std.proofs.Common.{◌≡◌, ◌∙◌, Option, Some, None, ap, sym, refl, option_map}
+use Rattle.std.specs.Prelude.{find, option_and_then}
 use Rattle.std.specs.Str.{bytes_eq}
 use Rattle.clap.specs.Facts.{Entry}
-use Rattle.clap.specs.Matches.{matched_of, raw_values}
-use Rattle.clap.specs.Walk.{Row, Text, all_of, row_of, rows_of}
+use Rattle.clap.specs.Matches.{matched_of}
+use Rattle.clap.specs.Walk.{Row, Text, row_of, rows_of}
 use Rattle.clap.specs.declared.parser.matches.Found.{Found}
 use Rattle.clap.specs.declared.parser.matches.MatchedArg.{MatchedArg}
-use Rattle.clap.specs.declared.parser.matches.ValueSource.{ValueSource}
-use Rattle.clap.proofs.WalkLemmas.{find_row, raw_values-rows}
+use Rattle.clap.proofs.WalkLemmas.{find_row}
 
 pub source-rows : (f : Found) (id : Text)
     → option_and_then (λ (a : MatchedArg). a.source) (matched_of f id)

@@ -70,13 +70,13 @@ impl SyncFlag {
     /// What help says of it.
     pub(crate) fn help(self) -> &'static str {
         match self {
-            SyncFlag::Pull => "Sync Pull: from the server to here",
-            SyncFlag::Push => "Sync Push: from here to the server",
+            SyncFlag::Pull => "Sync Pull: from the far side to the near one",
+            SyncFlag::Push => "Sync Push: from the near side to the far one",
             SyncFlag::New => "Sync New: new messages",
-            SyncFlag::Gone => "Sync Gone: messages that have gone from the other side",
+            SyncFlag::Gone => "Sync Gone: messages that have gone",
             SyncFlag::Flags => "Sync Flags: changed flags",
-            SyncFlag::Full => "Sync Full: all three of these",
-            SyncFlag::Noop => "Sync None: nothing, for instance to only expunge",
+            SyncFlag::Full => "Sync Full: new and gone messages and flags",
+            SyncFlag::Noop => "Sync None: nothing",
         }
     }
 }

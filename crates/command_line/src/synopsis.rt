@@ -12,8 +12,10 @@ use std::alloc::{AllocError, Global};
 const ABOUT: &str = "Keeps mailboxes of an IMAP server and Maildirs alike.";
 
 const AFTER_HELP: &str = "\
-Without a flag of Sync (--pull to --noop) each channel's own Sync stands; with some, they stand in place of it for all
-channels. Exit status: 0 if all is well, 1 after a fault, 2 for wrong words and unknown channels.";
+The flags --pull to --noop are the words of Sync in the configuration. Where one
+or more are given, they stand in place of the Sync of every channel.
+
+Exit status: 0, 1 after a fault, 2 for a wrong command line or an unknown channel.";
 
 /// A flag of one letter.
 fn letter_flag<'a>(alloc: Global, id: &'a str, letter: char, help: &'a str) -> Arg<'a>
@@ -53,7 +55,7 @@ fn file_option<'a>(alloc: Global) -> Arg<'a>
     Arg::new(alloc, "file")
         .short('c')
         .value_name("FILE")
-        .help("The configuration file, in place of ~/.mbsyncrc")
+        .help("Read the configuration from FILE, not from ~/.mbsyncrc")
 }
 
 fn channel_names<'a>(alloc: Global) -> Arg<'a>
@@ -63,7 +65,7 @@ fn channel_names<'a>(alloc: Global) -> Arg<'a>
     Arg::new(alloc, "channel")
         .value_name("CHANNEL")
         .action(ArgAction::Append)
-        .help("A channel or a group of the configuration")
+        .help("The name of a channel or of a group of channels")
 }
 
 /// The command `mbsync`, whatever its program is called by, with what stands before the flags of Sync.
@@ -75,7 +77,7 @@ fn command_before_flags<'a>(alloc: Global) -> Result<Command<'a>, AllocError>
         .after_help(AFTER_HELP)
         .bin_name("mbsync")?
         .arg(file_option(alloc))?
-        .arg(letter_flag(alloc, "all", 'a', "All channels; names are passed over"))?
+        .arg(letter_flag(alloc, "all", 'a', "Take all channels, and pass names over"))?
         .arg(letter_flag(
             alloc,
             "list",
@@ -105,7 +107,7 @@ pub(crate) fn command<'a>(alloc: Global) -> Result<Command<'a>, AllocError>
         .arg(long_flag(
             alloc,
             "expunge",
-            "Expunge Both: messages that are marked as deleted are removed on both sides",
+            "Expunge Both: remove deleted messages on both sides",
         ))?
         .arg(channel_names(alloc))
 }

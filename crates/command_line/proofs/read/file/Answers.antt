@@ -1,6 +1,6 @@
-use Rattle.std.proofs.Common.{◌∙◌, ◌≡◌, ℕ, List, Some, ap, sym, codes, option_map}
+use Rattle.std.proofs.Common.{◌∙◌, ℕ, List, Some, ap, sym, codes, option_map}
 use Rattle.std.specs.Borrow.{Bor}
-use Rattle.clap.specs.Words.{first_of, found_of, rows_of}
+use Rattle.clap.specs.Words.{found_of}
 use Rattle.clap.proofs.WalkLemmas.{first_value-rows}
 use Rattle.command_line.proofs.read.file.Goals as goal
 

@@ -6,7 +6,6 @@ use Rattle.clap.specs.Simple.{App, is_simple, matches_of}
 use Rattle.clap.specs.Takes.{takes}
 use Rattle.clap.specs.Values.{kind_of}
 use Rattle.clap.specs.declared.error.kind.ErrorKind.TheVariants.{OutOfMemory}
-use Rattle.command_line.specs.Requests.{IsFault}
 use Rattle.command_line.specs.Synopsis.{synopsis}
 use Rattle.command_line.proofs.SynopsisLemmas.{synopsis_is_free, synopsis_is_simple, told_is_fault}
 use Rattle.command_line.proofs.read.found.Goals as goal

@@ -1,8 +1,8 @@
-use Rattle.std.proofs.Common.{◌∙◌, ◌≡◌, ℕ, List, [], Option, ap, sym, codes, map, option_map, unwrap_or, arith, take, length, refl}
+use Rattle.std.proofs.Common.{◌∙◌, List, [], Option, ap, sym, codes, map, option_map, unwrap_or, arith}
 use Rattle.std.specs.Borrow.{Bor}
 use Rattle.std.specs.String.{string_bytes}
 use Rattle.std.proofs.lemmas.List.{take_all}
-use Rattle.clap.specs.Words.{Text, found_of, rows_of}
+use Rattle.clap.specs.Words.{Text, found_of}
 use Rattle.clap.proofs.WalkLemmas.{raw_values-rows}
 use Rattle.command_line.proofs.read.names.Goals as goal
 use Rattle.command_line.proofs.read.names.Goals.{in-Some+else-loop-name-test, in_default}

@@ -1,6 +1,6 @@
-use Rattle.std.proofs.Common.{◌∙◌, ◌≡◌, Some, ap, sym}
-use Rattle.clap.specs.Words.{found_of, rows_of}
-use Rattle.command_line.specs.Requests.{is_of_line, stands}
+use Rattle.std.proofs.Common.{◌∙◌, Some, ap, sym}
+use Rattle.clap.specs.Words.{found_of}
+use Rattle.command_line.specs.Requests.{is_of_line}
 use Rattle.command_line.proofs.FoundLemmas.{source-rows}
 use Rattle.command_line.proofs.read.stands.Goals as goal
 

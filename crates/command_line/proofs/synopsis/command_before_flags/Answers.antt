@@ -1,7 +1,7 @@
-use Rattle.std.proofs.Common.{rules, ap, ap₂, ◌∙◌, ◌≡◌, codes}
+use Rattle.std.proofs.Common.{ap, ap₂, ◌∙◌, ◌≡◌, codes}
 use Rattle.std.proofs.lemmas.Result.{IfOk-weaker}
 use Rattle.clap.specs.Simple.{app_of, app_of_fields, new_app, with_rule}
-use Rattle.command_line.specs.Synopsis.{file_rule, letter_rule, before_flags}
+use Rattle.command_line.specs.Synopsis.{before_flags}
 use Rattle.command_line.proofs.synopsis.command_before_flags.Goals as goal
 
 pub returns : goal.returns

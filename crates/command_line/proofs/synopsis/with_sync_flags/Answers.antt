@@ -1,9 +1,7 @@
-use Rattle.std.proofs.Common.{rules, arith, ap, ap₂, sym, ◌∙◌, ◌≡◌, ◌<◌, ◌+◌, ℕ, fold, take, refl, length}
+use Rattle.std.proofs.Common.{arith, ap₂, sym, ◌∙◌, ◌≡◌, refl}
 use Rattle.std.proofs.lemmas.List.Sums.{fold_more}
-use Rattle.std.proofs.lemmas.Grind.{common_steps}
 use Rattle.clap.specs.Simple.{app_of, with_rule}
 use Rattle.command_line.specs.SyncFlags.{sync_flags}
-use Rattle.command_line.specs.Synopsis.{sync_rule}
 use Rattle.command_line.specs.declared.sync_flag.SyncFlag.TheVariants.{Pull}
 use Rattle.command_line.proofs.synopsis.with_sync_flags.Invariants.{with_flag}
 use Rattle.command_line.proofs.synopsis.with_sync_flags.Goals as goal
