@@ -1,5 +1,5 @@
 -- The exit statuses of words that name no request.
-use Rattle.std.specs.Prelude.{ℕ}
+use Rattle.std.specs.Prelude.{ℕ, Bool, ◌==◌}
 use Rattle.clap.specs.Values.{kind_of}
 use Rattle.clap.specs.declared.error.kind.ErrorKind.{ErrorKind}
 use Rattle.clap.specs.declared.error.kind.ErrorKind.TheVariants.{DisplayHelp}
@@ -16,3 +16,7 @@ status_of (Line error) = status_of_kind (kind_of error)
 status_of NoChannel = 2
 status_of SyncWords = 2
 status_of NoMemory = 1
+
+-- the words ask for help
+abbrev pub is_help : UsageFault → Bool
+is_help fault = status_of fault == 0

@@ -1,7 +1,7 @@
 //! What is told of words that name no request.
 
-ghost use Rattle.std.specs.Prelude.{◌≡◌, ◌⊎◌};
-ghost use Rattle.command_line.specs.Statuses.{status_of};
+ghost use Rattle.std.specs.Prelude.{◌≡◌, ◌⊎◌, true, false};
+ghost use Rattle.command_line.specs.Statuses.{is_help, status_of};
 
 use crate::fault::UsageFault;
 use clap::error::ErrorKind;
@@ -12,30 +12,39 @@ use std::io::Write;
 /// `err` go, with status 2, `clap`'s text of other words that it does not take, `mbsync: no channel` and
 /// `mbsync: sync words`, and with status 1 `mbsync: no memory`. The status is 1 too where writing fails.
 pub fn tell<O: Write, E: Write>(fault: &UsageFault, out: &mut O, err: &mut E) -> u8
-    ensures { (result ≡ status_of fault.now) ⊎ (result ≡ 1) }
+    ensures status { (result ≡ status_of fault.now) ⊎ (result ≡ 1) }
+    ensures help { is_help fault.now ≡ true → err.new ≡ err.old }
+    ensures faults { is_help fault.now ≡ false → out.new ≡ out.old }
 {
-    match tell_text(fault, out, err) {
+    let told = if is_help(fault) {
+        tell_help(fault, out)
+    } else {
+        tell_fault(fault, err)
+    };
+    match told {
         Ok(()) => status_of(fault),
         Err(_) => 1,
     }
 }
 
-fn tell_text<O: Write, E: Write>(fault: &UsageFault, out: &mut O, err: &mut E) -> io::Result<()> {
+fn tell_help<O: Write>(fault: &UsageFault, out: &mut O) -> io::Result<()> {
+    write!(out, "{fault}")?;
+    out.flush()
+}
+
+fn tell_fault<E: Write>(fault: &UsageFault, err: &mut E) -> io::Result<()> {
     match fault {
-        UsageFault::Line(error) => {
-            if error.use_stderr() {
-                write!(err, "{error}")?;
-                err.flush()
-            } else {
-                write!(out, "{error}")?;
-                out.flush()
-            }
-        }
-        _ => {
-            writeln!(err, "mbsync: {fault}")?;
-            err.flush()
-        }
+        UsageFault::Line(error) => write!(err, "{error}")?,
+        _ => writeln!(err, "mbsync: {fault}")?,
     }
+    err.flush()
+}
+
+/// Whether the words ask for help.
+fn is_help(fault: &UsageFault) -> bool
+    ensures { result ≡ is_help fault.now }
+{
+    status_of(fault) == 0
 }
 
 /// The exit status where everything was told.
