@@ -1,5 +1,5 @@
 -- The outside over a link, a folder and a shelf, as its calls are seen.
-use Rattle.std.specs.Prelude.{◌≡◌, ◌⊎◌, true, Option, Result}
+use Rattle.std.specs.Prelude.{◌≡◌, ◌⊎◌, ℕ, true, Option, Result}
 use Rattle.book.specs.declared.shelf.Shelf as shelf
 use Rattle.imap_link.specs.declared.link.Link as link
 use Rattle.maildir.specs.declared.folder.Folder as folder
@@ -11,7 +11,7 @@ use Rattle.book.specs.Shelves.{Files}
 use Rattle.outside.specs.declared.fault.OutsideFault.{OutsideFault}
 use Rattle.outside.specs.Arrivals.{Arrives}
 use Rattle.outside.specs.BookCalls.{OfBook}
-use Rattle.outside.specs.Calls.{Changes, Reads, Seen, Writes}
+use Rattle.outside.specs.Calls.{Call, Changes, Reads, Seen, Writes}
 use Rattle.outside.specs.Devices.{Device}
 use Rattle.outside.specs.Opened.{Opened}
 use Rattle.parts.specs.Devices.{every, seen_with}
@@ -40,6 +40,11 @@ module _ {L F S : Type 0} {links : link.Ghosts L} {folders : folder.Ghosts F} {s
   opened_of both = opened_with (far.is_open both.far) (near.is_open both.near) (kept_of both.book)
 
   -- ---- what a call does, in the words of the trait
+
+  -- any call
+  abbrev pub BothCall : {T : Type 0} → (copies : T → ℕ) → (may_tell : OutsideFault → Type 0) → (does : T → Effect Device) → (leaves : OutsideFault → Effect Device)
+      → (old new : Both L F S links folders shelves) → Result T OutsideFault → Type 0
+  BothCall copies may_tell does leaves old new result = Call (honest_of new) (Arrives every true) copies may_tell does leaves (seen_of old) (seen_of new) result
 
   -- a call of the book that was read
   abbrev pub BookCall : (may_tell : OutsideFault → Type 0) → (does part : Pending → Effect Files) → (old new : Both L F S links folders shelves) → Result (Unit {0}) OutsideFault → Type 0

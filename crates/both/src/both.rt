@@ -116,14 +116,13 @@ impl<L: Link + Drop, F: Folder + Drop, S: Shelf + Drop> Outside for Both<L, F, S
     ghost use Rattle.book.specs.Books.{mended, torn, Turns as TurnsJournal, TurnsHalf};
     ghost use Rattle.book.specs.BookLogs.{begun, as_done, logged_more};
     ghost use Rattle.book.specs.Commits.{CommitsHalf, CommitsTo};
-    ghost use Rattle.outside.specs.Arrivals.{Arrives};
     ghost use Rattle.outside.specs.Devices.{box};
-    ghost use Rattle.outside.specs.Calls.{Call, FromBook, FromBox, FromShelf, LeavesBy};
+    ghost use Rattle.outside.specs.Calls.{FromBook, FromBox, FromShelf, LeavesBy};
     ghost use Rattle.outside.specs.Opened.{IsBook, IsHeld, IsOpen, IsRead, AreCommitted, TakesCommit, TakesLog, TakesPlan, turned, with_box};
     ghost use Rattle.outside.specs.BookCalls.{FromLog, LeavesUnread, ReadsBook};
     ghost use Rattle.outside.specs.BoxCalls.{Admits, AdmitsPart, Carry, HasNumbers, ListsFar, ListsNear, SetsAside, Turns, copies_made, removed};
     ghost use Rattle.parts.specs.Devices.{every};
-    ghost use Rattle.both.specs.Boths.{BookCall, BoxChange, BoxRead, ByBook, ByCopy, ByFar, ByNear, ByOpening, BySide, honest_of, opened_of, seen_of};
+    ghost use Rattle.both.specs.Boths.{BookCall, BothCall, BoxChange, BoxRead, ByBook, ByCopy, ByFar, ByNear, ByOpening, BySide, honest_of, opened_of, seen_of};
 
     ghost honest = { honest_of };
 
@@ -138,7 +137,7 @@ impl<L: Link + Drop, F: Folder + Drop, S: Shelf + Drop> Outside for Both<L, F, S
     fn open_book(&mut self) -> Result<(), OutsideFault>
         ensures was_honest { honest_of self.new → honest_of self.old }
         ensures book { OnOk result (IsBook (opened_of self.new)) }
-        ensures call { Call (honest_of self.new) (Arrives every true) (λ _. 0) FromShelf (λ _. ReadsBook (opened_of self.new)) LeavesUnread (seen_of self.old) (seen_of self.new) result }
+        ensures call { BothCall (λ _. 0) FromShelf (λ _. ReadsBook (opened_of self.new)) LeavesUnread self.old self.new result }
         ensures why { IsErrOf result OutsideFault.Stopped → ByBook self.old self.new }
     {
         if self.tally.is_broken() {
@@ -202,7 +201,8 @@ impl<L: Link + Drop, F: Folder + Drop, S: Shelf + Drop> Outside for Both<L, F, S
         requires takes { TakesLog (opened_of self.old) step (as_done copy) }
         ensures was_honest { honest_of self.new → honest_of self.old }
         ensures opened { OnOk result (opened_of self.new ≡ turned (λ p. logged_more p (as_done copy)) (opened_of self.old)) }
-        ensures call { BookCall (FromLog (opened_of self.old) (as_done copy)) (λ p. TurnsJournal p (logged_more p (as_done copy))) (λ p. TurnsHalf p (torn p)) self.old self.new result }
+        ensures call { BookCall (FromLog (opened_of self.old) (as_done copy)) (λ p. TurnsJournal p (logged_more p (as_done copy)))
+            (λ p. TurnsHalf p (torn p)) self.old self.new result }
         ensures why { IsErrOf result OutsideFault.Stopped → ByBook self.old self.new }
     {
         if self.tally.is_broken() {
@@ -306,12 +306,7 @@ impl<L: Link + Drop, F: Folder + Drop, S: Shelf + Drop> Outside for Both<L, F, S
         self.tally.end(answer)
     }
 
-    fn find_mark(
-        &mut self,
-        side: Side,
-        mark: Tuid,
-        from: u32,
-    ) -> Result<Option<Uid>, OutsideFault>
+    fn find_mark(&mut self, side: Side, mark: Tuid, from: u32) -> Result<Option<Uid>, OutsideFault>
         requires is_open { IsOpen side (opened_of self.old) }
         ensures was_honest { honest_of self.new → honest_of self.old }
         ensures opened { opened_of self.new ≡ opened_of self.old }
@@ -344,7 +339,8 @@ impl<L: Link + Drop, F: Folder + Drop, S: Shelf + Drop> Outside for Both<L, F, S
         requires near_open { IsOpen Side.Near (opened_of self.old) }
         ensures was_honest { honest_of self.new → honest_of self.old }
         ensures opened { opened_of self.new ≡ opened_of self.old }
-        ensures call { Call (honest_of self.new) (Arrives every true) copies_made FromBox (Carry direction uid flags mark) (LeavesBy (Carry direction uid flags mark) (SetsAside (target direction))) (seen_of self.old) (seen_of self.new) result }
+        ensures call { BothCall copies_made FromBox (Carry direction uid flags mark)
+            (LeavesBy (Carry direction uid flags mark) (SetsAside (target direction))) self.old self.new result }
         ensures why { IsErrOf result OutsideFault.Stopped → ByCopy self.old self.new }
     {
         if self.tally.is_broken() {
