@@ -1,7 +1,7 @@
 //! A call, and what goes over the link in it.
 
-use crate::call::Call;
-use crate::failure::Failure;
+use client_calls::call::Call;
+use client_calls::failure::Failure;
 use std::alloc::{AllocError, Global};
 
 /// What the server says behind what it waits for.

@@ -1,8 +1,8 @@
 //! Sessions whose server says less than it should.
 
 use crate::act::Act;
-use crate::failure::Failure;
 use crate::playing::{Played, play};
+use client_calls::failure::Failure;
 use std::alloc::Global;
 use std::fmt;
 

@@ -1,8 +1,8 @@
 //! The lines of a script.
 
-use crate::call::Call;
-use crate::failure::Failure;
-use crate::words::{line_of, read_bytes, read_number, read_size, two_words};
+use client_calls::call::Call;
+use client_calls::failure::Failure;
+use client_calls::words::{line_of, read_bytes, read_number, read_size, two_words};
 use std::alloc::Global;
 
 /// What a line says.

@@ -15,16 +15,8 @@
 //!
 //! Where the server has no more to say, the bytes end. Bytes between quotes are escaped as in worlds (docs/FORMATS.md).
 //!
-//! | Call | |
-//! |---|---|
-//! | `open`, `reconnect`, `login USER PASSWORD`, `names`, `create NAME`, `select NAME`, `logout` | of a session; `names` lists its mailboxes |
-//! | `list`, `fetch UID`, `find_mark MARK UID`, `append FLAGS "BYTES"`, `add_flags UID FLAGS`, `remove_flags UID FLAGS`, `expunge UID ..` | of a mailbox; FLAGS are letters, or `-` for none; the UID of `find_mark` is the least that counts |
-//! | `into_session`, `into_link` | gives the session back, and the link |
-//!
-//! It is answered `done`, or with a value, or with a fault by its name (`FarFault`), or `not made` where the client has no
-//! session or no mailbox for it. Of a message that is listed stand UID and flags, and `unfit` if it has more than 16777216 bytes;
-//! of names and bodies with more than 200 bytes the first 60 and how many they are. `sent ..` tells what was sent though the script does not name it, `did not send ..` what was
-//! not, though it does.
+//! The calls and their answers are those of `client_calls`. `sent ..` tells what was sent though the script does not name it,
+//! `did not send ..` what was not, though it does.
 //!
 //! | Line | |
 //! |---|---|
@@ -41,12 +33,7 @@
 #![tactic(auto)]
 
 mod act;
-mod answer;
-mod asking;
-mod call;
-mod client;
 mod cuts;
-mod failure;
 mod line;
 mod over_tcp;
 mod playing;
@@ -55,12 +42,10 @@ mod script_link;
 mod show;
 mod stage;
 mod tape;
-mod told;
-mod words;
 
-use crate::failure::Failure;
 use crate::over_tcp::played_at;
 use crate::stage::played;
+use client_calls::failure::Failure;
 use std::env;
 use std::io::{Read, Write};
 use std::process::ExitCode;

@@ -1,10 +1,10 @@
 //! A script whose calls are made over TCP.
 
 use crate::act::Act;
-use crate::client::Client;
-use crate::failure::Failure;
 use crate::script::{Entry, Session, read_script};
 use crate::show::push_text;
+use client_calls::client::Client;
+use client_calls::failure::Failure;
 use imap_client::tcp_link::TcpLink;
 use imap_link::link::Link;
 

@@ -1,11 +1,11 @@
 //! Calls that are made, one behind another.
 
 use crate::act::Act;
-use crate::answer::Answer;
-use crate::client::Client;
-use crate::failure::Failure;
 use crate::script_link::ScriptLink;
 use crate::tape::Tape;
+use client_calls::answer::Answer;
+use client_calls::client::Client;
+use client_calls::failure::Failure;
 use std::alloc::Global;
 use std::cell::RefCell;
 

@@ -1,9 +1,9 @@
 //! Scripts: sessions, and what stands in them.
 
 use crate::act::Act;
-use crate::call::Call;
-use crate::failure::Failure;
 use crate::line::{Line, Talk};
+use client_calls::call::Call;
+use client_calls::failure::Failure;
 use std::alloc::Global;
 
 /// The most bytes of a piece where a session does not say it.

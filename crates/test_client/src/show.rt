@@ -2,13 +2,8 @@
 
 use crate::act::Act;
 use crate::playing::Outcome;
+use client_calls::begin::{begin_of, push_length};
 use std::alloc::AllocError;
-
-/// Lines with more bytes are shown by their begin.
-const SHOWN_MAX: usize = 200;
-
-/// How many bytes such a begin has.
-const BEGIN: usize = 60;
 
 /// Adds the lines of a call, and what came of it.
 pub fn push_act(told: &mut String, act: &Act, outcome: &Outcome) -> Result<(), AllocError> {
@@ -56,24 +51,6 @@ fn push_bytes(told: &mut String, bytes: &[u8]) -> Result<(), AllocError> {
         push_byte(told, byte)?;
     }
     push_length(told, bytes)
-}
-
-/// The bytes, or their begin where they are many.
-pub fn begin_of(bytes: &[u8]) -> &[u8] {
-    if bytes.len() <= SHOWN_MAX {
-        bytes
-    } else {
-        &bytes[..BEGIN]
-    }
-}
-
-/// Adds how many bytes they are, where they are shown by their begin.
-pub fn push_length(told: &mut String, bytes: &[u8]) -> Result<(), AllocError> {
-    let length = bytes.len();
-    if length <= SHOWN_MAX {
-        return Ok(());
-    }
-    write!(told, " .. ({length} bytes)")
 }
 
 /// Adds a byte, or two digits for one outside 32 to 126.

@@ -2,10 +2,10 @@
 
 use crate::act::Act;
 use crate::cuts::push_cuts;
-use crate::failure::Failure;
 use crate::playing::{Outcome, play};
 use crate::script::{Entry, Session, read_script};
 use crate::show::{push_act, push_text};
+use client_calls::failure::Failure;
 use std::alloc::Global;
 
 /// Plays a script, and gives its lines with the answers of its calls. `Line`: that line is bad.

@@ -44,6 +44,14 @@ impl<L: Link + Drop> Client<L> {
         }
     }
 
+    /// The link, where the client has no session over it.
+    pub fn link(&self) -> Option<&L> {
+        match &self.stand {
+            Stand::Link(link) => Some(link),
+            _ => None,
+        }
+    }
+
     /// Makes the call. `Script`: it may not be made so.
     pub fn make(&mut self, call: &Call) -> Result<Answer, Failure> {
         match call {

@@ -1,6 +1,6 @@
 //! What calls tell, as it is shown.
 
-use crate::show::{begin_of, push_length};
+use crate::begin::{begin_of, push_length};
 use mailcore::flags::Flags;
 use mailcore::listing::{Item, Listing};
 use mailcore::mailbox_name::MailboxName;
@@ -29,7 +29,8 @@ pub fn bytes_text(alloc: Global, bytes: Option<&[u8]>) -> Result<String, AllocEr
     Ok(text)
 }
 
-fn push_quoted(text: &mut String, bytes: &[u8]) -> Result<(), AllocError> {
+/// Adds escaped bytes between quotes, or their begin and how many they are.
+pub fn push_quoted(text: &mut String, bytes: &[u8]) -> Result<(), AllocError> {
     text.push('"')?;
     push_escaped(text, begin_of(bytes))?;
     text.push('"')?;
