@@ -31,7 +31,7 @@ struct LineWork<'a> {
 }
 
 /// Does what a command line asks for: lists the mailboxes of the channels that it names, or synchronises them one after another, and
-/// prints to `out` what it does (docs/FORMATS.md, "Performed lines"). Faults are told on `err`, and the next mailbox follows. It gives
+/// prints to `out` what it does (docs/FORMATS.md, "Lines of `mbsync`"). Faults are told on `err`, and the next mailbox follows. It gives
 /// the exit status: 0 where no fault was told, else 1. After a failed write nothing more is done, and the status is 1.
 ///
 /// Status 2: a name is neither a channel nor a group, or the words of Sync are refused; then no store was opened.

@@ -1,4 +1,4 @@
-//! What is printed of a channel's mailboxes, and what is told of faults (docs/FORMATS.md, "Performed lines").
+//! What is printed of a channel's mailboxes, and what is told of faults (docs/FORMATS.md, "Lines of `mbsync`").
 
 ghost use Rattle.std.specs.Prelude.{◌≡◌, IfOk, OnOk, string_bytes};
 ghost use Rattle.std.specs.Io.KnownBytes.{Appends};

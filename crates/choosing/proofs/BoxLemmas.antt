@@ -1,12 +1,12 @@
 -- Names that are put among names that rise.
 use Rattle.std.proofs.Common.{◌≡◌, ℕ, ◌+◌, ◌-◌, ◌<◌, ◌≤◌, Bool, true, false, cond, List, [], ◌∷◌, ◌++◌, Option, None, Some, get_or, take, length, refl, ap, sym, ◌∙◌, arith, subst, suc}
 use Rattle.std.proofs.lemmas.List.Elements.{filter-append, filter_more}
-use Rattle.std.specs.Ordering.{match_ordering, nat_cmp}
+use Rattle.std.specs.Ordering.{match_ordering, nat_cmp, ordering_reverse}
 use Rattle.std.specs.declared.cmp.Ordering.{Ordering}
 use Rattle.std.specs.declared.cmp.Ordering.TheVariants.{Less, Equal, Greater}
-use Rattle.std.specs.Cmp.Lexicographic.{slice_cmp}
+use Rattle.std.specs.Cmp.Lexicographic.{slice_cmp, nat_list_cmp_total}
 use Rattle.std.specs.List.{filter, insert}
-use Rattle.choosing.specs.Boxes.{place_from, put_name, put_names}
+use Rattle.choosing.specs.Boxes.{IsBelowFirst, Rises, place_from, put_name, put_names}
 
 pub put_names-append : (names xs ys : List (List ℕ)) → put_names names (xs ++ ys) ≡ put_names (put_names names xs) ys
 put_names-append names [] ys = refl
@@ -73,8 +73,6 @@ goes_there name names place e =
     let all : place ≡ place - 0 = omega arith in
     ap (λ k. insert names k name) all ∙ at.puts
 
-pub ruleset put_steps = (stays_if_there, goes_there)
-
 -- a name more
 pub put_names-more : (is_chosen : List ℕ → Bool) (boxes names : List (List ℕ)) (i : ℕ) (d : List ℕ) → i < length names
     → put_names boxes (filter is_chosen (take (i + 1) names)) ≡ cond (is_chosen (get_or names i d)) (put_name (get_or names i d) (put_names boxes (filter is_chosen (take i names)))) (put_names boxes (filter is_chosen (take i names)))
@@ -93,3 +91,33 @@ pub put_names-passed : (is_chosen : List ℕ → Bool) (boxes names : List (List
 put_names-passed is_chosen boxes names i d h e =
     put_names-more is_chosen boxes names i d h
     ∙ ap (λ b. cond b (put_name (get_or names i d) (put_names boxes (filter is_chosen (take i names)))) (put_names boxes (filter is_chosen (take i names)))) e
+
+-- ---- names that rise still rise behind a put
+
+below_first-at : (a name n : List ℕ) (ns : List (List ℕ)) (order : Ordering) → slice_cmp nat_cmp a n ≡ Less → slice_cmp nat_cmp a name ≡ Less
+    → IsBelowFirst a (match_ordering order (n ∷ put_name name ns) (n ∷ ns) (name ∷ n ∷ ns))
+below_first-at a name n ns Less h k = h
+below_first-at a name n ns Equal h k = h
+below_first-at a name n ns Greater h k = k
+
+below_first-put : (a name : List ℕ) (ns : List (List ℕ)) → IsBelowFirst a ns → slice_cmp nat_cmp a name ≡ Less → IsBelowFirst a (put_name name ns)
+below_first-put a name [] h k = k
+below_first-put a name (n ∷ ns) h k = below_first-at a name n ns (slice_cmp nat_cmp n name) h k
+
+rises-at : (name n : List ℕ) (ns : List (List ℕ)) (order : Ordering) → slice_cmp nat_cmp n name ≡ order → IsBelowFirst n ns → Rises ns → Rises (put_name name ns)
+    → Rises (match_ordering order (n ∷ put_name name ns) (n ∷ ns) (name ∷ n ∷ ns))
+rises-at name n ns Less e b r p = (below_first-put n name ns b e, p)
+rises-at name n ns Equal e b r p = (b, r)
+rises-at name n ns Greater e b r p =
+    let turned : slice_cmp nat_cmp name n ≡ Less = nat_list_cmp_total.antisymm name n ∙ ap ordering_reverse e in
+    (turned, (b, r))
+
+pub put_name-rises : (name : List ℕ) (names : List (List ℕ)) → Rises names → Rises (put_name name names)
+put_name-rises name [] h = (tt, tt)
+put_name-rises name (n ∷ ns) h = rises-at name n ns (slice_cmp nat_cmp n name) refl h.0 h.1 (put_name-rises name ns h.1)
+
+pub put_names-rises : (names more : List (List ℕ)) → Rises names → Rises (put_names names more)
+put_names-rises names [] h = h
+put_names-rises names (m ∷ ms) h = put_names-rises (put_name m names) ms (put_name-rises m names h)
+
+pub ruleset put_steps = (stays_if_there, goes_there, put_name-rises)

@@ -1,7 +1,8 @@
 -- The mailboxes of a channel with patterns.
-use Rattle.std.specs.Prelude.{ℕ, Bool, List, [], ◌∷◌, ◌++◌, nat_eq, ◌+◌, Option, None, Some}
+use Rattle.std.specs.Prelude.{◌≡◌, ℕ, ⊤, Bool, List, [], ◌∷◌, ◌++◌, nat_eq, ◌+◌, Option, None, Some}
 use Rattle.std.specs.Bool.{Decides}
 use Rattle.std.specs.Ordering.{match_ordering, nat_cmp}
+use Rattle.std.specs.declared.cmp.Ordering.TheVariants.{Less}
 use Rattle.std.specs.Cmp.Lexicographic.{slice_cmp, pointwise}
 use Rattle.std.specs.List.{filter, list_any}
 use Rattle.config.specs.Patterns.{IsChosen}
@@ -15,6 +16,15 @@ put_name name (n ∷ ns) = match_ordering (slice_cmp nat_cmp n name) (n ∷ put_
 abbrev pub put_names : List (List ℕ) → List (List ℕ) → List (List ℕ)
 put_names names [] = names
 put_names names (m ∷ ms) = put_names (put_name m names) ms
+
+-- each name stands below the next one, by their bytes
+abbrev pub IsBelowFirst : List ℕ → List (List ℕ) → Type 0
+IsBelowFirst name [] = ⊤
+IsBelowFirst name (n ∷ ns) = slice_cmp nat_cmp name n ≡ Less
+
+abbrev pub Rises : List (List ℕ) → Type 0
+Rises [] = ⊤
+Rises (n ∷ ns) = IsBelowFirst n ns × Rises ns
 
 -- a test that tells which names the patterns choose
 abbrev pub Tells : (List ℕ → Bool) → (patterns : List (List ℕ)) → Type 0

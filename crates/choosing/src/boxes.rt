@@ -2,7 +2,7 @@
 
 ghost use Rattle.std.specs.Prelude.{◌≡◌, ◌≤◌, Bool, List, ℕ, length, IfOk, IfSome, OnOk};
 ghost use Rattle.std.specs.List.{filter, insert};
-ghost use Rattle.choosing.specs.Boxes.{Tells, boxes_among, place_from, put_name, put_names, stands_in};
+ghost use Rattle.choosing.specs.Boxes.{Rises, Tells, boxes_among, place_from, put_name, put_names, stands_in};
 
 use config::patterns::{Patterns, matches};
 use mailcore::mailbox_name::MailboxName;
@@ -16,7 +16,8 @@ pub fn boxes_among(
     far: &[MailboxName],
     near: &[MailboxName],
 ) -> Result<Vec<MailboxName>, AllocError>
-    ensures { IfOk result (λ boxes. (is_chosen : List ℕ → Bool) → Tells is_chosen patterns.now → boxes.items ≡ boxes_among is_chosen far.now near.now) }
+    ensures rising { IfOk result (λ boxes. Rises boxes.items) }
+    ensures boxes { IfOk result (λ boxes. (is_chosen : List ℕ → Bool) → Tells is_chosen patterns.now → boxes.items ≡ boxes_among is_chosen far.now near.now) }
 {
     let mut boxes = Vec::new(alloc);
     add_chosen(alloc, &mut boxes, patterns, far)?;
@@ -31,7 +32,8 @@ fn add_chosen(
     patterns: &Patterns,
     names: &[MailboxName],
 ) -> Result<(), AllocError>
-    ensures { OnOk result ((is_chosen : List ℕ → Bool) → Tells is_chosen patterns.now → boxes.new.items ≡ put_names boxes.old.items (filter is_chosen names.now)) }
+    ensures rising { Rises boxes.old.items → OnOk result (Rises boxes.new.items) }
+    ensures boxes { OnOk result ((is_chosen : List ℕ → Bool) → Tells is_chosen patterns.now → boxes.new.items ≡ put_names boxes.old.items (filter is_chosen names.now)) }
 {
     for name in names {
         if matches(patterns, name.as_str()) {
@@ -48,7 +50,8 @@ fn put_name(
     boxes: &mut Vec<MailboxName>,
     name: &MailboxName,
 ) -> Result<(), AllocError>
-    ensures { OnOk result (boxes.new.items ≡ put_name name.now boxes.old.items) }
+    ensures rising { Rises boxes.old.items → OnOk result (Rises boxes.new.items) }
+    ensures put { OnOk result (boxes.new.items ≡ put_name name.now boxes.old.items) }
 {
     match place_for(boxes, name) {
         Some(place) => insert_name(alloc, boxes, place, name),

@@ -4,10 +4,10 @@ use Rattle.choosing.specs.Boxes.{put_names}
 use Rattle.choosing.proofs.BoxLemmas.{put_names-both}
 use Rattle.choosing.proofs.boxes.boxes_among.Goals as goal
 
-pub returns : goal.returns
-returns c = λ is_chosen tells.
+pub returns-clause-boxes : goal.returns-clause-boxes
+returns-clause-boxes c = λ is_chosen tells.
     let none = c.new-boxes.ensures.items in
-    let far = c.in_ok-add_chosen.ensures is_chosen tells in
-    let near = c.in_ok-add_chosen-2.ensures is_chosen tells in
+    let far = c.in_ok-add_chosen.ensures.boxes is_chosen tells in
+    let near = c.in_ok-add_chosen-2.ensures.boxes is_chosen tells in
     near ∙ ap (λ boxes. put_names boxes (filter is_chosen c.args.near.now)) (far ∙ ap (λ boxes. put_names boxes (filter is_chosen c.args.far.now)) none)
     ∙ put_names-both is_chosen [] c.args.far.now c.args.near.now
