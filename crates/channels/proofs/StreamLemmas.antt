@@ -1,5 +1,5 @@
 -- Streams that are written to several times.
-use Rattle.std.proofs.Common.{◌≡◌, ℕ, zero, suc, ◌≤◌, List, [], ◌∷◌, length, take, Option, None, Some, refl, ap, sym, ◌∙◌, ◌+◌, ◌<◌, ◌++◌, get_or, append_assoc, append-nil, subst, arith, min}
+use Rattle.std.proofs.Common.{◌≡◌, ℕ, zero, suc, ◌≤◌, List, [], ◌∷◌, length, take, Option, None, Some, refl, ap, sym, ◌∙◌, ◌+◌, ◌<◌, ◌++◌, get_or, append_assoc, append-nil, subst, arith}
 use Rattle.std.proofs.lemmas.Grind.{flat_map-append}
 use Rattle.std.proofs.lemmas.List.{length-take, take_all, take_more}
 use Rattle.std.specs.List.{flat_map}

@@ -1,5 +1,5 @@
 -- What the stores of a channel have.
-use Rattle.std.specs.Prelude.{Bool, ℕ, List, not}
+use Rattle.std.specs.Prelude.{ℕ, List, not}
 use Rattle.config.specs.declared.config.Boxes.{Boxes}
 use Rattle.config.specs.declared.config.Boxes.TheVariants.{Pair, Matching}
 use Rattle.rules.specs.declared.options.Sides.{Sides}

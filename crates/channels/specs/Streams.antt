@@ -2,7 +2,7 @@
 use Rattle.std.specs.Prelude.{◌≡◌, ℕ, ⊤, List, length, take, Option, None, Some}
 use Rattle.std.specs.Io.KnownBytes.{Keeps}
 use Rattle.channels.specs.declared.verdict.Verdict.{Verdict}
-use Rattle.channels.specs.declared.verdict.Verdict.TheVariants.{Clean, Faulty, Over}
+use Rattle.channels.specs.declared.verdict.Verdict.TheVariants.{Clean}
 
 -- all that was to be written stands behind what was there: so it is only where no write failed
 abbrev pub Extends : Option (List ℕ) → Option (List ℕ) → Type 0

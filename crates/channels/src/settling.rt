@@ -2,6 +2,10 @@
 
 ghost use Rattle.std.specs.Prelude.{◌≡◌, Err, IfOk, IfSome, IsSome, OnOk};
 ghost use Rattle.choosing.specs.Scope.{uncovered};
+ghost use Rattle.underway.specs.Conditions.{IsOver};
+ghost use Rattle.underway.specs.Openings.{Opening};
+ghost use Rattle.runner.specs.Answers.{IsAsked};
+ghost use Rattle.runner.specs.Attempts.{AtOpening};
 ghost use Rattle.channels.specs.Streams.{Extends, IsQuiet};
 
 use crate::fault::BoxFault;
@@ -173,13 +177,16 @@ fn settle_place<S: Stores, R: Rng>(
     }
 }
 
-/// Makes one run over an outside.
+/// Makes one run over an outside. From an opening, the run is over where it answers.
 fn settle_outside<O: Outside, R: Rng>(
     alloc: Global,
     outside: &mut O,
     options: &Options,
     rng: &mut R,
-) -> Result<Pass, BoxFault> {
+) -> Result<Pass, BoxFault>
+    ghost opening: { Opening }
+    ensures done { OnOk result (O.honest outside.new → IsAsked O.ours opening options.now (R.stream rng.old) → AtOpening O.ours O.alone opening (O.seen outside.old).device → IsOver O.ours O.alone opening (O.seen outside.new).device) }
+{
     match settle(alloc, outside, options, TRIES, rng) {
         Ok(settled) => Ok(settled.last),
         Err(RunFault::Refused(number)) => Err(BoxFault::Refused(number, step_of(outside, number))),

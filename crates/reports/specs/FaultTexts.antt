@@ -1,5 +1,5 @@
 -- How `mbsync` tells why a run was not finished.
-use Rattle.std.specs.Prelude.{ℕ, List, ◌∷◌, ◌++◌, codes}
+use Rattle.std.specs.Prelude.{ℕ, List, ◌++◌, codes}
 use Rattle.std.specs.Fmt.{decimal}
 use Rattle.runner.specs.declared.fault.RunFault.{RunFault}
 use Rattle.runner.specs.declared.fault.RunFault.TheVariants.{Stopped, Refused, ValidityChanged, BadState, BadJournal, StoreFault, MarksRepeat, NoMemory}

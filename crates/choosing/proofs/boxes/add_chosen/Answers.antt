@@ -1,4 +1,4 @@
-use Rattle.std.proofs.Common.{◌≡◌, ◌∙◌, ap, sym}
+use Rattle.std.proofs.Common.{◌∙◌, ap, sym}
 use Rattle.std.proofs.lemmas.Bool.Decides.{same_from_decides}
 use Rattle.choosing.proofs.BoxLemmas.{put_names-chosen, put_names-passed}
 use Rattle.choosing.proofs.boxes.add_chosen.Goals as goal
