@@ -1,0 +1,385 @@
+#!/usr/bin/env python3
+"""Runs mbsync between trial-imapd and Maildir folders, and tells of each check whether it passed:
+
+    bench/mbsync.py [--program PROGRAM] [--server PROGRAM] [NAME..]
+
+PROGRAM is bin/mbsync, and the server's crates/trial_imapd/out/trial_imapd, if they are left out; they are built where they are not
+there. With names only the scenes that have one of them in theirs are played. Each scene has a home folder, a configuration and a
+server of its own; what has to be printed, and what has to stand on both sides, is written here by hand. The last line is
+`N passed, M failed`; the status is 1 if one failed."""
+import argparse
+import fcntl
+import os
+import re
+import shutil
+import signal
+import subprocess
+import sys
+import tempfile
+import time
+
+import trial_imapd
+from imap_side import ImapSide
+from maildir_side import MaildirSide
+
+ONE = b"Subject: one\r\n\r\nThe first.\r\n"
+TWO = b"Subject: two\r\n\r\nThe second.\r\n"
+LONGEST = "x" * 200 + "/" + "x" * 54
+MARK = re.compile(rb"\AX-TUID: [A-Za-z0-9_-]{12}\r?\n")
+
+CONFIG = """\
+IMAPStore far
+Host 127.0.0.1
+Port %(port)d
+User u
+Pass %(password)s
+
+MaildirStore near
+Path ~/mail/
+Inbox ~/inbox
+
+Channel c
+Far :far:
+Near :near:
+Create Near
+
+Channel all
+Far :far:
+Near :near:
+Patterns %(patterns)s
+Create %(create)s
+"""
+
+
+class Scene:
+    """A home folder with a configuration, a server with these messages, and mbsync between them."""
+
+    program = None
+
+    def __init__(self, *messages, patterns="* INBOX", create="None", password="p"):
+        self.home = tempfile.mkdtemp(prefix="mbsync-")
+        world = self.path("world")
+        with open(world, "wb") as file:
+            file.write(trial_imapd.world(list(messages)))
+        self.server = trial_imapd.Server(world, 65535)
+        self.server.connect().logout()
+        self.configure(CONFIG % {"port": self.server.port, "password": password, "patterns": patterns, "create": create})
+
+    def __enter__(self):
+        return self
+
+    def __exit__(self, *_):
+        self.server.stop()
+        shutil.rmtree(self.home)
+
+    def path(self, name):
+        return os.path.join(self.home, name)
+
+    def configure(self, text):
+        with open(self.path(".mbsyncrc"), "w", encoding="ascii") as file:
+            file.write(text)
+
+    def words(self, words, home):
+        environment = {name: text for name, text in os.environ.items() if name != "HOME"}
+        if home:
+            environment["HOME"] = self.home
+        return {"args": [self.program, *words], "env": environment, "stdin": subprocess.DEVNULL, "cwd": self.home}
+
+    def run(self, *words, home=True, out=subprocess.PIPE):
+        """The status of a run, and what it prints: standard output, and behind it standard error."""
+        done = subprocess.run(**self.words(words, home), stdout=out, stderr=subprocess.PIPE, timeout=120, check=False)
+        return [done.returncode, *(done.stdout or b"").decode("latin-1").splitlines(), *done.stderr.decode("latin-1").splitlines()]
+
+    def start(self, *words):
+        return subprocess.Popen(**self.words(words, True), stdout=subprocess.PIPE, stderr=subprocess.PIPE)
+
+    def far(self):
+        return ImapSide(self.server.port)
+
+    def far_messages(self):
+        """Flags and bytes of each far message by UID, without the line of a mark."""
+        with self.far() as far:
+            return {uid: ("".join(sorted(flags)), MARK.sub(b"", data)) for uid, flags, data in far.messages()}
+
+    def make_far(self, *names):
+        with self.far() as far:
+            for name in names:
+                far.ask(b"CREATE " + name.encode())
+
+    def near(self, box="inbox"):
+        return MaildirSide(self.path(box))
+
+    def near_messages(self, box="inbox"):
+        """The same of the near mailbox in this folder. Waiting messages have UID 0."""
+        return {uid or 0: ("".join(sorted(flags)), MARK.sub(b"", data)) for uid, flags, data in self.near(box).messages()}
+
+    def write(self, name, data):
+        os.makedirs(os.path.dirname(self.path(name)), exist_ok=True)
+        with open(self.path(name), "wb") as file:
+            file.write(data)
+
+    def texts(self, box="inbox"):
+        """The files that belong to a near mailbox, beside its messages."""
+        return sorted(name for name in os.listdir(self.path(box)) if name not in ("cur", "new", "tmp"))
+
+
+class Tally:
+    """Counts checks, and tells each."""
+
+    def __init__(self):
+        self.passed = self.failed = 0
+
+    def same(self, what, got, wanted):
+        if got == wanted:
+            self.passed += 1
+            print(f"ok      {what}")
+        else:
+            self.failed += 1
+            print(f"FAILED  {what}\n        wanted {wanted!r}\n        got    {got!r}")
+        sys.stdout.flush()
+
+
+def near_text(message):
+    return message.replace(b"\r\n", b"\n")
+
+
+def mode_of(path):
+    return oct(os.stat(path).st_mode & 0o777)
+
+
+def first_pull(tally):
+    with Scene(ONE, TWO) as scene:
+        with scene.far() as far:
+            far.set_flags(2, frozenset(), frozenset("SF"))
+        tally.same("a first pull", scene.run("c"), [0, "c:INBOX", "new pull 1 -> 1", "new pull 2 -> 2", "ran"])
+        tally.same("its copies", scene.near_messages(), {1: ("", near_text(ONE)), 2: ("FS", near_text(TWO))})
+        tally.same("its files", scene.texts(), [".mbsyncstate", ".mbsyncstate.lock", ".uidvalidity"])
+        validity, highest = scene.near().text(".uidvalidity").split()
+        entries = "e 1 1 -\ne 2 2 FS\nend\n"
+        state = f"mbsync state 1\nrun 1\nfar 1 2\nnear {validity} 0\n" + entries
+        tally.same("its state", scene.near().text(".mbsyncstate"), state)
+        tally.same("its highest UID", highest, "2")
+        tally.same("its validity is that of the clock", abs(int(validity) - 1 - time.time()) < 60, True)
+        modes = [mode_of(scene.path("inbox/" + name)) for name in ("", "cur", *scene.texts())]
+        tally.same("who may read them", modes, ["0o700", "0o700", "0o600", "0o600", "0o600"])
+        tally.same("nothing to do", scene.run("c"), [0, "c:INBOX", "ran"])
+        # The copies are below the greatest UID that was listed now.
+        state = f"mbsync state 1\nrun 2\nfar 1 2\nnear {validity} 2\n" + entries
+        tally.same("the run is counted", scene.near().text(".mbsyncstate"), state)
+
+
+def changes_both_ways(tally):
+    with Scene(ONE, TWO) as scene:
+        scene.run("c")
+        with scene.far() as far:
+            far.set_flags(1, frozenset(), frozenset("F"))
+        scene.near().set_flags(2, "", "RS")
+        steps = ["flags pull 1 1 +F", "flags push 2 2 +RS"]
+        tally.same("flags both ways", scene.run("c"), [0, "c:INBOX", *steps, "ran"])
+        tally.same("flags of the near side", scene.near_messages(), {1: ("F", near_text(ONE)), 2: ("RS", near_text(TWO))})
+        tally.same("flags of the far side", scene.far_messages(), {1: ("F", ONE), 2: ("RS", TWO)})
+        scene.near().add("17.new", b"Subject: mine\n\nHere.\n", frozenset())
+        with scene.far() as far:
+            far.add("", b"Subject: three\r\n\r\nThere.\r\n", frozenset("S"))
+        steps = ["new pull 3 -> 4", "new push 3 -> 4"]
+        tally.same("new messages both ways", scene.run("c"), [0, "c:INBOX", *steps, "ran"])
+        tally.same("the new far message", scene.far_messages()[4], ("", b"Subject: mine\r\n\r\nHere.\r\n"))
+        tally.same("the new near message", scene.near_messages()[4], ("S", b"Subject: three\n\nThere.\n"))
+        tally.same("then nothing to do", scene.run("c"), [0, "c:INBOX", "ran"])
+
+
+def gone(tally):
+    with Scene(ONE, TWO) as scene:
+        scene.run("c")
+        with scene.far() as far:
+            far.remove(1)
+        scene.near().remove(2)
+        tally.same("gone on either side", scene.run("c"), [0, "c:INBOX", "gone pull 1 1", "gone push 2 2", "ran"])
+        tally.same("the near one is marked", scene.near_messages(), {1: ("T", near_text(ONE))})
+        tally.same("the far one is marked", scene.far_messages(), {2: ("T", TWO)})
+        tally.same("then nothing to do", scene.run("c"), [0, "c:INBOX", "ran"])
+        tally.same("with Expunge", scene.run("--expunge", "c"), [0, "c:INBOX", "expunge far 2", "expunge near 1", "ran"])
+        tally.same("both sides are empty", [scene.near_messages(), scene.far_messages()], [{}, {}])
+        tally.same("no entry is left", [line for line in scene.near().text(".mbsyncstate").split("\n") if line[:1] == "e"], ["end"])
+
+
+def only_what_is_asked(tally):
+    with Scene(ONE) as scene:
+        scene.near().add("17.new", b"Subject: mine\n\nHere.\n", frozenset())
+        tally.same("--push alone", scene.run("--push", "c"), [0, "c:INBOX", "new push 1 -> 2", "ran"])
+        tally.same("--noop alone", scene.run("--noop", "c"), [0, "c:INBOX", "ran"])
+        tally.same("--pull --new", scene.run("--pull", "--new", "c"), [0, "c:INBOX", "new pull 1 -> 2", "ran"])
+
+
+def several_boxes(tally):
+    with Scene(ONE, create="Both") as scene:
+        scene.make_far("a", "far/only")
+        for folder in ("mail/a", "mail/b/c"):
+            scene.near(folder)
+        scene.write("mail/a/new/17.new", b"Subject: mine\n\nHere.\n")
+        boxes = ["all:INBOX", "all:a", "all:b/c", "all:far/only"]
+        tally.same("-l lists", scene.run("-l", "all"), [0, *boxes])
+        tally.same("-l makes nothing", [os.path.exists(scene.path(name)) for name in ("inbox", "mail/far")], [False, False])
+        wanted = [0, boxes[0], "new pull 1 -> 1", "ran", boxes[1], "new push 1 -> 1", "ran", boxes[2], "ran", boxes[3], "ran"]
+        tally.same("a run over all", scene.run("all"), wanted)
+        tally.same("the near one is made", scene.near_messages("mail/far/only"), {})
+        with scene.far() as far:
+            far.ask(b"SELECT b/c")
+        tally.same("then nothing to do", scene.run("-a"), [0, "c:INBOX", "ran", *(word for box in boxes for word in (box, "ran"))])
+
+
+def absent_boxes(tally):
+    with Scene(ONE) as scene:
+        scene.near("mail/a")
+        scene.make_far("b")
+        faults = ["mbsync: all:INBOX: absent near", "mbsync: all:a: absent far", "mbsync: all:b: absent near"]
+        got = scene.run("all")
+        tally.same("absent boxes without Create", [line for line in got if not str(line).startswith("  ")], [1, *faults])
+        tally.same("nothing is made", os.path.exists(scene.path("mail/b")), False)
+        with scene.far() as far:
+            tally.same("nor at the server", far.ask(b'LIST "" "*"').count(b"* LIST"), 2)
+
+
+def the_walk(tally):
+    with Scene() as scene:
+        scene.make_far("Spam", "a")
+        scene.configure(CONFIG % {"port": scene.server.port, "password": "p", "patterns": "* !Sp%", "create": "None"})
+        for folder in ("mail/a", "mail/b/c", "inbox"):
+            scene.near(folder)
+        tally.same("patterns choose of either side", scene.run("-l", "all"), [0, "all:a", "all:b/c"])
+        for folder in ("mail/a/cur/hidden", "mail/INBOX/sub", "mail/50%", "mail/" + LONGEST, "mail/" + LONGEST + "y", "elsewhere/d"):
+            scene.near(folder)
+        os.makedirs(scene.path("mail/half/cur"))
+        os.symlink(scene.path("mail"), scene.path("mail/a/up"))
+        os.symlink(scene.path("elsewhere"), scene.path("mail/link"))
+        os.symlink("nowhere", scene.path("mail/broken"))
+        os.makedirs(os.path.join(os.fsencode(scene.path("mail")), b"\xff/cur"))
+        scene.write("mail/file", b"")
+        wanted = ["INBOX/sub", "a", "b/c", "link/d", LONGEST]
+        tally.same("the folders that are mailboxes", scene.run("-l", "all"), [0, *("all:" + name for name in wanted)])
+        os.rename(scene.path("mail"), scene.path("else"))
+        tally.same("a Path that is not there", scene.run("-l", "all"), [0, "all:a"])
+        scene.write("mail", b"")
+        tally.same("a Path that is a file", scene.run("-l", "all"), [1, f"mbsync: cannot open {scene.path('mail/')}"])
+
+
+def the_lock(tally):
+    with Scene(*([ONE] * 200)) as scene, Scene(ONE) as other:
+        first = scene.start("c")
+        while not os.path.exists(scene.path("inbox/.mbsyncstate.journal")) and first.poll() is None:
+            time.sleep(0.001)
+        first.send_signal(signal.SIGSTOP)
+        os.symlink(scene.path("inbox"), other.path("inbox"))
+        got = other.run("c")
+        tally.same("the first process is at work", first.poll(), None)
+        tally.same("a second one finds the lock", [line for line in got if not str(line).startswith("  ")], [1, "c:INBOX", "mbsync: c:INBOX: locked"])
+        first.send_signal(signal.SIGKILL)
+        first.communicate()
+        count = len(scene.near_messages())
+        tally.same("the first one was killed", [first.returncode, count < 200], [-9, True])
+        got = scene.run("c")
+        tally.same("the next run finishes", [got[0], got[1], got[-1]], [0, "c:INBOX", "finished"])
+        tally.same("all messages are there once", len(scene.near_messages()), 200)
+        with open(scene.path("inbox/.mbsyncstate.lock"), "rb") as file:
+            fcntl.flock(file, fcntl.LOCK_EX)
+            tally.same("a lock that another program holds", scene.run("c")[-1 - ("  " == scene.run("c")[-1][:2])], "mbsync: c:INBOX: locked")
+        tally.same("then nothing to do", scene.run("c"), [0, "c:INBOX", "ran"])
+
+
+def usage(tally):
+    with Scene() as scene:
+        scene.server.stop()
+        tally.same("no words", scene.run(), [2, "mbsync: no channel"])
+        tally.same("words of Sync that are refused", scene.run("--pull", "--noop", "c"), [2, "mbsync: sync words"])
+        tally.same("unknown names", scene.run("c", "nope", "none"), [2, "mbsync: unknown nope"])
+        tally.same("an unknown option", scene.run("--nope", "c")[0], 2)
+        got = scene.run("-h")
+        tally.same("help", [got[0], "Usage: mbsync [OPTIONS] [CHANNEL]..." in got], [0, True])
+        tally.same("-l of one mailbox opens no store", scene.run("-l", "c"), [0, "c:INBOX"])
+
+
+def what_does_not_open(tally):
+    with Scene() as scene:
+        tally.same("HOME is not set", scene.run("c", home=False), [1, "mbsync: cannot open .mbsyncrc"])
+        tally.same("FILE is not there", scene.run("-c", "nope", "c"), [1, "mbsync: cannot open nope"])
+        tally.same("FILE is a folder", scene.run("-c", ".", "c"), [1, "mbsync: cannot open ."])
+        tally.same("a write that fails", scene.run("-l", "c", out=open("/dev/full", "wb"))[0], 1)
+        scene.server.stop()
+        tally.same("no server", scene.run("c")[:2], [1, "mbsync: cannot open far"])
+    with Scene(password='"not so"') as scene:
+        got = scene.run("c")
+        tally.same("a wrong password", got[:2], [1, "mbsync: cannot open far"])
+        tally.same("it is not told", any("not so" in str(line) for line in got), False)
+    with Scene(ONE) as scene:
+        scene.configure(CONFIG.replace("~/inbox", "~/locked/inbox") % {"port": scene.server.port, "password": "p", "patterns": "*", "create": "None"})
+        scene.write("locked", b"")
+        tally.same("no folder can be made", scene.run("c")[:2], [1, f"mbsync: cannot open {scene.path('locked/inbox')}"])
+
+
+def bad_configurations(tally):
+    with Scene() as scene:
+        text = "IMAPStore far\nHost h\nUser u\nPass p\n\nMaildirStore near\nPath ~/mail/\n\nChannel c\nFar :far:\nNear :near:\nPatterns * !Sp%\n"
+        scene.configure(text + "Sync PullNew Pull\n")
+        tally.same("a cell twice", scene.run("c"), [1, "mbsync: config line 13: kind 9", "  cell asserted twice"])
+        scene.configure(text.replace("Host h\n", ""))
+        tally.same("a keyword that lacks", scene.run("c"), [1, "mbsync: config line 1: kind 8", "  required keyword missing"])
+        tally.same("the words are looked at first", scene.run("--pull", "--noop", "c"), [2, "mbsync: sync words"])
+
+
+def states_of_others(tally):
+    for name, text, told in (
+        (".mbsyncstate", b"FarUidValidity 1\nNearUidValidity 1\nMaxPulledUid 2\n\n1 1 S\n", "bad state 1"),
+        (".mbsyncstate", b"mbsync state 1\nrun 1\nfar 1 2\n", "bad state 4"),
+        (".mbsyncstate.journal", b"journal 1\nrun 1\nfar 1 1 2\nnear 1 0 1\nx\ngo\n", "bad journal 5"),
+        (".mbsyncstate.journal", b"2\n", None),
+    ):
+        with Scene(ONE) as scene:
+            scene.near()
+            scene.write("inbox/" + name, text)
+            got = scene.run("c")
+            if told is None:
+                tally.same(f"{name} without a plan is removed", got, [0, "c:INBOX", "new pull 1 -> 1", "ran"])
+                continue
+            tally.same(f"{told} of {name}", [got[0], *(line for line in got[1:] if line[:2] != "  ")], [1, "c:INBOX", f"mbsync: c:INBOX: {told}"])
+            tally.same("nothing has changed", [scene.near().text(name).encode(), scene.near_messages()], [text, {}])
+    with Scene(ONE) as scene:
+        scene.run("c")
+        validity = scene.near().text(".uidvalidity").split()[0]
+        scene.write("inbox/.uidvalidity", b"%d\n1\n" % (int(validity) + 1))
+        got = scene.run("c")
+        tally.same("another validity", [line for line in got if str(line)[:2] != "  "], [1, "c:INBOX", "mbsync: c:INBOX: validity changed near"])
+
+
+def messages_that_do_not_fit(tally):
+    with Scene(ONE) as scene:
+        scene.near().add("1.nul", b"Subject: nul\n\na\0b\n", frozenset())
+        tally.same("a NUL is not sent", scene.run("c"), [0, "c:INBOX", "new pull 1 -> 2", "unfit near 1", "ran"])
+        tally.same("and is told again", scene.run("c")[-2:], ["unfit near 1", "ran"])
+
+
+SCENES = [first_pull, changes_both_ways, gone, only_what_is_asked, several_boxes, absent_boxes, the_walk, the_lock, usage,
+          what_does_not_open, bad_configurations, states_of_others, messages_that_do_not_fit]
+
+
+def main():
+    top = os.path.dirname(os.path.dirname(os.path.abspath(__file__)))
+    words = argparse.ArgumentParser(description="Runs mbsync between trial-imapd and Maildir folders.")
+    words.add_argument("--program", default=os.path.join(top, "bin", "mbsync"))
+    words.add_argument("--server")
+    words.add_argument("names", nargs="*")
+    words = words.parse_args()
+    if words.server:
+        trial_imapd.PROGRAM = words.server
+    else:
+        trial_imapd.build()
+    Scene.program = os.path.abspath(words.program)
+    subprocess.run([Scene.program, "-h"], stdout=subprocess.DEVNULL, check=True)
+    tally = Tally()
+    for scene in SCENES:
+        if not words.names or any(name in scene.__name__ for name in words.names):
+            scene(tally)
+    print(f"{tally.passed} passed, {tally.failed} failed")
+    sys.exit(1 if tally.failed else 0)
+
+
+main()

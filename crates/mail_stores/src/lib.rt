@@ -1,0 +1,7 @@
+//! The real stores of `mbsync`: mailboxes at IMAP servers over TCP, and Maildir folders of a disk.
+#![tactic(auto)]
+
+mod account;
+pub mod mail_stores;
+mod server;
+mod told;

@@ -1,0 +1,168 @@
+//! The real stores: servers over TCP, and folders of a disk.
+
+use crate::account::account_of;
+use crate::server::{create, link_to, log_in, names_at};
+use crate::told::{list_fault, lock_fault, make_fault, no_session, store_fault};
+use book::disk_shelf::DiskShelf;
+use book::shelf::Shelf;
+use book_part::book_part::BookPart;
+use both::both::Both;
+use config::config::{ImapStore, MaildirStore};
+use device::DeviceFault;
+use far_part::far_part::FarPart;
+use imap_client::tcp_link::TcpLink;
+use imap_link::link::Link;
+use mailcore::mailbox_name::MailboxName;
+use mailcore::side::Side;
+use maildir::disk_folder::DiskFolder;
+use maildir::folder::Folder;
+use near_part::near_part::NearPart;
+use near_places::boxes::near_boxes;
+use near_places::home::Home;
+use near_places::lock::{Lock, LockFault};
+use near_places::refusal::Refusal;
+use std::fs::File;
+use std::net::Net;
+use std::num::NonZeroU32;
+use std::rt::Files;
+use stores::channel_box::ChannelBox;
+use stores::fault::{ListFault, StoreFault};
+use stores::stores::{BoxLists, Stores};
+
+/// Both sides of a mailbox, and its book, which lies in the folder of the near side.
+type RealBox<R> = Both<TcpLink<R>, DiskFolder<R>, DiskShelf<R>>;
+
+/// A mailbox that is open. Its lock is dropped last.
+#[derive(Drop)]
+struct OpenBox<R: Net + Files + AllocGlobal + Clone + Drop>
+where
+    TcpLink<R>: Link,
+    DiskFolder<R>: Folder,
+    DiskShelf<R>: Shelf,
+{
+    outside: RealBox<R>,
+    _lock: Lock,
+}
+
+/// The stores of a configuration: mailboxes at IMAP servers, each reached by a connection of its own, and folders of a disk.
+///
+/// One mailbox at a time is open, and no connection stands beside another: a store that is listed and a mailbox that is made or lent
+/// close the one before.
+#[derive(Drop)]
+pub struct MailStores<R: Net + Files<File = File> + AllocGlobal + Clone + Drop>
+where
+    TcpLink<R>: Link,
+    DiskFolder<R>: Folder,
+    DiskShelf<R>: Shelf,
+{
+    rt: R,
+    home: Home,
+    fresh: NonZeroU32,
+    open: Option<OpenBox<R>>,
+}
+
+impl<R: Net + Files<File = File> + AllocGlobal + Clone + Drop> MailStores<R> {
+    /// The stores of a user with this home folder. Near mailboxes that have no UIDVALIDITY yet get this one.
+    pub fn new(rt: R, home: Home, fresh: NonZeroU32) -> Self {
+        MailStores {
+            rt,
+            home,
+            fresh,
+            open: None,
+        }
+    }
+
+    /// Takes the lock of a mailbox, and opens both sides.
+    fn open_box(&self, place: ChannelBox<'_>) -> Result<OpenBox<R>, LockFault> {
+        let folder = self.folder_of(place)?;
+        let lock = Lock::take(&self.rt, folder.as_str())?;
+        match self.real_box(place, folder.as_str()) {
+            Ok(outside) => Ok(OpenBox {
+                outside,
+                _lock: lock,
+            }),
+            Err(refusal) => Err(LockFault::Refused(refusal)),
+        }
+    }
+
+    /// The folder of the near side of a mailbox.
+    fn folder_of(&self, place: ChannelBox<'_>) -> Result<String, LockFault> {
+        let alloc = self.rt.alloc();
+        Ok(self.home.folder_of(alloc, place.of.near_store, place.near)?)
+    }
+
+    /// Both sides of a mailbox, over a link that is not connected yet, and a folder that is not read yet.
+    fn real_box(&self, place: ChannelBox<'_>, folder: &str) -> Result<RealBox<R>, Refusal> {
+        let alloc = self.rt.alloc();
+        let far = self.far_part(place)?;
+        let near = DiskFolder::new(self.rt.clone()?, folder)?;
+        let near = NearPart::new(alloc, near, self.fresh);
+        let book = DiskShelf::new(self.rt.clone()?, folder)?;
+        let book = BookPart::new(alloc, book);
+        Ok(Both::new(alloc, far, near, book))
+    }
+
+    /// The far side of a mailbox.
+    fn far_part(&self, place: ChannelBox<'_>) -> Result<FarPart<TcpLink<R>>, Refusal> {
+        let alloc = self.rt.alloc();
+        let Some(account) = account_of(alloc, place.of.far_store, place.far)? else {
+            return Err(Refusal::cannot_open(alloc, place.of.far_store.name.as_str()));
+        };
+        let link = link_to(&self.rt, place.of.far_store)?;
+        Ok(FarPart::new(alloc, account, link))
+    }
+
+    /// Makes a mailbox at the server of a store.
+    fn make_far(&self, store: &ImapStore, name: &MailboxName) -> Result<(), StoreFault> {
+        match log_in(&self.rt, store) {
+            Ok(session) => create(session, name).map_err(make_fault),
+            Err(fault) => Err(store_fault(no_session(self.rt.alloc(), store, fault))),
+        }
+    }
+
+    /// Makes the folder of a near mailbox, with those above it.
+    fn make_near(&self, place: ChannelBox<'_>) -> Result<(), LockFault> {
+        let folder = self.folder_of(place)?;
+        let path = folder.as_str();
+        match DiskFolder::create(self.rt.clone()?, path) {
+            Ok(_) => Ok(()),
+            Err(DeviceFault::NoMemory) => Err(LockFault::Refused(Refusal::NoMemory)),
+            Err(DeviceFault::Stopped) => {
+                let refusal = Refusal::cannot_open(self.rt.alloc(), path);
+                Err(LockFault::Refused(refusal))
+            }
+        }
+    }
+}
+
+impl<R: Net + Files<File = File> + AllocGlobal + Clone + Drop> BoxLists for MailStores<R> {
+    fn far_boxes(&mut self, store: &ImapStore) -> Result<Vec<MailboxName>, ListFault> {
+        self.open = None;
+        match names_at(&self.rt, store) {
+            Ok(names) => Ok(names),
+            Err(fault) => Err(list_fault(no_session(self.rt.alloc(), store, fault))),
+        }
+    }
+
+    fn near_boxes(&mut self, store: &MaildirStore) -> Result<Vec<MailboxName>, ListFault> {
+        near_boxes(&self.rt, &self.home, store).map_err(list_fault)
+    }
+}
+
+impl<R: Net + Files<File = File> + AllocGlobal + Clone + Drop> Stores for MailStores<R> {
+    type Outside = RealBox<R>;
+
+    fn make(&mut self, side: Side, place: ChannelBox<'_>) -> Result<(), StoreFault> {
+        self.open = None;
+        match side {
+            Side::Far => self.make_far(place.of.far_store, place.far),
+            Side::Near => self.make_near(place).map_err(lock_fault),
+        }
+    }
+
+    fn outside(&mut self, place: ChannelBox<'_>) -> Result<&mut Self::Outside, StoreFault> {
+        self.open = None;
+        let open = self.open_box(place).map_err(lock_fault)?;
+        Ok(&mut self.open.insert(open).outside)
+    }
+}

@@ -1,0 +1,56 @@
+//! How the faults of places and servers are told of stores.
+
+use config::config::ImapStore;
+use imap_link::fault::FarFault;
+use mailcore::side::Side;
+use near_places::lock::LockFault;
+use near_places::refusal::Refusal;
+use runner::fault::RunFault;
+use std::alloc::Global;
+use stores::fault::{ListFault, StoreFault};
+
+/// A near store that is not listed.
+pub(crate) fn list_fault(refusal: Refusal) -> ListFault {
+    match refusal {
+        Refusal::CannotOpen(name) => ListFault::CannotOpen(name),
+        Refusal::NoMemory => ListFault::NoMemory,
+    }
+}
+
+/// A place that does not open.
+pub(crate) fn store_fault(refusal: Refusal) -> StoreFault {
+    match refusal {
+        Refusal::CannotOpen(name) => StoreFault::CannotOpen(name),
+        Refusal::NoMemory => StoreFault::Box(RunFault::NoMemory),
+    }
+}
+
+/// A lock that is not taken.
+pub(crate) fn lock_fault(fault: LockFault) -> StoreFault {
+    match fault {
+        LockFault::Held => StoreFault::Locked,
+        LockFault::Refused(refusal) => store_fault(refusal),
+    }
+}
+
+/// A server that cannot be asked: the name of its store is told.
+pub(crate) fn no_session(alloc: Global, store: &ImapStore, fault: FarFault) -> Refusal {
+    match fault {
+        FarFault::NoMemory => Refusal::NoMemory,
+        _ => Refusal::cannot_open(alloc, store.name.as_str()),
+    }
+}
+
+/// A far mailbox that is not made: a fault of the far box by its number.
+pub(crate) fn make_fault(fault: FarFault) -> StoreFault {
+    let fault = match fault {
+        FarFault::Stopped => RunFault::Stopped,
+        FarFault::Refused => RunFault::StoreFault(Side::Far, 2),
+        FarFault::Protocol => RunFault::StoreFault(Side::Far, 3),
+        FarFault::TooLong => RunFault::StoreFault(Side::Far, 4),
+        FarFault::NoRev2 => RunFault::StoreFault(Side::Far, 5),
+        FarFault::ReadOnly => RunFault::StoreFault(Side::Far, 6),
+        FarFault::NoMemory => RunFault::NoMemory,
+    };
+    StoreFault::Box(fault)
+}
