@@ -1,0 +1,159 @@
+#!/usr/bin/env python3
+"""Kills a run of mbsync at each of its system calls in turn:
+
+    bench/each-kill.py [PROGRAM]
+
+strace counts the calls of a run, by their names, and then sends the signal where the k-th call of a name begins, for each name that
+changes something or waits for something, and for each k. One run more has to end well, with both sides as they have to be, and a
+further one has nothing to do. Two runs are tried: a first one that makes the near folder, and one with new messages, flags, and
+removals on both sides, with Expunge. PROGRAM is the built mbsync if it is left out. Needs strace."""
+import os
+import shutil
+import subprocess
+import sys
+import tempfile
+
+from imap_side import ImapSide
+from maildir_side import MaildirSide
+from measured import system_calls
+from trial_imapd import TOP, Server, build, world
+
+MBSYNC = os.path.join(TOP, "crates", "mbsync_main", "out", "mbsync_main")
+NAMES = ["mkdir", "openat", "close", "read", "write", "rename", "unlink", "fsync", "flock", "getdents64", "connect", "sendto", "recvfrom"]
+CONFIGURATION = """IMAPStore far
+Host 127.0.0.1
+Port %d
+User u
+Pass p
+
+MaildirStore near
+Path %s/
+Inbox %s/INBOX
+
+Channel box
+Far :far:
+Near :near:
+Create Near
+Expunge Both
+"""
+
+
+def message(subject):
+    return b"Subject: %s\r\n\r\ntext of %s\r\n" % (subject, subject)
+
+
+def subjects(messages):
+    """Subject and flags of messages."""
+    return sorted((next(line[9:].strip().decode() for line in data.split(b"\n") if line.startswith(b"Subject: ")), "".join(sorted(flags)))
+                  for _, flags, data in messages)
+
+
+class Place:
+    """trial-imapd with four messages, and a folder that is not there yet."""
+
+    def __init__(self, program, folder):
+        self.folder = os.path.join(folder, "place")
+        self.file = os.path.join(folder, "four.world")
+        self.program = program
+        with open(self.file, "wb") as text:
+            text.write(world([message(subject) for subject in (b"one", b"two", b"three", b"four")]))
+        self.server = None
+
+    def renew(self):
+        """Both sides as at first; gives the command of a run."""
+        self.stop()
+        shutil.rmtree(self.folder, ignore_errors=True)
+        os.mkdir(self.folder)
+        self.server = Server(self.file, 1000)
+        self.server.connect().logout()
+        configuration = os.path.join(self.folder, "mbsyncrc")
+        with open(configuration, "w", encoding="ascii") as text:
+            text.write(CONFIGURATION % (self.server.port, self.folder, self.folder))
+        return [self.program, "-c", configuration, "box"]
+
+    def stop(self):
+        if self.server:
+            self.server.stop()
+
+    def near(self):
+        return MaildirSide(os.path.join(self.folder, "INBOX"))
+
+    def sides(self):
+        with ImapSide(self.server.port) as far:
+            return subjects(far.messages()), subjects(self.near().messages())
+
+
+def before_first_run(place):
+    return place.renew()
+
+
+def before_second_run(place):
+    """A first run, and changes of each kind."""
+    command = place.renew()
+    subprocess.run(command, check=True, stdout=subprocess.DEVNULL)
+    uids = {subject: uid for uid, _, data in place.near().messages() for subject, _ in subjects([(0, "", data)])}
+    with ImapSide(place.server.port) as far:
+        far.set_flags(1, frozenset(), frozenset("F"))
+        far.remove(2)
+        far.add(None, message(b"five"), frozenset("S"))
+    near = place.near()
+    near.set_flags(uids["one"], None, frozenset("R"))
+    near.remove(uids["three"])
+    near.set_flags(uids["four"], None, frozenset("T"))
+    near.add("1700000000.six", message(b"six").replace(b"\r", b""), frozenset("F"))
+    return command
+
+
+FOUR = [("four", ""), ("one", ""), ("three", ""), ("two", "")]
+CHANGED = [("five", "S"), ("one", "FR"), ("six", "F")]
+
+
+def killed(place, prepare, name, number, wanted):
+    """What is wrong behind a kill at this call, or none."""
+    command = prepare(place)
+    kill = ["-e", f"trace={name}", "-e", f"inject={name}:signal=KILL:when={number}"]
+    subprocess.run(["strace", "-f", "-qq", "-o", os.devnull, *kill, *command], capture_output=True, check=False, timeout=120)
+    done = subprocess.run(command, capture_output=True, text=True, check=False, timeout=120)
+    if done.returncode != 0:
+        return done.stdout + done.stderr
+    if place.sides() != (wanted, wanted):
+        return f"{done.stdout}{place.sides()}"
+    done = subprocess.run(command, capture_output=True, text=True, check=False, timeout=120)
+    return None if done.stdout == "box:INBOX\nran\n" else done.stdout + done.stderr
+
+
+def try_each(place, prepare, wanted):
+    """How many kills there were, and how many went wrong."""
+    counts, tried, failed = system_calls(prepare(place)), 0, 0
+    if counts is None:
+        sys.exit("strace cannot be used")
+    for name in NAMES:
+        for number in range(1, counts.get(name, 0) + 1):
+            told = killed(place, prepare, name, number, wanted)
+            tried += 1
+            if told is not None:
+                failed += 1
+                print(f"FAILED: {prepare.__name__}, killed at {name} {number}: {told}", flush=True)
+    return tried, failed
+
+
+def main():
+    program = sys.argv[1] if len(sys.argv) > 1 else MBSYNC
+    build()
+    if not os.access(program, os.X_OK):
+        sys.exit(f"{program} is not built")
+    failed = 0
+    with tempfile.TemporaryDirectory() as folder:
+        place = Place(program, folder)
+        try:
+            for name, prepare, wanted in (("a first run", before_first_run, FOUR), ("a run with all kinds of steps", before_second_run, CHANGED)):
+                tried, wrong = try_each(place, prepare, wanted)
+                failed += wrong
+                print(f"{name}: {tried} kills, each at another system call, {wrong} went wrong", flush=True)
+        finally:
+            place.stop()
+    sys.exit(1 if failed else 0)
+
+
+if __name__ == "__main__":
+    main()
