@@ -140,7 +140,8 @@ def one_uid_twice(place):
     place.works("a first pull", "new pull 1 -> 1", "new pull 2 -> 2", "ran")
     place.near.add("1.moved,U=2", b"Subject: another\n", frozenset("S"))
     place.fails("two files with one UID are told", "store fault near 3")
-    listed = subprocess.run(f"cd {place.near.path}; ls cur new | grep -o ',U=[0-9]*' | sort | uniq -d", shell=True, capture_output=True, text=True, check=True)
+    command = "ls cur new | grep -o ',U=[0-9]*' | sort | uniq -d"
+    listed = subprocess.run(command, shell=True, cwd=place.near.path, capture_output=True, text=True, check=True)
     check("the page's command finds them", listed.stdout == ",U=2\n", listed.stdout)
     os.rename(place.path("cur/1.moved,U=2:2,S"), place.path("cur/1.moved:2,S"))
     place.works("without the UID in its name it is a new message", "new push 3 -> 3", "ran")
