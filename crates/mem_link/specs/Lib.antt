@@ -1,3 +1,4 @@
 pub mod MemLines
 pub mod Served
+pub mod Losing
 pub mod MemLinks

@@ -59,9 +59,13 @@ fn connected<R: Net>(rt: &R) -> io::Result<Ends<R::Stream>> {
 }
 
 impl<R: Net + AllocGlobal + Clone + Drop> LoopLink<R> {
+    ghost use Rattle.mem_link.specs.MemLinks.{line_of, stops_of};
+
     /// A link to this server, with these stops. Nothing is connected before `reconnect`.
     pub fn new(rt: R, server: Server, schedule: Schedule) -> Self
         requires { AreServed server.server.mailboxes }
+        ensures server { (line_of result.far).end.server ≡ server.server }
+        ensures stops { stops_of result.far ≡ 0 }
     {
         let far = MemLink::new(rt.alloc(), server, schedule);
         LoopLink {
@@ -72,17 +76,23 @@ impl<R: Net + AllocGlobal + Clone + Drop> LoopLink<R> {
     }
 
     /// How many calls have stopped.
-    pub fn stops(&self) -> usize {
+    pub fn stops(&self) -> usize
+        ensures { result ≡ stops_of self.now.far }
+    {
         self.far.stops()
     }
 
     /// The server, with its mailboxes as they stand.
-    pub fn server(&self) -> &Server {
+    pub fn server(&self) -> &Server
+        ensures { result.now.server ≡ (line_of self.now.far).end.server }
+    {
         self.far.server()
     }
 
     /// The server, which nothing links to any more.
-    pub fn into_server(self) -> Server {
+    pub fn into_server(self) -> Server
+        ensures { result.server ≡ (line_of self.far).end.server }
+    {
         let LoopLink { far, .. } = self;
         far.into_server()
     }

@@ -1,8 +1,9 @@
 //! A link to a server in memory.
 
-ghost use Rattle.std.specs.Prelude.{◌≡◌, ◌<◌, ◌≤◌, length, OnOk, OnErr, IfSome, Err};
+ghost use Rattle.std.specs.Prelude.{◌≡◌, ◌<◌, ◌≤◌, true, None, length, take, IsOk, IfOk, IfErr, OnOk, OnErr, IsErrOf, IfSome, Ok, Err};
 ghost use Rattle.imap_session.specs.Serving.{FeedsSome};
-ghost use Rattle.imap_session.specs.Lines.{Sends};
+ghost use Rattle.imap_session.specs.Servers.{Quiet};
+ghost use Rattle.imap_session.specs.Lines.{Sends, Receives, Starts};
 ghost use Rattle.imap_server.specs.Boxes.{AreServed};
 ghost use Rattle.std.proofs.Props.{props};
 
@@ -35,12 +36,14 @@ pub struct MemLink {
 
 impl MemLink {
     ghost use Rattle.mem_link.specs.MemLinks.{line_of, stops_of};
+    ghost use Rattle.mem_link.specs.Losing.{StopsNowhere, LosesNothing, IsOpen, SendsAll};
 
     /// A link to this server, with these stops. The mailboxes of every server that was made are served.
     pub fn new(alloc: Global, server: Server, schedule: Schedule) -> MemLink
         requires { AreServed server.server.mailboxes }
         ensures server { (line_of result).end.server ≡ server.server }
         ensures stops { stops_of result ≡ 0 }
+        ensures loses_nothing { StopsNowhere schedule → LosesNothing result }
     {
         MemLink {
             server,
@@ -56,6 +59,7 @@ impl MemLink {
     pub fn in_pieces(self, piece: usize) -> MemLink
         ensures line { line_of result ≡ line_of self }
         ensures stops { stops_of result ≡ stops_of self }
+        ensures loses_nothing { LosesNothing self → LosesNothing result }
     {
         let mut link = self;
         link.piece = piece.max(1);
@@ -88,6 +92,7 @@ impl MemLink {
     fn break_off(&mut self)
         ensures server { self.new.server.server ≡ self.old.server.server }
         ensures stops { self.new.stops ≡ self.old.stops }
+        ensures loses_nothing { LosesNothing self.old → LosesNothing self.new }
     {
         self.schedule.break_off(self.unread.len());
         self.server.hang_up();
@@ -100,6 +105,7 @@ impl MemLink {
         ensures server { self.new.server.server ≡ self.old.server.server }
         ensures counted { result ≡ LinkFault.Stopped → self.old.stops < self.new.stops }
         ensures no_less { self.old.stops ≤ self.new.stops }
+        ensures loses_nothing { LosesNothing self.old → LosesNothing self.new }
     {
         self.break_off();
         match self.stops.push() {
@@ -113,6 +119,7 @@ impl MemLink {
         ensures fault { result ≡ LinkFault.NoMemory }
         ensures server { self.new.server.server ≡ self.old.server.server }
         ensures stops { self.new.stops ≡ self.old.stops }
+        ensures loses_nothing { LosesNothing self.old → LosesNothing self.new }
     {
         self.break_off();
         LinkFault::NoMemory
@@ -123,6 +130,10 @@ impl MemLink {
         ensures front { IfSome result (λ front. front ≤ length bytes.now) }
         ensures line { line_of self.new ≡ line_of self.old }
         ensures stops { self.new.stops ≡ self.old.stops }
+        ensures none { LosesNothing self.old → IsOpen self.old → result ≡ None }
+        ensures open { result ≡ None → self.new.is_open ≡ true }
+        ensures still_open { IsOpen self.old → IsOpen self.new }
+        ensures loses_nothing { LosesNothing self.old → LosesNothing self.new }
     {
         if self.is_open {
             self.schedule.send(bytes)
@@ -133,11 +144,15 @@ impl MemLink {
 
     /// Feeds bytes to the server, whose answer is unread then.
     pub(crate) fn give(&mut self, bytes: &[u8]) -> Result<(), LinkFault>
+        ensures all { OnOk result (SendsAll bytes.now (line_of self.old) (line_of self.new)) }
         ensures ok { OnOk result (Sends bytes.now (line_of self.old) (line_of self.new)) }
         ensures err { OnErr result (FeedsSome (line_of self.old).end bytes.now (line_of self.new).end.server) }
         ensures steady { OnOk result (self.new.stops ≡ self.old.stops) }
         ensures counted { result ≡ Err LinkFault.Stopped → self.old.stops < self.new.stops }
         ensures no_less { self.old.stops ≤ self.new.stops }
+        ensures open { OnOk result (self.old.is_open ≡ true → IsOpen self.new) }
+        ensures fault { IsOpen self.old → IfErr result (λ fault. fault ≡ LinkFault.NoMemory) }
+        ensures loses_nothing { LosesNothing self.old → LosesNothing self.new }
     {
         match self.server.feed(bytes) {
             Ok(answer) => {
@@ -156,6 +171,7 @@ impl MemLink {
 impl Link for MemLink {
     ghost use Rattle.mem_link.specs.MemLinks.{line_of, stops_of};
     ghost use Rattle.mem_link.specs.Served.{served_are_sound};
+    ghost use Rattle.mem_link.specs.Losing.{LosesNothing, IsOpen, SendsAll};
 
     ghost honest = { λ _. Unit {0} };
 
@@ -165,7 +181,19 @@ impl Link for MemLink {
 
     ghost sound = { λ m _. served_are_sound m.server.server.mailboxes m.served };
 
-    fn send(&mut self, bytes: &[u8]) -> Result<(), LinkFault> {
+    // It is fed to the server as a whole, or the answer is a fault.
+    fn send(&mut self, bytes: &[u8]) -> Result<(), LinkFault>
+        ensures all { OnOk result (SendsAll bytes.now (line_of self.old) (line_of self.new)) }
+        ensures ok { OnOk result (Sends bytes.now (line_of self.old) (line_of self.new)) }
+        ensures err { OnErr result (FeedsSome (line_of self.old).end bytes.now (line_of self.new).end.server) }
+        ensures counts { stops_of self.old ≤ stops_of self.new }
+        ensures steady { OnOk result (stops_of self.new ≡ stops_of self.old) }
+        ensures stopped { IsErrOf result LinkFault.Stopped → stops_of self.old < stops_of self.new }
+        // Where nothing is lost, memory alone is a reason not to.
+        ensures fault { LosesNothing self.old → IsOpen self.old → IfErr result (λ fault. fault ≡ LinkFault.NoMemory) }
+        ensures open { OnOk result (IsOpen self.new) }
+        ensures loses_nothing { LosesNothing self.old → LosesNothing self.new }
+    {
         match self.begin(bytes) {
             None => self.give(bytes),
             Some(front) => {
@@ -175,7 +203,21 @@ impl Link for MemLink {
         }
     }
 
-    fn recv(&mut self, piece: &mut [u8]) -> Result<usize, LinkFault> {
+    // At least one byte, or a fault.
+    fn recv(&mut self, piece: &mut [u8]) -> Result<usize, LinkFault>
+        requires { 0 < length piece.old }
+        ensures within { IfOk result (λ n. n ≤ length piece.new) }
+        ensures some { IfOk result (λ n. 0 < n) }
+        ensures ok { IfOk result (λ n. Receives (take n piece.new) (line_of self.old) (line_of self.new)) }
+        ensures err { OnErr result (Quiet (line_of self.old).end.server (line_of self.new).end.server) }
+        ensures counts { stops_of self.old ≤ stops_of self.new }
+        ensures steady { OnOk result (stops_of self.new ≡ stops_of self.old) }
+        ensures stopped { IsErrOf result LinkFault.Stopped → stops_of self.old < stops_of self.new }
+        // Where nothing is lost, the end of what the server said is the only reason to stop.
+        ensures comes { LosesNothing self.old → 0 < length (line_of self.old).unseen → IsOk result }
+        ensures open { IsOpen self.old → OnOk result (IsOpen self.new) }
+        ensures loses_nothing { LosesNothing self.old → LosesNothing self.new }
+    {
         let most = self.piece.min(self.schedule.room());
         let count = self.unread.take(piece, most);
         if count == 0 {
@@ -185,7 +227,14 @@ impl Link for MemLink {
         Ok(count)
     }
 
-    fn reconnect(&mut self) -> Result<(), LinkFault> {
+    // It always answers.
+    fn reconnect(&mut self) -> Result<(), LinkFault>
+        ensures always { IsOk result }
+        ensures ok { Starts (line_of self.old) (line_of self.new) }
+        ensures steady { stops_of self.new ≡ stops_of self.old }
+        ensures open { IsOpen self.new }
+        ensures loses_nothing { LosesNothing self.old → LosesNothing self.new }
+    {
         self.break_off();
         self.unread.greet(self.server.connect());
         self.is_open = true;

@@ -1,6 +1,6 @@
 //! Where a link stops.
 
-ghost use Rattle.std.specs.Prelude.{◌≤◌, length, IfSome};
+ghost use Rattle.std.specs.Prelude.{◌≡◌, ◌<◌, ◌≤◌, [], None, length, IfSome};
 
 use crate::command::{CommandName, Nth};
 use crate::sending::{Sending, Sent};
@@ -91,8 +91,12 @@ pub struct Schedule {
 }
 
 impl Schedule {
+    ghost use Rattle.mem_link.specs.Losing.{StopsNowhere};
+
     /// The stops of a link over which nothing was sent.
-    pub fn new(stops: Vec<LinkStop>) -> Schedule {
+    pub fn new(stops: Vec<LinkStop>) -> Schedule
+        ensures { stops.items ≡ [] → StopsNowhere result }
+    {
         Schedule {
             stops,
             sent: Sent::new(),
@@ -104,7 +108,9 @@ impl Schedule {
 
     /// Counts bytes that are sent. Where the link stops, gives how many of them the server reads.
     pub(crate) fn send(&mut self, bytes: &[u8]) -> Option<usize>
-        ensures { IfSome result (λ front. front ≤ length bytes.now) }
+        ensures front { IfSome result (λ front. front ≤ length bytes.now) }
+        ensures none { StopsNowhere self.old → result ≡ None }
+        ensures nowhere { StopsNowhere self.old → StopsNowhere self.new }
     {
         if self.room == Some(0) {
             return Some(0);
@@ -117,7 +123,9 @@ impl Schedule {
     }
 
     /// How many bytes of the tagged reply come, where the command that ends is an APPEND whose reply is cut.
-    fn reply_to(&self, call: Sending) -> Option<usize> {
+    fn reply_to(&self, call: Sending) -> Option<usize>
+        ensures { StopsNowhere self.now → result ≡ None }
+    {
         let command = call.ends?;
         if command.name != CommandName::Append {
             return None;
@@ -127,7 +135,9 @@ impl Schedule {
     }
 
     /// The server answers so to what was sent, and so many bytes are unread before.
-    pub(crate) fn answer(&mut self, unread: usize, answer: &[u8]) {
+    pub(crate) fn answer(&mut self, unread: usize, answer: &[u8])
+        ensures { StopsNowhere self.old → StopsNowhere self.new }
+    {
         if answer.is_empty() {
             return;
         }
@@ -143,7 +153,9 @@ impl Schedule {
     }
 
     /// How many bytes can be received now; none where the link stops.
-    pub(crate) fn room(&self) -> usize {
+    pub(crate) fn room(&self) -> usize
+        ensures { StopsNowhere self.now → 0 < result }
+    {
         let rooms = self
             .stops
             .iter()
@@ -153,13 +165,17 @@ impl Schedule {
     }
 
     /// Counts bytes that were received.
-    pub(crate) fn receive(&mut self, count: usize) {
+    pub(crate) fn receive(&mut self, count: usize)
+        ensures { StopsNowhere self.old → StopsNowhere self.new }
+    {
         self.received = self.received.saturating_add(count);
         self.room = self.room.map(|room| room.saturating_sub(count));
     }
 
     /// The connection is no more. So many bytes are lost that the server has said.
-    pub(crate) fn break_off(&mut self, lost: usize) {
+    pub(crate) fn break_off(&mut self, lost: usize)
+        ensures { StopsNowhere self.old → StopsNowhere self.new }
+    {
         self.received = self.received.saturating_add(lost);
         self.sent.end_command();
         self.cut = None;

@@ -1,6 +1,6 @@
 //! What a server has said and nobody has received.
 
-ghost use Rattle.std.specs.Prelude.{◌≡◌, ◌≤◌, ◌++◌, [], length, take, OnOk};
+ghost use Rattle.std.specs.Prelude.{◌≡◌, ◌<◌, ◌≤◌, ◌++◌, [], length, take, OnOk};
 
 use std::alloc::{AllocError, Global};
 use std::marker::Model;
@@ -68,6 +68,7 @@ impl Unread {
         ensures within { result ≤ length piece.new }
         ensures most { result ≤ most }
         ensures took { self.old ≡ take result piece.new ++ self.new }
+        ensures some { 0 < most → 0 < length piece.old → 0 < length self.old → 0 < result }
     {
         if self.greeting.is_empty() {
             let count = copy_front(&self.replies[self.received..], piece, most);
@@ -87,6 +88,7 @@ fn copy_front(bytes: &[u8], piece: &mut [u8], most: usize) -> usize
     ensures some { result ≤ length bytes.now }
     ensures most { result ≤ most }
     ensures copied { take result piece.new ≡ take result bytes.now }
+    ensures first { 0 < most → 0 < length piece.old → 0 < length bytes.now → 0 < result }
 {
     let count = most.min(bytes.len()).min(piece.len());
     piece[..count].copy_from_slice(&bytes[..count]);

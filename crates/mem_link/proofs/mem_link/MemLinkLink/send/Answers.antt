@@ -5,11 +5,11 @@ use Rattle.mem_link.proofs.mem_link.MemLinkLink.send.Goals as goal
 
 pub returns-in_err-give-in-Some-clause-err : goal.returns-in_err-give-in-Some-clause-err
 returns-in_err-give-in-Some-clause-err c =
-    on_err c.from_residual.result (λ _. some_of_front (line_of c.args.self.now) (line_of c.begin.new.self) c.give-in-Some.new.self.server.server c.give-in-Some.new.self.server.server c.args.bytes.now c.in-Some.front
+    on_err c.from_residual.result (some_of_front (line_of c.args.self.now) (line_of c.begin.new.self) c.give-in-Some.new.self.server.server c.give-in-Some.new.self.server.server c.args.bytes.now c.in-Some.front
     c.begin.ensures.line refl c.in_err-give-in-Some.ensures.err)
 
 pub returns-in_ok-give-in-Some-clause-err : goal.returns-in_ok-give-in-Some-clause-err
-returns-in_ok-give-in-Some-clause-err c _ =
+returns-in_ok-give-in-Some-clause-err c =
     some_of_front (line_of c.args.self.now) (line_of c.begin.new.self) c.give-in-Some.new.self.server.server c.stop.new.self.server.server c.args.bytes.now c.in-Some.front
     c.begin.ensures.line c.stop.ensures.server
     (some_of_sends (line_of c.begin.new.self) (line_of c.give-in-Some.new.self) (take c.in-Some.front c.args.bytes.now) c.in_ok-give-in-Some.ensures.ok)
