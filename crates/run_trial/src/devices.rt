@@ -9,7 +9,10 @@ use far_part::far_part::FarPart;
 use maildir::mem_folder::MemFolder;
 use maildir::meta::Meta;
 use near_part::near_part::NearPart;
+use outside::outside::Outside;
 use rules::options::Options;
+use runner::fault::RunFault;
+use runner::pass::Settled;
 use std::alloc::Global;
 use std::num::NonZeroU32;
 use trial::attempts::settle_trial;
@@ -17,6 +20,18 @@ use trial::folder::contents_of;
 use trial::report::Ending;
 use trial::shelf::state_in;
 use worlds::write::{WrittenMailbox, WrittenWorld, write_parts};
+
+/// Makes one run over an outside, and gives it back beside what the run came to.
+fn settle_all<O: Outside>(
+    alloc: Global,
+    outside: O,
+    options: &Options,
+    tries: u32,
+) -> (O, Result<Settled, RunFault>) {
+    let mut outside = outside;
+    let settled = settle_trial(alloc, &mut outside, options, tries);
+    (outside, settled)
+}
 
 /// The near mailbox's folder, the shelf, and the far mailbox's link.
 #[derive(Drop)]
@@ -37,8 +52,8 @@ impl<L: TrialLink + Drop> Devices<L> {
         let far = FarPart::new(alloc, account_of(alloc)?, self.link);
         // The folder of a trial has a meta file, so that this is of no use.
         let near = NearPart::new(alloc, self.folder, NonZeroU32::MIN);
-        let mut outside = Both::new(alloc, far, near, BookPart::new(alloc, self.shelf));
-        let settled = settle_trial(alloc, &mut outside, options, tries);
+        let outside = Both::new(alloc, far, near, BookPart::new(alloc, self.shelf));
+        let (outside, settled) = settle_all(alloc, outside, options, tries);
         let (far, near, book) = outside.into_parts();
         let devices = Devices {
             link: far.into_link(),

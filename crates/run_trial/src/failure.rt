@@ -1,5 +1,8 @@
 //! Why nothing is told of a trial.
 
+ghost use Rattle.std.specs.Prelude.{◌≡◌};
+ghost use Rattle.run_trial.specs.Statuses.{failure_status};
+
 use std::alloc::{AllocError, AllocFailed};
 use std::io;
 use std::io::ErrorKind;
@@ -25,7 +28,9 @@ pub(crate) enum Failure {
 
 impl Failure {
     /// The program's exit status.
-    pub(crate) fn status(self) -> u8 {
+    pub(crate) fn status(self) -> u8
+        ensures { result ≡ failure_status self }
+    {
         match self {
             Failure::Usage | Failure::World(_) => 2,
             _ => 1,

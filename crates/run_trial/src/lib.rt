@@ -7,3 +7,4 @@ mod failure;
 pub mod run;
 mod schedule;
 mod server;
+mod setting;

@@ -1,9 +1,11 @@
 //! The program `mbtrial`, over readers and writers.
 
+ghost use Rattle.std.specs.Prelude.{◌≡◌, ◌≤◌, IfOk, IsErr};
+
 use crate::devices::Devices;
 use crate::failure::Failure;
-use crate::schedule::schedule_of;
-use crate::server::{TrialLink, server_with};
+use crate::server::TrialLink;
+use crate::setting::{FarSetting, Setting, setting_of};
 use mem_link::loop_link::LoopLink;
 use mem_link::mem_link::MemLink;
 use rules::options::Options;
@@ -11,12 +13,8 @@ use std::alloc::Global;
 use std::io;
 use std::io::{Read, Write};
 use std::net::Net;
-use trial::folder::folder_with;
 use trial::read::read_trial;
-use trial::shelf::shelf_with;
-use trial::stop::Stops;
-use trial::trial::{Course, Trial};
-use worlds::world::World;
+use trial::trial::Trial;
 
 /// What a program is asked for by its arguments.
 #[derive(Clone, Copy, Debug, PartialEq, Eq)]
@@ -40,7 +38,10 @@ pub fn run_trial<R: Net + AllocGlobal + Clone + Drop, I: Read, O: Write, E: Writ
     input: &mut I,
     out: &mut O,
     err: &mut E,
-) -> u8 {
+) -> u8
+    ensures at_most { result ≤ 2 }
+    ensures asked { request ≡ Request.Unknown → 1 ≤ result }
+{
     match told(rt, request, input) {
         Ok((text, status)) => match print(out, text.as_bytes()) {
             Ok(()) => status,
@@ -63,7 +64,10 @@ fn told<R: Net + AllocGlobal + Clone + Drop, I: Read>(
     rt: R,
     request: Request,
     input: &mut I,
-) -> Result<(String, u8), Failure> {
+) -> Result<(String, u8), Failure>
+    ensures status { IfOk result (λ told. told.1 ≤ 1) }
+    ensures asked { request ≡ Request.Unknown → IsErr result }
+{
     if request == Request::Unknown {
         return Err(Failure::Usage);
     }
@@ -79,54 +83,28 @@ fn told_of_trial<R: Net + AllocGlobal + Clone + Drop>(
     rt: R,
     request: Request,
     trial: Trial,
-) -> Result<(String, u8), Failure> {
+) -> Result<(String, u8), Failure>
+    ensures { IfOk result (λ told. told.1 ≤ 1) }
+{
     let alloc = rt.alloc();
-    let Trial { world, course } = trial;
-    let World {
-        options,
-        far,
-        near,
-        waiting,
-        state,
-    } = world;
-    let Course {
-        tries,
-        journal,
-        stops,
-    } = course;
-    let Stops {
-        folder: folder_stops,
-        shelf: shelf_stops,
-        link: link_stops,
-    } = stops;
-    let schedule = schedule_of(alloc, &link_stops)?;
-    let server = server_with(alloc, far)?;
-    let folder = folder_with(alloc, near, waiting, folder_stops)?;
-    let shelf = shelf_with(alloc, &state, journal, shelf_stops)?;
+    let options = trial.world.options;
+    let tries = trial.course.tries;
+    let Setting { far, folder, shelf } = setting_of(alloc, trial)?;
+    let FarSetting { server, schedule } = far;
     if request == Request::Loopback {
-        let link = LoopLink::new(rt, server, schedule);
-        told_of(
-            alloc,
-            Devices {
-                link,
-                folder,
-                shelf,
-            },
-            &options,
-            tries,
-        )
+        let devices = Devices {
+            link: LoopLink::new(rt, server, schedule),
+            folder,
+            shelf,
+        };
+        told_of(alloc, devices, &options, tries)
     } else {
-        let link = MemLink::new(alloc, server, schedule);
-        told_of(
-            alloc,
-            Devices {
-                link,
-                folder,
-                shelf,
-            },
-            &options,
-            tries,
-        )
+        let devices = Devices {
+            link: MemLink::new(alloc, server, schedule),
+            folder,
+            shelf,
+        };
+        told_of(alloc, devices, &options, tries)
     }
 }
 
@@ -136,7 +114,9 @@ fn told_of<L: TrialLink + Drop>(
     devices: Devices<L>,
     options: &Options,
     tries: u32,
-) -> Result<(String, u8), Failure> {
+) -> Result<(String, u8), Failure>
+    ensures { IfOk result (λ told. told.1 ≤ 1) }
+{
     let (devices, ending) = devices.run(alloc, options, tries)?;
     let mut text = ending.text(alloc)?;
     devices.write(alloc, &mut text)?;

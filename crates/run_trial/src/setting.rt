@@ -1,0 +1,70 @@
+//! What the run of a trial is made over: the server with its far mailbox and where the link to it stops, the folder and the shelf.
+
+ghost use Rattle.std.specs.Prelude.{IfOk};
+ghost use Rattle.imap_server.specs.Boxes.{AreServed};
+
+use crate::failure::Failure;
+use crate::schedule::schedule_of;
+use crate::server::server_with;
+use book::mem_shelf::MemShelf;
+use imap_server::server::Server;
+use maildir::mem_folder::MemFolder;
+use mailcore::mailbox::Mailbox;
+use mem_link::schedule::Schedule;
+use std::alloc::Global;
+use trial::folder::folder_with;
+use trial::shelf::shelf_with;
+use trial::stop::LinkStop;
+use trial::trial::{Course, Trial};
+use worlds::world::World;
+
+/// What the run of a trial is made over, before there is a link to the server.
+#[derive(Drop)]
+pub(crate) struct Setting {
+    pub(crate) far: FarSetting,
+    pub(crate) folder: MemFolder,
+    pub(crate) shelf: MemShelf,
+}
+
+/// The server, and where the link to it stops.
+#[derive(Drop)]
+pub(crate) struct FarSetting {
+    pub(crate) server: Server,
+    pub(crate) schedule: Schedule,
+}
+
+/// The server with this mailbox.
+fn far_with(alloc: Global, far: Mailbox, stops: &[LinkStop]) -> Result<FarSetting, Failure>
+    ensures { IfOk result (λ far. AreServed far.server.server.mailboxes) }
+{
+    let server = server_with(alloc, far)?;
+    let schedule = schedule_of(alloc, stops)?;
+    Ok(FarSetting { server, schedule })
+}
+
+/// The setting of a trial, from its world and its course.
+pub(crate) fn setting_of(alloc: Global, trial: Trial) -> Result<Setting, Failure>
+    ensures { IfOk result (λ setting. AreServed setting.far.server.server.mailboxes) }
+{
+    let Trial { world, course } = trial;
+    let World {
+        far,
+        near,
+        waiting,
+        state,
+        options: _,
+    } = world;
+    let Course {
+        journal,
+        stops,
+        tries: _,
+    } = course;
+    let far = far_with(alloc, far, &stops.link);
+    let folder = folder_with(alloc, near, waiting, stops.folder);
+    let shelf = shelf_with(alloc, &state, journal, stops.shelf);
+    Ok(Setting {
+        far: far?,
+        folder: folder?,
+        shelf: shelf?,
+    })
+}
