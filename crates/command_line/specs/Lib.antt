@@ -3,3 +3,4 @@ pub mod Synopsis
 pub mod ClapFaults
 pub mod Requests
 pub mod Statuses
+pub mod Examples
