@@ -16,7 +16,7 @@ import time
 from trial_imapd import TOP, Server, build, world
 
 CRATES = ["texts", "device", "mailcore", "wire_reader", "wire_tokens", "wire_strings", "imap_commands", "imap_replies",
-          "imap_session", "session_laws", "exchange_laws", "imap_link", "imap_client", "test_client"]
+          "imap_session", "session_laws", "exchange_laws", "imap_link", "imap_client", "client_calls", "test_client"]
 PROGRAM = os.path.join(TOP, "crates", "test_client", "out", "test_client")
 MESSAGES = 1000
 # The letters of flags as the client tells them, and their names in the order in which the server tells them.
