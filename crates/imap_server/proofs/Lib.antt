@@ -3,6 +3,7 @@ pub mod PlaceLemmas
 pub mod CommandLemmas
 pub mod ListedLemmas
 pub mod FetchLemmas
+pub mod ReachLemmas
 pub mod AppendLemmas
 pub mod StoreLemmas
 pub mod ExpungeLemmas

@@ -1,10 +1,9 @@
 -- How many bytes of a command are octets of literals, at most: two literals stand in it.
-use Rattle.std.proofs.Common.{◌≡◌, ℕ, zero, suc, ◌+◌, ◌-◌, ◌*◌, ◌<◌, ◌≤◌, ◌⊎◌, Bool, true, false, not, cond, eqb, leb, List, [], ◌∷◌, ◌++◌, length, map, refl, sym, ap, ◌∙◌, inl, inr, arith}
+use Rattle.std.proofs.Common.{◌≡◌, ℕ, ◌+◌, ◌≤◌, Bool, true, false, not, cond, eqb, List, [], ◌∷◌, ◌++◌, length, map, refl, sym, ap, ◌∙◌, inl, inr, arith}
 use Rattle.std.specs.List.{list_all, flat_map}
 use Rattle.std.proofs.lemmas.Bool.{cases_Bool, false≢true, eqb-true, and_parts, and_from, not-true}
 use Rattle.std.proofs.lemmas.List.{length-append}
 use Rattle.std.proofs.lemmas.List.Concat.{flat_map-cons}
-use Rattle.wire_reader.specs.declared.side.Side.{Side}
 use Rattle.wire_reader.specs.declared.side.Side.TheVariants.{Commands}
 use Rattle.wire_reader.specs.declared.lexical.Phase.{Phase}
 use Rattle.wire_reader.specs.declared.lexical.Phase.TheVariants.{Plain}
@@ -17,14 +16,13 @@ use Rattle.wire_reader.proofs.Limits.{one_is}
 use Rattle.wire_reader.proofs.Part.{Part}
 use Rattle.wire_reader.proofs.Reader.{Closed}
 use Rattle.wire_reader.proofs.Positions.{outside-append, stays_out}
-use Rattle.wire_tokens.specs.declared.spaced.NameKind.{NameKind}
 use Rattle.wire_tokens.specs.declared.spaced.NameKind.TheVariants as kinds
 use Rattle.wire_tokens.specs.declared.uid_set.SetEnd.{SetEnd}
 use Rattle.wire_tokens.specs.declared.uid_set.SetEnd.TheVariants.{Number, Greatest}
 use Rattle.wire_tokens.specs.declared.uid_set.SetItem.{SetItem}
 use Rattle.wire_tokens.specs.declared.uid_set.SetItem.TheVariants.{One, Range}
-use Rattle.wire_tokens.specs.Atoms.{is_atom_byte, is_tag_byte, IsAtom, AtomText, TagText}
-use Rattle.wire_tokens.specs.Names.{IsName, NameText, NamesText}
+use Rattle.wire_tokens.specs.Atoms.{is_atom_byte, is_tag_byte, IsAtom, TagText}
+use Rattle.wire_tokens.specs.Names.{NameText, NamesText}
 use Rattle.wire_tokens.specs.FlagLists.{ListedText, FlagsText, flags_at}
 use Rattle.wire_tokens.specs.Sets.{EndText, ItemText, SetText}
 use Rattle.wire_tokens.proofs.FlagParts.{flags_part}

@@ -1,6 +1,7 @@
 //! UID FETCH, UID STORE and UID EXPUNGE (RFC 9051, sections 6.4.5, 6.4.6 and 6.4.9).
 
 ghost use Rattle.std.specs.Prelude.{◌≡◌, ◌<◌, ◌∷◌, [], length, take, map, filter, IfOk, OnOk};
+ghost use Rattle.mailcore.specs.Listed.{AreRising};
 ghost use Rattle.wire_strings.specs.Literals.{IsLiteral};
 ghost use Rattle.imap_replies.specs.declared.reply.Reply.TheVariants as replies;
 ghost use Rattle.wire_tokens.specs.Sets.{names};
@@ -8,10 +9,11 @@ ghost use Rattle.imap_session.specs.NamedMessages.{greatest, named_in, stored, s
 ghost use Rattle.imap_session.specs.MessageCommands.{shown, fetched, removed};
 ghost use Rattle.imap_server.specs.Boxes.{store_of, far_of, IsServed};
 ghost use Rattle.imap_server.specs.Changing.{new_flags, given, stays};
-ghost use Rattle.imap_server.specs.Naming.{IsTop, Named, Going};
+ghost use Rattle.imap_server.specs.Naming.{Going};
 ghost use Rattle.imap_server.specs.Writing.{Wrote};
 
 use crate::mailbox_commands::number;
+use crate::naming::{greatest, is_named, reach};
 use crate::service::Service;
 use crate::writing::{say, say_done, say_out_of_place};
 use imap_commands::command::{FetchItems, StoreMode};
@@ -19,7 +21,6 @@ use imap_replies::fetch::{FetchItem, FetchList};
 use imap_replies::reply::Reply;
 use mailcore::flags::{Flag, Flags};
 use mailcore::mailbox::{Mailbox, Message, Messages};
-use mailcore::uid::Uid;
 use std::alloc::{AllocError, Global};
 use std::mem;
 use wire_strings::octets::Octets;
@@ -138,31 +139,14 @@ fn say_messages(
 {
     let messages = mailbox.messages.as_slice();
     let top = greatest(messages);
-    let mut place = 1u32;
-    for message in messages {
+    let (start, end) = reach(messages, set, top);
+    for index in start..end {
+        let message = &messages[index];
         if is_named(set, top, message.uid) {
-            say_message(alloc, place, message, items, out)?;
+            say_message(alloc, index as u32 + 1, message, items, out)?;
         }
-        place += 1;
     }
     Ok(())
-}
-
-/// The greatest UID of messages in the order of their UIDs, 0 where there is none.
-pub(crate) fn greatest(messages: &[Message]) -> u32
-    ensures { IsTop (greatest messages.now) result }
-{
-    match messages {
-        [] => 0,
-        [.., last] => last.uid.get(),
-    }
-}
-
-/// Whether the set names the UID, where this is the greatest UID.
-pub(crate) fn is_named(set: &UidSet, top: u32, uid: Uid) -> bool
-    ensures { Named set.now top uid result }
-{
-    set.names(uid, Uid::new(top))
 }
 
 /// Tells the items of a message.
@@ -240,12 +224,15 @@ fn store(alloc: Global, mailbox: &mut Mailbox, set: &UidSet, mode: StoreMode, fl
     mailbox.messages = Messages::from_vec(list);
 }
 
-/// Changes the flags of those of all messages of a mailbox that the set names.
+/// Changes the flags of those of all messages of a mailbox, in the order of their UIDs, that the set names.
 fn give_flags(list: &mut [Message], set: &UidSet, mode: StoreMode, flags: Flags)
+    requires { AreRising list.old }
     ensures { list.new ≡ map (given (names (greatest list.old) set.now) mode flags) list.old }
 {
     let top = greatest(list);
-    for message in list.iter_mut() {
+    let (start, end) = reach(list, set, top);
+    for index in start..end {
+        let message = &mut list[index];
         if is_named(set, top, message.uid) {
             message.flags = new_flags(mode, message.flags, flags);
         }
@@ -313,5 +300,5 @@ fn keep_staying(list: &mut Vec<Message>, set: &UidSet)
 fn goes(set: &UidSet, top: u32, message: &Message) -> bool
     ensures { Going set.now top message.now result }
 {
-    is_named(set, top, message.uid) && message.flags.has(Flag::Deleted)
+    message.flags.has(Flag::Deleted) && is_named(set, top, message.uid)
 }

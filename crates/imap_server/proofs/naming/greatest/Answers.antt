@@ -1,5 +1,5 @@
 use Rattle.imap_server.proofs.FetchLemmas.{top_of_last}
-use Rattle.imap_server.proofs.message_commands.greatest.Goals as goal
+use Rattle.imap_server.proofs.naming.greatest.Goals as goal
 
 pub returns-in-len1-up : goal.returns-in-len1-up
 returns-in-len1-up c =
