@@ -1,0 +1,69 @@
+//! What the program reads before it begins: its configuration, the home folder, random bytes and the clock.
+
+use crate::failure::Failure;
+use config::config::Config;
+use config::read::read_config;
+use near_places::fresh::fresh_validity;
+use std::env::VarError;
+use std::io::Read;
+use std::num::NonZeroU32;
+use std::time::{SystemTime, UNIX_EPOCH};
+use std::{env, fs};
+
+/// The configuration file where the command line names none: in the home folder.
+const CONFIG_FILE: &str = ".mbsyncrc";
+
+/// Where random bytes come from.
+const RANDOM: &str = "/dev/urandom";
+
+/// The path of the home folder, if HOME is set.
+pub fn read_home(rt: &HostRuntime) -> Result<Option<String>, Failure> {
+    match env::var(rt, "HOME") {
+        Ok(home) => Ok(Some(home)),
+        Err(VarError::OutOfMemory) => Err(Failure::NoMemory),
+        Err(_) => Ok(None),
+    }
+}
+
+/// The configuration of the file that the command line names, or else of the one in the home folder.
+pub fn open_config(
+    rt: &HostRuntime,
+    file: Option<&str>,
+    home: Option<&str>,
+) -> Result<Config, Failure> {
+    let alloc = rt.alloc();
+    let path = match (file, home) {
+        (Some(file), _) => String::from_str(alloc, file)?,
+        (None, Some(home)) => format!(in alloc; "{home}/{CONFIG_FILE}")?,
+        (None, None) => return Err(Failure::cannot_open(alloc, CONFIG_FILE)),
+    };
+    let text = match fs::read(rt, path.as_str()) {
+        Ok(text) => text,
+        Err(error) => return Err(Failure::at(alloc, path.as_str(), &error)),
+    };
+    Ok(read_config(alloc, &text)?)
+}
+
+/// 32 random bytes.
+pub fn read_seed(rt: &HostRuntime) -> Result<[u8; 32], Failure> {
+    let mut seed = [0; 32];
+    let mut source = match fs::open(rt, RANDOM) {
+        Ok(source) => source,
+        Err(error) => return Err(Failure::at(rt.alloc(), RANDOM, &error)),
+    };
+    match source.read_exact(&mut seed) {
+        Ok(()) => Ok(seed),
+        Err(error) => Err(Failure::at(rt.alloc(), RANDOM, &error)),
+    }
+}
+
+/// The UIDVALIDITY of near mailboxes that have none yet, by the clock.
+pub fn read_fresh(rt: &HostRuntime) -> Result<NonZeroU32, Failure> {
+    let Ok(now) = SystemTime::now(rt) else {
+        return Err(Failure::Clock);
+    };
+    match now.duration_since(UNIX_EPOCH) {
+        Ok(since) => Ok(fresh_validity(since.as_secs())),
+        Err(_) => Err(Failure::Clock),
+    }
+}
