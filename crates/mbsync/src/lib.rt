@@ -10,6 +10,7 @@ pub use config::config::Config;
 pub use config::fault::{ConfigFault, FaultKind};
 pub use config::patterns::{Pattern, Patterns, matches};
 pub use config::read::read_config;
+pub use mail_run::run::run_mail;
 pub use reports::fault_text::FaultText;
 pub use reports::performed::PerformedLine;
 pub use request::request::Request;

@@ -1,4 +1,4 @@
-//! Why the program ends before the first channel.
+//! Why a run ends before the first channel.
 
 use config::fault::{ConfigFault, FaultKind};
 use std::alloc::{AllocError, AllocFailed, Global};
@@ -6,9 +6,9 @@ use std::io;
 use std::io::ErrorKind;
 use thiserror::Error;
 
-/// Why the program ends before the first channel.
+/// Why a run ends before the first channel.
 #[derive(Debug, Drop, Error)]
-pub enum Failure {
+pub(crate) enum Failure {
     /// The file of this name cannot be opened, or not be read to its end.
     #[error("cannot open {0}")]
     CannotOpen(String),
@@ -32,7 +32,7 @@ pub enum Failure {
 
 impl Failure {
     /// What an error of the system at the file of this name means.
-    pub fn at(alloc: Global, name: &str, error: &io::Error) -> Failure {
+    pub(crate) fn at(alloc: Global, name: &str, error: &io::Error) -> Failure {
         match error.kind() {
             ErrorKind::OutOfMemory => Failure::NoMemory,
             _ => Failure::cannot_open(alloc, name),
@@ -40,7 +40,7 @@ impl Failure {
     }
 
     /// The file of this name cannot be opened.
-    pub fn cannot_open(alloc: Global, name: &str) -> Failure {
+    pub(crate) fn cannot_open(alloc: Global, name: &str) -> Failure {
         match String::from_str(alloc, name) {
             Ok(name) => Failure::CannotOpen(name),
             Err(AllocError) => Failure::NoMemory,

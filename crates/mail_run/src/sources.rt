@@ -1,4 +1,4 @@
-//! What the program reads before it begins: its configuration, the home folder, random bytes and the clock.
+//! What a run reads before it begins: its configuration, the home folder, random bytes and the clock.
 
 use crate::failure::Failure;
 use config::config::Config;
@@ -7,6 +7,7 @@ use near_places::fresh::fresh_validity;
 use std::env::VarError;
 use std::io::Read;
 use std::num::NonZeroU32;
+use std::rt::{Clock, Env, Files};
 use std::time::{SystemTime, UNIX_EPOCH};
 use std::{env, fs};
 
@@ -17,7 +18,7 @@ const CONFIG_FILE: &str = ".mbsyncrc";
 const RANDOM: &str = "/dev/urandom";
 
 /// The path of the home folder, if HOME is set.
-pub fn read_home(rt: &HostRuntime) -> Result<Option<String>, Failure> {
+pub(crate) fn read_home<R: Env + AllocGlobal>(rt: &R) -> Result<Option<String>, Failure> {
     match env::var(rt, "HOME") {
         Ok(home) => Ok(Some(home)),
         Err(VarError::OutOfMemory) => Err(Failure::NoMemory),
@@ -26,8 +27,8 @@ pub fn read_home(rt: &HostRuntime) -> Result<Option<String>, Failure> {
 }
 
 /// The configuration of the file that the command line names, or else of the one in the home folder.
-pub fn open_config(
-    rt: &HostRuntime,
+pub(crate) fn open_config<R: Files + AllocGlobal>(
+    rt: &R,
     file: Option<&str>,
     home: Option<&str>,
 ) -> Result<Config, Failure> {
@@ -45,7 +46,7 @@ pub fn open_config(
 }
 
 /// 32 random bytes.
-pub fn read_seed(rt: &HostRuntime) -> Result<[u8; 32], Failure> {
+pub(crate) fn read_seed<R: Files + AllocGlobal>(rt: &R) -> Result<[u8; 32], Failure> {
     let mut seed = [0; 32];
     let mut source = match fs::open(rt, RANDOM) {
         Ok(source) => source,
@@ -58,7 +59,7 @@ pub fn read_seed(rt: &HostRuntime) -> Result<[u8; 32], Failure> {
 }
 
 /// The UIDVALIDITY of near mailboxes that have none yet, by the clock.
-pub fn read_fresh(rt: &HostRuntime) -> Result<NonZeroU32, Failure> {
+pub(crate) fn read_fresh<R: Clock + AllocGlobal>(rt: &R) -> Result<NonZeroU32, Failure> {
     let Ok(now) = SystemTime::now(rt) else {
         return Err(Failure::Clock);
     };

@@ -1,0 +1,6 @@
+//! A run of `mbsync` over real stores: what it reads before it begins, and the channels that a command line asks for.
+#![tactic(auto)]
+
+mod failure;
+pub mod run;
+mod sources;

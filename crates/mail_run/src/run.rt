@@ -1,0 +1,74 @@
+//! What a command line asks for, over servers and folders.
+
+use crate::failure::Failure;
+use crate::sources::{open_config, read_fresh, read_home, read_seed};
+use chacha_generator::generator;
+use channels::run::run_config;
+use config::config::Config;
+use mail_stores::mail_stores::MailStores;
+use near_places::home::Home;
+use request::request::Request;
+use std::fs::File;
+use std::io::Write;
+use std::net::Net;
+use std::num::NonZeroU32;
+use std::rt::{Clock, Env, Files};
+
+/// What a run reads before it begins.
+#[derive(Drop)]
+struct Start {
+    config: Config,
+    home: Home,
+    seed: [u8; 32],
+    fresh: NonZeroU32,
+}
+
+/// Reads what a run needs: HOME, the configuration, 32 random bytes and the clock, in this order.
+fn start_of<R: Files + Env + Clock + AllocGlobal>(
+    rt: &R,
+    request: &Request,
+) -> Result<Start, Failure> {
+    let home = read_home(rt)?;
+    let config = open_config(rt, request.file.as_deref(), home.as_deref())?;
+    Ok(Start {
+        config,
+        home: Home::new(home),
+        seed: read_seed(rt)?,
+        fresh: read_fresh(rt)?,
+    })
+}
+
+/// Does what a command line asks for, over the servers and the folders of its configuration (`channels::run::run_config`). The file of the
+/// configuration is that of the command line, or else `.mbsyncrc` in HOME. It gives the exit status: 1 also where a file cannot be read
+/// or the configuration is a bad one, which `err` is told (docs/MBSYNC.md, "Faults").
+pub fn run_mail<
+    R: Net + Files<File = File> + Env + Clock + AllocGlobal + Clone + Drop,
+    O: Write,
+    E: Write,
+>(rt: R, request: &Request, out: &mut O, err: &mut E) -> u8 {
+    match start_of(&rt, request) {
+        Ok(start) => run_start(rt, request, start, out, err),
+        Err(failure) => {
+            let _ = writeln!(err, "mbsync: {failure}");
+            1
+        }
+    }
+}
+
+/// Runs the channels.
+fn run_start<
+    R: Net + Files<File = File> + Env + Clock + AllocGlobal + Clone + Drop,
+    O: Write,
+    E: Write,
+>(rt: R, request: &Request, start: Start, out: &mut O, err: &mut E) -> u8 {
+    let alloc = rt.alloc();
+    let Start {
+        config,
+        home,
+        seed,
+        fresh,
+    } = start;
+    let mut stores = MailStores::new(rt, home, fresh);
+    let mut rng = generator(seed);
+    run_config(alloc, &config, request, &mut stores, &mut rng, out, err)
+}
