@@ -13,6 +13,7 @@ import subprocess
 import sys
 import tempfile
 
+from configuration import configured
 from imap_side import ImapSide
 from maildir_side import MaildirSide
 from measured import system_calls
@@ -20,17 +21,7 @@ from trial_imapd import TOP, Server, build, world
 
 MBSYNC = os.path.join(TOP, "crates", "mbsync_main", "out", "mbsync_main")
 NAMES = ["mkdir", "openat", "close", "read", "write", "rename", "unlink", "fsync", "flock", "getdents64", "connect", "sendto", "recvfrom"]
-CONFIGURATION = """IMAPStore far
-Host 127.0.0.1
-Port %d
-User u
-Pass p
-
-MaildirStore near
-Path %s/
-Inbox %s/INBOX
-
-Channel box
+CHANNEL = """Channel box
 Far :far:
 Near :near:
 Create Near
@@ -68,7 +59,7 @@ class Place:
         self.server.connect().logout()
         configuration = os.path.join(self.folder, "mbsyncrc")
         with open(configuration, "w", encoding="ascii") as text:
-            text.write(CONFIGURATION % (self.server.port, self.folder, self.folder))
+            text.write(configured(self.server.port, self.folder, CHANNEL))
         return [self.program, "-c", configuration, "box"]
 
     def stop(self):

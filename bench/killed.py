@@ -25,6 +25,7 @@ import tempfile
 import threading
 import time
 
+from configuration import configured
 from imap_side import ImapSide
 from maildir_side import MaildirSide
 from measured import STRACE_ROW
@@ -34,17 +35,7 @@ from trial_imapd import TOP, Server, build, world
 
 MBSYNC = os.path.join(TOP, "crates", "mbsync_main", "out", "mbsync_main")
 MOST_SECONDS = 120
-CONFIGURATION = """IMAPStore far
-Host 127.0.0.1
-Port %d
-User u
-Pass p
-
-MaildirStore near
-Path %s/
-Inbox %s/INBOX
-
-Channel soak
+CHANNEL = """Channel soak
 Far :far:
 Near :near:
 Sync %s
@@ -126,7 +117,7 @@ class Programs:
         """Runs the program, and kills it behind this share of what a run usually takes, or not for none. Meanwhile `deliver` is called."""
         configuration = os.path.join(self.folder, "mbsyncrc")
         with open(configuration, "w", encoding="ascii") as file:
-            file.write(CONFIGURATION % (self.server.port, self.folder, self.folder, *words))
+            file.write(configured(self.server.port, self.folder, CHANNEL % tuple(words)))
         state, delivery = self.state(), threading.Timer(self.rng.random() * 0.1, deliver or int)
         delivery.start()
         status = self.moments.run([self.program, "-c", configuration, "soak"], share)

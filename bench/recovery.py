@@ -12,6 +12,7 @@ import subprocess
 import sys
 import tempfile
 
+from configuration import configured
 from imap_side import ImapSide
 from maildir_side import MaildirSide
 from trial_imapd import TOP, Server, build
@@ -26,17 +27,7 @@ near 1 1
 state 0 0 0 0 0
 end
 """
-CONFIGURATION = """IMAPStore far
-Host 127.0.0.1
-Port %d
-User u
-Pass p
-
-MaildirStore near
-Path %s/
-Inbox %s/INBOX
-
-Channel box
+CHANNEL = """Channel box
 Far :far:%s
 Near :near:%s
 Create Near
@@ -72,7 +63,7 @@ class Place:
         """Status, output and what standard error was told first."""
         configuration = os.path.join(self.folder, "mbsyncrc")
         with open(configuration, "w", encoding="ascii") as text:
-            text.write(CONFIGURATION % (self.server.port, self.folder, self.folder, box, box))
+            text.write(configured(self.server.port, self.folder, CHANNEL % (box, box)))
         done = subprocess.run([self.program, "-c", configuration, *words, "box"], capture_output=True, text=True, check=False, timeout=120)
         return done.returncode, done.stdout, done.stderr.split("\n")[0]
 

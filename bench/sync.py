@@ -16,6 +16,7 @@ import os
 import sys
 import tempfile
 
+from configuration import configured
 from go_between import GoBetween
 from imap_side import ImapSide
 from maildir_side import MaildirSide
@@ -26,17 +27,7 @@ MBSYNC = os.path.join(TOP, "crates", "mbsync_main", "out", "mbsync_main")
 COMPARED = 10000
 COUNTED = 1000
 SIZES = (1000, 10000, 100000)
-STORES = """IMAPStore far
-Host 127.0.0.1
-Port %d
-User u
-Pass p
-%s
-MaildirStore near
-Path %s/
-Inbox %s/INBOX
-
-Channel bench
+CHANNEL = """Channel bench
 Far :far:
 Near :near:
 SyncState *
@@ -65,7 +56,7 @@ class Boxes:
         configuration = os.path.join(top, "mbsyncrc")
         with open(configuration, "w", encoding="ascii") as text:
             port = self.between.port if self.between else self.server.port
-            text.write(STORES % (port, ISYNC_STORE if is_isync else "", top, top))
+            text.write(configured(port, top, CHANNEL, ISYNC_STORE if is_isync else ""))
         self.command = [program, "-c", configuration, "bench"]
 
     def change_flags(self, sign):
