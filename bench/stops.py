@@ -1,0 +1,199 @@
+#!/usr/bin/env python3
+"""Stops runs of the built mbtrial at each of their calls, and looks whether the next attempt brings them to the same end.
+
+usage: bench/stops.py [PROGRAM] [--random N] [--seed SEED]
+
+PROGRAM is crates/mbtrial/out/mbtrial if it is left out. For each world of WORLDS, each call that can be named and each k that the
+unbroken run makes, a stop stands before and behind the k-th call, with two attempts; and each append to the shelf is cut behind each
+of its bytes. Then N random worlds (1000 if it is left out) are each stopped at one call at random. Each run has to be settled with
+one stop, and what it leaves has to be alike to what the unbroken run leaves: the same but for UIDs that the run gave, and the twelve
+characters of the marks. The last line is `N passed, M failed`; the status is 1 if one failed."""
+import argparse
+import os
+import random
+import re
+import subprocess
+import sys
+
+TOP = os.path.dirname(os.path.dirname(os.path.abspath(__file__)))
+PLAIN = "sync Full\nexpunge None\n"
+CALLS = ("folder.write_tmp", "folder.rename", "folder.remove", "folder.replace_meta", "shelf.append", "shelf.replace", "shelf.remove",
+         "SELECT", "FETCH", "STORE", "EXPUNGE", "APPEND")
+WORLDS = {
+    "first pull": PLAIN + 'far 1 3\nf 1 S "a\\0d\\0a"\nf 2 - "b\\0d\\0a"\nnear 1 1\nstate 0 0 0 0 0\nend\n',
+    "flags on both sides": PLAIN + 'far 1 6\nf 5 S "a\\0d\\0a"\nnear 1 8\nn 7 F "a\\0a"\nstate 3 1 1 5 7\ne 5 7 -\nend\n',
+    "gone": PLAIN + 'far 1 6\nnear 1 8\nn 7 S "a\\0a"\nstate 3 1 1 5 7\ne 5 7 S\nend\n',
+    "gone and expunged": 'sync Full\nexpunge Near\nfar 1 6\nnear 1 8\nn 7 S "a\\0a"\nstate 3 1 1 5 7\ne 5 7 S\nend\n',
+    "expunge alone": 'sync None\nexpunge Near\nfar 1 6\nf 5 - "a\\0d\\0a"\nnear 1 8\nn 7 T "a\\0a"\nstate 3 1 1 5 7\ne 5 7 -\nend\n',
+    "first push": PLAIN + 'far 1 1\nnear 1 2\nn 1 - "a\\0a"\nstate 0 0 0 0 0\nend\n',
+    "one message pulled": PLAIN + 'far 1 2\nf 1 - "a\\0d\\0a"\nnear 1 1\nstate 0 0 0 0 0\nend\n',
+    "a waiting file": PLAIN + 'far 1 9\nf 8 S "x\\0d\\0a"\nnear 1 4\nn 3 S "x\\0a"\nw - "y\\0a"\nstate 2 1 1 0 3\ne 8 3 S\nend\n',
+    "far expunge alone": 'sync Full\nexpunge Far\nfar 1 2\nf 1 T "a\\0d\\0a"\nnear 1 1\nstate 0 0 0 0 0\nend\n',
+}
+MARK = re.compile(r"X-TUID: [A-Za-z0-9_-]{12}")
+
+
+class World:
+    """A world's lines: of each side its validity, next UID and messages; the state's numbers and entries; what waits."""
+
+    def __init__(self, lines):
+        self.sides, self.waiting, self.state, self.entries = {}, [], None, []
+        for line in lines:
+            word, _, rest = line.partition(" ")
+            if word in ("far", "near"):
+                self.sides[word] = tuple(map(int, rest.split()))
+            elif word in ("f", "n"):
+                uid, flags, text = rest.split(" ", 2)
+                self.sides.setdefault(word, {})[int(uid)] = (flags, text)
+            elif word == "w":
+                self.waiting.append(rest)
+            elif word == "state":
+                self.state = tuple(map(int, rest.split()))
+            elif word == "e":
+                far, near, flags = rest.split()
+                self.entries.append((int(far), int(near), flags))
+
+    def messages(self, letter):
+        return self.sides.get(letter, {})
+
+
+def renamed(opening, ended, found, letter, side):
+    """The map from the UIDs of the unbroken end to those that are found: itself on what the opening names, rising on the others."""
+    next_uid = opening.sides[side][1]
+    place = 0 if side == "far" else 1
+    old = lambda uid: uid < next_uid
+    theirs = sorted({uid for uid in ended.messages(letter) if not old(uid)} | {e[place] for e in ended.entries if not old(e[place])})
+    ours = sorted({uid for uid in found.messages(letter) if not old(uid)} | {e[place] for e in found.entries if not old(e[place])})
+    return {**{uid: uid for uid in range(next_uid)}, **dict(zip(theirs, ours))} if len(theirs) == len(ours) else None
+
+
+def unlike(opening, ended, found):
+    """Why what is found is not alike to the unbroken end, or nothing."""
+    maps = {}
+    for letter, side, most in (("f", "far", 3), ("n", "near", 4)):
+        to = maps[side] = renamed(opening, ended, found, letter, side)
+        if to is None:
+            return f"{side}: another number of messages"
+        bare = lambda messages: {uid: (flags, MARK.sub("X-TUID:", text, count=1)) for uid, (flags, text) in messages.items()}
+        if {to[uid]: message for uid, message in bare(ended.messages(letter)).items()} != bare(found.messages(letter)):
+            return f"{side}: other messages"
+        if found.sides[side][0] != ended.sides[side][0]:
+            return f"{side}: another validity"
+        if found.sides[side][1] <= max([*found.messages(letter), found.state[most], 0]) or found.sides[side][1] < opening.sides[side][1]:
+            return f"{side}: the next UID is too low"
+        marks = [m for flags, text in found.messages(letter).values() for m in MARK.findall(text)[:1]]
+        if len(set(marks)) != len(marks):
+            return f"{side}: a mark twice"
+    mapped = sorted((maps["far"][far], maps["near"][near], flags) for far, near, flags in ended.entries)
+    if mapped != sorted(found.entries):
+        return "other entries"
+    if found.state[:3] != ended.state[:3] or found.waiting != ended.waiting:
+        return "another state, or other waiting files"
+    if [maps["far"].get(ended.state[3]), maps["near"].get(ended.state[4])] != list(found.state[3:5]):
+        return "other highest UIDs"
+    return None
+
+
+class Tally:
+    """Runs trials, and counts which pass."""
+
+    def __init__(self, program):
+        self.program, self.passed, self.failed = program, 0, 0
+
+    def run(self, text, tries, stops=()):
+        """The first word and the stops of what is told, and the world that is left."""
+        trial = text + f"tries {tries}\n" + "".join(stop + "\n" for stop in stops)
+        told = subprocess.run([self.program], input=trial, capture_output=True, text=True, check=False, timeout=60).stdout.split("\n")
+        start = next((k for k, line in enumerate(told) if line.startswith("far ")), len(told))
+        return told[0].split(), World(told[start:])
+
+    def check(self, name, text, ended, stop):
+        """Whether a run with this stop comes to the same end. Tells whether the stop was met."""
+        words, found = self.run(text, 2, [stop])
+        if words[:1] == ["settled"] and words[2] == "0":
+            return False
+        wrong = unlike(World(text.split("\n")), ended, found) if words[:1] == ["settled"] else " ".join(words)
+        if wrong is None and words[2] != "1":
+            wrong = "another number of stops"
+        if wrong is None:
+            self.passed += 1
+        else:
+            self.failed += 1
+            print(f"FAILED  {name}, {stop}: {wrong}")
+        return True
+
+    def each_stop(self, name, text):
+        """Each stop of one world."""
+        words, ended = self.run(text, 1)
+        if words[:2] != ["settled", "ran"]:
+            self.failed += 1
+            print(f"FAILED  {name}: {' '.join(words)}")
+            return
+        for call in CALLS:
+            k = 1
+            while all([self.check(name, text, ended, f"stop {moment} {call} {k}") for moment in ("before", "after")]):
+                k += 1
+        self.each_beginning(name, text, ended)
+
+    def each_beginning(self, name, text, ended):
+        """Each append to the shelf, cut behind each of its bytes."""
+        for k in range(1, 100):
+            if not self.check(name, text, ended, f"stop part shelf.append {k} 0"):
+                return
+            for count in range(1, 200):
+                if not self.check(name, text, ended, f"stop part shelf.append {k} {count}"):
+                    break
+
+
+def random_world(rng):
+    """A world with some pairs, messages of one side alone, and waiting files, under any options."""
+    far, near, entries = [], [], []
+    flags = lambda: "".join(f for f in "DFPRST" if rng.random() < 0.25) or "-"
+    uids = {"far": 1, "near": 1}
+
+    def uid(side):
+        uids[side] += rng.randrange(1, 3)
+        return uids[side] - 1
+    for _ in range(rng.randrange(5)):
+        f, n = uid("far"), uid("near")
+        entries.append((f, n, flags()))
+        if rng.random() < 0.85:
+            far.append((f, flags(), "p%d" % f))
+        if rng.random() < 0.85:
+            near.append((n, flags(), "p%d" % f))
+    highest = uids["far"] - 1, uids["near"] - 1
+    far += [(uid("far"), flags(), "new") for _ in range(rng.randrange(3))]
+    near += [(uid("near"), flags(), "own") for _ in range(rng.randrange(3))]
+    lines = [rng.choice(["sync Full", "sync Pull", "sync Push", "sync New Gone", "sync None"]),
+             "expunge " + rng.choice(["None", "Far", "Near", "Both"]), f"far 1 {uids['far']}"]
+    lines += [f'f {u} {w} "{t}\\0d\\0a"' for u, w, t in far] + [f"near 1 {uids['near']}"]
+    lines += [f'n {u} {w} "{t}\\0a"' for u, w, t in near] + [f'w {flags()} "w{k}\\0a"' for k in range(rng.randrange(2))]
+    lines += [f"state 1 1 1 {highest[0]} {highest[1]}"] + [f"e {f} {n} {w}" for f, n, w in entries] + ["end", ""]
+    return "\n".join(lines)
+
+
+def main():
+    words = argparse.ArgumentParser(description="Stops runs of mbtrial at each of their calls.")
+    words.add_argument("program", nargs="?", default=os.path.join(TOP, "crates", "mbtrial", "out", "mbtrial"))
+    words.add_argument("--random", type=int, default=1000)
+    words.add_argument("--seed", type=int, default=1)
+    told = words.parse_args()
+    tally = Tally(told.program)
+    for name, text in WORLDS.items():
+        tally.each_stop(name, text)
+    rng, met = random.Random(told.seed), 0
+    for number in range(told.random):
+        text = random_world(rng)
+        begun, ended = tally.run(text, 1)
+        if begun[:2] != ["settled", "ran"]:
+            tally.failed += 1
+            print(f"FAILED  random world {number}: {' '.join(begun)}\n{text}")
+            continue
+        met += tally.check(f"random world {number}", text, ended, f"stop {rng.choice(['before', 'after'])} {rng.choice(CALLS)} {rng.randrange(1, 4)}")
+    print(f"{met} of {told.random} random worlds met their stop")
+    print(f"{tally.passed} passed, {tally.failed} failed")
+    sys.exit(1 if tally.failed else 0)
+
+
+if __name__ == "__main__":
+    main()
