@@ -61,9 +61,10 @@ def renamed(opening, ended, found, letter, side):
     """The map from the UIDs of the unbroken end to those that are found: itself on what the opening names, rising on the others."""
     next_uid = opening.sides[side][1]
     place = 0 if side == "far" else 1
-    old = lambda uid: uid < next_uid
-    theirs = sorted({uid for uid in ended.messages(letter) if not old(uid)} | {e[place] for e in ended.entries if not old(e[place])})
-    ours = sorted({uid for uid in found.messages(letter) if not old(uid)} | {e[place] for e in found.entries if not old(e[place])})
+    def given(world):
+        named = {*world.messages(letter), *(entry[place] for entry in world.entries), world.state[3 + place]}
+        return sorted(uid for uid in named if uid >= next_uid)
+    theirs, ours = given(ended), given(found)
     return {**{uid: uid for uid in range(next_uid)}, **dict(zip(theirs, ours))} if len(theirs) == len(ours) else None
 
 
