@@ -11,10 +11,11 @@ use Rattle.book.specs.Shelves.{Files}
 use Rattle.outside.specs.declared.fault.OutsideFault.{OutsideFault}
 use Rattle.outside.specs.Arrivals.{Arrives}
 use Rattle.outside.specs.BookCalls.{OfBook}
-use Rattle.outside.specs.Calls.{Call, Changes, Reads, Seen, Writes}
+use Rattle.outside.specs.Calls.{Call, Changes, LeavesBy, Reads, Seen, Writes}
 use Rattle.outside.specs.Devices.{Device}
 use Rattle.outside.specs.Opened.{Opened}
 use Rattle.parts.specs.Devices.{every, seen_with}
+use Rattle.parts.specs.PartCalls.{Part}
 use Rattle.parts.specs.Stops.{HasCause}
 use Rattle.book_part.specs.BookParts as book
 use Rattle.book_part.specs.BookParts.{files_of, kept_of}
@@ -50,6 +51,12 @@ module _ {L F S : Type 0} {links : link.Ghosts L} {folders : folder.Ghosts F} {s
   abbrev pub BookCall : (may_tell : OutsideFault → Type 0) → (does part : Pending → Effect Files) → (old new : Both L F S links folders shelves) → Result (Unit {0}) OutsideFault → Type 0
   BookCall may_tell does part old new result =
       Writes (honest_of new) (Arrives every true) may_tell (OfBook does (opened_of old)) (OfBook part (opened_of old)) (seen_of old) (seen_of new) result
+
+  -- the same, before it is counted
+  abbrev pub BookPartCall : (does part : Pending → Effect Files) → (old new : Both L F S links folders shelves) → Result (Unit {0}) OutsideFault → Type 0
+  BookPartCall does part old new result =
+      let of_book = OfBook does (opened_of old) in
+      Part (honest_of new) (λ (_ : Unit {0}). of_book) (LeavesBy {T = Unit {0}} (λ _. of_book) (OfBook part (opened_of old))) (device_of old) (device_of new) result
 
   -- a call of a box that changes it
   abbrev pub BoxChange : (does part : Effect Device) → (old new : Both L F S links folders shelves) → Result (Unit {0}) OutsideFault → Type 0
@@ -92,3 +99,10 @@ module _ {L F S : Type 0} {links : link.Ghosts L} {folders : folder.Ghosts F} {s
   -- of one of the book
   abbrev pub ByBook : (old new : Both L F S links folders shelves) → Type 0
   ByBook old new = Failed old (HasCause (book.standing_of old.book) (book.standing_of new.book))
+
+  -- of one of the book behind a sync of the near mailbox
+  abbrev pub SyncedCause : (old new : Both L F S links folders shelves) → Type 0
+  SyncedCause old new = HasCause (near.standing_of old.near) (near.standing_of new.near) ⊎ HasCause (book.standing_of old.book) (book.standing_of new.book)
+
+  abbrev pub BySyncedBook : (old new : Both L F S links folders shelves) → Type 0
+  BySyncedBook old new = Failed old (SyncedCause old new)

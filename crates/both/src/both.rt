@@ -32,15 +32,19 @@ pub struct Both<L: Link, F: Folder, S: Shelf> {
 }
 
 impl<L: Link + Drop, F: Folder + Drop, S: Shelf + Drop> Both<L, F, S> {
-    ghost use Rattle.outside.specs.Calls.{FromBox, LeavesBy};
+    ghost use Rattle.book.specs.declared.book.Pending.TheVariants.{Missing, Useless};
+    ghost use Rattle.book.specs.Books.{Turns as TurnsJournal, TurnsHalf};
+    ghost use Rattle.book.specs.BookLogs.{begun};
+    ghost use Rattle.book.specs.Commits.{CommitsHalf, CommitsTo};
+    ghost use Rattle.outside.specs.Calls.{FromBook, FromBox, LeavesBy};
     ghost use Rattle.outside.specs.BoxCalls.{Carry, SetsAside};
-    ghost use Rattle.outside.specs.Opened.{IsOpen};
+    ghost use Rattle.outside.specs.Opened.{AreCommitted, IsHeld, IsOpen, TakesCommit, TakesPlan, turned};
     ghost use Rattle.parts.specs.Devices.{seen_with};
     ghost use Rattle.parts.specs.PartCalls.{Part};
     ghost use Rattle.parts.specs.Tallies.{untouched};
     ghost use Rattle.far_part.specs.FarParts as fars;
     ghost use Rattle.near_part.specs.NearParts as nears;
-    ghost use Rattle.both.specs.Boths.{CopyCause, device_of, honest_of, opened_of, seen_of};
+    ghost use Rattle.both.specs.Boths.{BookPartCall, CopyCause, SyncedCause, device_of, honest_of, opened_of, seen_of};
 
     /// The outside of these parts, of which no call was made.
     pub fn new(alloc: Global, far: FarPart<L>, near: NearPart<F>, book: BookPart<S>) -> Self
@@ -105,6 +109,35 @@ impl<L: Link + Drop, F: Folder + Drop, S: Shelf + Drop> Both<L, F, S> {
         let copy = self.far.append(&text, flags)?;
         Ok(Carried::Made(copy))
     }
+
+    /// Writes the plan, behind a sync of the near mailbox: the plan names UIDs that its files were given just before.
+    fn begin_synced(&mut self, plan: Plan) -> Result<(), OutsideFault>
+        requires takes { TakesPlan (opened_of self.old) plan }
+        ensures was_honest { honest_of self.new → honest_of self.old }
+        ensures opened { OnOk result (opened_of self.new ≡ turned (λ _. begun plan) (opened_of self.old)) }
+        ensures tally { self.new.tally ≡ self.old.tally }
+        ensures told { IfErr result FromBook }
+        ensures why { IsErrOf result OutsideFault.Stopped → SyncedCause self.old self.new }
+        ensures part { BookPartCall (λ _. TurnsJournal Missing (begun plan)) (λ _. TurnsHalf Missing Useless) self.old self.new result }
+    {
+        self.near.sync()?;
+        self.book.begin(plan)
+    }
+
+    /// Ends the run, behind a sync of the near mailbox: no entry of the new state may outlive its message.
+    fn commit_synced(&mut self) -> Result<(), OutsideFault>
+        requires takes { TakesCommit (opened_of self.old) }
+        ensures was_honest { honest_of self.new → honest_of self.old }
+        ensures opened { OnOk result (AreCommitted (opened_of self.old) (opened_of self.new)) }
+        ensures held { result ≡ Ok tt → honest_of self.new → IsHeld (opened_of self.new) (device_of self.new) }
+        ensures tally { self.new.tally ≡ self.old.tally }
+        ensures told { IfErr result FromBook }
+        ensures why { IsErrOf result OutsideFault.Stopped → SyncedCause self.old self.new }
+        ensures part { BookPartCall CommitsTo CommitsHalf self.old self.new result }
+    {
+        self.near.sync()?;
+        self.book.commit()
+    }
 }
 
 impl<L: Link + Drop, F: Folder + Drop, S: Shelf + Drop> Outside for Both<L, F, S> {
@@ -122,7 +155,7 @@ impl<L: Link + Drop, F: Folder + Drop, S: Shelf + Drop> Outside for Both<L, F, S
     ghost use Rattle.outside.specs.BookCalls.{FromLog, LeavesUnread, ReadsBook};
     ghost use Rattle.outside.specs.BoxCalls.{Admits, AdmitsPart, Carry, HasNumbers, ListsFar, ListsNear, SetsAside, Turns, copies_made, removed};
     ghost use Rattle.parts.specs.Devices.{every};
-    ghost use Rattle.both.specs.Boths.{BookCall, BothCall, BoxChange, BoxRead, ByBook, ByCopy, ByFar, ByNear, ByOpening, BySide, honest_of, opened_of, seen_of};
+    ghost use Rattle.both.specs.Boths.{BookCall, BothCall, BoxChange, BoxRead, ByBook, ByCopy, ByFar, ByNear, ByOpening, BySide, BySyncedBook, honest_of, opened_of, seen_of};
 
     ghost honest = { honest_of };
 
@@ -188,12 +221,12 @@ impl<L: Link + Drop, F: Folder + Drop, S: Shelf + Drop> Outside for Both<L, F, S
         ensures was_honest { honest_of self.new → honest_of self.old }
         ensures opened { OnOk result (opened_of self.new ≡ turned (λ _. begun plan) (opened_of self.old)) }
         ensures call { BookCall FromBook (λ _. TurnsJournal Missing (begun plan)) (λ _. TurnsHalf Missing Useless) self.old self.new result }
-        ensures why { IsErrOf result OutsideFault.Stopped → ByBook self.old self.new }
+        ensures why { IsErrOf result OutsideFault.Stopped → BySyncedBook self.old self.new }
     {
         if self.tally.is_broken() {
             return Err(OutsideFault::Stopped);
         }
-        let answer = self.book.begin(plan);
+        let answer = self.begin_synced(plan);
         self.tally.end(answer)
     }
 
@@ -232,12 +265,12 @@ impl<L: Link + Drop, F: Folder + Drop, S: Shelf + Drop> Outside for Both<L, F, S
         ensures opened { OnOk result (AreCommitted (opened_of self.old) (opened_of self.new)) }
         ensures held { result ≡ Ok tt → honest_of self.new → IsHeld (opened_of self.new) (seen_of self.new).device }
         ensures call { BookCall FromBook CommitsTo CommitsHalf self.old self.new result }
-        ensures why { IsErrOf result OutsideFault.Stopped → ByBook self.old self.new }
+        ensures why { IsErrOf result OutsideFault.Stopped → BySyncedBook self.old self.new }
     {
         if self.tally.is_broken() {
             return Err(OutsideFault::Stopped);
         }
-        let answer = self.book.commit();
+        let answer = self.commit_synced();
         self.tally.end(answer)
     }
 

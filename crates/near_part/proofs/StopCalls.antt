@@ -1,6 +1,7 @@
 -- What the near box and its folder say of stops, as the part says it.
 use Rattle.std.proofs.Common.{◌≡◌, ◌<◌, ◌⊎◌, inl, inr, sym, subst, ◌∙◌, ℕ, Bool, true, false, Result, Ok, Err}
 use Rattle.std.proofs.lemmas.Bool.{cases_Bool, false≢true}
+use Rattle.std.specs.Prelude.{IfErr, IsErrOf}
 use Rattle.device.specs.Calls.{Seen}
 use Rattle.maildir.specs.declared.folder.Folder as folder
 use Rattle.maildir.specs.Folders.{Stored}
@@ -9,6 +10,9 @@ use Rattle.near_box.specs.declared.near_box.NearBox.{NearBox}
 use Rattle.near_box.specs.declared.near_fault.NearFault.{NearFault}
 use Rattle.near_box.specs.declared.near_fault.NearFault.TheVariants as near
 use Rattle.near_box.specs.NearCalls.{Box, Ends, Halts, Looks, stops_of}
+use Rattle.outside.specs.declared.fault.OutsideFault.{OutsideFault}
+use Rattle.outside.specs.declared.fault.OutsideFault.TheVariants as fault
+use Rattle.outside.specs.Calls.{FromBook}
 use Rattle.parts.specs.Stops.{HasCause, Standing, StopsSo}
 use Rattle.near_part.specs.declared.desk.Desk.{Desk}
 use Rattle.near_part.specs.declared.desk.Desk.TheVariants.{Open}
@@ -43,6 +47,26 @@ module _ {F : Type 0} {folders : folder.Ghosts F} where
   pub open_stops : {T : Type 0} (gives_uids : Bool) (desk : Desk F folders) (old new : NearBox F folders) (answer : Result T NearFault)
       → desk ≡ Open old → Ends gives_uids (box_of old) (box_of new) answer → StopsSo (standing_at_desk desk) (standing_at_desk (Open new)) (told_by answer)
   open_stops gives_uids desk old new answer is ends = along desk old new answer is (box_stops gives_uids (box_of old) (box_of new) answer ends)
+
+-- a call stops for the cause that its clause names
+cause_of_stop : {T : Type 0} (old new : Standing) (answer : Result T OutsideFault) → StopsSo old new answer → IsErrOf answer fault.Stopped → HasCause old new
+cause_of_stop {T} old new answer stops is = subst (λ (a : Result T OutsideFault). StopsSo old new a) is stops
+
+-- what gives no UIDs tells a stop or want of memory, and nothing else
+pub tells_no_fault_of_its_own : {T : Type 0} (old new : Box) (answer : Result T NearFault) → Ends false old new answer → IfErr (told_by answer) FromBook
+tells_no_fault_of_its_own old new (Ok x) ends = tt
+tells_no_fault_of_its_own old new (Err near.Stopped) ends = tt
+tells_no_fault_of_its_own old new (Err near.Absent) ends = absurd ends
+tells_no_fault_of_its_own old new (Err near.TwoWithOneUid) ends = absurd ends
+tells_no_fault_of_its_own old new (Err near.BadMeta) ends = absurd ends
+tells_no_fault_of_its_own old new (Err near.UidsExhausted) ends = absurd ends
+tells_no_fault_of_its_own old new (Err near.NoMemory) ends = tt
+
+module _ {F : Type 0} {folders : folder.Ghosts F} where
+  pub why_stopped : {T : Type 0} (desk : Desk F folders) (old new : NearBox F folders) (answer : Result T NearFault) (result : Result T OutsideFault) → desk ≡ Open old
+      → result ≡ told_by answer → Ends false (box_of old) (box_of new) answer → IsErrOf result fault.Stopped → HasCause (standing_at_desk desk) (standing_at_desk (Open new))
+  why_stopped desk old new answer result is told ends stopped =
+      cause_of_stop (standing_at_desk desk) (standing_at_desk (Open new)) (told_by answer) (open_stops false desk old new answer is ends) (sym told ∙ stopped)
 
 -- ---- the folder is surveyed
 

@@ -1,6 +1,6 @@
 //! The near mailbox of an outside.
 
-ghost use Rattle.std.specs.Prelude.{◌≡◌, true, false, ◌∷◌, [], None, Some, OnOk, IfOk, IfErr, if◌then◌else◌};
+ghost use Rattle.std.specs.Prelude.{◌≡◌, true, false, ◌∷◌, [], None, Some, OnOk, IfOk, IfErr, IsErrOf, if◌then◌else◌};
 ghost use Rattle.std.specs.Int.NonZero.{non_zero_u32_get};
 ghost use Rattle.device.specs.Calls.{Nothing};
 ghost use Rattle.mailcore.specs.Operations.{bytes_of, expunged};
@@ -42,9 +42,9 @@ impl<F: Folder + Drop> NearPart<F> {
     ghost use Rattle.near_box.specs.Mailboxes.{admitted_near, near_of};
     ghost use Rattle.near_box.specs.NearContracts.{AdmitsSome, SetsAside};
     ghost use Rattle.outside.specs.BoxCalls.{HasNumbers};
-    ghost use Rattle.outside.specs.Calls.{FromBox};
+    ghost use Rattle.outside.specs.Calls.{FromBook, FromBox};
     ghost use Rattle.parts.specs.PartCalls.{Part, PartChanges};
-    ghost use Rattle.parts.specs.Stops.{standing_at};
+    ghost use Rattle.parts.specs.Stops.{HasCause, standing_at};
     ghost use Rattle.near_part.specs.NearParts.{Delivers, OpenStops, Stops, folder_of, is_open, mailbox_of, standing_of, stored_of};
 
     /// The part over this folder, whose validity is `fresh` where it has no meta file. No box is open.
@@ -201,6 +201,19 @@ impl<F: Folder + Drop> NearPart<F> {
             unreachable!()
         };
         told_by(expunge_in(near, uid))
+    }
+
+    /// Makes what was renamed, removed and given UIDs so far outlive a loss of power: one `sync` of the folder, if a box is open.
+    pub fn sync(&mut self) -> Result<(), OutsideFault>
+        ensures open { is_open self.new ≡ is_open self.old }
+        ensures told { IfErr result FromBook }
+        ensures why { IsErrOf result OutsideFault.Stopped → HasCause (standing_of self.old) (standing_of self.new) }
+        ensures keeps { F.is_honest ≡ true → mailbox_of self.new ≡ mailbox_of self.old }
+    {
+        let Desk::Open(near) = &mut self.desk else {
+            return Ok(());
+        };
+        told_by(near.sync())
     }
 
     /// Closes the box, if one is open, and opens the folder again.

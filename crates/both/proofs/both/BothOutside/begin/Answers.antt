@@ -1,55 +1,33 @@
-use Rattle.std.proofs.Common.{◌≡◌, ◌∙◌, sym, refl, inl, Bool, true, Option}
-use Rattle.mailcore.specs.Stores.{Store}
-use Rattle.near_box.specs.Mailboxes.{Near}
-use Rattle.book.specs.Shelves.{Files}
-use Rattle.book_part.specs.BookParts.{files_of, kept_of}
-use Rattle.book_part.specs.Kept.{Kept}
-use Rattle.far_part.specs.FarParts as fars
-use Rattle.near_part.specs.NearParts as nears
+use Rattle.std.proofs.Common.{◌∙◌, ap, sym, refl, inl, inr}
 use Rattle.book.specs.declared.book.Pending.TheVariants.{Missing, Useless}
 use Rattle.book.specs.Books.{Turns, TurnsHalf}
 use Rattle.book.specs.BookLogs.{begun}
-use Rattle.outside.specs.Calls.{FromBook}
-use Rattle.parts.proofs.PartCalls.{stuck}
-use Rattle.both.proofs.BookCalls.{book_call, is_turned, takes_plan}
+use Rattle.outside.specs.BookCalls.{OfBook}
+use Rattle.outside.specs.Calls.{FromBook, LeavesBy}
+use Rattle.parts.proofs.PartCalls.{lacks_changes, part_call, stuck}
+use Rattle.both.specs.Boths.{device_of, opened_of}
 use Rattle.both.proofs.Ended.{on_ok}
+use Rattle.both.proofs.Whys.{told_before}
 use Rattle.both.proofs.both.BothOutside.begin.Goals as goal
 
 pub returns-then-is_broken-clause-call : goal.returns-then-is_broken-clause-call
 returns-then-is_broken-clause-call g c = stuck _ _ _ _ _ _ _ (sym c.is_broken.ensures ∙ c.if-is_broken.true) tt (inl refl)
 
-pub begin-answer-requires : goal.begin-answer-requires
-begin-answer-requires g c =
-    let b = c.args.self.now in
-    let far : Store = fars.store_of b.far in
-    let near : Near = nears.mailbox_of b.near in
-    let files : Files = files_of b.book in
-    let k : Option Kept = kept_of b.book in
-    let f : Bool = fars.is_open b.far in
-    let n : Bool = nears.is_open b.near in
-    record { takes = takes_plan f n k c.args.plan c.requires.takes }
-
 pub returns-clause-call : goal.returns-clause-call
 returns-clause-call g c =
     let b = c.args.self.now in
-    let far : Store = fars.store_of b.far in
-    let near : Near = nears.mailbox_of b.near in
-    let files : Files = files_of b.book in
-    let k : Option Kept = kept_of b.book in
-    let f : Bool = fars.is_open b.far in
-    let n : Bool = nears.is_open b.near in
-    let part = c.begin-answer.new.self in
-    book_call _ (g.S.Shelf.is_honest ≡ true) FromBook f n k (λ _. Turns Missing (begun c.args.plan)) (λ _. TurnsHalf Missing Useless) far near files (files_of part) b.tally c.end.new.self c.begin-answer.result c.end.result
-    (λ h. h.2) tt (sym c.is_broken.ensures ∙ c.if-is_broken.false) c.end.ensures c.begin-answer.ensures.told c.begin-answer.ensures.part
+    let b' = c.begin_synced-answer.new.self in
+    let does = OfBook (λ _. Turns Missing (begun c.args.plan)) (opened_of b) in
+    let part = OfBook (λ _. TurnsHalf Missing Useless) (opened_of b) in
+    rw (← c.begin_synced-answer.ensures.tally) (part_call _ (λ _. 0) FromBook (λ _. does) (LeavesBy {T = Unit {0}} (λ _. does) part) (device_of b) (device_of b') b'.tally c.end.new.self c.begin_synced-answer.result c.end.result
+    (lacks_changes (λ _. does) part) (ap (λ t. t.is_broken) c.begin_synced-answer.ensures.tally ∙ sym c.is_broken.ensures ∙ c.if-is_broken.false) c.end.ensures tt c.begin_synced-answer.ensures.told c.begin_synced-answer.ensures.part)
 
 pub returns-clause-opened : goal.returns-clause-opened
 returns-clause-opened g c =
-    let b = c.args.self.now in
-    let far : Store = fars.store_of b.far in
-    let near : Near = nears.mailbox_of b.near in
-    let files : Files = files_of b.book in
-    let k : Option Kept = kept_of b.book in
-    let f : Bool = fars.is_open b.far in
-    let n : Bool = nears.is_open b.near in
-    let part = c.begin-answer.new.self in
-    on_ok _ c.begin-answer.result c.end.result b.tally c.end.new.self _ _ (is_turned f n (λ _. begun c.args.plan) k (kept_of part)) c.end.ensures c.begin-answer.ensures.kept
+    let b' = c.begin_synced-answer.new.self in
+    on_ok _ c.begin_synced-answer.result c.end.result b'.tally c.end.new.self _ _ (λ h. h) c.end.ensures c.begin_synced-answer.ensures.opened
+
+pub returns-clause-why : goal.returns-clause-why
+returns-clause-why g c =
+    let b' = c.begin_synced-answer.new.self in
+    λ stopped. inr (c.begin_synced-answer.ensures.why (told_before (λ _. 0) c.begin_synced-answer.result c.end.result b'.tally c.end.new.self c.end.ensures stopped))
