@@ -14,15 +14,13 @@ import sys
 from memory import peak
 
 TOP = os.path.dirname(os.path.dirname(os.path.abspath(__file__)))
-CRATES = ["texts", "device", "mailcore", "wire_reader", "wire_tokens", "wire_strings", "imap_commands", "imap_replies",
-          "imap_session", "session_laws", "exchange_laws", "imap_link", "imap_client", "imap_server", "mem_link", "bench_client"]
 PROGRAM = os.path.join(TOP, "crates", "bench_client", "out", "bench_client")
 TASKS = [("list", "messages", (10000, 100000)), ("find", "messages", (10000, 100000)), ("fetch", "bytes", (1677721, 16777216))]
 
 
 def build():
     """Proves and builds the program, if it is not there yet or is older than its sources."""
-    subprocess.run([os.path.join(TOP, "bin", "launch"), "bench_client", *CRATES, "--"], stdout=subprocess.DEVNULL,
+    subprocess.run([os.path.join(TOP, "bin", "launch"), "bench_client"], stdout=subprocess.DEVNULL,
                    stderr=subprocess.DEVNULL, check=True)
 
 

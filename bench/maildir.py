@@ -23,7 +23,6 @@ import time
 from memory import peak
 
 TOP = os.path.dirname(os.path.dirname(os.path.abspath(__file__)))
-CRATES = ["texts", "device", "mailcore", "maildir", "near_box", "bench_maildir"]
 PROGRAM = os.path.join(TOP, "crates", "bench_maildir", "out", "bench_maildir")
 SIZES = (10000, 100000)
 
@@ -31,7 +30,7 @@ SIZES = (10000, 100000)
 def build():
     """Proves and builds the program, if it is not there yet or is older than its sources."""
     launch = os.path.join(TOP, "bin", "launch")
-    subprocess.run([launch, "bench_maildir", *CRATES, "--"], stdout=subprocess.DEVNULL, check=True)
+    subprocess.run([launch, "bench_maildir"], stdout=subprocess.DEVNULL, check=True)
 
 
 def make(folder, count, first_line=b"Subject: %d\n"):

@@ -14,7 +14,6 @@ import tempfile
 from memory import peak
 
 TOP = os.path.dirname(os.path.dirname(os.path.abspath(__file__)))
-CRATES = ["texts", "device", "mailcore", "rules", "sync_state", "bench_state"]
 PROGRAM = os.path.join(TOP, "crates", "bench_state", "out", "bench_state")
 MARK = "abcdefghijklmnopqrstuvwxyzABCDEFGHIJKLMNOPQRSTUVWXYZ0123456789-_"
 
@@ -95,7 +94,7 @@ def build():
     """Proves and builds the program, if it is not there yet or is older than its sources, and runs it on its example."""
     launch = os.path.join(TOP, "bin", "launch")
     with open(os.path.join(TOP, "crates", "bench_state", "stdin"), "rb") as example:
-        subprocess.run([launch, "bench_state", *CRATES, "--"], stdin=example, stdout=subprocess.DEVNULL, check=True)
+        subprocess.run([launch, "bench_state"], stdin=example, stdout=subprocess.DEVNULL, check=True)
 
 
 def main():

@@ -15,8 +15,6 @@ import time
 
 from trial_imapd import TOP, Server, build, world
 
-CRATES = ["texts", "device", "mailcore", "wire_reader", "wire_tokens", "wire_strings", "imap_commands", "imap_replies",
-          "imap_session", "session_laws", "exchange_laws", "imap_link", "imap_client", "client_calls", "test_client"]
 PROGRAM = os.path.join(TOP, "crates", "test_client", "out", "test_client")
 MESSAGES = 1000
 # The letters of flags as the client tells them, and their names in the order in which the server tells them.
@@ -28,7 +26,7 @@ SHOWN_MAX, BEGIN = 200, 60
 def build_client():
     """Proves and builds the program, if it is not there yet or is older than its sources."""
     launch = os.path.join(TOP, "bin", "launch")
-    subprocess.run([launch, "test_client", *CRATES, "--"], stdin=subprocess.DEVNULL, stdout=subprocess.DEVNULL, check=True)
+    subprocess.run([launch, "test_client"], stdin=subprocess.DEVNULL, stdout=subprocess.DEVNULL, check=True)
 
 
 def mark(n):

@@ -12,8 +12,6 @@ import os
 import subprocess
 
 TOP = os.path.dirname(os.path.dirname(os.path.abspath(__file__)))
-CRATES = ["texts", "mailcore", "wire_reader", "wire_tokens", "wire_strings", "imap_commands", "imap_replies", "imap_wire",
-          "bench_wire"]
 BODY = 16777216
 
 
@@ -32,7 +30,7 @@ def measure(name, data):
     """The seconds of reading at once, as one piece and in many: the least of five runs each."""
     best = None
     for _ in range(5):
-        run = subprocess.run([os.path.join(TOP, "bin", "launch"), "bench_wire", *CRATES, "--"], input=data,
+        run = subprocess.run([os.path.join(TOP, "bin", "launch"), "bench_wire"], input=data,
                              capture_output=True, check=True)
         times = [int(word) / 1e6 for word in run.stderr.split()[-4:]]
         best = [min(pair) for pair in zip(best, times)] if best else times
