@@ -318,6 +318,8 @@ def what_does_not_open(tally):
     with Scene(password='"not so"') as scene:
         got = scene.run("c")
         tally.same("a wrong password", got[:2], [1, "mbsync: cannot open far"])
+        advice = "  the server refused the user and the password: mend User or Pass of IMAPStore far, and run again"
+        tally.same("what to do about it", got[2:], [advice])
         tally.same("it is not told", any("not so" in str(line) for line in got), False)
     with Scene(ONE) as scene:
         scene.configure(CONFIG.replace("~/inbox", "~/locked/inbox") % {"port": scene.server.port, "password": "p", "patterns": "*", "create": "None"})
