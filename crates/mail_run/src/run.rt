@@ -10,7 +10,6 @@ use config::config::Config;
 use mail_stores::mail_stores::MailStores;
 use near_places::home::Home;
 use request::request::Request;
-use std::cell::Cell;
 use std::fs::File;
 use std::io::Write;
 use std::net::Net;
@@ -54,9 +53,8 @@ pub fn run_mail<
 >(rt: R, request: &Request, terminal: Option<T>, out: &mut O, err: &mut E) -> u8 {
     match start_of(&rt, request) {
         Ok(start) => {
-            let is_shown = Cell::new(false);
-            let screen = Screen::new(terminal, &is_shown);
-            run_start(rt, request, start, screen, out, err)
+            let screen = Screen::new(terminal);
+            run_start(rt, request, start, &screen, out, err)
         }
         Err(failure) => {
             let _ = writeln!(err, "mbsync: {failure}");
@@ -71,7 +69,7 @@ fn run_start<
     T: Write + Copy,
     O: Write,
     E: Write,
->(rt: R, request: &Request, start: Start, screen: Screen<'_, T>, out: &mut O, err: &mut E) -> u8 {
+>(rt: R, request: &Request, start: Start, screen: &Screen<T>, out: &mut O, err: &mut E) -> u8 {
     let alloc = rt.alloc();
     let Start {
         config,

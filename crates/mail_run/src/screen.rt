@@ -12,16 +12,19 @@ const WIPE: &str = "\r\x1b[K";
 const NAME_MAX: usize = 39;
 
 /// A line on a terminal, if there is one, which is overwritten. That it cannot be written is no fault.
-#[derive(Clone, Copy)]
-pub(crate) struct Screen<'a, T: Write + Copy> {
+#[derive(Drop)]
+pub(crate) struct Screen<T: Write + Copy> {
     terminal: Option<T>,
-    is_shown: &'a Cell<bool>,
+    is_shown: Cell<bool>,
 }
 
-impl<'a, T: Write + Copy> Screen<'a, T> {
-    /// The line of this terminal. The cell tells whether something stands in it.
-    pub(crate) fn new(terminal: Option<T>, is_shown: &'a Cell<bool>) -> Self {
-        Screen { terminal, is_shown }
+impl<T: Write + Copy> Screen<T> {
+    /// The line of this terminal, in which nothing stands.
+    pub(crate) fn new(terminal: Option<T>) -> Self {
+        Screen {
+            terminal,
+            is_shown: Cell::new(false),
+        }
     }
 
     /// Shows which mailbox is at work, in place of what was shown before.
@@ -51,19 +54,19 @@ fn shortened(name: &str) -> &str {
 
 /// A stream. Before it is written to, the line is wiped.
 #[derive(Drop)]
-pub(crate) struct Wiping<'a, T: Write + Copy, W: Write> {
-    screen: Screen<'a, T>,
-    stream: &'a mut W,
+pub(crate) struct Wiping<'s, 'w, T: Write + Copy, W: Write> {
+    screen: &'s Screen<T>,
+    stream: &'w mut W,
 }
 
-impl<'a, T: Write + Copy, W: Write> Wiping<'a, T, W> {
+impl<'s, 'w, T: Write + Copy, W: Write> Wiping<'s, 'w, T, W> {
     /// This stream.
-    pub(crate) fn new(screen: Screen<'a, T>, stream: &'a mut W) -> Self {
+    pub(crate) fn new(screen: &'s Screen<T>, stream: &'w mut W) -> Self {
         Wiping { screen, stream }
     }
 }
 
-impl<T: Write + Copy, W: Write> Write for Wiping<'_, T, W> {
+impl<T: Write + Copy, W: Write> Write for Wiping<'_, '_, T, W> {
     fn write(&mut self, buf: &[u8]) -> io::Result<usize> {
         self.screen.wipe();
         self.stream.write(buf)

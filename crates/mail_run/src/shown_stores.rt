@@ -13,12 +13,12 @@ use stores::stores::{BoxLists, Stores};
 #[derive(Drop)]
 pub(crate) struct ShownStores<'a, S: Stores + Drop, T: Write + Copy> {
     stores: S,
-    screen: Screen<'a, T>,
+    screen: &'a Screen<T>,
 }
 
 impl<'a, S: Stores + Drop, T: Write + Copy> ShownStores<'a, S, T> {
     /// These stores.
-    pub(crate) fn new(stores: S, screen: Screen<'a, T>) -> Self {
+    pub(crate) fn new(stores: S, screen: &'a Screen<T>) -> Self {
         ShownStores { stores, screen }
     }
 }
