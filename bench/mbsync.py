@@ -11,6 +11,7 @@ import argparse
 import fcntl
 import os
 import re
+import shlex
 import shutil
 import signal
 import subprocess
@@ -89,6 +90,14 @@ class Scene:
         """The status of a run, and what it prints: standard output, and behind it standard error."""
         done = subprocess.run(**self.words(words, home), stdout=out, stderr=subprocess.PIPE, timeout=120, check=False)
         return [done.returncode, *(done.stdout or b"").decode("latin-1").splitlines(), *done.stderr.decode("latin-1").splitlines()]
+
+    def run_on_terminal(self, *words, out):
+        """What a run writes to a terminal that is its standard error. Its standard output goes to this file."""
+        line = f"{shlex.join([self.program, *words])} > {shlex.quote(out)}"
+        known = self.words(words, True)
+        known["args"] = ["script", "-q", "-e", "-c", line, self.path("typescript")]
+        done = subprocess.run(**known, stdout=subprocess.PIPE, timeout=120, check=False)
+        return [done.returncode, done.stdout]
 
     def start(self, *words):
         return subprocess.Popen(**self.words(words, True), stdout=subprocess.PIPE, stderr=subprocess.PIPE)
@@ -309,6 +318,8 @@ def what_does_not_open(tally):
     with Scene(password='"not so"') as scene:
         got = scene.run("c")
         tally.same("a wrong password", got[:2], [1, "mbsync: cannot open far"])
+        advice = "  the server refused the user and the password: mend User or Pass of IMAPStore far, and run again"
+        tally.same("what to do about it", got[2:], [advice])
         tally.same("it is not told", any("not so" in str(line) for line in got), False)
     with Scene(ONE) as scene:
         scene.configure(CONFIG.replace("~/inbox", "~/locked/inbox") % {"port": scene.server.port, "password": "p", "patterns": "*", "create": "None"})
@@ -357,8 +368,22 @@ def messages_that_do_not_fit(tally):
         tally.same("and is passed over from then on", scene.run("c"), [0, "c:INBOX", "ran"])
 
 
+def a_terminal(tally):
+    wipe = b"\r\x1b[K"
+    with Scene(ONE, create="Near") as scene:
+        scene.make_far("a")
+        out = scene.path("out")
+        shown = b"".join(wipe + box + wipe for box in (b"all:INBOX", b"all:a"))
+        tally.same("a terminal shows each box and wipes it", scene.run_on_terminal("all", out=out), [0, shown])
+        lines = [b"all:INBOX", b"new pull 1 -> 1", b"ran", b"all:a", b"ran"]
+        tally.same("standard output is as ever", open(out, "rb").read().splitlines(), lines)
+        os.remove(scene.path("inbox/.uidvalidity"))
+        told = b"mbsync: c:INBOX: store fault near 4\r\n"
+        tally.same("a fault stands in a line of its own", scene.run_on_terminal("c", out=out), [1, wipe + b"c:INBOX" + wipe + told])
+
+
 SCENES = [first_pull, changes_both_ways, gone, only_what_is_asked, several_boxes, absent_boxes, the_walk, the_lock, usage,
-          what_does_not_open, bad_configurations, states_of_others, messages_that_do_not_fit]
+          what_does_not_open, bad_configurations, states_of_others, messages_that_do_not_fit, a_terminal]
 
 
 def main():

@@ -1,5 +1,5 @@
 -- What is written where, of streams whose bytes are known.
-use Rattle.std.specs.Prelude.{◌≡◌, ℕ, ⊤, List, length, take, Option, None, Some}
+use Rattle.std.specs.Prelude.{◌≡◌, ℕ, ⊤, Bool, true, List, length, take, Option, None, Some, Result, MatchResult}
 use Rattle.std.specs.Io.KnownBytes.{Keeps}
 use Rattle.channels.specs.declared.verdict.Verdict.{Verdict}
 use Rattle.channels.specs.declared.verdict.Verdict.TheVariants.{Clean}
@@ -17,3 +17,7 @@ IsTold verdict = verdict ≡ Clean → ⊥
 -- nothing was written to standard error, unless a fault was told
 abbrev pub IsQuiet : (old new : Option (List ℕ)) → Verdict → Type 0
 IsQuiet old new verdict = verdict ≡ Clean → Keeps old new
+
+-- whether a write has failed so far, before a write and behind it
+abbrev pub Notes : {T E : Type 0} → (before after : Bool) → Result T E → Type 0
+Notes before after result = MatchResult result (λ _. after ≡ before) (λ _. after ≡ true)

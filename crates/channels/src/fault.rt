@@ -12,6 +12,8 @@ pub(crate) enum BoxFault {
     Absent(Side),
     /// A store does not open.
     CannotOpen(String),
+    /// The server of this IMAP store does not let its user in.
+    LoginRefused(String),
     /// Another process holds its lock.
     Locked,
     /// The server said no to a step: its number, counted from 1, and the step, if it could be read again.
@@ -24,6 +26,7 @@ impl From<StoreFault> for BoxFault {
     fn from(fault: StoreFault) -> BoxFault {
         match fault {
             StoreFault::CannotOpen(name) => BoxFault::CannotOpen(name),
+            StoreFault::LoginRefused(store) => BoxFault::LoginRefused(store),
             StoreFault::Locked => BoxFault::Locked,
             StoreFault::Box(fault) => BoxFault::Run(fault),
         }

@@ -1,14 +1,16 @@
 //! Which mailboxes a channel has, and on which sides they are there.
 
-ghost use Rattle.std.specs.Prelude.{◌≡◌, ℕ, Bool, List, IfOk};
+ghost use Rattle.std.specs.Prelude.{◌≡◌, ℕ, Bool, List, false, IfOk};
 ghost use Rattle.channels.specs.Founds.{absent_in};
 ghost use Rattle.choosing.specs.Boxes.{Tells, boxes_among};
 
+use crate::told_stores::ToldStores;
 use choosing::boxes::{boxes_among, stands_in};
 use config::patterns::Patterns;
 use mailcore::mailbox_name::MailboxName;
 use rules::options::Sides;
 use std::alloc::{AllocError, Global};
+use std::io::Write;
 use stores::channel_box::ChannelStores;
 use stores::fault::ListFault;
 use stores::stores::BoxLists;
@@ -22,10 +24,13 @@ pub(crate) struct Found {
 
 impl Found {
     /// Lists the mailboxes of both stores, the far one first.
-    pub(crate) fn of<S: BoxLists>(
+    pub(crate) fn of<S: BoxLists, O: Write, E: Write>(
         of: ChannelStores<'_>,
-        stores: &mut S,
-    ) -> Result<Self, ListFault> {
+        stores: &mut ToldStores<'_, S, O, E>,
+    ) -> Result<Self, ListFault>
+        requires going { stores.old.write_failed ≡ false }
+        ensures { stores.new ≡ record stores.old { stores = stores.new.stores } }
+    {
         let far = stores.far_boxes(of.far_store)?;
         let near = stores.near_boxes(of.near_store)?;
         Ok(Found { far, near })

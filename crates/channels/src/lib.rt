@@ -4,8 +4,10 @@
 mod course;
 mod fault;
 mod finding;
+mod lent;
 mod listing;
 pub mod run;
 mod settling;
 mod telling;
+mod told_stores;
 mod verdict;

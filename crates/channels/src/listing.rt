@@ -1,14 +1,14 @@
 //! The mailboxes of channels as `-l` prints them.
 
-ghost use Rattle.std.specs.Prelude.{◌≡◌, IfOk, OnOk, string_bytes};
+ghost use Rattle.std.specs.Prelude.{◌≡◌, false, IfOk, OnOk, string_bytes};
 ghost use Rattle.std.specs.Io.KnownBytes.{Appends};
 ghost use Rattle.std.specs.List.{flat_map};
 ghost use Rattle.channels.specs.Founds.{IsPair};
 ghost use Rattle.channels.specs.Lines.{box_line};
-ghost use Rattle.channels.specs.Streams.{Extends, IsQuiet};
+ghost use Rattle.channels.specs.Streams.{Extends, IsQuiet, Notes};
 
 use crate::finding::Found;
-use crate::telling::{print_box, tell_list};
+use crate::told_stores::ToldStores;
 use crate::verdict::Verdict;
 use config::config::{Boxes, Channel};
 use config::patterns::Patterns;
@@ -25,46 +25,61 @@ use stores::stores::BoxLists;
 pub(crate) fn list_channel<S: BoxLists, O: Write, E: Write>(
     alloc: Global,
     of: ChannelStores<'_>,
-    stores: &mut S,
-    out: &mut O,
-    err: &mut E,
+    stores: &mut ToldStores<'_, S, O, E>,
 ) -> io::Result<Verdict>
-    ensures unopened { IsPair of.entry.channel.now.boxes → stores.new ≡ stores.old }
-    ensures quiet { IfOk result (IsQuiet (E.contents err.old) (E.contents err.new)) }
-    ensures whole { OnOk result (Extends (O.contents out.old) (O.contents out.new)) }
+    requires going { stores.old.write_failed ≡ false }
+    ensures unopened { IsPair of.entry.channel.now.boxes → stores.new.stores ≡ stores.old.stores }
+    ensures out { stores.new.out.ghost_name ≡ stores.old.out.ghost_name }
+    ensures err { stores.new.err.ghost_name ≡ stores.old.err.ghost_name }
+    ensures quiet { IfOk result (IsQuiet (E.contents stores.old.err.now) (E.contents stores.new.err.now)) }
+    ensures whole { OnOk result (Extends (O.contents stores.old.out.now) (O.contents stores.new.out.now)) }
+    ensures failed { Notes false stores.new.write_failed result }
 {
     match &of.channel.boxes {
         Boxes::Pair { far, .. } => {
-            print_box(out, of.channel, far)?;
+            stores.print_box(of.channel, far)?;
             Ok(Verdict::Clean)
         }
         Boxes::Matching(patterns) => match matching(alloc, of, patterns, stores) {
             Ok(boxes) => {
-                print_boxes(out, of.channel, &boxes)?;
+                print_boxes(stores, of.channel, &boxes)?;
                 Ok(Verdict::Clean)
             }
-            Err(fault) => tell_list(err, &fault),
+            Err(fault) => stores.tell_list(&fault),
         },
     }
 }
 
 /// The mailboxes of a channel that its patterns choose.
-fn matching<S: BoxLists>(
+fn matching<S: BoxLists, O: Write, E: Write>(
     alloc: Global,
     of: ChannelStores<'_>,
     patterns: &Patterns,
-    stores: &mut S,
-) -> Result<Vec<MailboxName>, ListFault> {
+    stores: &mut ToldStores<'_, S, O, E>,
+) -> Result<Vec<MailboxName>, ListFault>
+    requires going { stores.old.write_failed ≡ false }
+    ensures { stores.new ≡ record stores.old { stores = stores.new.stores } }
+{
     let found = Found::of(of, stores)?;
     found.matching(alloc, patterns)
 }
 
 #[tactic(auto, using(crate::proofs::StreamLemmas::stream_steps))]
-fn print_boxes<O: Write>(out: &mut O, channel: &Channel, boxes: &[MailboxName]) -> io::Result<()>
-    ensures { OnOk result (Extends (O.contents out.old) (O.contents out.new)) }
+fn print_boxes<S: BoxLists, O: Write, E: Write>(
+    stores: &mut ToldStores<'_, S, O, E>,
+    channel: &Channel,
+    boxes: &[MailboxName],
+) -> io::Result<()>
+    requires going { stores.old.write_failed ≡ false }
+    ensures out { stores.new.out.ghost_name ≡ stores.old.out.ghost_name }
+    ensures err { stores.new.err ≡ stores.old.err }
+    ensures text { OnOk result (Appends (O.contents stores.old.out.now) (O.contents stores.new.out.now)
+        (flat_map (λ far. box_line (string_bytes channel.now.name) far) boxes.now)) }
+    ensures whole { OnOk result (Extends (O.contents stores.old.out.now) (O.contents stores.new.out.now)) }
+    ensures failed { Notes false stores.new.write_failed result }
 {
     for far in boxes {
-        print_box(out, channel, far)?;
+        stores.print_box(channel, far)?;
     }
     Ok(())
 }

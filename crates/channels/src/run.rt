@@ -1,15 +1,15 @@
 //! What a command line asks for, over any stores.
 
-ghost use Rattle.std.specs.Prelude.{◌≡◌, ◌≤◌, ◌<◌, IsSome, IfOk, OnOk};
+ghost use Rattle.std.specs.Prelude.{◌≡◌, ◌≤◌, ◌<◌, true, false, IsSome, IfOk, OnOk};
 ghost use Rattle.std.specs.Io.KnownBytes.{Keeps};
 ghost use Rattle.choosing.specs.Chosen.{unknown_among};
 ghost use Rattle.channels.specs.Refusals.{IsRefused};
-ghost use Rattle.channels.specs.Streams.{Extends, IsQuiet};
+ghost use Rattle.channels.specs.Streams.{Extends, IsQuiet, Notes};
 
 use crate::course::{Course, course_of};
 use crate::listing::list_channel;
 use crate::settling::{ChannelWork, settle_channel};
-use crate::telling::tell_no_channel;
+use crate::told_stores::ToldStores;
 use crate::verdict::Verdict;
 use choosing::scope::options_of;
 use config::config::Config;
@@ -56,14 +56,33 @@ pub fn run_config<S: Stores, R: Rng, O: Write, E: Write>(
         request,
     };
     match course_of(alloc, config, request) {
-        Ok(course) => match run_course(work, &course, stores, rng, out, err) {
-            Ok(verdict) => verdict.status(),
-            Err(_) => 1,
-        },
+        Ok(course) => run_told(work, &course, &mut ToldStores::new(stores, out, err), rng),
         Err(refusal) => match writeln!(err, "mbsync: {refusal}") {
             Ok(()) => refusal.status(),
             Err(_) => 1,
         },
+    }
+}
+
+/// Lists or synchronises the mailboxes of these channels, and gives the exit status. Where a write failed, nothing was asked of the stores
+/// behind it (`ToldStores`), and the status is 1.
+fn run_told<S: Stores, R: Rng, O: Write, E: Write>(
+    work: LineWork<'_>,
+    course: &Course,
+    stores: &mut ToldStores<'_, S, O, E>,
+    rng: &mut R,
+) -> u8
+    requires going { stores.old.write_failed ≡ false }
+    ensures out { stores.new.out.ghost_name ≡ stores.old.out.ghost_name }
+    ensures err { stores.new.err.ghost_name ≡ stores.old.err.ghost_name }
+    ensures status { result ≤ 1 }
+    ensures clean { result ≡ 0 → Keeps (E.contents stores.old.err.now) (E.contents stores.new.err.now) }
+    ensures whole { result ≡ 0 → Extends (O.contents stores.old.out.now) (O.contents stores.new.out.now) }
+    ensures unwritten { stores.new.write_failed ≡ true → result ≡ 1 }
+{
+    match run_course(work, course, stores, rng) {
+        Ok(verdict) => verdict.status(),
+        Err(_) => 1,
     }
 }
 
@@ -72,17 +91,19 @@ pub fn run_config<S: Stores, R: Rng, O: Write, E: Write>(
 fn run_course<S: Stores, R: Rng, O: Write, E: Write>(
     work: LineWork<'_>,
     course: &Course,
-    stores: &mut S,
+    stores: &mut ToldStores<'_, S, O, E>,
     rng: &mut R,
-    out: &mut O,
-    err: &mut E,
 ) -> io::Result<Verdict>
-    ensures quiet { IfOk result (IsQuiet (E.contents err.old) (E.contents err.new)) }
-    ensures whole { OnOk result (Extends (O.contents out.old) (O.contents out.new)) }
+    requires going { stores.old.write_failed ≡ false }
+    ensures out { stores.new.out.ghost_name ≡ stores.old.out.ghost_name }
+    ensures err { stores.new.err.ghost_name ≡ stores.old.err.ghost_name }
+    ensures quiet { IfOk result (IsQuiet (E.contents stores.old.err.now) (E.contents stores.new.err.now)) }
+    ensures whole { OnOk result (Extends (O.contents stores.old.out.now) (O.contents stores.new.out.now)) }
+    ensures failed { Notes false stores.new.write_failed result }
 {
     let mut verdict = Verdict::Clean;
     for place in &course.places {
-        verdict = verdict.and(run_place(work, course.cells, *place, stores, rng, out, err)?);
+        verdict = verdict.and(run_place(work, course.cells, *place, stores, rng)?);
     }
     Ok(verdict)
 }
@@ -92,19 +113,21 @@ fn run_place<S: Stores, R: Rng, O: Write, E: Write>(
     work: LineWork<'_>,
     cells: Option<Cells>,
     place: usize,
-    stores: &mut S,
+    stores: &mut ToldStores<'_, S, O, E>,
     rng: &mut R,
-    out: &mut O,
-    err: &mut E,
 ) -> io::Result<Verdict>
-    ensures quiet { IfOk result (IsQuiet (E.contents err.old) (E.contents err.new)) }
-    ensures whole { OnOk result (Extends (O.contents out.old) (O.contents out.new)) }
+    requires going { stores.old.write_failed ≡ false }
+    ensures out { stores.new.out.ghost_name ≡ stores.old.out.ghost_name }
+    ensures err { stores.new.err.ghost_name ≡ stores.old.err.ghost_name }
+    ensures quiet { IfOk result (IsQuiet (E.contents stores.old.err.now) (E.contents stores.new.err.now)) }
+    ensures whole { OnOk result (Extends (O.contents stores.old.out.now) (O.contents stores.new.out.now)) }
+    ensures failed { Notes false stores.new.write_failed result }
 {
     let Some(of) = ChannelStores::at(work.config, place) else {
-        return tell_no_channel(err);
+        return stores.tell_no_channel();
     };
     if work.request.lists {
-        return list_channel(work.alloc, of, stores, out, err);
+        return list_channel(work.alloc, of, stores);
     }
     let options = options_of(of.channel, cells, work.request.expunges);
     let channel_work = ChannelWork {
@@ -112,5 +135,5 @@ fn run_place<S: Stores, R: Rng, O: Write, E: Write>(
         of,
         options: &options,
     };
-    settle_channel(channel_work, stores, rng, out, err)
+    settle_channel(channel_work, stores, rng)
 }

@@ -1,37 +1,27 @@
 //! The mailboxes of channels as they are synchronised.
 
-ghost use Rattle.std.specs.Prelude.{◌≡◌, Err, IfOk, IfSome, IsSome, OnOk};
+ghost use Rattle.std.specs.Prelude.{◌≡◌, false, Err, IfOk, IfSome, IsSome, OnOk};
 ghost use Rattle.choosing.specs.Scope.{uncovered};
-ghost use Rattle.underway.specs.Conditions.{IsOver};
-ghost use Rattle.underway.specs.Openings.{Opening};
-ghost use Rattle.runner.specs.Answers.{IsAsked};
-ghost use Rattle.runner.specs.Attempts.{AtOpening};
-ghost use Rattle.channels.specs.Streams.{Extends, IsQuiet};
+ghost use Rattle.channels.specs.Streams.{Extends, IsQuiet, Notes};
 
 use crate::fault::BoxFault;
 use crate::finding::Found;
-use crate::telling::{print_box, print_text, tell, tell_list};
+use crate::told_stores::ToldStores;
 use crate::verdict::Verdict;
 use choosing::scope::uncovered;
 use config::config::Boxes;
 use mailcore::mailbox_name::MailboxName;
 use mailcore::side::Side;
-use outside::outside::Outside;
 use rand_core::Rng;
 use reports::answer::answer_text;
 use rules::options::{Options, Sides};
-use rules::plan::Step;
 use runner::fault::RunFault;
 use runner::pass::Pass;
-use runner::settle::settle;
 use std::alloc::Global;
 use std::io;
 use std::io::Write;
 use stores::channel_box::{ChannelBox, ChannelStores};
 use stores::stores::Stores;
-
-/// How many attempts a run has, each but the first behind one that met a stop.
-const TRIES: u32 = 3;
 
 /// A channel that is to be synchronised.
 #[derive(Clone, Copy)]
@@ -47,17 +37,19 @@ pub(crate) struct ChannelWork<'a> {
 /// Synchronises a channel's mailboxes, one after another.
 pub(crate) fn settle_channel<S: Stores, R: Rng, O: Write, E: Write>(
     work: ChannelWork<'_>,
-    stores: &mut S,
+    stores: &mut ToldStores<'_, S, O, E>,
     rng: &mut R,
-    out: &mut O,
-    err: &mut E,
 ) -> io::Result<Verdict>
-    ensures quiet { IfOk result (IsQuiet (E.contents err.old) (E.contents err.new)) }
-    ensures whole { OnOk result (Extends (O.contents out.old) (O.contents out.new)) }
+    requires going { stores.old.write_failed ≡ false }
+    ensures out { stores.new.out.ghost_name ≡ stores.old.out.ghost_name }
+    ensures err { stores.new.err.ghost_name ≡ stores.old.err.ghost_name }
+    ensures quiet { IfOk result (IsQuiet (E.contents stores.old.err.now) (E.contents stores.new.err.now)) }
+    ensures whole { OnOk result (Extends (O.contents stores.old.out.now) (O.contents stores.new.out.now)) }
+    ensures failed { Notes false stores.new.write_failed result }
 {
     match Found::of(work.of, stores) {
-        Ok(found) => settle_found(work, &found, stores, rng, out, err),
-        Err(fault) => tell_list(err, &fault),
+        Ok(found) => settle_found(work, &found, stores, rng),
+        Err(fault) => stores.tell_list(&fault),
     }
 }
 
@@ -65,13 +57,15 @@ pub(crate) fn settle_channel<S: Stores, R: Rng, O: Write, E: Write>(
 fn settle_found<S: Stores, R: Rng, O: Write, E: Write>(
     work: ChannelWork<'_>,
     found: &Found,
-    stores: &mut S,
+    stores: &mut ToldStores<'_, S, O, E>,
     rng: &mut R,
-    out: &mut O,
-    err: &mut E,
 ) -> io::Result<Verdict>
-    ensures quiet { IfOk result (IsQuiet (E.contents err.old) (E.contents err.new)) }
-    ensures whole { OnOk result (Extends (O.contents out.old) (O.contents out.new)) }
+    requires going { stores.old.write_failed ≡ false }
+    ensures out { stores.new.out.ghost_name ≡ stores.old.out.ghost_name }
+    ensures err { stores.new.err.ghost_name ≡ stores.old.err.ghost_name }
+    ensures quiet { IfOk result (IsQuiet (E.contents stores.old.err.now) (E.contents stores.new.err.now)) }
+    ensures whole { OnOk result (Extends (O.contents stores.old.out.now) (O.contents stores.new.out.now)) }
+    ensures failed { Notes false stores.new.write_failed result }
 {
     match &work.of.channel.boxes {
         Boxes::Pair { far, near } => {
@@ -80,11 +74,11 @@ fn settle_found<S: Stores, R: Rng, O: Write, E: Write>(
                 far,
                 near,
             };
-            settle_box(work, place, found.absent(far, near), stores, rng, out, err)
+            settle_box(work, place, found.absent(far, near), stores, rng)
         }
         Boxes::Matching(patterns) => match found.matching(work.alloc, patterns) {
-            Ok(boxes) => settle_boxes(work, found, &boxes, stores, rng, out, err),
-            Err(fault) => tell_list(err, &fault),
+            Ok(boxes) => settle_boxes(work, found, &boxes, stores, rng),
+            Err(fault) => stores.tell_list(&fault),
         },
     }
 }
@@ -95,13 +89,15 @@ fn settle_boxes<S: Stores, R: Rng, O: Write, E: Write>(
     work: ChannelWork<'_>,
     found: &Found,
     boxes: &[MailboxName],
-    stores: &mut S,
+    stores: &mut ToldStores<'_, S, O, E>,
     rng: &mut R,
-    out: &mut O,
-    err: &mut E,
 ) -> io::Result<Verdict>
-    ensures quiet { IfOk result (IsQuiet (E.contents err.old) (E.contents err.new)) }
-    ensures whole { OnOk result (Extends (O.contents out.old) (O.contents out.new)) }
+    requires going { stores.old.write_failed ≡ false }
+    ensures out { stores.new.out.ghost_name ≡ stores.old.out.ghost_name }
+    ensures err { stores.new.err.ghost_name ≡ stores.old.err.ghost_name }
+    ensures quiet { IfOk result (IsQuiet (E.contents stores.old.err.now) (E.contents stores.new.err.now)) }
+    ensures whole { OnOk result (Extends (O.contents stores.old.out.now) (O.contents stores.new.out.now)) }
+    ensures failed { Notes false stores.new.write_failed result }
 {
     let mut verdict = Verdict::Clean;
     for name in boxes {
@@ -111,7 +107,7 @@ fn settle_boxes<S: Stores, R: Rng, O: Write, E: Write>(
             near: name,
         };
         let absent = found.absent(name, name);
-        verdict = verdict.and(settle_box(work, place, absent, stores, rng, out, err)?);
+        verdict = verdict.and(settle_box(work, place, absent, stores, rng)?);
         if verdict == Verdict::Over {
             return Ok(verdict);
         }
@@ -125,32 +121,36 @@ fn settle_box<S: Stores, R: Rng, O: Write, E: Write>(
     work: ChannelWork<'_>,
     place: ChannelBox<'_>,
     absent: Sides,
-    stores: &mut S,
+    stores: &mut ToldStores<'_, S, O, E>,
     rng: &mut R,
-    out: &mut O,
-    err: &mut E,
 ) -> io::Result<Verdict>
-    ensures quiet { IfOk result (IsQuiet (E.contents err.old) (E.contents err.new)) }
-    ensures whole { OnOk result (Extends (O.contents out.old) (O.contents out.new)) }
+    requires going { stores.old.write_failed ≡ false }
+    ensures out { stores.new.out.ghost_name ≡ stores.old.out.ghost_name }
+    ensures err { stores.new.err.ghost_name ≡ stores.old.err.ghost_name }
+    ensures quiet { IfOk result (IsQuiet (E.contents stores.old.err.now) (E.contents stores.new.err.now)) }
+    ensures whole { OnOk result (Extends (O.contents stores.old.out.now) (O.contents stores.new.out.now)) }
+    ensures failed { Notes false stores.new.write_failed result }
 {
     if let Err(fault) = make_absent(place, absent, stores) {
-        return tell(err, place, &fault);
+        return stores.tell(place, &fault);
     }
-    print_box(out, place.of.channel, place.far)?;
-    match settle_place(work, place, stores, rng) {
-        Ok(pass) => print_answer(work.alloc, place, &pass, out, err),
-        Err(fault) => tell(err, place, &fault),
+    stores.print_box(place.of.channel, place.far)?;
+    match stores.settle(work.alloc, place, work.options, rng) {
+        Ok(pass) => print_answer(work.alloc, place, &pass, stores),
+        Err(fault) => stores.tell(place, &fault),
     }
 }
 
 /// Makes a mailbox on the sides on which it is absent, the far one first. Where Create does not cover one of them, nothing is made.
-fn make_absent<S: Stores>(
+fn make_absent<S: Stores, O: Write, E: Write>(
     place: ChannelBox<'_>,
     absent: Sides,
-    stores: &mut S,
+    stores: &mut ToldStores<'_, S, O, E>,
 ) -> Result<(), BoxFault>
+    requires going { stores.old.write_failed ≡ false }
     ensures told { IfSome (uncovered absent place.entry.of.channel.now.create) (λ side. result ≡ Err (BoxFault.Absent side)) }
     ensures nothing { IsSome (uncovered absent place.entry.of.channel.now.create) → stores.new ≡ stores.old }
+    ensures others { stores.new ≡ record stores.old { stores = stores.new.stores } }
 {
     if let Some(side) = uncovered(absent, place.of.channel.create) {
         return Err(BoxFault::Absent(side));
@@ -164,66 +164,26 @@ fn make_absent<S: Stores>(
     Ok(())
 }
 
-/// Makes one run over a mailbox.
-fn settle_place<S: Stores, R: Rng>(
-    work: ChannelWork<'_>,
-    place: ChannelBox<'_>,
-    stores: &mut S,
-    rng: &mut R,
-) -> Result<Pass, BoxFault> {
-    match stores.outside(place) {
-        Ok(outside) => settle_outside(work.alloc, outside, work.options, rng),
-        Err(fault) => Err(BoxFault::from(fault)),
-    }
-}
-
-/// Makes one run over an outside. From an opening, the run is over where it answers.
-fn settle_outside<O: Outside, R: Rng>(
-    alloc: Global,
-    outside: &mut O,
-    options: &Options,
-    rng: &mut R,
-) -> Result<Pass, BoxFault>
-    ghost opening: { Opening }
-    ensures done { OnOk result (O.honest outside.new → IsAsked O.ours opening options.now (R.stream rng.old) → AtOpening O.ours O.alone opening (O.seen outside.old).device → IsOver O.ours O.alone opening (O.seen outside.new).device) }
-{
-    match settle(alloc, outside, options, TRIES, rng) {
-        Ok(settled) => Ok(settled.last),
-        Err(RunFault::Refused(number)) => Err(BoxFault::Refused(number, step_of(outside, number))),
-        Err(fault) => Err(BoxFault::Run(fault)),
-    }
-}
-
-/// The step of this number, counted from 1, of the plan that is pending.
-fn step_of<O: Outside>(outside: &mut O, number: usize) -> Option<Step> {
-    outside.reopen();
-    outside.open_book().ok()?;
-    let journal = outside.pending()?;
-    journal
-        .plan
-        .steps
-        .as_slice()
-        .get(number.checked_sub(1)?)
-        .copied()
-}
-
 /// Prints the answer of a run.
 #[tactic(auto, using(crate::proofs::StreamLemmas::stream_steps))]
-fn print_answer<O: Write, E: Write>(
+fn print_answer<S: Stores, O: Write, E: Write>(
     alloc: Global,
     place: ChannelBox<'_>,
     pass: &Pass,
-    out: &mut O,
-    err: &mut E,
+    stores: &mut ToldStores<'_, S, O, E>,
 ) -> io::Result<Verdict>
-    ensures quiet { IfOk result (IsQuiet (E.contents err.old) (E.contents err.new)) }
-    ensures whole { OnOk result (Extends (O.contents out.old) (O.contents out.new)) }
+    requires going { stores.old.write_failed ≡ false }
+    ensures out { stores.new.out.ghost_name ≡ stores.old.out.ghost_name }
+    ensures err { stores.new.err.ghost_name ≡ stores.old.err.ghost_name }
+    ensures quiet { IfOk result (IsQuiet (E.contents stores.old.err.now) (E.contents stores.new.err.now)) }
+    ensures whole { OnOk result (Extends (O.contents stores.old.out.now) (O.contents stores.new.out.now)) }
+    ensures failed { Notes false stores.new.write_failed result }
 {
     match answer_text(alloc, pass) {
         Ok(text) => {
-            print_text(out, text.as_str())?;
+            stores.print_text(text.as_str())?;
             Ok(Verdict::Clean)
         }
-        Err(_) => tell(err, place, &BoxFault::Run(RunFault::NoMemory)),
+        Err(_) => stores.tell(place, &BoxFault::Run(RunFault::NoMemory)),
     }
 }

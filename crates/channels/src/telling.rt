@@ -39,12 +39,23 @@ pub(crate) fn print_text<O: Write>(out: &mut O, text: &str) -> io::Result<()>
     out.flush()
 }
 
-/// Tells why the mailboxes of a channel are not listed.
+/// Tells why the mailboxes of a channel are not listed, and on a second line what can be done, where that is known.
 pub(crate) fn tell_list<E: Write>(err: &mut E, fault: &ListFault) -> io::Result<Verdict>
     ensures { IfOk result IsTold }
 {
     writeln!(err, "mbsync: {fault}")?;
+    if let ListFault::LoginRefused(store) = fault {
+        advise_login(err, store.as_str())?;
+    }
     Ok(Verdict::Over)
+}
+
+/// Tells what can be done where a server does not let its user in. The password is not told.
+fn advise_login<E: Write>(err: &mut E, store: &str) -> io::Result<()> {
+    writeln!(
+        err,
+        "  the server refused the user and the password: mend User or Pass of IMAPStore {store}, and run again"
+    )
 }
 
 /// Tells that a channel or a store of it is not in the configuration. This does not come where the configuration was read from a file.
@@ -63,8 +74,9 @@ pub(crate) fn tell<E: Write>(
 ) -> io::Result<Verdict>
     ensures { IfOk result IsTold }
 {
-    if let BoxFault::CannotOpen(name) = fault {
+    if let BoxFault::CannotOpen(name) | BoxFault::LoginRefused(name) = fault {
         writeln!(err, "mbsync: cannot open {name}")?;
+        advise(err, fault)?;
         return Ok(Verdict::Over);
     }
     let (channel, far) = (place.of.channel.name.as_str(), place.far.as_str());
@@ -81,7 +93,9 @@ impl fmt::Display for BoxFaultText<'_> {
     fn fmt<W: fmt::Write>(&self, f: &mut fmt::Formatter<W>) -> fmt::Result {
         match self.0 {
             BoxFault::Absent(side) => write!(f, "absent {}", side_word(*side)),
-            BoxFault::CannotOpen(name) => write!(f, "cannot open {name}"),
+            BoxFault::CannotOpen(name) | BoxFault::LoginRefused(name) => {
+                write!(f, "cannot open {name}")
+            }
             BoxFault::Locked => f.write_str("locked"),
             BoxFault::Refused(number, _) => write!(f, "refused step {number}"),
             BoxFault::Run(fault) => write!(f, "{}", FaultText(*fault)),
@@ -100,6 +114,7 @@ fn advise<E: Write>(err: &mut E, fault: &BoxFault) -> io::Result<()> {
             err,
             "  Create Near or Create Both in this channel would make it"
         ),
+        BoxFault::LoginRefused(store) => advise_login(err, store.as_str()),
         BoxFault::Locked => writeln!(
             err,
             "  another process synchronises this box: run again when it has ended"

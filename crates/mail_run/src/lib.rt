@@ -3,4 +3,6 @@
 
 mod failure;
 pub mod run;
+mod screen;
+mod shown_stores;
 mod sources;

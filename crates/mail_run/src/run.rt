@@ -1,6 +1,8 @@
 //! What a command line asks for, over servers and folders.
 
 use crate::failure::Failure;
+use crate::screen::{Screen, Wiping};
+use crate::shown_stores::ShownStores;
 use crate::sources::{open_config, read_fresh, read_home, read_seed};
 use chacha_generator::generator;
 use channels::run::run_config;
@@ -41,13 +43,19 @@ fn start_of<R: Files + Env + Clock + AllocGlobal>(
 /// Does what a command line asks for, over the servers and the folders of its configuration (`channels::run::run_config`). The file of the
 /// configuration is that of the command line, or else `.mbsyncrc` in HOME. It gives the exit status: 1 also where a file cannot be read
 /// or the configuration is a bad one, which `err` is told (docs/MBSYNC.md, "Faults").
+///
+/// Where there is a terminal, a line of it shows which mailbox is at work; it is wiped before anything is written to `out` or `err`.
 pub fn run_mail<
     R: Net + Files<File = File> + Env + Clock + AllocGlobal + Clone + Drop,
+    T: Write + Copy,
     O: Write,
     E: Write,
->(rt: R, request: &Request, out: &mut O, err: &mut E) -> u8 {
+>(rt: R, request: &Request, terminal: Option<T>, out: &mut O, err: &mut E) -> u8 {
     match start_of(&rt, request) {
-        Ok(start) => run_start(rt, request, start, out, err),
+        Ok(start) => {
+            let screen = Screen::new(terminal);
+            run_start(rt, request, start, &screen, out, err)
+        }
         Err(failure) => {
             let _ = writeln!(err, "mbsync: {failure}");
             1
@@ -58,9 +66,10 @@ pub fn run_mail<
 /// Runs the channels.
 fn run_start<
     R: Net + Files<File = File> + Env + Clock + AllocGlobal + Clone + Drop,
+    T: Write + Copy,
     O: Write,
     E: Write,
->(rt: R, request: &Request, start: Start, out: &mut O, err: &mut E) -> u8 {
+>(rt: R, request: &Request, start: Start, screen: &Screen<T>, out: &mut O, err: &mut E) -> u8 {
     let alloc = rt.alloc();
     let Start {
         config,
@@ -68,7 +77,17 @@ fn run_start<
         seed,
         fresh,
     } = start;
-    let mut stores = MailStores::new(rt, home, fresh);
+    let mut stores = ShownStores::new(MailStores::new(rt, home, fresh), screen);
     let mut rng = generator(seed);
-    run_config(alloc, &config, request, &mut stores, &mut rng, out, err)
+    let mut out = Wiping::new(screen, out);
+    let mut err = Wiping::new(screen, err);
+    run_config(
+        alloc,
+        &config,
+        request,
+        &mut stores,
+        &mut rng,
+        &mut out,
+        &mut err,
+    )
 }

@@ -2,7 +2,7 @@
 
 use crate::account::account_of;
 use crate::server::{create, link_to, log_in, names_at};
-use crate::told::{list_fault, lock_fault, make_fault, no_session, store_fault};
+use crate::told::{list_fault, lock_fault, make_fault, unlisted, unreached};
 use book::disk_shelf::DiskShelf;
 use book::shelf::Shelf;
 use book_part::book_part::BookPart;
@@ -116,7 +116,7 @@ impl<R: Net + Files<File = File> + AllocGlobal + Clone + Drop> MailStores<R> {
     fn make_far(&self, store: &ImapStore, name: &MailboxName) -> Result<(), StoreFault> {
         match log_in(&self.rt, store) {
             Ok(session) => create(session, name).map_err(make_fault),
-            Err(fault) => Err(store_fault(no_session(self.rt.alloc(), store, fault))),
+            Err(fault) => Err(unreached(self.rt.alloc(), store, fault)),
         }
     }
 
@@ -140,7 +140,7 @@ impl<R: Net + Files<File = File> + AllocGlobal + Clone + Drop> BoxLists for Mail
         self.open = None;
         match names_at(&self.rt, store) {
             Ok(names) => Ok(names),
-            Err(fault) => Err(list_fault(no_session(self.rt.alloc(), store, fault))),
+            Err(fault) => Err(unlisted(self.rt.alloc(), store, fault)),
         }
     }
 

@@ -15,6 +15,15 @@ use wire_strings::line_text::all_text;
 /// The greatest number of bytes of a user, a password or the name of a mailbox.
 const WORD_MAX: usize = 1024;
 
+/// Why a server does nothing for a store.
+#[derive(Clone, Copy, Debug, PartialEq, Eq)]
+pub(crate) enum ServerFault {
+    /// It does not let the user in: it says no to the user and the password.
+    LoginRefused,
+    /// Another fault. `Refused` comes too where user or password cannot be sent.
+    Far(FarFault),
+}
+
 /// A link to the server of a store, which is not connected yet.
 pub(crate) fn link_to<R: Net + AllocGlobal + Clone + Drop>(
     rt: &R,
@@ -36,18 +45,29 @@ fn address_of(alloc: Global, store: &ImapStore) -> Result<String, AllocError> {
 
 /// A session with the server of a store, whose user has logged in.
 ///
-/// The faults are those of `Session::open` and `Session::login`. `Refused` comes too where user or password cannot be sent.
+/// The faults are those of `Session::open` and `Session::login`.
 pub(crate) fn log_in<R: Net + AllocGlobal + Clone + Drop>(
     rt: &R,
     store: &ImapStore,
-) -> Result<Session<TcpLink<R>>, FarFault> {
+) -> Result<Session<TcpLink<R>>, ServerFault> {
     let (user, password) = (store.user.as_bytes(), store.pass.as_bytes());
     if !is_word(user) || !is_word(password) {
-        return Err(FarFault::Refused);
+        return Err(ServerFault::Far(FarFault::Refused));
     }
+    match reach(rt, store) {
+        Ok(session) => let_in(session, user, password),
+        Err(fault) => Err(ServerFault::Far(fault)),
+    }
+}
+
+/// A session with the server of a store, in which nobody has logged in.
+fn reach<R: Net + AllocGlobal + Clone + Drop>(
+    rt: &R,
+    store: &ImapStore,
+) -> Result<Session<TcpLink<R>>, FarFault> {
     let link = link_to(rt, store)?;
     match Session::open(rt.alloc(), link) {
-        Ok(session) => let_in(session, user, password),
+        Ok(session) => Ok(session),
         Err((fault, _link)) => Err(fault),
     }
 }
@@ -57,14 +77,15 @@ fn let_in<R: Net + AllocGlobal + Clone + Drop>(
     session: Session<TcpLink<R>>,
     user: &[u8],
     password: &[u8],
-) -> Result<Session<TcpLink<R>>, FarFault>
+) -> Result<Session<TcpLink<R>>, ServerFault>
     requires user { IsWord user.now }
     requires password { IsWord password.now }
 {
     let mut session = session;
     match session.login(user, password) {
         Ok(()) => Ok(session),
-        Err(fault) => Err(fault),
+        Err(FarFault::Refused) => Err(ServerFault::LoginRefused),
+        Err(fault) => Err(ServerFault::Far(fault)),
     }
 }
 
@@ -72,11 +93,14 @@ fn let_in<R: Net + AllocGlobal + Clone + Drop>(
 pub(crate) fn names_at<R: Net + AllocGlobal + Clone + Drop>(
     rt: &R,
     store: &ImapStore,
-) -> Result<Vec<MailboxName>, FarFault> {
+) -> Result<Vec<MailboxName>, ServerFault> {
     let mut session = log_in(rt, store)?;
     let names = session.list();
     let _ = session.logout();
-    names
+    match names {
+        Ok(names) => Ok(names),
+        Err(fault) => Err(ServerFault::Far(fault)),
+    }
 }
 
 /// Makes a mailbox at the server of a session, and ends the session. `Refused`: the server says no, or the name cannot be sent.

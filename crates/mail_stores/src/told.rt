@@ -1,12 +1,13 @@
 //! How the faults of places and servers are told of stores.
 
+use crate::server::ServerFault;
 use config::config::ImapStore;
 use imap_link::fault::FarFault;
 use mailcore::side::Side;
 use near_places::lock::LockFault;
 use near_places::refusal::Refusal;
 use runner::fault::RunFault;
-use std::alloc::Global;
+use std::alloc::{AllocError, Global};
 use stores::fault::{ListFault, StoreFault};
 
 /// A near store that is not listed.
@@ -18,7 +19,7 @@ pub(crate) fn list_fault(refusal: Refusal) -> ListFault {
 }
 
 /// A place that does not open.
-pub(crate) fn store_fault(refusal: Refusal) -> StoreFault {
+fn store_fault(refusal: Refusal) -> StoreFault {
     match refusal {
         Refusal::CannotOpen(name) => StoreFault::CannotOpen(name),
         Refusal::NoMemory => StoreFault::Box(RunFault::NoMemory),
@@ -33,11 +34,24 @@ pub(crate) fn lock_fault(fault: LockFault) -> StoreFault {
     }
 }
 
-/// A server that cannot be asked: the name of its store is told.
-pub(crate) fn no_session(alloc: Global, store: &ImapStore, fault: FarFault) -> Refusal {
-    match fault {
-        FarFault::NoMemory => Refusal::NoMemory,
-        _ => Refusal::cannot_open(alloc, store.name.as_str()),
+/// A far store that is not listed, since its server cannot be asked: the name of the store is told.
+pub(crate) fn unlisted(alloc: Global, store: &ImapStore, fault: ServerFault) -> ListFault {
+    match String::from_str(alloc, store.name.as_str()) {
+        Ok(name) => match fault {
+            ServerFault::LoginRefused => ListFault::LoginRefused(name),
+            ServerFault::Far(FarFault::NoMemory) => ListFault::NoMemory,
+            ServerFault::Far(_) => ListFault::CannotOpen(name),
+        },
+        Err(AllocError) => ListFault::NoMemory,
+    }
+}
+
+/// A far mailbox that is not made, since its server cannot be asked: the name of the store is told.
+pub(crate) fn unreached(alloc: Global, store: &ImapStore, fault: ServerFault) -> StoreFault {
+    match unlisted(alloc, store, fault) {
+        ListFault::CannotOpen(name) => StoreFault::CannotOpen(name),
+        ListFault::LoginRefused(name) => StoreFault::LoginRefused(name),
+        ListFault::NoMemory => StoreFault::Box(RunFault::NoMemory),
     }
 }
 

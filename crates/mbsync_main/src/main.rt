@@ -4,13 +4,19 @@
 use command_line::read::read_words;
 use command_line::tell::tell;
 use mail_run::run::run_mail;
-use std::io::Write;
+use std::io::{IsTerminal, Stderr, Write};
 use std::process::ExitCode;
 use std::{env, io};
 
 /// The words of the command line, of which the first is the program's name.
 fn words(rt: &HostRuntime) -> io::Result<Vec<String>> {
     Ok(env::args(rt)?.collect(rt.alloc())?)
+}
+
+/// Standard error, if it is a terminal.
+fn terminal(rt: &HostRuntime) -> Option<Stderr> {
+    let err = rt.stderr();
+    err.is_terminal().then_some(err)
 }
 
 fn run(rt: HostRuntime) -> u8 {
@@ -20,7 +26,10 @@ fn run(rt: HostRuntime) -> u8 {
         return 2;
     };
     match read_words(rt.alloc(), &words) {
-        Ok(request) => run_mail(rt, &request, &mut out, &mut err),
+        Ok(request) => {
+            let terminal = terminal(&rt);
+            run_mail(rt, &request, terminal, &mut out, &mut err)
+        }
         Err(fault) => tell(&fault, &mut out, &mut err),
     }
 }

@@ -9,6 +9,9 @@ pub enum ListFault {
     /// The store does not open, or stops before all are listed. What is told: the name of an IMAP store, or the path of a file.
     #[error("cannot open {0}")]
     CannotOpen(String),
+    /// The server of the IMAP store of this name does not let its user in: it says no to the user and the password.
+    #[error("cannot open {0}")]
+    LoginRefused(String),
     /// A growth was refused.
     #[error("no memory")]
     NoMemory,
@@ -21,6 +24,9 @@ pub enum StoreFault {
     /// a file.
     #[error("cannot open {0}")]
     CannotOpen(String),
+    /// The same: the server of the IMAP store of this name does not let its user in.
+    #[error("cannot open {0}")]
+    LoginRefused(String),
     /// Another process holds the lock of the near mailbox.
     #[error("locked")]
     Locked,

@@ -15,6 +15,7 @@
 //! | `state BOX "BYTES"`, `journal BOX "BYTES"` | the text of its state, or of its journal |
 //! | `locked BOX` | another process holds its lock |
 //! | `shut NAME` | a store of this name does not list its mailboxes, or a mailbox of this name is not lent |
+//! | `barred NAME` | the server of this store does not let its user in, or no longer where a mailbox of this name is lent |
 //! | `unmade BOX` | the server says no where this mailbox is to be made |
 //! | `show BOX` | what it is when the run has ended is told |
 //! | `each break` | the run is made again with a standard output, and then a standard error, that fails behind each count of bytes: it is told how many mailboxes were lent |

@@ -43,6 +43,8 @@ pub struct MemStores {
     pub locked: Vec<String>,
     /// The stores that list nothing, and the mailboxes that are not lent.
     pub shut: Vec<String>,
+    /// The stores, and the mailboxes, whose server does not let its user in.
+    pub barred: Vec<String>,
     /// The mailboxes that cannot be made.
     pub unmade: Vec<String>,
     /// What the stores were asked, a line each.
@@ -87,22 +89,30 @@ impl MemStores {
         if writeln!(self.asked, "{side}_boxes {store}").is_err() {
             return Err(ListFault::NoMemory);
         }
-        if !stands_among(&self.shut, store) {
+        let is_barred = stands_among(&self.barred, store);
+        if !is_barred && !stands_among(&self.shut, store) {
             return Ok(());
         }
         match String::from_str(self.alloc, store) {
+            Ok(name) if is_barred => Err(ListFault::LoginRefused(name)),
             Ok(name) => Err(ListFault::CannotOpen(name)),
             Err(AllocError) => Err(ListFault::NoMemory),
         }
     }
 
     /// Tells that a mailbox is lent, or why it is not.
-    fn lend(&mut self, name: &str) -> Result<(), StoreFault> {
+    fn lend(&mut self, store: &str, name: &str) -> Result<(), StoreFault> {
         if writeln!(self.asked, "outside {name}").is_err() {
             return Err(StoreFault::Box(RunFault::NoMemory));
         }
         if stands_among(&self.locked, name) {
             return Err(StoreFault::Locked);
+        }
+        if stands_among(&self.barred, name) {
+            return match String::from_str(self.alloc, store) {
+                Ok(store) => Err(StoreFault::LoginRefused(store)),
+                Err(AllocError) => Err(StoreFault::Box(RunFault::NoMemory)),
+            };
         }
         if !stands_among(&self.shut, name) {
             self.lent = self.lent.saturating_add(1);
@@ -156,7 +166,7 @@ impl Stores for MemStores {
     }
 
     fn outside(&mut self, place: ChannelBox<'_>) -> Result<&mut MemOutside, StoreFault> {
-        self.lend(place.far.as_str())?;
+        self.lend(place.of.far_store.name.as_str(), place.far.as_str())?;
         match self.place_of(place.far.as_str()) {
             Some(at) => match self.boxes.get_mut(at) {
                 Some(one) => Ok(&mut one.outside),

@@ -136,7 +136,7 @@ impl Stream {
 }
 
 /// Makes the run again with a standard output, and then a standard error, that fails behind each count of bytes. It is told how many
-/// mailboxes were lent, wherever that changes, and how many runs had another status than 1 or wrote something else before.
+/// mailboxes were lent, wherever that changes, and how many runs had another status than 1, or wrote or asked something else before.
 fn break_each(
     alloc: Global,
     record: &mut String,
@@ -151,6 +151,13 @@ fn break_each(
     Ok(())
 }
 
+/// Whether a whole run begins as a broken one: with what that wrote to this stream, and with what it asked the stores.
+fn begins(whole: &Played, broken: &Played, stream: Stream) -> bool {
+    let asked = whole.stores.asked.as_str();
+    stream.written(whole).starts_with(stream.written(broken))
+        && asked.starts_with(broken.stores.asked.as_str())
+}
+
 fn break_stream(
     alloc: Global,
     record: &mut String,
@@ -163,7 +170,7 @@ fn break_stream(
     let mut lent = None;
     for room in 0..stream.written(whole).len() {
         let played = stream.run_broken(alloc, reading, case, room)?;
-        if played.status != 1 || !stream.written(whole).starts_with(stream.written(&played)) {
+        if played.status != 1 || !begins(whole, &played, stream) {
             others = others.saturating_add(1);
         }
         if lent != Some(played.stores.lent) {

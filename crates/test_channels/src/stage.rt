@@ -32,6 +32,7 @@ pub fn stage_of(alloc: Global, case: &str) -> Result<MemStores, Failure> {
         boxes: Vec::new(alloc),
         locked: Vec::new(alloc),
         shut: Vec::new(alloc),
+        barred: Vec::new(alloc),
         unmade: Vec::new(alloc),
         asked: String::new(alloc),
         lent: 0,
@@ -51,6 +52,7 @@ fn set(alloc: Global, stores: &mut MemStores, case: &str) -> Result<(), Failure>
             "box" => add_box(alloc, stores, case, line.rest)?,
             "locked" => stores.locked.push(String::from_str(alloc, line.rest)?)?,
             "shut" => stores.shut.push(String::from_str(alloc, line.rest)?)?,
+            "barred" => stores.barred.push(String::from_str(alloc, line.rest)?)?,
             "unmade" => stores.unmade.push(String::from_str(alloc, line.rest)?)?,
             _ => {}
         }

@@ -1,8 +1,12 @@
+use Rattle.std.specs.Prelude.{◌≡◌, false}
 use Rattle.channels.specs.Streams.{Extends, IsQuiet}
 use Rattle.channels.proofs.run.run_course.Given as goal
 
 abbrev pub invariant-loop-place : goal.invariant-loop-place
 invariant-loop-place g l = record {
-  quiet : IsQuiet (g.E.Write.contents l.initial.err) (g.E.Write.contents l.err) l.verdict;
-  whole : Extends (g.O.Write.contents l.initial.out) (g.O.Write.contents l.out);
+  out : l.stores.out.ghost_name ≡ l.initial.stores.out.ghost_name;
+  err : l.stores.err.ghost_name ≡ l.initial.stores.err.ghost_name;
+  quiet : IsQuiet (g.E.Write.contents l.initial.stores.err.now) (g.E.Write.contents l.stores.err.now) l.verdict;
+  whole : Extends (g.O.Write.contents l.initial.stores.out.now) (g.O.Write.contents l.stores.out.now);
+  going : l.stores.write_failed ≡ false;
 }

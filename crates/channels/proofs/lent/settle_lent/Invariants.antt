@@ -1,4 +1,4 @@
-use Rattle.channels.proofs.settling.settle_outside.Given as goal
+use Rattle.channels.proofs.lent.settle_lent.Given as goal
 
 abbrev pub ghost-settle : goal.ghost-settle
 ghost-settle g a = g.opening

@@ -1,0 +1,51 @@
+//! One run over a mailbox that was lent.
+
+ghost use Rattle.std.specs.Prelude.{◌≡◌, OnOk};
+ghost use Rattle.underway.specs.Conditions.{IsOver};
+ghost use Rattle.underway.specs.Openings.{Opening};
+ghost use Rattle.runner.specs.Answers.{IsAsked};
+ghost use Rattle.runner.specs.Attempts.{AtOpening};
+
+use crate::fault::BoxFault;
+use outside::outside::Outside;
+use rand_core::Rng;
+use rules::options::Options;
+use rules::plan::Step;
+use runner::fault::RunFault;
+use runner::pass::Pass;
+use runner::settle::settle;
+use std::alloc::Global;
+
+/// How many attempts a run has, each but the first behind one that met a stop.
+const TRIES: u32 = 3;
+
+/// Makes one run over an outside. From an opening, the run is over where it answers.
+pub(crate) fn settle_lent<O: Outside, R: Rng>(
+    alloc: Global,
+    outside: &mut O,
+    options: &Options,
+    rng: &mut R,
+) -> Result<Pass, BoxFault>
+    ghost opening: { Opening }
+    ensures done { OnOk result (O.honest outside.new → IsAsked O.ours opening options.now (R.stream rng.old)
+        → AtOpening O.ours O.alone opening (O.seen outside.old).device → IsOver O.ours O.alone opening (O.seen outside.new).device) }
+{
+    match settle(alloc, outside, options, TRIES, rng) {
+        Ok(settled) => Ok(settled.last),
+        Err(RunFault::Refused(number)) => Err(BoxFault::Refused(number, step_of(outside, number))),
+        Err(fault) => Err(BoxFault::Run(fault)),
+    }
+}
+
+/// The step of this number, counted from 1, of the plan that is pending.
+fn step_of<O: Outside>(outside: &mut O, number: usize) -> Option<Step> {
+    outside.reopen();
+    outside.open_book().ok()?;
+    let journal = outside.pending()?;
+    journal
+        .plan
+        .steps
+        .as_slice()
+        .get(number.checked_sub(1)?)
+        .copied()
+}

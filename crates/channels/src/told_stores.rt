@@ -1,0 +1,159 @@
+//! The stores of a run behind its streams: they are asked only as long as what is done could be told.
+
+ghost use Rattle.std.specs.Prelude.{◌≡◌, false, true, IfOk, OnOk, string_bytes};
+ghost use Rattle.std.specs.Io.KnownBytes.{Appends};
+ghost use Rattle.rules.specs.Options.{covers};
+ghost use Rattle.channels.specs.Lines.{box_line};
+ghost use Rattle.channels.specs.Streams.{Extends, IsTold, Notes};
+
+use crate::fault::BoxFault;
+use crate::lent::settle_lent;
+use crate::telling;
+use crate::verdict::Verdict;
+use config::config::{Channel, ImapStore, MaildirStore};
+use mailcore::mailbox_name::MailboxName;
+use mailcore::side::Side;
+use rand_core::Rng;
+use rules::options::Options;
+use runner::pass::Pass;
+use std::alloc::Global;
+use std::io;
+use std::io::Write;
+use stores::channel_box::ChannelBox;
+use stores::fault::{ListFault, StoreFault};
+use stores::stores::{BoxLists, Stores};
+
+/// The stores of a run and its streams, as one. Each call of the stores goes through it, and each write. A store may be asked only where
+/// no write has failed before (`going`): so nothing is listed, made or run behind a failed write.
+#[derive(Drop)]
+pub(crate) struct ToldStores<'a, S: BoxLists, O: Write, E: Write> {
+    stores: &'a mut S,
+    out: &'a mut O,
+    err: &'a mut E,
+    write_failed: bool,
+}
+
+impl<'a, S: BoxLists, O: Write, E: Write> ToldStores<'a, S, O, E> {
+    /// These stores and streams, of which no write has failed.
+    pub(crate) fn new(stores: &'a mut S, out: &'a mut O, err: &'a mut E) -> Self
+        ensures stores { result.stores.ghost_name ≡ stores.entry.ghost_name }
+        ensures out { result.out.ghost_name ≡ out.entry.ghost_name }
+        ensures err { result.err.ghost_name ≡ err.entry.ghost_name }
+        ensures out_now { result.out.now ≡ out.old }
+        ensures err_now { result.err.now ≡ err.old }
+        ensures going { result.write_failed ≡ false }
+    {
+        ToldStores {
+            stores,
+            out,
+            err,
+            write_failed: false,
+        }
+    }
+
+    /// The mailboxes of a far store.
+    pub(crate) fn far_boxes(&mut self, store: &ImapStore) -> Result<Vec<MailboxName>, ListFault>
+        requires going { self.old.write_failed ≡ false }
+        ensures { self.new ≡ record self.old { stores = self.new.stores } }
+    {
+        self.stores.far_boxes(store)
+    }
+
+    /// The mailboxes of a near store.
+    pub(crate) fn near_boxes(&mut self, store: &MaildirStore) -> Result<Vec<MailboxName>, ListFault>
+        requires going { self.old.write_failed ≡ false }
+        ensures { self.new ≡ record self.old { stores = self.new.stores } }
+    {
+        self.stores.near_boxes(store)
+    }
+
+    /// Prints which mailbox is listed, or synchronised from now on.
+    pub(crate) fn print_box(&mut self, channel: &Channel, far: &MailboxName) -> io::Result<()>
+        ensures others { self.new ≡ record self.old { out = self.new.out; write_failed = self.new.write_failed } }
+        ensures out { self.new.out.ghost_name ≡ self.old.out.ghost_name }
+        ensures text { OnOk result (Appends (O.contents self.old.out.now) (O.contents self.new.out.now)
+            (box_line (string_bytes channel.now.name) far.now)) }
+        ensures whole { OnOk result (Extends (O.contents self.old.out.now) (O.contents self.new.out.now)) }
+        ensures failed { Notes self.old.write_failed self.new.write_failed result }
+    {
+        let written = telling::print_box(self.out, channel, far);
+        self.write_failed |= written.is_err();
+        written
+    }
+
+    /// Prints the lines of an answer.
+    pub(crate) fn print_text(&mut self, text: &str) -> io::Result<()>
+        ensures others { self.new ≡ record self.old { out = self.new.out; write_failed = self.new.write_failed } }
+        ensures out { self.new.out.ghost_name ≡ self.old.out.ghost_name }
+        ensures whole { OnOk result (Extends (O.contents self.old.out.now) (O.contents self.new.out.now)) }
+        ensures failed { Notes self.old.write_failed self.new.write_failed result }
+    {
+        let written = telling::print_text(self.out, text);
+        self.write_failed |= written.is_err();
+        written
+    }
+
+    /// Tells why the mailboxes of a channel are not listed.
+    pub(crate) fn tell_list(&mut self, fault: &ListFault) -> io::Result<Verdict>
+        ensures others { self.new ≡ record self.old { err = self.new.err; write_failed = self.new.write_failed } }
+        ensures err { self.new.err.ghost_name ≡ self.old.err.ghost_name }
+        ensures told { IfOk result IsTold }
+        ensures failed { Notes self.old.write_failed self.new.write_failed result }
+    {
+        let written = telling::tell_list(self.err, fault);
+        self.write_failed |= written.is_err();
+        written
+    }
+
+    /// Tells that a channel or a store of it is not in the configuration.
+    pub(crate) fn tell_no_channel(&mut self) -> io::Result<Verdict>
+        ensures others { self.new ≡ record self.old { err = self.new.err; write_failed = self.new.write_failed } }
+        ensures err { self.new.err.ghost_name ≡ self.old.err.ghost_name }
+        ensures told { IfOk result IsTold }
+        ensures failed { Notes self.old.write_failed self.new.write_failed result }
+    {
+        let written = telling::tell_no_channel(self.err);
+        self.write_failed |= written.is_err();
+        written
+    }
+
+    /// Tells why a mailbox was not synchronised.
+    pub(crate) fn tell(&mut self, place: ChannelBox<'_>, fault: &BoxFault) -> io::Result<Verdict>
+        ensures others { self.new ≡ record self.old { err = self.new.err; write_failed = self.new.write_failed } }
+        ensures err { self.new.err.ghost_name ≡ self.old.err.ghost_name }
+        ensures told { IfOk result IsTold }
+        ensures failed { Notes self.old.write_failed self.new.write_failed result }
+    {
+        let written = telling::tell(self.err, place, fault);
+        self.write_failed |= written.is_err();
+        written
+    }
+}
+
+impl<S: Stores, O: Write, E: Write> ToldStores<'_, S, O, E> {
+    /// Makes this side of a mailbox.
+    pub(crate) fn make(&mut self, side: Side, place: ChannelBox<'_>) -> Result<(), StoreFault>
+        requires going { self.old.write_failed ≡ false }
+        requires covered { covers place.of.channel.now.create side ≡ true }
+        ensures { self.new ≡ record self.old { stores = self.new.stores } }
+    {
+        self.stores.make(side, place)
+    }
+
+    /// Makes one run over a mailbox.
+    pub(crate) fn settle<R: Rng>(
+        &mut self,
+        alloc: Global,
+        place: ChannelBox<'_>,
+        options: &Options,
+        rng: &mut R,
+    ) -> Result<Pass, BoxFault>
+        requires going { self.old.write_failed ≡ false }
+        ensures { self.new ≡ record self.old { stores = self.new.stores } }
+    {
+        match self.stores.outside(place) {
+            Ok(outside) => settle_lent(alloc, outside, options, rng),
+            Err(fault) => Err(BoxFault::from(fault)),
+        }
+    }
+}

@@ -1,0 +1,47 @@
+//! Stores of which a terminal tells which mailbox is at work.
+
+use crate::screen::Screen;
+use config::config::{ImapStore, MaildirStore};
+use mailcore::mailbox_name::MailboxName;
+use mailcore::side::Side;
+use std::io::Write;
+use stores::channel_box::ChannelBox;
+use stores::fault::{ListFault, StoreFault};
+use stores::stores::{BoxLists, Stores};
+
+/// Stores, and the line on a terminal that shows which of their mailboxes is at work.
+#[derive(Drop)]
+pub(crate) struct ShownStores<'a, S: Stores + Drop, T: Write + Copy> {
+    stores: S,
+    screen: &'a Screen<T>,
+}
+
+impl<'a, S: Stores + Drop, T: Write + Copy> ShownStores<'a, S, T> {
+    /// These stores.
+    pub(crate) fn new(stores: S, screen: &'a Screen<T>) -> Self {
+        ShownStores { stores, screen }
+    }
+}
+
+impl<S: Stores + Drop, T: Write + Copy> BoxLists for ShownStores<'_, S, T> {
+    fn far_boxes(&mut self, store: &ImapStore) -> Result<Vec<MailboxName>, ListFault> {
+        self.stores.far_boxes(store)
+    }
+
+    fn near_boxes(&mut self, store: &MaildirStore) -> Result<Vec<MailboxName>, ListFault> {
+        self.stores.near_boxes(store)
+    }
+}
+
+impl<S: Stores + Drop, T: Write + Copy> Stores for ShownStores<'_, S, T> {
+    type Outside = S::Outside;
+
+    fn make(&mut self, side: Side, place: ChannelBox<'_>) -> Result<(), StoreFault> {
+        self.stores.make(side, place)
+    }
+
+    fn outside(&mut self, place: ChannelBox<'_>) -> Result<&mut Self::Outside, StoreFault> {
+        self.screen.show(place);
+        self.stores.outside(place)
+    }
+}
