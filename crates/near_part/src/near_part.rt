@@ -9,7 +9,7 @@ ghost use Rattle.near_box.specs.Mailboxes.{on_store};
 ghost use Rattle.near_box.specs.NearCalls.{Ends};
 ghost use Rattle.parts.specs.Drafts.{IsDraft, IsSomeDraft};
 ghost use Rattle.parts.specs.Stops.{StopsSo};
-ghost use Rattle.near_part.specs.NearFaults.{told_by};
+ghost use Rattle.near_part.specs.NearFaults.{FromNear, told_by};
 ghost use Rattle.near_part.specs.Desks.{folder_stops_at, fresh_at, goes_on, is_there, standing_in, stored_at};
 
 use crate::desk::Desk;
@@ -72,6 +72,7 @@ impl<F: Folder + Drop> NearPart<F> {
     pub fn open(&mut self) -> Result<u32, OutsideFault>
         ensures open { OnOk result (is_open self.new ≡ true) }
         ensures told { IfErr result FromBox }
+        ensures own { IfErr result FromNear }
         ensures stops { OpenStops self.old self.new result }
         ensures part { Part (F.is_honest ≡ true) (Answers (λ validity n. validity ≡ n.store.validity)) (λ _. Stays) (mailbox_of self.old) (mailbox_of self.new) result }
     {
@@ -94,6 +95,7 @@ impl<F: Folder + Drop> NearPart<F> {
         requires open { is_open self.old ≡ true }
         ensures open { is_open self.new ≡ true }
         ensures told { IfErr result FromBox }
+        ensures own { IfErr result FromNear }
         ensures stops { Stops self.old self.new result }
         ensures part { PartChanges (F.is_honest ≡ true) (λ _ old new. new ≡ admitted_near old) AdmitsSome (mailbox_of self.old) (mailbox_of self.new) result }
     {
@@ -109,6 +111,7 @@ impl<F: Folder + Drop> NearPart<F> {
         ensures open { is_open self.new ≡ true }
         ensures numbers { IfOk result HasNumbers }
         ensures told { IfErr result FromBox }
+        ensures own { IfErr result FromNear }
         ensures stops { Stops self.old self.new result }
         ensures part { Part (F.is_honest ≡ true) (Answers (λ listing n. ShowsAbove Side.Near from n.store listing)) (λ _. Stays) (mailbox_of self.old) (mailbox_of self.new) result }
     {
@@ -123,6 +126,7 @@ impl<F: Folder + Drop> NearPart<F> {
         requires open { is_open self.old ≡ true }
         ensures open { is_open self.new ≡ true }
         ensures told { IfErr result FromBox }
+        ensures own { IfErr result FromNear }
         ensures stops { Stops self.old self.new result }
         ensures part { Part (F.is_honest ≡ true) (Answers (λ found n. found ≡ marked_from mark from n.store)) (λ _. Stays) (mailbox_of self.old) (mailbox_of self.new) result }
     {
@@ -138,6 +142,7 @@ impl<F: Folder + Drop> NearPart<F> {
         ensures open { is_open self.new ≡ true }
         ensures some { IfOk result (IsSomeDraft Side.Near mark) }
         ensures told { IfErr result FromBox }
+        ensures own { IfErr result FromNear }
         ensures stops { Stops self.old self.new result }
         ensures part { Part (F.is_honest ≡ true) (Answers (λ draft n. IsDraft Side.Near mark (bytes_of uid n.store) draft)) (λ _. Stays) (mailbox_of self.old) (mailbox_of self.new) result }
     {
@@ -152,6 +157,7 @@ impl<F: Folder + Drop> NearPart<F> {
         requires open { is_open self.old ≡ true }
         ensures open { is_open self.new ≡ true }
         ensures told { IfErr result FromBox }
+        ensures own { IfErr result FromNear }
         ensures stops { Stops self.old self.new result }
         ensures part { PartChanges (F.is_honest ≡ true) (Delivers bytes.now flags) SetsAside (mailbox_of self.old) (mailbox_of self.new) result }
     {
@@ -166,6 +172,7 @@ impl<F: Folder + Drop> NearPart<F> {
         requires open { is_open self.old ≡ true }
         ensures open { is_open self.new ≡ true }
         ensures told { IfErr result FromBox }
+        ensures own { IfErr result FromNear }
         ensures stops { Stops self.old self.new result }
         ensures part { PartChanges (F.is_honest ≡ true) (λ _ old new. new ≡ on_store (flags_added uid flags) old) Nothing (mailbox_of self.old) (mailbox_of self.new) result }
     {
@@ -180,6 +187,7 @@ impl<F: Folder + Drop> NearPart<F> {
         requires open { is_open self.old ≡ true }
         ensures open { is_open self.new ≡ true }
         ensures told { IfErr result FromBox }
+        ensures own { IfErr result FromNear }
         ensures stops { Stops self.old self.new result }
         ensures part { PartChanges (F.is_honest ≡ true) (λ _ old new. new ≡ on_store (flags_removed uid flags) old) Nothing (mailbox_of self.old) (mailbox_of self.new) result }
     {
@@ -194,6 +202,7 @@ impl<F: Folder + Drop> NearPart<F> {
         requires open { is_open self.old ≡ true }
         ensures open { is_open self.new ≡ true }
         ensures told { IfErr result FromBox }
+        ensures own { IfErr result FromNear }
         ensures stops { Stops self.old self.new result }
         ensures part { PartChanges (F.is_honest ≡ true) (λ _ old new. new ≡ on_store (expunged (uid ∷ [])) old) Nothing (mailbox_of self.old) (mailbox_of self.new) result }
     {

@@ -1,5 +1,8 @@
 //! The lock of a near mailbox: of all processes one at a time may synchronise it.
 
+ghost use Rattle.std.specs.Prelude.{◌≡◌, ◌++◌, IfErr, codes};
+ghost use Rattle.near_places.specs.Refusals.{TellsLock, told_of_memory};
+
 use crate::refusal::Refusal;
 use std::alloc::{AllocError, AllocFailed};
 use std::fs::{File, OpenOptions, TryLockError};
@@ -25,12 +28,16 @@ pub enum LockFault {
 }
 
 impl From<AllocError> for LockFault {
+    ghost from_gives = { λ _ fault. fault ≡ told_of_memory };
+
     fn from(fault: AllocError) -> LockFault {
         LockFault::Refused(Refusal::from(fault))
     }
 }
 
 impl<T: Drop> From<AllocFailed<T>> for LockFault {
+    ghost from_gives = { λ _ fault. fault ≡ told_of_memory };
+
     fn from(fault: AllocFailed<T>) -> LockFault {
         LockFault::Refused(Refusal::from(fault))
     }
@@ -50,7 +57,9 @@ impl Lock {
     pub fn take<R: Files<File = File> + AllocGlobal>(
         rt: &R,
         folder: &str,
-    ) -> Result<Self, LockFault> {
+    ) -> Result<Self, LockFault>
+        ensures { IfErr result (TellsLock (folder.now ++ codes "/.mbsyncstate.lock")) }
+    {
         let path = format!(in rt.alloc(); "{folder}/{LOCK}")?;
         let mut options = OpenOptions::new();
         options.write(true).create(true).mode(FILE_MODE);
@@ -66,6 +75,8 @@ impl Lock {
     }
 }
 
-fn refused<R: AllocGlobal>(rt: &R, path: &str, error: &std::io::Error) -> LockFault {
+fn refused<R: AllocGlobal>(rt: &R, path: &str, error: &std::io::Error) -> LockFault
+    ensures { TellsLock path.now result }
+{
     LockFault::Refused(Refusal::at(rt.alloc(), path, error))
 }

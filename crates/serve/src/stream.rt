@@ -1,9 +1,11 @@
 //! A connection that is served to its end.
 
-ghost use Rattle.std.specs.Prelude.{◌≡◌, ◌<◌, length, None, IsSome, OnOk, OnErr, IfOk};
+ghost use Rattle.std.specs.Prelude.{◌≡◌, ◌<◌, length, None, IsSome, OnOk, OnErr, IfOk, IfErr};
+ghost use Rattle.std.specs.IoError.{error_kind};
 ghost use Rattle.std.specs.Io.KnownBytes.{Appends};
 ghost use Rattle.imap_session.specs.Lines.{greeting};
 ghost use Rattle.imap_session.specs.Heard.{AreReplies};
+ghost use Rattle.serve.specs.Faults.{told};
 ghost use Rattle.serve.specs.Connections.{connected, Answers, AnswersSome, Converses, BreaksOff, IsEnd, IsEndOn, IsOverOn, Serves};
 
 use crate::fault::ServeFault;
@@ -102,7 +104,9 @@ fn answer_next<R: Read, W: Write>(
 
 /// Goes on where reading was interrupted.
 fn behind_fault(fault: io::Error) -> Result<Turn, ServeFault>
-    ensures { IfOk result (λ turn. turn ≡ Turn.GoesOn) }
+    ensures goes_on { IfOk result (λ turn. turn ≡ Turn.GoesOn) }
+    ensures interrupted { OnOk result (error_kind fault ≡ ErrorKind.Interrupted) }
+    ensures told { IfErr result (λ told_as. told_as ≡ told (error_kind fault)) }
 {
     match fault.kind() {
         ErrorKind::Interrupted => Ok(Turn::GoesOn),

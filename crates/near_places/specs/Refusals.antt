@@ -1,0 +1,19 @@
+-- What is told where a place does not open.
+use Rattle.std.specs.Prelude.{◌≡◌, ⊤, ℕ, List, string_bytes}
+use Rattle.near_places.specs.declared.lock.LockFault.{LockFault}
+use Rattle.near_places.specs.declared.lock.LockFault.TheVariants.{Held, Refused}
+use Rattle.near_places.specs.declared.refusal.Refusal.{Refusal}
+use Rattle.near_places.specs.declared.refusal.Refusal.TheVariants.{CannotOpen, NoMemory}
+
+-- the path is told; want of memory may come in its place
+abbrev pub Tells : (path : List ℕ) → Refusal → Type 0
+Tells path (CannotOpen told) = string_bytes told ≡ path
+Tells path NoMemory = ⊤
+
+-- of a lock that another process holds nothing more is told; else the path of its file is
+abbrev pub TellsLock : (path : List ℕ) → LockFault → Type 0
+TellsLock path Held = ⊤
+TellsLock path (Refused refusal) = Tells path refusal
+
+abbrev pub told_of_memory : LockFault
+told_of_memory = Refused NoMemory
