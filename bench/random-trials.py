@@ -57,8 +57,9 @@ def big_world(rng):
 
 def random_side(rng):
     """Some UIDs of one side in any order, of which the first are for entries, and how far all of them are moved up."""
-    uids = rng.sample(range(1, 24), rng.choice([0, 2, 4, 6, 8, 10]))
-    return uids, GREATEST_NEXT - 24 - rng.randrange(2) if rng.random() < 0.06 else 0
+    most, counts = (200, [60]) if rng.random() < 0.04 else (24, [0, 4, 6, 8, 10, 12])
+    uids = rng.sample(range(1, most), rng.choice(counts))
+    return uids, GREATEST_NEXT - most - rng.randrange(2) if rng.random() < 0.06 else 0
 
 
 def random_entries(rng, far, near):

@@ -113,6 +113,7 @@ def goes_on_calling(program, whole, found):
 
 
 def check(program, world, shim):
+    """How many refused allocations of a run over this input end it wrongly; each is told."""
     with open(world, "rb") as file:
         text = file.read()
     whole = run(program, text, shim, 0)
@@ -120,6 +121,7 @@ def check(program, world, shim):
     trial = Wanting(program, text.decode(), whole[1].decode()) if os.path.basename(program) == "mbtrial" else None
     number = 0
     told = 0
+    wrong = 0
     ends = Counter()
     while True:
         number += 1
@@ -133,10 +135,13 @@ def check(program, world, shim):
             continue
         how = trial.how(found[0], found[1].decode(), found[2].decode()) if trial else None
         if how is None:
-            sys.exit(f"{world}: allocation {number} refused: status {found[0]}, {found[1]!r}, {found[2]!r}")
-        ends[how] += 1
+            wrong += 1
+            print(f"{world}: allocation {number} refused: status {found[0]}, {found[1]!r}, {found[2]!r}")
+        else:
+            ends[how] += 1
     others = "".join(f", {count} {how}" for how, count in sorted(ends.items()))
     print(f"{world}: {number - 1} allocations, of which {told} when refused end the run{others}")
+    return wrong
 
 
 def main():
@@ -148,8 +153,9 @@ def main():
         with open(source, "w", encoding="ascii") as file:
             file.write(SHIM)
         subprocess.run(["cc", "-shared", "-fPIC", "-O1", "-o", shim, source], check=True)
-        for world in sys.argv[2:]:
-            check(program, world, shim)
+        wrong = sum(check(program, world, shim) for world in sys.argv[2:])
+    if wrong:
+        sys.exit(f"{wrong} refused allocations were not told as they should be")
 
 
 main()
