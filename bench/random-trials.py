@@ -19,9 +19,9 @@ import sys
 from collections import Counter
 from unittest.mock import patch
 
-import outcome_model
 from outcome_model import GREATEST_NEXT, GREATEST_RUN, cells_of, told
 from plan_model import CELLS, LETTERS, MOST, plan, text_of
+from wrong_readings import WRONG
 
 TOP = os.path.dirname(os.path.dirname(os.path.abspath(__file__)))
 WORDS = ("None", "Full", "Pull", "Push", "New", "Gone", "Flags", *(way + kind for way, kind in CELLS))
@@ -128,13 +128,15 @@ def told_by_planner(world):
 
 def kinds_of(world, output, lines):
     """What this world and its run show."""
-    kinds = {" ".join(line.split()[:2]) if line.split()[0] in ("new", "gone", "flags", "expunge", "unfit") else line.split()[0] for line in lines}
+    kinds = set()
+    for line in lines:
+        words = line.split()
+        kinds.add(words[0] if words[0] in ("record", "drop") else " ".join(words[:2]))
     first = output.split("\n", 1)[0].split()
-    kinds.add("settled" if first[0] == "settled" else f"fault {first[1]}")
-    kinds.add("no step" if first[0] == "settled" and not lines else "some")
-    kinds.update(["waiting"] if world["waiting"] else [])
-    kinds.update(["half entry"] if any(0 in entry[:2] for entry in world["entries"]) else [])
-    return kinds
+    is_settled = first[0] == "settled"
+    kinds.add("settled" if is_settled else f"fault {first[1]}")
+    shown = {"no step": is_settled and not lines, "waiting": world["waiting"], "half entry": any(0 in entry[:2] for entry in world["entries"])}
+    return kinds | {kind for kind, is_shown in shown.items() if is_shown}
 
 
 class Runs:
@@ -147,7 +149,6 @@ class Runs:
     def differs(self, what, seed, text, wanted, found):
         self.differing += 1
         print(f"seed {seed}, {what}: differs\n{text[:4000]}wanted {wanted!r:.4000}\nfound  {found!r:.4000}\n")
-        return True
 
     def ask(self, command, text):
         ran = subprocess.run(command, input=text.encode(), capture_output=True, check=False, timeout=300)
@@ -180,42 +181,22 @@ class Runs:
             self.compare("next run", seed, after)
 
 
-# Wrong readings: a name of `outcome_model` or of its Ends, and what stands in its place.
-NEW, FLAGS, HIGHEST = outcome_model.is_new, outcome_model.Ends.flags, outcome_model.Ends.highest
-WRONG = {
-    "the survivor of a half entry is new": (outcome_model, "is_new", lambda world, side, message: NEW(
-        dict(world, entries=[entry for entry in world["entries"] if all(entry[:2])]), side, message)),
-    "a deleted message on a covered side is new": (outcome_model, "is_new", lambda world, side, message: NEW(dict(world, expunge=()), side, message)),
-    "an unfit message is new": (outcome_model, "is_fit", lambda side, data: True),
-    "mark lines of the source are kept": (outcome_model, "content", lambda data: data.replace(b"\r\n", b"\n")),
-    "a copy on the far side ends lines in LF": (outcome_model, "copy_of", lambda data, number, side, real=outcome_model.copy_of: real(data, number, "near")),
-    "all copies have the first mark": (outcome_model, "mark", lambda k, real=outcome_model.mark: real(1)),
-    "gone leaves the flags": (outcome_model.Ends, "flags", lambda ends, side, uid: FLAGS(ends, side, uid).replace("T", "")),
-    "recorded flags stay": (outcome_model, "recorded_after", lambda cells, far, near, recorded: recorded),
-    "flags changed on both sides are taken over": (outcome_model, "changed_bits", lambda source, target, recorded: (list(source), set(LETTERS) - set(source))),
-    "the highest UIDs stay": (outcome_model.Ends, "highest", lambda ends, way: ends.world["max_pulled" if way == "Pull" else "max_pushed"]),
-    "the highest UIDs are taken without New": (outcome_model.Ends, "highest", lambda ends, way: max([HIGHEST(ends, way), *(
-        ends.far if way == "Pull" else ends.near)])),
-    "an entry is never dropped": (outcome_model.Ends, "entry", lambda ends, *entry, real=outcome_model.Ends.entry: real(ends, *entry) or entry),
-}
-
-
 def self_test(program, arguments, seeds):
-    """The wrong readings that no world tells."""
-    silent = []
+    """How many wrong readings no world tells."""
+    silent = 0
     for name, (place, word, wrong) in WRONG.items():
         with patch.object(place, word, wrong):
-            for seed in seeds:
-                world = random_world(seed)
-                status, output, _ = told(world)
-                ran = subprocess.run([program, *arguments], input=(text_of(world) + "tries 1\n").encode(), capture_output=True, check=False)
-                if (ran.returncode, ran.stdout.decode()) != (status, output):
-                    print(f"seed {seed} tells: {name}")
-                    break
-            else:
-                silent.append(name)
-                print(f"no seed tells: {name}")
+            seed = next((seed for seed in seeds if not is_as_told(program, arguments, random_world(seed))), None)
+        print(f"no seed tells: {name}" if seed is None else f"seed {seed} tells: {name}")
+        silent += seed is None
     return silent
+
+
+def is_as_told(program, arguments, world):
+    """Whether a run over this world is as the model says."""
+    status, output, _ = told(world)
+    ran = subprocess.run([program, *arguments], input=(text_of(world) + "tries 1\n").encode(), capture_output=True, check=False, timeout=300)
+    return (ran.returncode, ran.stdout.decode()) == (status, output)
 
 
 def main():
