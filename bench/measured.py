@@ -31,11 +31,12 @@ def peak_so_far(process_id, known):
     return int(found[1]) / 1024 if found else known
 
 
-def measured(command):
-    """The cost of a run, which has to end with status 0. Memory is asked for each two milliseconds."""
+def measured(command, source=subprocess.DEVNULL, result=None):
+    """The cost of a run over this standard input, which has to end with status 0. What it prints goes to the file `result`, if there
+    is one. Memory is asked for each two milliseconds."""
     with tempfile.TemporaryFile() as output:
         start = time.monotonic()
-        process = subprocess.Popen(command, stdin=subprocess.DEVNULL, stdout=output, stderr=output)
+        process = subprocess.Popen(command, stdin=source, stdout=result or output, stderr=output)
         peak, ended = 0, 0
         while not ended:
             peak = peak_so_far(process.pid, peak)

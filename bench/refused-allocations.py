@@ -12,12 +12,17 @@ run's output and status, or nothing on standard output, `NAME: no memory` on sta
 also with the stdin of its crate or with bench/few-sessions.txt, a server may answer `no memory` itself: up to there the output
 has to be the unbroken run's, and from there on the server is closed until the next connection. With test_client and
 bench/few-client-calls.txt a call may answer `NoMemory`: up to there the session has to be the unbroken run's, from there on
-its calls are stopped or not made up to the next connection, and the other sessions are the unbroken run's.
+its calls are stopped or not made up to the next connection, and the other sessions are the unbroken run's. With mbtrial and
+trials, as bench/few-trials/*, the run may also go on otherwise, or tell a fault and print the world as it then stands, from which a
+further run has to come to the same end: `wanting_trials.py` says what is asked.
 """
 import os
 import subprocess
 import sys
 import tempfile
+from collections import Counter
+
+from wanting_trials import Wanting
 
 SHIM = r"""
 #include <stddef.h>
@@ -108,12 +113,16 @@ def goes_on_calling(program, whole, found):
 
 
 def check(program, world, shim):
+    """How many refused allocations of a run over this input end it wrongly; each is told."""
     with open(world, "rb") as file:
         text = file.read()
     whole = run(program, text, shim, 0)
     wanting = (1, b"", os.path.basename(program).encode() + b": no memory\n", True)
+    trial = Wanting(program, text.decode(), whole[1].decode()) if os.path.basename(program) == "mbtrial" else None
     number = 0
     told = 0
+    wrong = 0
+    ends = Counter()
     while True:
         number += 1
         found = run(program, text, shim, number)
@@ -121,9 +130,18 @@ def check(program, world, shim):
             break
         if found == wanting:
             told += 1
-        elif found[:3] != whole[:3] and not (goes_on(program, whole, found) or goes_on_calling(program, whole, found)):
-            sys.exit(f"{world}: allocation {number} refused: status {found[0]}, {found[1]!r}, {found[2]!r}")
-    print(f"{world}: {number - 1} allocations, of which {told} when refused end the run")
+            continue
+        if found[:3] == whole[:3] or goes_on(program, whole, found) or goes_on_calling(program, whole, found):
+            continue
+        how = trial.how(found[0], found[1].decode(), found[2].decode()) if trial else None
+        if how is None:
+            wrong += 1
+            print(f"{world}: allocation {number} refused: status {found[0]}, {found[1]!r}, {found[2]!r}")
+        else:
+            ends[how] += 1
+    others = "".join(f", {count} {how}" for how, count in sorted(ends.items()))
+    print(f"{world}: {number - 1} allocations, of which {told} when refused end the run{others}")
+    return wrong
 
 
 def main():
@@ -135,8 +153,9 @@ def main():
         with open(source, "w", encoding="ascii") as file:
             file.write(SHIM)
         subprocess.run(["cc", "-shared", "-fPIC", "-O1", "-o", shim, source], check=True)
-        for world in sys.argv[2:]:
-            check(program, world, shim)
+        wrong = sum(check(program, world, shim) for world in sys.argv[2:])
+    if wrong:
+        sys.exit(f"{wrong} refused allocations were not told as they should be")
 
 
 main()
