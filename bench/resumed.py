@@ -5,10 +5,10 @@ usage: bench/resumed.py [PROGRAM] [--messages N] [--repeat N]
 
 PROGRAM is crates/mbtrial/out/mbtrial if it is left out. A first pull of N messages (10000 if it is left out) was stopped when half of
 its steps were logged: their copies stand in the near mailbox, and the journal has the plan and the log. mbtrial finishes it. The
-same work without a break is a pull of the other half beside the first one, which a state knows. Pushes likewise. Told are seconds
-of the processor, the least of so many runs (3), each with the reading of its text; a trial of the same text whose run has nothing
-to do is told beside them. Each run has to make the copies that are wanted, and no more. Status 1 if one does not. The limit is
-twice the time of the unbroken half; the script says where it is passed, and that is no failure."""
+same work without a break is a pull of the other half beside the first one, which a state knows; a first pull of half as many
+messages into an empty mailbox is told beside it. Pushes likewise. Told are seconds of the processor, the least of so many runs (3),
+each with the reading of its text. Each run has to make the copies that are wanted, and no more; status 1 if one does not. The limit
+is twice the time of the other half; the script says where it is passed, and that is no failure."""
 import argparse
 import base64
 import os
@@ -52,7 +52,7 @@ def trial(is_pull, count, done, is_resumed):
     there, made = sources(is_pull, count), copies(is_pull, done)
     far, near, far_next, near_next = (there, made, count + 1, done + 1) if is_pull else (made, there, done + 1, count + 1)
     highest = f"{done} 0" if is_pull else f"0 {done}"
-    if is_resumed:
+    if is_resumed or done == 0:
         state = ["state 0 0 0 0 0"]
     else:
         state = [f"state 1 1 1 {highest}", *(f"e {k} {k} -" for k in range(1, done + 1))]
@@ -63,7 +63,7 @@ def trial(is_pull, count, done, is_resumed):
 
 def is_done(told, is_pull, count, done, is_resumed):
     """Whether the other half was copied, each message once, and the state says so."""
-    word, letter, run = "pull" if is_pull else "push", "n" if is_pull else "f", 1 if is_resumed else 2
+    word, letter, run = "pull" if is_pull else "push", "n" if is_pull else "f", 1 if is_resumed or done == 0 else 2
     lines = told.split("\n")
     steps = [f"new {word} {k} -> {k}" for k in range(done + 1, count + 1)]
     # a run that was planned when copies stood there has seen them
@@ -107,9 +107,11 @@ def main():
             half = count // 2
             resumed = cost(told.program, told.repeat, is_pull, count, half, True)
             unbroken = cost(told.program, told.repeat, is_pull, count, half, False)
+            alone = cost(told.program, told.repeat, is_pull, half, 0, False)
             ratio = resumed / unbroken
-            passed = f", more than {LIMIT} times" if ratio > LIMIT else ""
-            print(f"{name} of {count}, {half} done: resumed {resumed:.2f} s, the other half unbroken {unbroken:.2f} s, {ratio:.1f} times{passed}", flush=True)
+            passed = f" (more than {LIMIT})" if ratio > LIMIT else ""
+            print(f"{name} of {count}, {half} done: resumed {resumed:.2f} s, the other half unbroken {unbroken:.2f} s, {ratio:.1f} times{passed};"
+                  f" a first {name} of {half} {alone:.2f} s", flush=True)
 
 
 if __name__ == "__main__":

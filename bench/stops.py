@@ -2,14 +2,16 @@
 """Stops runs of the built mbtrial at each of their calls, and looks whether the next attempt brings them to the same end.
 
 usage: bench/stops.py [PROGRAM] [--tcp] [--random N] [--seed SEED]
+       bench/stops.py --self-test
 
 PROGRAM is crates/mbtrial/out/mbtrial if it is left out; `--tcp` is handed on to it. For each world of WORLDS, each call that can be
 named and each k that the unbroken run makes, a stop stands before and behind the k-th call, with two attempts; and each append to the
-shelf is cut behind each of its bytes. For the world PAIRED each pair of stops is tried, with three attempts; there an append to the
-shelf is stopped behind its third byte too. Then N random worlds (1000 if it is left out) are each stopped at one of their calls,
-drawn at random. Each run has to be settled with as many stops as are named, and what it leaves has to be alike to what the unbroken
-run leaves: the same but for UIDs that the run gave, and the twelve characters of the marks. The last line is `N passed, M failed`;
-the status is 1 if one failed."""
+shelf is cut behind each of its bytes. Each pair of stops, of which the second may be one that the resumed attempt alone comes to, is
+tried with three attempts; there an append to the shelf is stopped behind its third byte too. Then N random worlds (1000 if it is left
+out) are each stopped at one of their calls, drawn at random. Each run has to be settled with as many stops as are named, and what it
+leaves has to be alike to what the unbroken run leaves: the same but for UIDs that the run gave, and the twelve characters of the
+marks. The last line is `N passed, M failed`; the status is 1 if one failed. `--self-test` runs nothing: it shows that wrong ends are
+told, and that other UIDs and marks are not."""
 import argparse
 import os
 import random
@@ -32,7 +34,6 @@ WORLDS = {
     "a waiting file": PLAIN + 'far 1 9\nf 8 S "x\\0d\\0a"\nnear 1 4\nn 3 S "x\\0a"\nw - "y\\0a"\nstate 2 1 1 0 3\ne 8 3 S\nend\n',
     "far expunge alone": 'sync Full\nexpunge Far\nfar 1 2\nf 1 T "a\\0d\\0a"\nnear 1 1\nstate 0 0 0 0 0\nend\n',
 }
-PAIRED = "first pull"
 # no run of a world here makes so many calls of one name
 MOST_CALLS = 100
 MARK = re.compile(r"X-TUID: [A-Za-z0-9_-]{12}")
@@ -217,6 +218,62 @@ def random_world(rng):
     return "\n".join(lines)
 
 
+# what the first pull leaves, ways in which this would be wrong, and ways in which it would be as good
+ENDED = '''far 1 3
+f 1 S "a\\0d\\0a"
+f 2 - "b\\0d\\0a"
+near 1 3
+n 1 S "X-TUID: AQAAAAAAAAAC\\0aa\\0a"
+n 2 - "X-TUID: AwAAAAAAAAAE\\0ab\\0a"
+state 1 1 1 2 0
+e 1 1 S
+e 2 2 -
+end
+'''
+SECOND = 'n 2 - "X-TUID: AwAAAAAAAAAE\\0ab\\0a"\n'
+WRONG = {
+    "a copy is missing": [(SECOND, "")],
+    "a copy twice": [("near 1 3", "near 1 4"), (SECOND, SECOND + SECOND.replace("n 2", "n 3").replace("AwAAAAAAAAAE", "BQAAAAAAAAAG"))],
+    "other flags": [("n 2 -", "n 2 S")],
+    "other bytes": [("0ab", "0ac")],
+    "a copy without its mark": [("X-TUID: AwAAAAAAAAAE\\0a", "")],
+    "a mark twice": [("AwAAAAAAAAAE", "AQAAAAAAAAAC")],
+    "copies exchanged": [("n 1 S", "n 9 S"), ("n 2 -", "n 1 -"), ("n 9 S", "n 2 S")],
+    "a far message is missing": [('f 2 - "b\\0d\\0a"\n', "")],
+    "a far message was changed": [('f 2 - "b', 'f 2 - "X-TUID: AwAAAAAAAAAE\\0d\\0ab')],
+    "an entry is missing": [("e 2 2 -\n", "")],
+    "an entry with other flags": [("e 2 2 -", "e 2 2 S")],
+    "an entry with another UID": [("e 2 2 -", "e 2 1 -")],
+    "the next UID is that of a copy": [("near 1 3", "near 1 2")],
+    "another UIDVALIDITY": [("near 1 3", "near 2 3")],
+    "a run twice": [("state 1", "state 2")],
+    "another highest UID": [("2 0\ne", "1 0\ne")],
+    "a waiting file": [("state 1", 'w - "x"\nstate 1')],
+}
+AS_GOOD = {
+    "another mark": [("AwAAAAAAAAAE", "BQAAAAAAAAAG")],
+    "another UID": [("near 1 3", "near 1 4"), ("n 2 -", "n 3 -"), ("e 2 2", "e 2 3")],
+    "UIDs set aside": [("near 1 3", "near 1 9")],
+}
+
+
+def self_test():
+    """How many wrong ends pass, or good ones do not."""
+    opening, ended, slips = World(WORLDS["first pull"].split("\n")), World(ENDED.split("\n")), 0
+    for ends, is_wrong in ((WRONG, True), (AS_GOOD, False)):
+        for name, edits in ends.items():
+            text = ENDED
+            for old, new in edits:
+                assert text.count(old) == 1, (name, old)
+                text = text.replace(old, new)
+            told = unlike(opening, ended, World(text.split("\n")))
+            if (told is not None) != is_wrong:
+                slips += 1
+                print(f"SLIPPED  {name}: {told}")
+    print(f"{len(WRONG)} wrong ends, {len(AS_GOOD)} good ones, {slips} slipped")
+    return slips
+
+
 def random_stop(tally, rng, name, text, ended):
     """Stops the run of a random world at one of its calls. Tells whether there is one."""
     stops = [f"stop {moment} {call} {k}" for moment in ("before", "after") for call in CALLS for k in (1, 2, 3)]
@@ -225,18 +282,17 @@ def random_stop(tally, rng, name, text, ended):
 
 
 def named_worlds(tally):
-    """Each stop of the named worlds, and each pair of stops of one of them."""
+    """Each stop of the named worlds, each cut append to the shelf, and each pair of stops."""
     for name, text in WORLDS.items():
         ended = tally.unbroken(name, text)
         if ended is None:
             continue
-        singles = tally.each_stop(name, text, ended)
+        before, singles = tally.passed, tally.each_stop(name, text, ended)
         tally.each_beginning(name, text, ended)
         alone = tally.passed
-        if name == PAIRED:
-            tally.each_pair(name, text, ended, singles)
-            print(f"{name}: {len(singles)} stops at a call, {tally.passed - alone} pairs of stops")
-    print(f"{tally.passed} stops of {len(WORLDS)} named worlds")
+        tally.each_pair(name, text, ended, singles)
+        print(f"{name}: {len(singles)} stops at a call, {alone - before - len(singles)} cut appends, {tally.passed - alone} pairs of stops")
+    print(f"{tally.passed} runs of {len(WORLDS)} named worlds as they have to be")
 
 
 def random_worlds(tally, number, seed):
@@ -257,7 +313,10 @@ def main():
     words.add_argument("--tcp", action="store_true")
     words.add_argument("--random", type=int, default=1000)
     words.add_argument("--seed", type=int, default=1)
+    words.add_argument("--self-test", action="store_true")
     told = words.parse_args()
+    if told.self_test:
+        sys.exit(1 if self_test() else 0)
     tally = Tally(told.program, ["--tcp"] if told.tcp else [])
     named_worlds(tally)
     random_worlds(tally, told.random, told.seed)
