@@ -1,13 +1,17 @@
 #!/usr/bin/env python3
 """Stops runs of the built mbtrial at each of their calls, and looks whether the next attempt brings them to the same end.
 
-usage: bench/stops.py [PROGRAM] [--random N] [--seed SEED]
+usage: bench/stops.py [PROGRAM] [--tcp] [--random N] [--seed SEED]
+       bench/stops.py --self-test
 
-PROGRAM is crates/mbtrial/out/mbtrial if it is left out. For each world of WORLDS, each call that can be named and each k that the
-unbroken run makes, a stop stands before and behind the k-th call, with two attempts; and each append to the shelf is cut behind each
-of its bytes. Then N random worlds (1000 if it is left out) are each stopped at one call at random. Each run has to be settled with
-one stop, and what it leaves has to be alike to what the unbroken run leaves: the same but for UIDs that the run gave, and the twelve
-characters of the marks. The last line is `N passed, M failed`; the status is 1 if one failed."""
+PROGRAM is crates/mbtrial/out/mbtrial if it is left out; `--tcp` is handed on to it. For each world of WORLDS, each call that can be
+named and each k that the unbroken run makes, a stop stands before and behind the k-th call, with two attempts; and each append to the
+shelf is cut behind each of its bytes. Each pair of stops, of which the second may be one that the resumed attempt alone comes to, is
+tried with three attempts; there an append to the shelf is stopped behind its third byte too. Then N random worlds (1000 if it is left
+out) are each stopped at one of their calls, drawn at random. Each run has to be settled with as many stops as are named, and what it
+leaves has to be alike to what the unbroken run leaves: the same but for UIDs that the run gave, and the twelve characters of the
+marks. The last line is `N passed, M failed`; the status is 1 if one failed. `--self-test` runs nothing: it shows that wrong ends are
+told, and that other UIDs and marks are not."""
 import argparse
 import os
 import random
@@ -30,6 +34,8 @@ WORLDS = {
     "a waiting file": PLAIN + 'far 1 9\nf 8 S "x\\0d\\0a"\nnear 1 4\nn 3 S "x\\0a"\nw - "y\\0a"\nstate 2 1 1 0 3\ne 8 3 S\nend\n',
     "far expunge alone": 'sync Full\nexpunge Far\nfar 1 2\nf 1 T "a\\0d\\0a"\nnear 1 1\nstate 0 0 0 0 0\nend\n',
 }
+# no run of a world here makes so many calls of one name
+MOST_CALLS = 100
 MARK = re.compile(r"X-TUID: [A-Za-z0-9_-]{12}")
 
 
@@ -98,52 +104,91 @@ def unlike(opening, ended, found):
 class Tally:
     """Runs trials, and counts which pass."""
 
-    def __init__(self, program):
-        self.program, self.passed, self.failed = program, 0, 0
+    def __init__(self, program, arguments):
+        self.command, self.passed, self.failed = [program, *arguments], 0, 0
+
+    def told(self, text, tries, stops=()):
+        """The lines of what is told."""
+        trial = text + f"tries {tries}\n" + "".join(stop + "\n" for stop in stops)
+        return subprocess.run(self.command, input=trial, capture_output=True, text=True, check=False, timeout=60).stdout.split("\n")
 
     def run(self, text, tries, stops=()):
-        """The first word and the stops of what is told, and the world that is left."""
-        trial = text + f"tries {tries}\n" + "".join(stop + "\n" for stop in stops)
-        told = subprocess.run([self.program], input=trial, capture_output=True, text=True, check=False, timeout=60).stdout.split("\n")
+        """The words of the first line of what is told, and the world that is left."""
+        told = self.told(text, tries, stops)
         start = next((k for k, line in enumerate(told) if line.startswith("far ")), len(told))
         return told[0].split(), World(told[start:])
 
-    def check(self, name, text, ended, stop):
-        """Whether a run with this stop comes to the same end. Tells whether the stop was met."""
-        words, found = self.run(text, 2, [stop])
-        if words[:1] == ["settled"] and words[2] == "0":
-            return False
-        wrong = unlike(World(text.split("\n")), ended, found) if words[:1] == ["settled"] else " ".join(words)
-        if wrong is None and words[2] != "1":
-            wrong = "another number of stops"
-        if wrong is None:
-            self.passed += 1
-        else:
-            self.failed += 1
-            print(f"FAILED  {name}, {stop}: {wrong}")
-        return True
+    def fail(self, what):
+        self.failed += 1
+        print(f"FAILED  {what}")
 
-    def each_stop(self, name, text):
-        """Each stop of one world."""
+    def unbroken(self, name, text):
+        """The world that an unbroken run leaves, if it is carried out as it has to be."""
         words, ended = self.run(text, 1)
-        if words[:2] != ["settled", "ran"]:
-            self.failed += 1
-            print(f"FAILED  {name}: {' '.join(words)}")
-            return
+        if words == ["settled", "ran", "0"]:
+            return ended
+        self.fail(f"{name}: {' '.join(words)}\n{text}")
+        return None
+
+    def check(self, name, text, ended, *stops):
+        """Looks whether a run with these stops comes to the same end. Tells whether they were all met; where they were not, nothing is
+        counted, but the run has to be settled all the same."""
+        words, found = self.run(text, len(stops) + 1, stops)
+        what = f"{name}, {', '.join(stops)}"
+        if words[:1] != ["settled"]:
+            self.fail(f"{what}: {' '.join(words)}")
+            return True
+        met, wrong = int(words[2]), unlike(World(text.split("\n")), ended, found)
+        if met > len(stops):
+            wrong = f"{met} stops"
+        if wrong is not None:
+            self.fail(f"{what}: {wrong}")
+        elif met == len(stops):
+            self.passed += 1
+        return met == len(stops)
+
+    def each_stop(self, name, text, ended):
+        """Each stop of one world before and behind a call: a list of those that were met."""
+        met = []
         for call in CALLS:
-            k = 1
-            while all([self.check(name, text, ended, f"stop {moment} {call} {k}") for moment in ("before", "after")]):
-                k += 1
-        self.each_beginning(name, text, ended)
+            for k in range(1, MOST_CALLS):
+                stops = [stop for stop in (f"stop before {call} {k}", f"stop after {call} {k}") if self.check(name, text, ended, stop)]
+                met += stops
+                if not stops:
+                    break
+        return met
 
     def each_beginning(self, name, text, ended):
-        """Each append to the shelf, cut behind each of its bytes."""
-        for k in range(1, 100):
-            if not self.check(name, text, ended, f"stop part shelf.append {k} 0"):
+        """Each append to the shelf, cut behind each of its bytes but the last: up to the first cut behind which the same is told as
+        behind the whole call."""
+        for k in range(1, MOST_CALLS):
+            whole = self.told(text, 2, [f"stop after shelf.append {k}"])
+            if whole[0].split()[2:] != ["1"]:
                 return
-            for count in range(1, 200):
-                if not self.check(name, text, ended, f"stop part shelf.append {k} {count}"):
+            for count in range(1000):
+                stop = f"stop part shelf.append {k} {count}"
+                if self.told(text, 2, [stop]) == whole:
                     break
+                self.check(name, text, ended, stop)
+
+    def each_pair(self, name, text, ended, singles):
+        """Each pair of stops, of which the second may be one that the resumed attempt alone comes to. `singles` are the stops that the
+        unbroken run comes to."""
+        appends = [stop for stop in singles if stop.startswith("stop before shelf.append ")]
+        firsts = singles + ["stop part shelf.append " + stop.rsplit(" ", 1)[1] + " 3" for stop in appends]
+        for place, first in enumerate(firsts):
+            for second in firsts[place + 1:]:
+                self.check(name, text, ended, first, second)
+            for call in CALLS:
+                reached = sum(stop.startswith(f"stop before {call} ") for stop in singles)
+                self.each_later(name, text, ended, first, call, reached)
+
+    def each_later(self, name, text, ended, first, call, reached):
+        """Each stop at a call of this name behind those that the unbroken run comes to."""
+        for k in range(reached + 1, MOST_CALLS):
+            seconds = [f"stop before {call} {k}", f"stop after {call} {k}"] + [f"stop part {call} {k} 3"] * (call == "shelf.append")
+            if not any([self.check(name, text, ended, first, second) for second in seconds]):
+                return
 
 
 def random_world(rng):
@@ -173,25 +218,108 @@ def random_world(rng):
     return "\n".join(lines)
 
 
+# what the first pull leaves, ways in which this would be wrong, and ways in which it would be as good
+ENDED = '''far 1 3
+f 1 S "a\\0d\\0a"
+f 2 - "b\\0d\\0a"
+near 1 3
+n 1 S "X-TUID: AQAAAAAAAAAC\\0aa\\0a"
+n 2 - "X-TUID: AwAAAAAAAAAE\\0ab\\0a"
+state 1 1 1 2 0
+e 1 1 S
+e 2 2 -
+end
+'''
+SECOND = 'n 2 - "X-TUID: AwAAAAAAAAAE\\0ab\\0a"\n'
+WRONG = {
+    "a copy is missing": [(SECOND, "")],
+    "a copy twice": [("near 1 3", "near 1 4"), (SECOND, SECOND + SECOND.replace("n 2", "n 3").replace("AwAAAAAAAAAE", "BQAAAAAAAAAG"))],
+    "other flags": [("n 2 -", "n 2 S")],
+    "other bytes": [("0ab", "0ac")],
+    "a copy without its mark": [("X-TUID: AwAAAAAAAAAE\\0a", "")],
+    "a mark twice": [("AwAAAAAAAAAE", "AQAAAAAAAAAC")],
+    "copies exchanged": [("n 1 S", "n 9 S"), ("n 2 -", "n 1 -"), ("n 9 S", "n 2 S")],
+    "a far message is missing": [('f 2 - "b\\0d\\0a"\n', "")],
+    "a far message was changed": [('f 2 - "b', 'f 2 - "X-TUID: AwAAAAAAAAAE\\0d\\0ab')],
+    "an entry is missing": [("e 2 2 -\n", "")],
+    "an entry with other flags": [("e 2 2 -", "e 2 2 S")],
+    "an entry with another UID": [("e 2 2 -", "e 2 1 -")],
+    "the next UID is that of a copy": [("near 1 3", "near 1 2")],
+    "another UIDVALIDITY": [("near 1 3", "near 2 3")],
+    "a run twice": [("state 1", "state 2")],
+    "another highest UID": [("2 0\ne", "1 0\ne")],
+    "a waiting file": [("state 1", 'w - "x"\nstate 1')],
+}
+AS_GOOD = {
+    "another mark": [("AwAAAAAAAAAE", "BQAAAAAAAAAG")],
+    "another UID": [("near 1 3", "near 1 4"), ("n 2 -", "n 3 -"), ("e 2 2", "e 2 3")],
+    "UIDs set aside": [("near 1 3", "near 1 9")],
+}
+
+
+def self_test():
+    """How many wrong ends pass, or good ones do not."""
+    opening, ended, slips = World(WORLDS["first pull"].split("\n")), World(ENDED.split("\n")), 0
+    for ends, is_wrong in ((WRONG, True), (AS_GOOD, False)):
+        for name, edits in ends.items():
+            text = ENDED
+            for old, new in edits:
+                assert text.count(old) == 1, (name, old)
+                text = text.replace(old, new)
+            told = unlike(opening, ended, World(text.split("\n")))
+            if (told is not None) != is_wrong:
+                slips += 1
+                print(f"SLIPPED  {name}: {told}")
+    print(f"{len(WRONG)} wrong ends, {len(AS_GOOD)} good ones, {slips} slipped")
+    return slips
+
+
+def random_stop(tally, rng, name, text, ended):
+    """Stops the run of a random world at one of its calls. Tells whether there is one."""
+    stops = [f"stop {moment} {call} {k}" for moment in ("before", "after") for call in CALLS for k in (1, 2, 3)]
+    rng.shuffle(stops)
+    return any(tally.check(name, text, ended, stop) for stop in stops)
+
+
+def named_worlds(tally):
+    """Each stop of the named worlds, each cut append to the shelf, and each pair of stops."""
+    for name, text in WORLDS.items():
+        ended = tally.unbroken(name, text)
+        if ended is None:
+            continue
+        before, singles = tally.passed, tally.each_stop(name, text, ended)
+        tally.each_beginning(name, text, ended)
+        alone = tally.passed
+        tally.each_pair(name, text, ended, singles)
+        print(f"{name}: {len(singles)} stops at a call, {alone - before - len(singles)} cut appends, {tally.passed - alone} pairs of stops")
+    print(f"{tally.passed} runs of {len(WORLDS)} named worlds as they have to be")
+
+
+def random_worlds(tally, number, seed):
+    """A stop each of so many random worlds."""
+    rng, met = random.Random(seed), 0
+    for k in range(number):
+        text = random_world(rng)
+        ended = tally.unbroken(f"random world {k}", text)
+        met += ended is not None and random_stop(tally, rng, f"random world {k}", text, ended)
+    print(f"{met} of {number} random worlds met their stop")
+    if met < number:
+        tally.fail("a random world that met no stop")
+
+
 def main():
     words = argparse.ArgumentParser(description="Stops runs of mbtrial at each of their calls.")
     words.add_argument("program", nargs="?", default=os.path.join(TOP, "crates", "mbtrial", "out", "mbtrial"))
+    words.add_argument("--tcp", action="store_true")
     words.add_argument("--random", type=int, default=1000)
     words.add_argument("--seed", type=int, default=1)
+    words.add_argument("--self-test", action="store_true")
     told = words.parse_args()
-    tally = Tally(told.program)
-    for name, text in WORLDS.items():
-        tally.each_stop(name, text)
-    rng, met = random.Random(told.seed), 0
-    for number in range(told.random):
-        text = random_world(rng)
-        begun, ended = tally.run(text, 1)
-        if begun[:2] != ["settled", "ran"]:
-            tally.failed += 1
-            print(f"FAILED  random world {number}: {' '.join(begun)}\n{text}")
-            continue
-        met += tally.check(f"random world {number}", text, ended, f"stop {rng.choice(['before', 'after'])} {rng.choice(CALLS)} {rng.randrange(1, 4)}")
-    print(f"{met} of {told.random} random worlds met their stop")
+    if told.self_test:
+        sys.exit(1 if self_test() else 0)
+    tally = Tally(told.program, ["--tcp"] if told.tcp else [])
+    named_worlds(tally)
+    random_worlds(tally, told.random, told.seed)
     print(f"{tally.passed} passed, {tally.failed} failed")
     sys.exit(1 if tally.failed else 0)
 

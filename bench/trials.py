@@ -46,6 +46,23 @@ def flags():
           r'settled ran 0 / flags pull 5 7 -S / flags push 5 7 -F / far 1 6 / f 5 - "a\0d\0a" / near 1 8 / n 7 - "a\0a" / state 4 1 1 5 7 / e 5 7 - / end')
     trial("far UIDVALIDITY changed", world.replace("far 1 6", "far 2 6") + " / tries 1",
           r'fault 3 0 / far 2 6 / f 5 S "a\0d\0a" / near 1 8 / n 7 F "a\0a" / state 3 1 1 5 7 / e 5 7 - / end', 1)
+    pending_flags(world)
+
+
+def pending_flags(world):
+    """The same mailboxes, where an earlier process has left its plan."""
+    plan = r"journal 1\0arun 4\0afar 1 5 6\0anear 1 7 8\0as flags pull 5 7 +S\0as flags push 5 7 +F\0an record 5 7 FS\0ago\0a"
+    with_journal = ' / tries 1 / journal "{}"'.format
+    ended = r'far 1 6 / f 5 FS "a\0d\0a" / near 1 8 / n 7 FS "a\0a" / state 4 1 1 5 7 / e 5 7 FS / end'
+    trial("pending plan, far UIDVALIDITY changed", world.replace("far 1 6", "far 2 6") + with_journal(plan),
+          r'fault 3 0 / far 2 6 / f 5 S "a\0d\0a" / near 1 8 / n 7 F "a\0a" / state 3 1 1 5 7 / e 5 7 - / end', 1)
+    trial("pending plan, near UIDVALIDITY changed", world.replace("near 1 8", "near 2 8") + with_journal(plan),
+          r'fault 3 0 / far 1 6 / f 5 S "a\0d\0a" / near 2 8 / n 7 F "a\0a" / state 3 1 1 5 7 / e 5 7 - / end', 1)
+    trial("pending plan of flags", world + with_journal(plan), "settled finished 0 / flags pull 5 7 +S / flags push 5 7 +F / " + ended)
+    trial("pending plan of flags, one step logged", world + with_journal(plan + r"d 1\0a"),
+          "settled finished 0 / flags push 5 7 +F / " + ended.replace("n 7 FS", "n 7 F"))
+    trial("journal of the state's own run", world.replace("state 3", "state 4") + with_journal(plan),
+          "settled ran 0 / flags pull 5 7 +S / flags push 5 7 +F / " + ended.replace("state 4", "state 5"))
 
 
 def gone():
