@@ -2,29 +2,24 @@
 #![tactic(auto)]
 
 use run_trial::run::{Request, run_trial};
-use std::env;
+use std::env::{Env, FillError};
 use std::process::ExitCode;
 
-/// What the arguments ask for.
+/// What the arguments ask for; argument 0 is the program's name. No memory is asked for: a word that does not fit is another one.
 fn request_of(rt: &HostRuntime) -> Request {
-    let Ok(mut words) = env::args(rt) else {
-        return Request::Unknown;
-    };
-    // The first is the program's name.
-    let _program = words.next();
-    let word = words.next();
-    if words.next().is_some() {
-        return Request::Unknown;
-    }
-    match word {
-        None => Request::Memory,
-        Some(word) => named(word.as_str()),
+    let mut word = [0; 5];
+    let first = rt.arg(1, &mut word);
+    let second = rt.arg(2, &mut []);
+    match (first, second) {
+        (Err(FillError::NotPresent), _) => Request::Memory,
+        (Ok(length), Err(FillError::NotPresent)) => named(length, &word),
+        _ => Request::Unknown,
     }
 }
 
-/// What this argument asks for.
-fn named(word: &str) -> Request {
-    if word == "--tcp" {
+/// What this argument of so many bytes asks for.
+fn named(length: usize, word: &[u8; 5]) -> Request {
+    if length == 5 && word == b"--tcp" {
         Request::Loopback
     } else {
         Request::Unknown
