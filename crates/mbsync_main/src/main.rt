@@ -13,6 +13,17 @@ fn words(rt: &HostRuntime) -> io::Result<Vec<String>> {
     Ok(env::args(rt)?.collect(rt.alloc())?)
 }
 
+/// Tells that the words cannot be read, for want of memory or since one is no UTF-8, and gives the exit status.
+fn tell_unread(fault: &io::Error, err: &mut Stderr) -> u8 {
+    if fault.kind() == io::ErrorKind::OutOfMemory {
+        let _ = writeln!(err, "mbsync: no memory");
+        1
+    } else {
+        let _ = writeln!(err, "mbsync: the words of the command line cannot be read");
+        2
+    }
+}
+
 /// Standard error, if it is a terminal.
 fn terminal(rt: &HostRuntime) -> Option<Stderr> {
     let err = rt.stderr();
@@ -21,9 +32,9 @@ fn terminal(rt: &HostRuntime) -> Option<Stderr> {
 
 fn run(rt: HostRuntime) -> u8 {
     let (mut out, mut err) = (rt.stdout(), rt.stderr());
-    let Ok(words) = words(&rt) else {
-        let _ = writeln!(err, "mbsync: the words of the command line cannot be read");
-        return 2;
+    let words = match words(&rt) {
+        Ok(words) => words,
+        Err(fault) => return tell_unread(&fault, &mut err),
     };
     match read_words(rt.alloc(), &words) {
         Ok(request) => {
