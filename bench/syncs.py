@@ -1,0 +1,145 @@
+#!/usr/bin/env python3
+"""Looks in which order a run of mbsync makes what it writes outlive a loss of power, as docs/DECISIONS.md says.
+
+usage: bench/syncs.py [PROGRAM]
+
+Three runs over trial-imapd are traced by strace: one that pulls three messages and takes over a file that was left in `new`, one that
+removes a message and changes a flag, and one with nothing to do. PROGRAM is the built mbsync if it is left out. Each order is a line of
+the output; the last line is `N passed, M failed`, and the status is 1 if one failed."""
+import os
+import re
+import shutil
+import subprocess
+import sys
+import tempfile
+
+from configuration import configured
+from imap_side import ImapSide
+from trial_imapd import TOP, Server, build, world
+
+MBSYNC = os.path.join(TOP, "crates", "mbsync_main", "out", "mbsync_main")
+CALLS = "fsync,fdatasync,rename,renameat,renameat2,unlink,unlinkat,write,pwrite64"
+ROW = re.compile(r"^\d+ +(\w+)\((.*)\) += (-?\d+)")
+OPENED = re.compile(r"^\d+<([^>]*)>")
+NAMED = re.compile(r'"((?:[^"\\]|\\.)*)"')
+CHANNEL = "Channel bench\nFar :far:\nNear :near:\nSyncState *\nExpunge Both\n"
+
+
+class Trace:
+    """What a run did to the files of its mailbox, in order: (`sync`, path), (`write`, path), (`rename`, from, to), (`remove`, path)."""
+
+    def __init__(self, box, rows):
+        self.box, self.events = box, []
+        for row in rows:
+            found = ROW.match(row)
+            if found and int(found[3]) >= 0:
+                self.add(found[1], found[2])
+
+    def add(self, call, words):
+        names = [os.path.relpath(name, self.box) for name in NAMED.findall(words)]
+        if call in ("fsync", "fdatasync", "write", "pwrite64"):
+            path = OPENED.match(words)
+            if path and path[1].startswith(self.box):
+                self.events.append(("sync" if "sync" in call else "write", os.path.relpath(path[1], self.box)))
+        elif call.startswith("rename"):
+            self.events.append(("rename", names[0], names[1]))
+        else:
+            self.events.append(("remove", names[0]))
+
+    def places(self, is_it):
+        return [place for place, event in enumerate(self.events) if is_it(event)]
+
+    def synced(self, path, start, end):
+        """Whether this file or folder is synced between two places."""
+        return ("sync", path) in self.events[start + 1:end]
+
+
+class Judge:
+    def __init__(self):
+        self.passed = self.failed = 0
+
+    def see(self, name, is_so):
+        self.passed, self.failed = self.passed + bool(is_so), self.failed + (not is_so)
+        print(f"{name}: {'as it must be' if is_so else 'NOT so'}")
+
+
+def in_mailbox(event):
+    """A message's file gets its name, another name, or goes."""
+    return event[0] in ("rename", "remove") and event[-1].split("/")[0] in ("cur", "new")
+
+
+def is_copy(event):
+    return event[0] == "rename" and event[1] == "tmp/mbsync.copy"
+
+
+def look(judge, name, trace, copies, changes):
+    plan = trace.places(lambda event: event == ("write", ".mbsyncstate.journal"))[0]
+    state = trace.places(lambda event: event == ("rename", ".mbsyncstate.new", ".mbsyncstate"))[0]
+    gone = trace.places(lambda event: event == ("remove", ".mbsyncstate.journal"))[-1]
+    names = trace.places(in_mailbox)
+    made = trace.places(is_copy)
+    judge.see(f"{name}: {copies} copies are made, and {changes} names change", (len(made), len(names)) == (copies, changes))
+    for place in made:
+        written = max(it for it in trace.places(lambda event: event == ("write", "tmp/mbsync.copy")) if it < place)
+        judge.see(f"{name}: a copy's bytes are synced before it gets its name", trace.synced("tmp/mbsync.copy", written, place))
+    folders = ("cur", "new", ".")
+    before = max([place for place in names if place < plan], default=-1)
+    judge.see(f"{name}: names that were given are synced before the plan is written", all(trace.synced(it, before, plan) for it in folders))
+    step = min([place for place in names if place > plan], default=state)
+    judge.see(f"{name}: the plan is synced before its first step", trace.synced(".mbsyncstate.journal", plan, step))
+    last = max([place for place in names if place < state], default=-1)
+    judge.see(f"{name}: all names are synced before the state is replaced", all(trace.synced(it, last, state) for it in folders))
+    written = max(trace.places(lambda event: event == ("write", ".mbsyncstate.new")))
+    judge.see(f"{name}: the state's bytes are synced before it gets its name", trace.synced(".mbsyncstate.new", written, state))
+    judge.see(f"{name}: the state's name is synced before the journal goes", trace.synced(".", state, gone))
+
+
+def traced(program, rc, box):
+    with tempfile.NamedTemporaryFile("r", errors="replace") as log:
+        command = ["strace", "-f", "-y", "-s", "4096", "-e", f"trace={CALLS}", "-o", log.name, program, "-c", rc, "bench"]
+        done = subprocess.run(command, stdin=subprocess.DEVNULL, capture_output=True, text=True, check=False)
+        if done.returncode != 0:
+            sys.exit(f"{program}: status {done.returncode}: {done.stderr[-500:]}")
+        return Trace(box, log.read().splitlines())
+
+
+def scenes(judge, program, top):
+    box = os.path.join(os.path.realpath(top), "mail", "INBOX")
+    for part in ("cur", "new", "tmp"):
+        os.makedirs(os.path.join(box, part))
+    with open(os.path.join(box, "new", "1.left"), "wb") as file:
+        file.write(b"Subject: left\n\nleft\n")
+    text, rc = os.path.join(top, "far.world"), os.path.join(top, "rc")
+    with open(text, "wb") as file:
+        file.write(world([b"Subject: %d\r\n\r\nbody\r\n" % n for n in range(3)]))
+    server = Server(text, 60000)
+    try:
+        with open(rc, "w", encoding="ascii") as file:
+            file.write(configured(server.port, os.path.dirname(box), CHANNEL))
+        server.connect().logout()
+        look(judge, "first run", traced(program, rc, box), copies=3, changes=4)
+        with ImapSide(server.port) as far:
+            far.ask(b"UID STORE 1 +FLAGS.SILENT (\\Seen)")
+            far.ask(b"UID STORE 2 +FLAGS.SILENT (\\Deleted)")
+            far.ask(b"UID EXPUNGE 2")
+        look(judge, "changes", traced(program, rc, box), copies=0, changes=3)
+        look(judge, "nothing to do", traced(program, rc, box), copies=0, changes=0)
+    finally:
+        server.stop()
+
+
+def main():
+    program = sys.argv[1] if len(sys.argv) > 1 else MBSYNC
+    for needed, what in ((shutil.which("strace"), "strace"), (os.access(program, os.X_OK), program)):
+        if not needed:
+            sys.exit(f"{what} is missing")
+    build()
+    judge = Judge()
+    with tempfile.TemporaryDirectory() as top:
+        scenes(judge, program, top)
+    print(f"{judge.passed} passed, {judge.failed} failed")
+    sys.exit(1 if judge.failed else 0)
+
+
+if __name__ == "__main__":
+    main()
