@@ -2,7 +2,7 @@
 use Rattle.std.proofs.Common.{◌≡◌, ◌⊎◌, inl, inr, ℕ, Bool, true, false, not, List, [], ◌∷◌, ◌++◌, refl, sym, ◌∙◌, ap, subst, ◌↔◌, get_or, length, ◌+◌, ◌<◌, take}
 use Rattle.std.specs.Prelude.{All, IsTrue, codes, nat_eq}
 use Rattle.std.specs.Cmp.Lexicographic.{pointwise}
-use Rattle.std.proofs.lemmas.Bool.{false≢true, not-true, not_from_false}
+use Rattle.std.proofs.lemmas.Bool.{not-true, not_from_false}
 use Rattle.std.proofs.lemmas.List.Elements.{All-nil, All-cons, All-head, All-tail, All-push}
 use Rattle.std.proofs.lemmas.List.{append_assoc, take_more}
 use Rattle.config.specs.Patterns.{IsMatched, SpeaksOf, IsChosen, is_negated, pattern_of}
@@ -128,13 +128,3 @@ inbox_speaks name word pattern r is same of =
           },
       λ speaks. same ∙ subst (λ (p : List ℕ). pointwise nat_eq p (codes "INBOX") ≡ true) (sym (of ∙ speaks.by_name called)) refl,
     )
-
-pub other_speaks : (name word pattern : List ℕ) (r : Bool) → false ≡ pointwise nat_eq name (codes "INBOX") → (IsTrue r ↔ IsMatched pattern name)
-    → pattern ≡ pattern_of word → IsTrue r ↔ SpeaksOf name word
-other_speaks name word pattern r is known of = (
-  λ h. record {
-    matched = subst (λ (p : List ℕ). IsMatched p name) of (known.0 h);
-    by_name = λ called. absurd (false≢true (is ∙ subst (λ (n : List ℕ). pointwise nat_eq n (codes "INBOX") ≡ true) (sym called) refl));
-  },
-  λ speaks. known.1 (subst (λ (p : List ℕ). IsMatched p name) (sym of) speaks.matched),
-)

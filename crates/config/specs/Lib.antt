@@ -3,3 +3,12 @@ pub mod Matching
 pub mod Faults
 pub mod BoxNames
 pub mod Readings
+pub mod Places
+pub mod Keywords
+pub mod Words
+pub mod Splitters
+pub mod Names
+pub mod Settings
+pub mod Standing
+pub mod Drafts
+pub mod Outlines

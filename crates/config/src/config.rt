@@ -1,5 +1,7 @@
 //! Configurations: the stores, channels and groups that a file names (docs/FORMATS.md, "Configuration").
 
+ghost use Rattle.std.specs.Prelude.{◌≡◌, []};
+
 use crate::patterns::Patterns;
 use mailcore::mailbox_name::MailboxName;
 use rules::options::{Cells, Sides};
@@ -21,7 +23,12 @@ pub struct Config {
 
 impl Config {
     /// The configuration of an empty file.
-    pub fn new(alloc: Global) -> Self {
+    pub fn new(alloc: Global) -> Self
+        ensures imap_stores { result.imap_stores.items ≡ [] }
+        ensures maildir_stores { result.maildir_stores.items ≡ [] }
+        ensures channels { result.channels.items ≡ [] }
+        ensures groups { result.groups.items ≡ [] }
+    {
         Config {
             imap_stores: Vec::new(alloc),
             maildir_stores: Vec::new(alloc),

@@ -1,5 +1,12 @@
 //! A configuration while it is read: what its lines say, whatever their numbers.
 
+ghost use Rattle.std.specs.Prelude.{◌≡◌, IfOk, IfSome, OnOk, false, string_bytes};
+ghost use Rattle.config.specs.Drafts.{IsMet, IsMisplaced, IsTaken, given, standing_of};
+ghost use Rattle.config.specs.Keywords.{section_of};
+ghost use Rattle.config.specs.Places.{closed, is_section, opened};
+ghost use Rattle.config.specs.Settings.{name_said};
+ghost use Rattle.config.specs.Standing.{before_all, begins_again, begun, is_again, named, standing_at};
+
 use crate::config::{Config, Group};
 use crate::fault::FaultKind;
 use crate::keyword::{Keyword, Place};
@@ -38,7 +45,9 @@ pub(crate) struct Draft {
 
 impl Draft {
     /// Before the first line.
-    pub fn new(alloc: Global) -> Self {
+    pub fn new(alloc: Global) -> Self
+        ensures { standing_of result ≡ before_all }
+    {
         Draft {
             alloc,
             config: Config::new(alloc),
@@ -60,7 +69,9 @@ impl Draft {
     }
 
     /// Whether a section is open.
-    pub fn is_in_section(&self) -> bool {
+    pub fn is_in_section(&self) -> bool
+        ensures { result ≡ is_section (standing_of self.now).at }
+    {
         self.section.place().is_section()
     }
 
@@ -71,10 +82,30 @@ impl Draft {
     }
 
     /// Reads a line of words. The fault is the one with the lowest number, but for keywords that the section lacks.
-    pub fn read(&mut self, keyword: &[u8], arguments: &[u8]) -> Result<(), FaultKind> {
-        let keyword = Keyword::read(keyword).ok_or(FaultKind::UnknownKeyword)?;
+    pub fn read(&mut self, keyword: &[u8], arguments: &[u8]) -> Result<(), FaultKind>
+        ensures { let section = opened (standing_of self.old).at keyword.now in
+            IsTaken (begins_again section arguments.now (standing_of self.old)) (begun section arguments.now (standing_of self.old))
+            (standing_of self.new) result }
+    {
+        let Some(keyword) = Keyword::read(keyword) else {
+            return Err(FaultKind::UnknownKeyword);
+        };
         let keyword = keyword.at(self.section.place());
         let misplaced = self.meet(keyword)?;
+        self.read_arguments(keyword, misplaced, arguments)
+    }
+
+    /// Reads what stands behind a keyword, which may be misplaced.
+    fn read_arguments(
+        &mut self,
+        keyword: Keyword,
+        misplaced: Option<FaultKind>,
+        arguments: &[u8],
+    ) -> Result<(), FaultKind>
+        requires { IfSome misplaced IsMisplaced }
+        ensures { let name = given misplaced (section_of keyword) arguments.now in
+            IsTaken (is_again name (standing_of self.old)) (named name (standing_of self.old)) (standing_of self.new) result }
+    {
         let is_plain = is_plain(arguments);
         let arguments = Arguments::read(self.alloc, arguments)?;
         let setting = Setting::read(self.alloc, keyword, &arguments.list)?;
@@ -91,7 +122,10 @@ impl Draft {
     }
 
     /// Notes that a keyword stands here, and opens the section that it begins. It tells whether the keyword may not.
-    fn meet(&mut self, keyword: Keyword) -> Result<Option<FaultKind>, AllocError> {
+    fn meet(&mut self, keyword: Keyword) -> Result<Option<FaultKind>, AllocError>
+        ensures { IfOk result (λ misplaced.
+            IsMet (is_section (standing_of self.old).at) (section_of keyword) (standing_of self.old) (standing_of self.new) misplaced) }
+    {
         if !keyword.fits(self.section.place()) {
             return Ok(Some(FaultKind::OutsideSection));
         }
@@ -106,14 +140,18 @@ impl Draft {
         Ok(None)
     }
 
-    fn open(&mut self, place: Place) {
+    fn open(&mut self, place: Place)
+        ensures { standing_of self.new ≡ standing_at place (standing_of self.old) }
+    {
         self.section = Section::new(self.alloc, place);
         self.name = String::new(self.alloc);
         self.seen = Vec::new(self.alloc);
     }
 
     /// Takes what a line says.
-    fn set(&mut self, setting: Setting) -> Result<(), FaultKind> {
+    fn set(&mut self, setting: Setting) -> Result<(), FaultKind>
+        ensures { IsTaken (is_again (name_said setting) (standing_of self.old)) (named (name_said setting) (standing_of self.old)) (standing_of self.new) result }
+    {
         match setting {
             Setting::Section(name) => self.set_name(name),
             Setting::Group(name, channels) => {
@@ -131,7 +169,9 @@ impl Draft {
         }
     }
 
-    fn set_in_section(&mut self, setting: Setting) -> Result<(), AllocError> {
+    fn set_in_section(&mut self, setting: Setting) -> Result<(), AllocError>
+        ensures { standing_of self.new ≡ standing_of self.old }
+    {
         match &mut self.section {
             Section::Start => self.defaults.set(setting),
             Section::ImapStore(draft) => draft.set(setting),
@@ -143,7 +183,9 @@ impl Draft {
     }
 
     /// Names the section. `DefinedTwice`: the name is another's.
-    fn set_name(&mut self, name: String) -> Result<(), FaultKind> {
+    fn set_name(&mut self, name: String) -> Result<(), FaultKind>
+        ensures { IsTaken (is_again (Some (string_bytes name)) (standing_of self.old)) (named (Some (string_bytes name)) (standing_of self.old)) (standing_of self.new) result }
+    {
         self.name = name.clone()?;
         match self.section.place() {
             Place::ImapStore => claim(&mut self.imap_names, name),
@@ -173,7 +215,9 @@ impl Draft {
     }
 
     /// Takes the far store and mailbox of a channel. `UnknownName`: no IMAP store above has this name.
-    fn set_far(&mut self, place: BoxPlace) -> Result<(), FaultKind> {
+    fn set_far(&mut self, place: BoxPlace) -> Result<(), FaultKind>
+        ensures { IsTaken false (standing_of self.old) (standing_of self.new) result }
+    {
         let store = self.imap_store(&place.store);
         if let Section::Channel(draft) = &mut self.section {
             draft.far = store;
@@ -186,7 +230,9 @@ impl Draft {
     }
 
     /// Takes the near store and mailbox of a channel. `UnknownName`: no Maildir store above has this name.
-    fn set_near(&mut self, place: BoxPlace) -> Result<(), FaultKind> {
+    fn set_near(&mut self, place: BoxPlace) -> Result<(), FaultKind>
+        ensures { IsTaken false (standing_of self.old) (standing_of self.new) result }
+    {
         let store = self.maildir_store(&place.store);
         if let Section::Channel(draft) = &mut self.section {
             draft.near = store;
@@ -199,7 +245,9 @@ impl Draft {
     }
 
     /// Ends the section, if one is open. One that lacks a keyword, or has a faulty one, goes.
-    pub fn end_section(&mut self) -> Result<(), AllocError> {
+    pub fn end_section(&mut self) -> Result<(), AllocError>
+        ensures { standing_of self.new ≡ standing_at (closed (standing_of self.old).at) (standing_of self.old) }
+    {
         if !self.is_in_section() {
             return Ok(());
         }
@@ -208,7 +256,9 @@ impl Draft {
         self.put(section, name)
     }
 
-    fn put(&mut self, section: Section, name: String) -> Result<(), AllocError> {
+    fn put(&mut self, section: Section, name: String) -> Result<(), AllocError>
+        ensures { standing_of self.new ≡ standing_of self.old }
+    {
         match section {
             Section::ImapStore(draft) => {
                 if let Some(store) = draft.finish(name) {
@@ -235,7 +285,9 @@ impl Draft {
     }
 
     /// The channels that the last line adds to the group that is open, which are given away.
-    pub fn take_members(&mut self) -> Vec<String> {
+    pub fn take_members(&mut self) -> Vec<String>
+        ensures { standing_of self.new ≡ standing_of self.old }
+    {
         mem::replace(&mut self.members, Vec::new(self.alloc))
     }
 
@@ -245,7 +297,9 @@ impl Draft {
     }
 
     /// Adds a channel to a group, and tells whether there is one of this name.
-    pub fn add_member(&mut self, group: usize, name: &str) -> Result<bool, AllocError> {
+    pub fn add_member(&mut self, group: usize, name: &str) -> Result<bool, AllocError>
+        ensures { standing_of self.new ≡ standing_of self.old }
+    {
         let Some(channel) = place_of(&self.channels, name) else {
             return Ok(false);
         };

@@ -2,6 +2,7 @@
 
 ghost use Rattle.std.specs.Prelude.{◌≡◌};
 ghost use Rattle.config.specs.Faults.{number_of};
+ghost use Rattle.config.specs.Outlines.{precedes};
 
 use std::alloc::{AllocError, AllocFailed};
 use thiserror::Error;
@@ -94,8 +95,11 @@ pub struct ConfigFault {
 }
 
 impl ConfigFault {
-    /// Its line and its number, by which faults are in order.
-    pub(crate) fn place(self) -> (usize, u8) {
-        (self.line, self.kind.number())
+    /// Whether it is told before another: on a lower line, or on the same line with a number that is no higher.
+    pub(crate) fn precedes(self, other: ConfigFault) -> bool
+        ensures { result ≡ precedes self other }
+    {
+        self.line < other.line
+            || (self.line == other.line && self.kind.number() <= other.kind.number())
     }
 }

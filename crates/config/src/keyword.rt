@@ -1,5 +1,9 @@
 //! The keywords of a configuration, and where each may stand.
 
+ghost use Rattle.std.specs.Prelude.{◌≡◌, false, not, IfNone, IsSome, option_and_then};
+ghost use Rattle.config.specs.Keywords.{opened_by, section_of};
+ghost use Rattle.config.specs.Places.{is_section, section_named};
+
 /// What the first word of a line is.
 #[derive(Clone, Copy, Debug, PartialEq, Eq)]
 pub(crate) enum Keyword {
@@ -24,30 +28,6 @@ pub(crate) enum Keyword {
     Channels,
 }
 
-/// How keywords are written; they compare without case.
-const SPELLINGS: [(&[u8], Keyword); 20] = [
-    (b"IMAPStore", Keyword::ImapStore),
-    (b"MaildirStore", Keyword::MaildirStore),
-    (b"Channel", Keyword::Channel),
-    (b"Group", Keyword::Group),
-    (b"Host", Keyword::Host),
-    (b"Port", Keyword::Port),
-    (b"User", Keyword::User),
-    (b"Pass", Keyword::Pass),
-    (b"Path", Keyword::Path),
-    (b"Inbox", Keyword::Inbox),
-    (b"SubFolders", Keyword::SubFolders),
-    (b"Far", Keyword::Far),
-    (b"Near", Keyword::Near),
-    (b"Pattern", Keyword::Patterns),
-    (b"Patterns", Keyword::Patterns),
-    (b"Sync", Keyword::Sync),
-    (b"Create", Keyword::Create),
-    (b"Expunge", Keyword::Expunge),
-    (b"SyncState", Keyword::SyncState),
-    (b"Channels", Keyword::Channels),
-];
-
 /// Where a line stands.
 #[derive(Clone, Copy, Debug, PartialEq, Eq)]
 pub(crate) enum Place {
@@ -62,16 +42,86 @@ pub(crate) enum Place {
 }
 
 impl Keyword {
-    /// The keyword of this word, or none if it is none.
-    pub fn read(word: &[u8]) -> Option<Keyword> {
-        let spelling = SPELLINGS
-            .iter()
-            .find(|spelling| spelling.0.eq_ignore_ascii_case(word))?;
-        Some(spelling.1)
+    /// The keyword of this word, or none if it is none. Words compare without case.
+    pub fn read(word: &[u8]) -> Option<Keyword>
+        ensures { option_and_then section_of result ≡ section_named word.now }
+    {
+        match Keyword::of_section(word) {
+            Some(keyword) => Some(keyword),
+            None => Keyword::of_setting(word),
+        }
+    }
+
+    /// The keyword of this word, if it is one that begins a section.
+    fn of_section(word: &[u8]) -> Option<Keyword>
+        ensures section { option_and_then section_of result ≡ section_named word.now }
+        ensures none { IfNone result (section_named word.now ≡ None) }
+    {
+        if word.eq_ignore_ascii_case(b"IMAPStore") {
+            Some(Keyword::ImapStore)
+        } else if word.eq_ignore_ascii_case(b"MaildirStore") {
+            Some(Keyword::MaildirStore)
+        } else if word.eq_ignore_ascii_case(b"Channel") {
+            Some(Keyword::Channel)
+        } else if word.eq_ignore_ascii_case(b"Group") {
+            Some(Keyword::Group)
+        } else {
+            None
+        }
+    }
+
+    /// The keyword of this word, if it is one that begins no section.
+    fn of_setting(word: &[u8]) -> Option<Keyword>
+        ensures { option_and_then section_of result ≡ None }
+    {
+        if word.eq_ignore_ascii_case(b"Host") {
+            Some(Keyword::Host)
+        } else if word.eq_ignore_ascii_case(b"Port") {
+            Some(Keyword::Port)
+        } else if word.eq_ignore_ascii_case(b"User") {
+            Some(Keyword::User)
+        } else if word.eq_ignore_ascii_case(b"Pass") {
+            Some(Keyword::Pass)
+        } else if word.eq_ignore_ascii_case(b"Path") {
+            Some(Keyword::Path)
+        } else if word.eq_ignore_ascii_case(b"Inbox") {
+            Some(Keyword::Inbox)
+        } else if word.eq_ignore_ascii_case(b"SubFolders") {
+            Some(Keyword::SubFolders)
+        } else if word.eq_ignore_ascii_case(b"Far") {
+            Some(Keyword::Far)
+        } else if word.eq_ignore_ascii_case(b"Near") {
+            Some(Keyword::Near)
+        } else if word.eq_ignore_ascii_case(b"Pattern") || word.eq_ignore_ascii_case(b"Patterns") {
+            Some(Keyword::Patterns)
+        } else {
+            Keyword::of_manner(word)
+        }
+    }
+
+    /// The keyword of this word, if it is one of those that are left.
+    fn of_manner(word: &[u8]) -> Option<Keyword>
+        ensures { option_and_then section_of result ≡ None }
+    {
+        if word.eq_ignore_ascii_case(b"Sync") {
+            Some(Keyword::Sync)
+        } else if word.eq_ignore_ascii_case(b"Create") {
+            Some(Keyword::Create)
+        } else if word.eq_ignore_ascii_case(b"Expunge") {
+            Some(Keyword::Expunge)
+        } else if word.eq_ignore_ascii_case(b"SyncState") {
+            Some(Keyword::SyncState)
+        } else if word.eq_ignore_ascii_case(b"Channels") {
+            Some(Keyword::Channels)
+        } else {
+            None
+        }
     }
 
     /// What it means at this place: in a group `Channel` adds channels.
-    pub fn at(self, place: Place) -> Keyword {
+    pub fn at(self, place: Place) -> Keyword
+        ensures { opened_by place result ≡ opened_by place self }
+    {
         if self == Keyword::Channel && place == Place::Group {
             Keyword::Channels
         } else {
@@ -80,7 +130,9 @@ impl Keyword {
     }
 
     /// The place behind it, if it begins a section.
-    pub fn section(self) -> Option<Place> {
+    pub fn section(self) -> Option<Place>
+        ensures { result ≡ section_of self }
+    {
         match self {
             Keyword::ImapStore => Some(Place::ImapStore),
             Keyword::MaildirStore => Some(Place::MaildirStore),
@@ -96,7 +148,9 @@ impl Keyword {
     }
 
     /// Whether it may stand at this place.
-    pub fn fits(self, place: Place) -> bool {
+    pub fn fits(self, place: Place) -> bool
+        ensures { IsSome (section_of self) → result ≡ not (is_section place) }
+    {
         match place {
             Place::Start => self.section().is_some() || self.is_default(),
             Place::Between => self.section().is_some(),
@@ -115,7 +169,9 @@ impl Keyword {
     }
 
     /// Whether it may also stand before any section, for all channels.
-    fn is_default(self) -> bool {
+    fn is_default(self) -> bool
+        ensures { IsSome (section_of self) → result ≡ false }
+    {
         matches!(
             self,
             Keyword::Sync | Keyword::Create | Keyword::Expunge | Keyword::SyncState
@@ -135,7 +191,9 @@ impl Place {
     }
 
     /// Whether a section is open here.
-    pub fn is_section(self) -> bool {
+    pub fn is_section(self) -> bool
+        ensures { result ≡ is_section self }
+    {
         !matches!(self, Place::Start | Place::Between)
     }
 }

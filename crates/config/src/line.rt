@@ -1,7 +1,8 @@
 //! The lines of a text, one after another.
 
-ghost use Rattle.std.specs.Prelude.{◌≡◌, ◌+◌, ◌<◌, ◌≤◌, ◌^◌, length, IfSome, OnSome};
+ghost use Rattle.std.specs.Prelude.{◌≡◌, ◌+◌, ◌<◌, ◌≤◌, ◌^◌, ◌∷◌, [], length, IfNone, IfSome, OnSome};
 ghost use Rattle.config.specs.Faults.{line_count};
+ghost use Rattle.config.specs.Standing.{lines_of};
 
 use texts::cut::cut;
 
@@ -39,6 +40,8 @@ impl<'a> Lines<'a> {
     pub fn take(&mut self) -> Option<Line<'a>>
         ensures number { IfSome result (λ line. (line.number ≡ self.old.taken + 1) × (self.new.taken ≡ self.old.taken + 1)) }
         ensures count { OnSome result (self.new.taken + line_count self.new.rest.now ≡ self.old.taken + line_count self.old.rest.now) }
+        ensures line { IfSome result (λ line. lines_of self.old.rest.now ≡ line.text.now ∷ lines_of self.new.rest.now) }
+        ensures all { IfNone result (lines_of self.old.rest.now ≡ []) }
         ensures shorter { OnSome result (length self.new.rest.now < length self.old.rest.now) }
     {
         if self.rest.is_empty() {

@@ -1,7 +1,9 @@
 //! How a configuration is read from its text (docs/FORMATS.md, "Configuration").
 
-ghost use Rattle.std.specs.Prelude.{◌≡◌, IfErr};
+ghost use Rattle.std.specs.Prelude.{◌≡◌, ◌≢◌, [], IfErr, MatchResult};
 ghost use Rattle.config.specs.Faults.{IsUpTo, line_count};
+ghost use Rattle.config.specs.Outlines.{IsToldOf};
+ghost use Rattle.config.specs.Standing.{lines_again};
 
 use crate::config::Config;
 use crate::fault::{ConfigFault, FaultKind};
@@ -11,14 +13,20 @@ use std::alloc::Global;
 
 /// The configuration that a text gives. The fault names the first faulty line and what is wrong with it, and of several
 /// faults of that line the one with the lowest number. `NoMemory` comes in place of any answer where memory ran out.
+///
+/// A line that begins a section under a name that is taken is never passed over: it is told as `DefinedTwice`, unless a
+/// fault that comes before it is told.
 pub fn read_config(alloc: Global, text: &[u8]) -> Result<Config, ConfigFault>
-    ensures { IfErr result (IsUpTo (line_count text.now)) }
+    ensures lines { IfErr result (IsUpTo (line_count text.now)) }
+    ensures again { MatchResult result (λ config. lines_again text.now ≡ [])
+        (λ fault. fault.kind ≢ FaultKind.NoMemory → IsToldOf (lines_again text.now) fault) }
 {
     let mut reading = Reading::new(alloc);
     let mut lines = Lines::new(text);
     while let Some(line) = lines.take() {
-        if reading.read(line).is_err() {
-            return Err(no_memory(line.number));
+        match reading.read(line) {
+            Ok(()) => {}
+            Err(_) => return Err(no_memory(line.number)),
         }
     }
     match reading.finish() {

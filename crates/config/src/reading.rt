@@ -1,8 +1,12 @@
 //! The lines of a configuration, read one after another, and the first faulty one.
 
-ghost use Rattle.std.specs.Prelude.{◌<◌, ℕ, All, IfErr, IfOk, IfSome, OnOk};
+ghost use Rattle.std.specs.Prelude.{◌≡◌, ◌<◌, ◌+◌, ℕ, List, [], All, IfErr, IfOk, IfSome, MatchResult, OnOk};
 ghost use Rattle.config.specs.Faults.{IsUpTo};
+ghost use Rattle.config.specs.Drafts.{standing_of};
+ghost use Rattle.config.specs.Outlines.{IsBehindWords, IsOutlined, IsToldOf, Tells, earlier};
+ghost use Rattle.config.specs.Places.{closed};
 ghost use Rattle.config.specs.Readings.{IsLine, IsRead};
+ghost use Rattle.config.specs.Standing.{Outline, no_lines, outlined, standing_at};
 
 use crate::config::Config;
 use crate::draft::Draft;
@@ -38,7 +42,8 @@ pub(crate) struct Reading {
 impl Reading {
     /// Before the first line.
     pub fn new(alloc: Global) -> Self
-        ensures { IsRead 0 result }
+        ensures read { IsRead 0 result }
+        ensures outlined { IsOutlined no_lines result }
     {
         Reading {
             draft: Draft::new(alloc),
@@ -52,7 +57,9 @@ impl Reading {
     pub fn read(&mut self, line: Line<'_>) -> Result<(), AllocError>
         requires counted { 0 < line.number }
         requires read { IsRead line.number self.old }
-        ensures { OnOk result (IsRead line.entry.number self.new) }
+        ensures read { OnOk result (IsRead line.entry.number self.new) }
+        ensures outlined { (o : Outline) → IsOutlined o self.old → line.entry.number ≡ o.count + 1 →
+            OnOk result (IsOutlined (outlined o line.entry.text.now) self.new) }
     {
         match LineKind::of(line.text) {
             LineKind::Empty => self.end_section(),
@@ -70,27 +77,58 @@ impl Reading {
     ) -> Result<(), AllocError>
         requires counted { 0 < number }
         requires read { IsRead number self.old }
-        ensures { OnOk result (IsRead number self.new) }
+        ensures read { OnOk result (IsRead number self.new) }
+        ensures outlined { (o : Outline) → IsOutlined o self.old →
+            OnOk result (IsBehindWords o (keyword.now, arguments.now) number self.new) }
     {
-        match self.draft.read(keyword, arguments) {
-            Ok(()) => {}
-            Err(FaultKind::NoMemory) => return Err(AllocError),
-            Err(kind) => self.first = Some(first_of(
-                self.first,
-                ConfigFault { line: number, kind },
-            )),
-        }
+        self.take_words(number, keyword, arguments)?;
         if self.begun.is_none() && self.draft.is_in_section() {
             self.begun = Some(number);
         }
         self.add_members(number)
     }
 
+    /// Takes what a line of words says, or its fault.
+    fn take_words(
+        &mut self,
+        number: usize,
+        keyword: &[u8],
+        arguments: &[u8],
+    ) -> Result<(), AllocError>
+        requires counted { 0 < number }
+        requires read { IsRead number self.old }
+        ensures read { OnOk result (IsRead number self.new) }
+        ensures outlined { (o : Outline) → IsOutlined o self.old →
+            OnOk result (IsBehindWords o (keyword.now, arguments.now) number self.new) }
+    {
+        match self.draft.read(keyword, arguments) {
+            Ok(()) => Ok(()),
+            Err(kind) => match kind {
+                FaultKind::NoMemory => Err(AllocError),
+                _ => {
+                    self.note(number, kind);
+                    Ok(())
+                }
+            },
+        }
+    }
+
+    /// Keeps a fault, unless one that was met before is told before it.
+    fn note(&mut self, line: usize, kind: FaultKind)
+        ensures read { (last : ℕ) → IsRead last self.old → IsLine last line → IsRead last self.new }
+        ensures first { self.new.first ≡ Some (earlier self.old.first (record { line = line; kind = kind })) }
+        ensures draft { self.new.draft ≡ self.old.draft }
+    {
+        self.first = Some(first_of(self.first, ConfigFault { line, kind }));
+    }
+
     /// Keeps what a line adds to the group that is open.
     fn add_members(&mut self, line: usize) -> Result<(), AllocError>
         requires counted { 0 < line }
         requires read { IsRead line self.old }
-        ensures { OnOk result (IsRead line self.new) }
+        ensures read { OnOk result (IsRead line self.new) }
+        ensures first { self.new.first ≡ self.old.first }
+        ensures standing { standing_of self.new.draft ≡ standing_of self.old.draft }
     {
         let group = self.draft.group();
         for name in self.draft.take_members() {
@@ -101,12 +139,13 @@ impl Reading {
 
     /// Ends the section that is open, if one is: at an empty line, and at the end of the text.
     fn end_section(&mut self) -> Result<(), AllocError>
-        ensures { (last : ℕ) → IsRead last self.old → OnOk result (IsRead last self.new) }
+        ensures read { (last : ℕ) → IsRead last self.old → OnOk result (IsRead last self.new) }
+        ensures told { (again : List ℕ) → Tells again self.old.first → Tells again self.new.first }
+        ensures standing { standing_of self.new.draft ≡ standing_at (closed (standing_of self.old.draft).at) (standing_of self.old.draft) }
     {
         if let Some(line) = self.begun {
             if !self.draft.is_whole() {
-                let kind = FaultKind::KeywordMissing;
-                self.first = Some(first_of(self.first, ConfigFault { line, kind }));
+                self.note(line, FaultKind::KeywordMissing);
             }
             self.begun = None;
         }
@@ -115,7 +154,9 @@ impl Reading {
 
     /// The configuration behind the last line, or the first faulty line.
     pub fn finish(mut self) -> Result<Result<Config, ConfigFault>, AllocError>
-        ensures { (last : ℕ) → IsRead last self → IfOk result (λ told. IfErr told (IsUpTo last)) }
+        ensures lines { (last : ℕ) → IsRead last self → IfOk result (λ told. IfErr told (IsUpTo last)) }
+        ensures again { (again : List ℕ) → Tells again self.first →
+            IfOk result (λ told. MatchResult told (λ config. again ≡ []) (IsToldOf again)) }
     {
         self.end_section()?;
         let Reading {
@@ -137,25 +178,35 @@ fn place_members(
     members: &[Member],
     first: Option<ConfigFault>,
 ) -> Result<Option<ConfigFault>, AllocError>
-    ensures { (last : ℕ) → All (λ m. IsLine last m.line) members.now → IfSome first (IsUpTo last) → IfOk result (λ f. IfSome f (IsUpTo last)) }
+    ensures lines { (last : ℕ) → All (λ m. IsLine last m.line) members.now → IfSome first (IsUpTo last)
+        → IfOk result (λ f. IfSome f (IsUpTo last)) }
+    ensures again { (again : List ℕ) → Tells again first → IfOk result (Tells again) }
 {
     let mut first = first;
     for member in members {
         if !draft.add_member(member.group, &member.name)? {
-            let kind = FaultKind::UnknownName;
-            let line = member.line;
-            first = Some(first_of(first, ConfigFault { line, kind }));
+            first = Some(unknown_first(first, member.line));
         }
     }
     Ok(first)
 }
 
+/// The first fault where a line names no channel.
+fn unknown_first(first: Option<ConfigFault>, line: usize) -> ConfigFault
+    ensures lines { (last : ℕ) → IfSome first (IsUpTo last) → IsLine last line → IsUpTo last result }
+    ensures again { (again : List ℕ) → Tells again first → Tells again (Some result) }
+{
+    let kind = FaultKind::UnknownName;
+    first_of(first, ConfigFault { line, kind })
+}
+
 /// Which of two faults is told: that of the lower line, and on one line the one with the lower number.
 fn first_of(first: Option<ConfigFault>, fault: ConfigFault) -> ConfigFault
-    ensures { (last : ℕ) → IfSome first (IsUpTo last) → IsUpTo last fault → IsUpTo last result }
+    ensures lines { (last : ℕ) → IfSome first (IsUpTo last) → IsUpTo last fault → IsUpTo last result }
+    ensures earlier { result ≡ earlier first fault }
 {
     match first {
-        Some(first) if first.place() <= fault.place() => first,
+        Some(first) if first.precedes(fault) => first,
         _ => fault,
     }
 }

@@ -1,5 +1,9 @@
 //! Sections of a configuration while they are read.
 
+ghost use Rattle.std.specs.Prelude.{◌≡◌, IsTrue};
+ghost use Rattle.config.specs.Drafts.{place_of};
+ghost use Rattle.config.specs.Settings.{name_said};
+
 use crate::config::{Boxes, Channel, ImapStore, MaildirStore};
 use crate::keyword::Place;
 use crate::patterns::Patterns;
@@ -26,7 +30,9 @@ pub(crate) enum Section {
 
 impl Section {
     /// The section that begins at this place.
-    pub fn new(alloc: Global, place: Place) -> Self {
+    pub fn new(alloc: Global, place: Place) -> Self
+        ensures { place_of result ≡ place }
+    {
         match place {
             Place::Start => Section::Start,
             Place::Between => Section::Between,
@@ -38,7 +44,9 @@ impl Section {
     }
 
     /// Where the next line stands.
-    pub fn place(&self) -> Place {
+    pub fn place(&self) -> Place
+        ensures { result ≡ place_of self.now }
+    {
         match self {
             Section::Start => Place::Start,
             Section::Between => Place::Between,
@@ -50,7 +58,9 @@ impl Section {
     }
 
     /// Whether a channel has both a mailbox and a pattern once this is set.
-    pub fn contradicts(&self, setting: &Setting) -> bool {
+    pub fn contradicts(&self, setting: &Setting) -> bool
+        ensures { IsTrue result → name_said setting.now ≡ None }
+    {
         match self {
             Section::Channel(draft) => match setting {
                 Setting::Patterns(_) => draft.names_a_box(),

@@ -1,5 +1,11 @@
 //! What the lines of a configuration say: a keyword with arguments that it takes.
 
+ghost use Rattle.std.specs.Prelude.{◌≡◌, ◌==◌, not, IfErr, IsTrue, map, option_and_then, string_bytes};
+ghost use Rattle.std.specs.List.{list_all};
+ghost use Rattle.config.specs.Keywords.{section_of};
+ghost use Rattle.config.specs.Settings.{IsRefusal, SaysName, SaysNoName, SaysOne, heading, is_argument, name_among, name_said};
+ghost use Rattle.config.specs.declared.keyword.Place.TheVariants.{Group as in_group};
+
 use crate::box_name::is_box_name;
 use crate::fault::FaultKind;
 use crate::keyword::Keyword;
@@ -49,24 +55,20 @@ pub(crate) enum Setting {
 
 impl Setting {
     /// What this keyword says with these arguments. `WrongArguments`: it does not take them. `NoMemory`.
-    pub fn read(alloc: Global, keyword: Keyword, arguments: &[String]) -> Result<Self, FaultKind> {
-        if !arguments.iter().all(|argument| is_argument(argument)) {
-            return Err(FaultKind::WrongArguments);
-        }
-        match keyword {
-            Keyword::Group => read_group(alloc, arguments),
-            Keyword::Channels => Ok(Setting::Channels(some_copies(alloc, arguments)?)),
-            Keyword::Patterns => Ok(Setting::Patterns(read_patterns(alloc, arguments)?)),
-            Keyword::Sync => Ok(Setting::Sync(read_cells(alloc, arguments)?)),
-            _ => match arguments {
-                [argument] => read_one(alloc, keyword, argument),
-                _ => Err(FaultKind::WrongArguments),
-            },
+    pub fn read(alloc: Global, keyword: Keyword, arguments: &[String]) -> Result<Self, FaultKind>
+        ensures { SaysName (heading keyword (map string_bytes arguments.now)) result }
+    {
+        if are_arguments(arguments) {
+            read_plainly(alloc, keyword, arguments)
+        } else {
+            Err(FaultKind::WrongArguments)
         }
     }
 
     /// Whether it names a mailbox.
-    pub fn names_a_box(&self) -> bool {
+    pub fn names_a_box(&self) -> bool
+        ensures { IsTrue result → name_said self.now ≡ None }
+    {
         match self {
             Setting::Far(place) | Setting::Near(place) => place.mailbox.is_some(),
             _ => false,
@@ -74,12 +76,44 @@ impl Setting {
     }
 }
 
-fn is_argument(argument: &str) -> bool {
-    argument.len() <= ARGUMENT_MAX && argument.as_bytes().iter().all(|byte| *byte != b'\t')
+/// What this keyword says with arguments of which each is one.
+fn read_plainly(alloc: Global, keyword: Keyword, arguments: &[String]) -> Result<Setting, FaultKind>
+    ensures { SaysName (option_and_then (λ p. name_among p (map string_bytes arguments.now)) (section_of keyword)) result }
+{
+    match keyword {
+        Keyword::Group => read_group(alloc, arguments),
+        Keyword::Channels => Ok(Setting::Channels(some_copies(alloc, arguments)?)),
+        Keyword::Patterns => Ok(Setting::Patterns(read_patterns(alloc, arguments)?)),
+        Keyword::Sync => Ok(Setting::Sync(read_cells(alloc, arguments)?)),
+        _ => match arguments {
+            [argument] => read_one(alloc, keyword, argument),
+            _ => Err(FaultKind::WrongArguments),
+        },
+    }
+}
+
+fn are_arguments(arguments: &[String]) -> bool
+    ensures { result ≡ list_all is_argument (map string_bytes arguments.now) }
+{
+    arguments.iter().all(|argument| is_argument(argument))
+}
+
+fn is_argument(argument: &str) -> bool
+    ensures { result ≡ is_argument argument.now }
+{
+    argument.len() <= ARGUMENT_MAX && has_no_tab(argument.as_bytes())
+}
+
+fn has_no_tab(text: &[u8]) -> bool
+    ensures { result ≡ list_all (λ b. not (b == 9)) text.now }
+{
+    text.iter().all(|byte| *byte != b'\t')
 }
 
 /// What a keyword says that takes one argument.
-fn read_one(alloc: Global, keyword: Keyword, argument: &str) -> Result<Setting, FaultKind> {
+fn read_one(alloc: Global, keyword: Keyword, argument: &str) -> Result<Setting, FaultKind>
+    ensures { SaysOne keyword argument.now result }
+{
     match keyword {
         Keyword::Port => Ok(Setting::Port(read_port(argument)?)),
         Keyword::Path => Ok(Setting::Path(read_path(alloc, argument)?)),
@@ -94,7 +128,9 @@ fn read_one(alloc: Global, keyword: Keyword, argument: &str) -> Result<Setting, 
 }
 
 /// What a keyword says that takes any text.
-fn read_text(keyword: Keyword, text: String) -> Result<Setting, FaultKind> {
+fn read_text(keyword: Keyword, text: String) -> Result<Setting, FaultKind>
+    ensures { SaysOne keyword (string_bytes text) result }
+{
     match keyword {
         Keyword::ImapStore | Keyword::MaildirStore | Keyword::Channel => Ok(Setting::Section(text)),
         Keyword::Host => Ok(Setting::Host(text)),
@@ -106,7 +142,9 @@ fn read_text(keyword: Keyword, text: String) -> Result<Setting, FaultKind> {
 }
 
 /// The one word that a keyword takes.
-fn read_word(argument: &str, word: &str) -> Result<Setting, FaultKind> {
+fn read_word(argument: &str, word: &str) -> Result<Setting, FaultKind>
+    ensures { SaysNoName result }
+{
     if argument == word {
         Ok(Setting::Nothing)
     } else {
@@ -114,14 +152,18 @@ fn read_word(argument: &str, word: &str) -> Result<Setting, FaultKind> {
     }
 }
 
-fn read_port(argument: &str) -> Result<u16, FaultKind> {
+fn read_port(argument: &str) -> Result<u16, FaultKind>
+    ensures { IfErr result IsRefusal }
+{
     match read_u32(argument.as_bytes(), 65535) {
         None | Some(0) => Err(FaultKind::WrongArguments),
         Some(port) => u16::try_from(port).map_err(|_| FaultKind::WrongArguments),
     }
 }
 
-fn read_path(alloc: Global, argument: &str) -> Result<String, FaultKind> {
+fn read_path(alloc: Global, argument: &str) -> Result<String, FaultKind>
+    ensures { IfErr result IsRefusal }
+{
     if argument.ends_with("/") {
         Ok(String::from_str(alloc, argument)?)
     } else {
@@ -130,7 +172,9 @@ fn read_path(alloc: Global, argument: &str) -> Result<String, FaultKind> {
 }
 
 /// A mailbox of a store, from `:STORE:BOX`.
-fn read_place(alloc: Global, argument: &str) -> Result<BoxPlace, FaultKind> {
+fn read_place(alloc: Global, argument: &str) -> Result<BoxPlace, FaultKind>
+    ensures { IfErr result IsRefusal }
+{
     let Some((store, mailbox)) = split_place(argument) else {
         return Err(FaultKind::WrongArguments);
     };
@@ -144,7 +188,9 @@ fn split_place(argument: &str) -> Option<(&str, &str)> {
 }
 
 /// The mailbox of this name, or none for an empty name.
-fn read_box(alloc: Global, name: &str) -> Result<Option<MailboxName>, FaultKind> {
+fn read_box(alloc: Global, name: &str) -> Result<Option<MailboxName>, FaultKind>
+    ensures { IfErr result IsRefusal }
+{
     if name.is_empty() {
         Ok(None)
     } else if is_box_name(name.as_bytes()) {
@@ -154,7 +200,9 @@ fn read_box(alloc: Global, name: &str) -> Result<Option<MailboxName>, FaultKind>
     }
 }
 
-fn read_sides(argument: &str) -> Result<Sides, FaultKind> {
+fn read_sides(argument: &str) -> Result<Sides, FaultKind>
+    ensures { IfErr result IsRefusal }
+{
     let (far, near) = match argument {
         "None" => (false, false),
         "Far" => (true, false),
@@ -166,7 +214,9 @@ fn read_sides(argument: &str) -> Result<Sides, FaultKind> {
 }
 
 /// The name of a group and its channels.
-fn read_group(alloc: Global, arguments: &[String]) -> Result<Setting, FaultKind> {
+fn read_group(alloc: Global, arguments: &[String]) -> Result<Setting, FaultKind>
+    ensures { SaysName (name_among in_group (map string_bytes arguments.now)) result }
+{
     let [name, channels @ ..] = arguments else {
         return Err(FaultKind::WrongArguments);
     };
@@ -176,7 +226,9 @@ fn read_group(alloc: Global, arguments: &[String]) -> Result<Setting, FaultKind>
 }
 
 /// One name or more.
-fn some_copies(alloc: Global, names: &[String]) -> Result<Vec<String>, FaultKind> {
+fn some_copies(alloc: Global, names: &[String]) -> Result<Vec<String>, FaultKind>
+    ensures { IfErr result IsRefusal }
+{
     if names.is_empty() {
         return Err(FaultKind::WrongArguments);
     }
@@ -192,7 +244,9 @@ fn copies(alloc: Global, names: &[String]) -> Result<Vec<String>, AllocError> {
 }
 
 /// One pattern or more.
-fn read_patterns(alloc: Global, words: &[String]) -> Result<Vec<Pattern>, FaultKind> {
+fn read_patterns(alloc: Global, words: &[String]) -> Result<Vec<Pattern>, FaultKind>
+    ensures { IfErr result IsRefusal }
+{
     if words.is_empty() {
         return Err(FaultKind::WrongArguments);
     }
@@ -205,7 +259,9 @@ fn read_patterns(alloc: Global, words: &[String]) -> Result<Vec<Pattern>, FaultK
 }
 
 /// The cells that Sync words choose, or none where one is asserted twice.
-fn read_cells(alloc: Global, arguments: &[String]) -> Result<Option<Cells>, FaultKind> {
+fn read_cells(alloc: Global, arguments: &[String]) -> Result<Option<Cells>, FaultKind>
+    ensures { IfErr result IsRefusal }
+{
     let words = arguments
         .iter()
         .map(|argument| argument.as_bytes())

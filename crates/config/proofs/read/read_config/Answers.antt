@@ -1,0 +1,29 @@
+use Rattle.std.proofs.Common.{◌∙◌, ℕ, List, ap, arith, subst, sym}
+use Rattle.config.specs.Faults.{line_count}
+use Rattle.config.specs.Readings.{IsRead}
+use Rattle.config.specs.Standing.{lines_again}
+use Rattle.config.proofs.ReadingLemmas.{all_so_far, first_so_far, more_so_far, unless_memory}
+use Rattle.config.proofs.read.read_config.Goals as goal
+
+pub loop-line-init : goal.loop-line-init
+loop-line-init c = (
+  subst (λ (n : ℕ). IsRead n c.new-reading.result) (sym c.new-lines.ensures.0) c.new-reading.ensures.read,
+  omega (arith, c.new-lines.ensures.0, ap (λ (t : List ℕ). line_count t) c.new-lines.ensures.1),
+  first_so_far c.args.text.now c.new-lines.result.rest.now c.new-lines.result.taken c.new-reading.result c.new-lines.ensures.0 c.new-lines.ensures.1
+      c.new-reading.ensures.outlined,
+)
+
+pub loop-line-preserved : goal.loop-line-preserved
+loop-line-preserved c = (
+  subst (λ (n : ℕ). IsRead n c.read.new.self) (c.in-Some.ensures.number.0 ∙ sym c.in-Some.ensures.number.1) c.in-Ok.ensures.read,
+  c.in-Some.ensures.count ∙ c.loop-line.invariant.1,
+  more_so_far c.args.text.now c.loop-line.lines.taken c.take.new.self.taken c.in-Some.line.number c.in-Some.line.text.now c.loop-line.lines.rest.now
+      c.take.new.self.rest.now c.loop-line.reading c.read.new.self c.loop-line.invariant.2 c.in-Some.ensures.number.1 c.in-Some.ensures.number.0
+      c.in-Some.ensures.line c.in-Ok.ensures.outlined,
+)
+
+pub returns-in-Ok-finish-clause-again : goal.returns-in-Ok-finish-clause-again
+returns-in-Ok-finish-clause-again c =
+    unless_memory (lines_again c.args.text.now) c.in-Ok-finish.told
+    (c.in-Ok-finish.ensures.again (lines_again c.args.text.now)
+    (all_so_far c.args.text.now c.loop-line.lines.taken c.loop-line.lines.rest.now c.loop-line.reading c.loop-line.invariant.2 c.in_default.ensures.all))

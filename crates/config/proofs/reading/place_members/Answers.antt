@@ -1,0 +1,19 @@
+use Rattle.std.proofs.Common.{sym, subst, rules}
+use Rattle.std.specs.Prelude.{Option}
+use Rattle.std.proofs.lemmas.Grind.{common_steps}
+use Rattle.config.specs.declared.fault.ConfigFault.{ConfigFault}
+use Rattle.config.specs.Outlines.{Tells}
+use Rattle.config.proofs.reading.place_members.Goals as goal
+use Rattle.config.proofs.reading.place_members.Goals.{then-not-branch, else-not-branch}
+
+pub loop-member-preserved : goal.loop-member-preserved
+loop-member-preserved c = elim c.if-not-branch.branch [
+  | then-not-branch w ↦ (
+    search rules,
+    λ again told. subst (λ (first : Option ConfigFault). Tells again first) (sym w.first-is) (w.unknown_first.ensures.again again (c.loop-member.invariant.1 again told)),
+  )
+  | else-not-branch w ↦ (
+    search rules,
+    λ again told. subst (λ (first : Option ConfigFault). Tells again first) (sym w.first-is) (c.loop-member.invariant.1 again told),
+  )
+]

@@ -1,0 +1,12 @@
+use Rattle.std.proofs.Common.{subst, sym}
+use Rattle.std.specs.Prelude.{Some}
+use Rattle.config.specs.declared.fault.ConfigFault.{ConfigFault}
+use Rattle.config.specs.declared.fault.FaultKind.TheVariants.{UnknownName}
+use Rattle.config.specs.Outlines.{Tells}
+use Rattle.config.proofs.OutlineLemmas.{tells_other}
+use Rattle.config.proofs.reading.unknown_first.Goals as goal
+
+pub returns-clause-again : goal.returns-clause-again
+returns-clause-again c = λ again told.
+    subst (λ (fault : ConfigFault). Tells again (Some fault)) (sym c.first_of.ensures.earlier)
+    (tells_other again c.args.first (record { line = c.args.line; kind = UnknownName }) told (λ is. cc) (λ is. cc))
