@@ -8,6 +8,7 @@ pub mod Logging
 pub mod Readings
 pub mod Validities
 pub mod Begun
+pub mod Told
 pub mod Fitness
 pub mod PlanFacts
 pub mod Passes

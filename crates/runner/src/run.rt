@@ -2,7 +2,7 @@
 
 ghost use Rattle.std.specs.Prelude.{◌≡◌, ◌≤◌, ◌<◌, ◌+◌, ◌^◌, [], None, Some, OnOk, IfOk, true, false};
 ghost use Rattle.rules.specs.Opening.{IsOpening};
-ghost use Rattle.outside.specs.Opened.{IsBook, IsRead, TakesCommit};
+ghost use Rattle.outside.specs.Opened.{AreCommitted, IsBook, IsHeld, IsRead, TakesCommit};
 ghost use Rattle.underway.specs.Conditions.{Underway};
 ghost use Rattle.underway.specs.Endings.{IsDone};
 ghost use Rattle.underway.specs.Openings.{Opening};
@@ -11,6 +11,7 @@ ghost use Rattle.runner.specs.Parts.{IsStuck, Part, PartOr};
 ghost use Rattle.runner.specs.Validities.{LeavesBoxes, TellsChange, TellsChanged, TellsUnlessSame};
 ghost use Rattle.runner.specs.Going.{AreOpen, AtReady, IsGoing, log_at, next_at, plan_at};
 ghost use Rattle.runner.specs.Before.{HasNoPlan, HasPlan, IsKnown, IsTakenUp};
+ghost use Rattle.runner.specs.Results.{HasResults};
 ghost use Rattle.runner.specs.Answers.{Answers, AnswersTo, AtEnd, HasRepeats, IsChosen, IsEntry, IsKnownEntry, IsRun, Moves, OfFiles, Reaches, RunsBy, as_read, made_in, run_of};
 
 use crate::fault::{RunFault, call_fault};
@@ -32,6 +33,8 @@ fn conclude<O: Outside>(outside: &mut O, is_taken_up: bool) -> Result<(), RunFau
     requires takes { TakesCommit (O.opened outside.old) }
     requires ended { next_at (O.opened outside.old) ≡ None }
     ensures was_honest { O.honest outside.new → O.honest outside.old }
+    ensures committed { OnOk result (AreCommitted (O.opened outside.old) (O.opened outside.new)) }
+    ensures held { OnOk result (O.honest outside.new → IsHeld (O.opened outside.new) (O.seen outside.new).device) }
     ensures part { Part (O.honest outside.new) (AtReady O.ours O.alone opening (O.opened outside.old) is_taken_up)
         (Underway O.ours O.alone opening) (λ _. 0) (λ _. AtEnd O.ours O.alone opening) (O.seen outside.old) (O.seen outside.new) result }
 {
@@ -84,6 +87,7 @@ fn begin<O: Outside, R: Rng>(
     requires room { run_of (O.opened outside.old) + 1 < 2 ^ 64 }
     ensures was_honest { O.honest outside.new → O.honest outside.old }
     ensures answer { IfOk result (AnswersTo (run_of (O.opened outside.old) + 1) (O.opened outside.old)) }
+    ensures results { IfOk result (λ pass. O.honest outside.new → HasResults pass (O.seen outside.new).device) }
     ensures runs { IfOk result (RunsBy (O.opened outside.old) options.now (R.stream rng.old)) }
     ensures fresh { IfOk result (λ pass. pass ≡ Pass.Already → ⊥) }
     ensures moved { Moves (R.stream rng.old) (R.stream rng.new) }
@@ -106,6 +110,7 @@ fn resume<O: Outside>(alloc: Global, outside: &mut O) -> Result<Pass, RunFault>
     requires boxes { AreOpen (O.opened outside.old) }
     ensures was_honest { O.honest outside.new → O.honest outside.old }
     ensures answer { IfOk result (AnswersTo (run_of (O.opened outside.old) + 1) (O.opened outside.old)) }
+    ensures results { IfOk result (λ pass. O.honest outside.new → HasResults pass (O.seen outside.new).device) }
     ensures finished { IfOk result (λ pass. pass ≡ Pass.Already → ⊥) }
     ensures part { Part (O.honest outside.new) (IsTakenUp O.ours O.alone opening (O.opened outside.old)) (Underway O.ours O.alone opening)
         made_in (λ _. AtEnd O.ours O.alone opening) (O.seen outside.old) (O.seen outside.new) result }
@@ -144,6 +149,7 @@ fn work<O: Outside, R: Rng>(
     requires room { run_of (O.opened outside.old) + 1 < 2 ^ 64 }
     ensures was_honest { O.honest outside.new → O.honest outside.old }
     ensures answer { IfOk result (AnswersTo (run_of (O.opened outside.old) + 1) (O.opened outside.old)) }
+    ensures results { IfOk result (λ pass. O.honest outside.new → HasResults pass (O.seen outside.new).device) }
     ensures runs { IfOk result (RunsBy (O.opened outside.old) options.now (R.stream rng.old)) }
     ensures fresh { IfOk result (λ pass. pass ≡ Pass.Already → ⊥) }
     ensures moved { Moves (R.stream rng.old) (R.stream rng.new) }
@@ -171,6 +177,7 @@ fn open_and_work<O: Outside, R: Rng>(
     requires room { run_of (O.opened outside.old) + 1 < 2 ^ 64 }
     ensures was_honest { O.honest outside.new → O.honest outside.old }
     ensures answer { IfOk result (AnswersTo (run_of (O.opened outside.old) + 1) (O.opened outside.old)) }
+    ensures results { IfOk result (λ pass. O.honest outside.new → HasResults pass (O.seen outside.new).device) }
     ensures runs { IfOk result (RunsBy (O.opened outside.old) options.now (R.stream rng.old)) }
     ensures fresh { IfOk result (λ pass. pass ≡ Pass.Already → ⊥) }
     ensures moved { Moves (R.stream rng.old) (R.stream rng.new) }
@@ -196,6 +203,7 @@ fn take_up<O: Outside, R: Rng>(
     requires whole { (O.seen outside.old).is_broken ≡ false }
     ensures was_honest { O.honest outside.new → O.honest outside.old }
     ensures answer { IfOk result (AnswersTo run (O.opened outside.old)) }
+    ensures results { IfOk result (λ pass. O.honest outside.new → HasResults pass (O.seen outside.new).device) }
     ensures runs { IfOk result (RunsBy (O.opened outside.old) options.now (R.stream rng.old)) }
     ensures stores { IfOk result (λ pass. pass ≡ Pass.Already → LeavesBoxes (O.honest outside.new) O.alone (O.seen outside.old).device
         (O.seen outside.new).device) }
@@ -233,6 +241,9 @@ pub fn pass<O: Outside, R: Rng>(
     ensures answer { IfOk result (λ pass. OfFiles (O.honest outside.new) (O.seen outside.old).device (λ s p. Answers run s p pass)) }
     ensures runs { IfOk result (λ pass. OfFiles (O.honest outside.new) (O.seen outside.old).device
         (λ s p. RunsBy (as_read s p) options.now (R.stream rng.old) pass)) }
+
+    // A copy that is told as made or found stands beside its source in an entry of the state that the files then hold.
+    ensures results { IfOk result (λ pass. O.honest outside.new → HasResults pass (O.seen outside.new).device) }
 
     // The generator moves by whole pairs, so that later marks are its own as well.
     ensures moved { Moves (R.stream rng.old) (R.stream rng.new) }

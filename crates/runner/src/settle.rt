@@ -9,6 +9,7 @@ ghost use Rattle.underway.specs.Openings.{Opening};
 ghost use Rattle.runner.specs.Faults.{IsCaused, LeavesRun, TellsNoRun, because, or_unread};
 ghost use Rattle.runner.specs.Parts.{IsStuck, Never, PartOr};
 ghost use Rattle.runner.specs.Validities.{IsKept, TellsChanged};
+ghost use Rattle.runner.specs.Results.{HasResults};
 ghost use Rattle.runner.specs.Answers.{HasRepeats, Moves, OfFiles, WillRepeat, made_in};
 ghost use Rattle.runner.specs.Attempts.{AnswersAt, AnswersLast, AtOpening, ChangedLast, FromOpening, HasNoNext, IsTried, MetStops, TriedAt, failed_before, found_by};
 
@@ -80,6 +81,7 @@ fn attempt<O: Outside, R: Rng>(
     ensures moved { Moves (R.stream rng.old) (R.stream rng.new) }
     ensures answer { IfOk result (λ pass. O.honest outside.new → TriedAt O.ours O.alone opening run.old (O.seen outside.old).device
         → AnswersAt (opening.world.state.run + 1) options.now pass (O.seen outside.old).device (R.stream rng.old)) }
+    ensures results { IfOk result (λ pass. O.honest outside.new → HasResults pass (O.seen outside.new).device) }
     ensures greatest { run.old ≡ None → HasNoNext (O.honest outside.new) O.alone (O.seen outside.old).device (O.seen outside.new).device result }
     ensures unfixed { run.old ≡ None → OfFiles (O.honest outside.new) (O.seen outside.old).device (λ s p. s.run + 1 ≡ 2 ^ 64 → run.new ≡ None) }
     ensures stuck { IsStuck (O.seen outside.old) (O.seen outside.new) result }
@@ -137,6 +139,9 @@ pub fn settle<O: Outside, R: Rng>(
     ensures answer { IfOk result (λ s. FromOpening (O.honest outside.new) O.ours O.alone opening options.now (R.stream rng.old)
         (O.seen outside.old).device
         (AnswersLast O.ours O.alone opening options.now s.stops s.last (O.seen outside.old).device (R.stream rng.old))) }
+
+    // A copy that the last attempt told as made or found stands beside its source in an entry of the state that the files then hold.
+    ensures results { IfOk result (λ s. O.honest outside.new → HasResults s.last (O.seen outside.new).device) }
 
     // Behind `ValidityChanged` nothing has changed but what the attempts before the last have done.
     ensures changed { IfErr result (λ fault. (side : Side) → fault ≡ RunFault.ValidityChanged side

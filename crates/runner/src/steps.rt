@@ -1,6 +1,6 @@
 //! The steps of the plan that is pending, one after another.
 
-ghost use Rattle.std.specs.Prelude.{◌≡◌, ◌∷◌, [], None, Some, drop, length, IfOk, OnOk, false};
+ghost use Rattle.std.specs.Prelude.{◌≡◌, ◌∷◌, [], All, None, Some, drop, length, IfOk, OnOk, false};
 ghost use Rattle.book.specs.Books.{torn, Turns, TurnsHalf};
 ghost use Rattle.book.specs.BookLogs.{logged_more};
 ghost use Rattle.sync_state.specs.JournalText.{FitsStep};
@@ -134,6 +134,7 @@ fn advance<O: Outside>(
     ensures was_honest { O.honest outside.new → O.honest outside.old }
     ensures opened { IfOk result (λ p. HasLogged (O.opened outside.old) (O.opened outside.new) (logged_of p.result ∷ [])) }
     ensures step { IfOk result (λ p. p.step ≡ step) }
+    ensures fits { IfOk result (λ p. FitsStep p.step (logged_of p.result)) }
     ensures part { Part (O.honest outside.new) (AtReady O.ours O.alone opening (O.opened outside.old) is_taken_up)
         (Underway O.ours O.alone opening) (λ p. made_by p.result) (λ _. AtReady O.ours O.alone opening (O.opened outside.new) is_taken_up)
         (O.seen outside.old) (O.seen outside.new) result }
@@ -157,6 +158,7 @@ pub(crate) fn carry_out<O: Outside>(
     ensures ended { OnOk result (next_at (O.opened outside.new) ≡ None) }
     ensures steps { IfOk result (λ performed. steps_of performed.items ≡ drop (length (log_at (O.opened outside.old)))
         (plan_at (O.opened outside.old)).steps) }
+    ensures fits { IfOk result (λ performed. All (λ p. FitsStep p.step (logged_of p.result)) performed.items) }
     ensures part { Part (O.honest outside.new) (AtReady O.ours O.alone opening (O.opened outside.old) is_taken_up)
         (Underway O.ours O.alone opening) (λ performed. made performed.items)
         (λ _. AtReady O.ours O.alone opening (O.opened outside.new) is_taken_up) (O.seen outside.old) (O.seen outside.new) result }

@@ -2,6 +2,7 @@ use Rattle.std.proofs.Common.{rules}
 use Rattle.std.proofs.lemmas.Result.{err_from_is_err_and}
 use Rattle.runner.proofs.PartCalls.{left_after, left_never, passed_after}
 use Rattle.runner.proofs.Passes.{none_few, ran_answers, takes_commit, whole_steps}
+use Rattle.runner.proofs.Told.{told}
 use Rattle.runner.proofs.run.begin.Goals as goal
 
 pub carry_out-requires : goal.carry_out-requires
@@ -40,3 +41,9 @@ returns-clause-answer g c = ran_answers (g.O.Outside.opened c.args.outside.now) 
 
 pub returns-clause-runs : goal.returns-clause-runs
 returns-clause-runs g c = rw (whole_steps (g.O.Outside.opened c.propose.new.outside) c.in_ok-performed.performed.items c.in_ok-unfit.ensures.log c.in_ok-performed.ensures.steps) c.in_ok-unfit.ensures.run
+
+pub returns-clause-results : goal.returns-clause-results
+returns-clause-results g c = λ h.
+    let performed = c.in_ok-performed.ensures in
+    let concluded = c.in_ok-conclude.ensures in
+    told (g.O.Outside.opened c.propose.new.outside) (g.O.Outside.opened c.carry_out.new.outside) (g.O.Outside.opened c.conclude.new.outside) c.in_ok-performed.performed.items _ performed.opened performed.steps performed.fits concluded.committed (concluded.held h)

@@ -4,6 +4,7 @@ use Rattle.book.specs.Books.{mended}
 use Rattle.outside.specs.Opened.{turned}
 use Rattle.runner.proofs.PartCalls.{left_after, passed_after}
 use Rattle.runner.proofs.Passes.{book_few, finished_answers, mended_book, mended_going, mended_rest, takes_commit}
+use Rattle.runner.proofs.Told.{told}
 use Rattle.runner.proofs.run.resume.Goals as goal
 
 pub carry_out-requires : goal.carry_out-requires
@@ -41,3 +42,9 @@ pub returns-clause-answer : goal.returns-clause-answer
 returns-clause-answer g c =
     let old = g.O.Outside.opened c.args.outside.now in
     finished_answers old c.in_ok-performed.performed (mended_rest old c.in_ok-performed.performed.items c.requires.1.1.0 (rw (← c.in_ok-untear.ensures.opened) c.in_ok-performed.ensures.steps))
+
+pub returns-clause-results : goal.returns-clause-results
+returns-clause-results g c = λ h.
+    let performed = c.in_ok-performed.ensures in
+    let concluded = c.in_ok-conclude.ensures in
+    told (g.O.Outside.opened c.untear.new.outside) (g.O.Outside.opened c.carry_out.new.outside) (g.O.Outside.opened c.conclude.new.outside) c.in_ok-performed.performed.items _ performed.opened performed.steps performed.fits concluded.committed (concluded.held h)

@@ -1,4 +1,5 @@
 use Rattle.std.proofs.Common.{◌≡◌, List, [], ◌∷◌, ◌++◌, sym, ◌∙◌, ap, append-nil, Some, None}
+use Rattle.std.proofs.lemmas.List.Elements.{All-push}
 use Rattle.std.proofs.lemmas.Result.{err_from_is_err_and}
 use Rattle.rules.specs.declared.plan.Step.{Step}
 use Rattle.underway.proofs.NextSteps.{drop_none}
@@ -6,6 +7,7 @@ use Rattle.runner.specs.Going.{log_at, next_at, plan_at, steps_of}
 use Rattle.runner.proofs.PartCalls.{left_after, left_here, passed_after}
 use Rattle.runner.proofs.Stages.{ready_underway}
 use Rattle.runner.proofs.LoopLemmas.{made_more, logged_on, steps_on, less_left}
+use Rattle.runner.proofs.Told.{IsFitting}
 use Rattle.runner.proofs.steps.carry_out.Goals as goal
 
 pub returns-in_default-try_reserve-clause-part : goal.returns-in_default-try_reserve-clause-part
@@ -38,6 +40,7 @@ loop-number-preserved g c =
     rw pushed (record {
       opened = logged_on start b _ ps p i.opened one.opened;
       steps = steps_on b _ ps p _ one.opened is i.steps;
+      fits = All-push IsFitting ps p i.fits one.fits;
       was_honest = λ h. i.was_honest (one.was_honest h);
       part = rw (← made_more ps p) (passed_after _ _ _ _ _ _ _ _ s1 _ one.was_honest i.part one.part);
     })

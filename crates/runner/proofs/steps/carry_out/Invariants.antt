@@ -1,5 +1,6 @@
-use Rattle.std.proofs.Common.{◌≡◌, ◌-◌, ◌++◌, length, drop}
+use Rattle.std.proofs.Common.{◌≡◌, ◌-◌, ◌++◌, All, length, drop}
 use Rattle.runner.specs.Parts.{Passed}
+use Rattle.runner.proofs.Told.{IsFitting}
 use Rattle.runner.specs.Going.{AtReady, HasLogged, log_at, logs_of, made, plan_at, steps_of}
 use Rattle.runner.proofs.steps.carry_out.Given as goal
 
@@ -13,6 +14,7 @@ invariant-loop-number g l =
     record {
       opened : HasLogged start now (logs_of l.performed.items);
       steps : steps_of l.performed.items ++ drop (length (log_at now)) (plan_at now).steps ≡ drop (length (log_at start)) (plan_at start).steps;
+      fits : All IsFitting l.performed.items;
       was_honest : g.O.Outside.honest l.outside → g.O.Outside.honest l.fn.outside;
       part : Passed (g.O.Outside.honest l.outside) (AtReady g.O.Outside.ours g.O.Outside.alone g.opening start l.is_taken_up) (AtReady g.O.Outside.ours g.O.Outside.alone g.opening now l.is_taken_up) (made l.performed.items) (g.O.Outside.seen l.fn.outside) (g.O.Outside.seen l.outside);
     }
