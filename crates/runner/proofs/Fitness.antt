@@ -1,5 +1,5 @@
 -- A plan is the same where near messages up to the highest one that was pushed are said to be fit.
-use Rattle.std.proofs.Common.{◌≡◌, ◌≤◌, ◌+◌, ◌&&◌, ◌||◌, not, ℕ, Bool, true, false, cond, eqb, leb, ltb, List, [], ◌∷◌, map, length, Option, None, Some, refl, sym, ap, ◌∙◌, arith}
+use Rattle.std.proofs.Common.{◌≡◌, ◌≤◌, ◌+◌, ◌&&◌, ◌||◌, not, ℕ, Bool, true, false, cond, eqb, leb, ltb, List, [], ◌∷◌, ◌++◌, map, length, Option, None, Some, refl, sym, ap, ◌∙◌, arith}
 use Rattle.std.specs.Prelude.{filter, find}
 use Rattle.std.specs.List.{filter_map}
 use Rattle.std.specs.Option.{option_map}
@@ -20,10 +20,10 @@ use Rattle.rules.specs.declared.entry.ListedPair.{ListedPair}
 use Rattle.rules.specs.Entries.{uid_of, uids_of}
 use Rattle.rules.specs.Options.{goes, covers}
 use Rattle.rules.specs.Scene.{Scene, items, highest, flags_at, is_listed, is_paired, full_entry}
-use Rattle.rules.specs.Called.{is_new, is_gone, pair_of, pair_between, flags_with, flags_by, flags_after, is_deleted_then, is_expunged, vanishes}
+use Rattle.rules.specs.Called.{is_new, is_unfit, is_gone, pair_of, pair_between, flags_with, flags_by, flags_after, is_deleted_then, is_expunged, vanishes}
 use Rattle.rules.specs.Outcome.{count_new, greatest, highest_after, news}
 use Rattle.rules.proofs.WorldLemmas.{wanted}
-use Rattle.planner.specs.Written.{all_notes, all_steps, drop_note, expunge_step, expunge_steps, flags_by_pair, flags_step, flags_steps, gone_by, gone_step, gone_steps, record_by_pair, record_note, record_notes}
+use Rattle.planner.specs.Written.{all_notes, all_steps, all_unfit, drop_note, expunge_step, expunge_steps, flags_by_pair, flags_step, flags_steps, gone_by, gone_step, gone_steps, record_by_pair, record_note, record_notes, unfit_uids}
 
 -- ---- walks over two lists
 
@@ -48,6 +48,10 @@ flags_above from (m ∷ messages) u = by_test (eqb m.uid u) (flags_above from me
 greatest_above : (from : ℕ) (messages : List Message) → greatest (map (item_above Near from) messages) ≡ greatest (map (item_of Near) messages)
 greatest_above from [] = refl
 greatest_above from (m ∷ messages) = rw (greatest_above from messages) refl
+
+blocked : (a c d x : Bool) → (a && false && c && d && x) ≡ false
+blocked true c d x = refl
+blocked false c d x = refl
 
 module _ (s : Scene) (from : ℕ) (messages : List Message) (most : from ≤ highest Push s) where
   abbrev pub above : Scene
@@ -94,10 +98,6 @@ module _ (s : Scene) (from : ℕ) (messages : List Message) (most : from ≤ hig
 
   -- ---- new messages
 
-  blocked : (a c d x : Bool) → (a && false && c && d && x) ≡ false
-  blocked true c d x = refl
-  blocked false c d x = refl
-
   abbrev one_new : Message → Bool → Bool
   one_new m b = goes s.options.cells.new Push && ltb (highest Push s) m.uid && not (is_paired s Near m.uid) && not (has m.flags DELETED && covers s.options.expunge Near) && b
 
@@ -114,6 +114,26 @@ module _ (s : Scene) (from : ℕ) (messages : List Message) (most : from ≤ hig
 new_list : (s : Scene) (from : ℕ) (ms : List Message) → from ≤ highest Push s → filter (is_new s Push) (map (item_above Near from) ms) ≡ filter (is_new s Push) (map (item_of Near) ms)
 new_list s from [] most = refl
 new_list s from (m ∷ ms) most = new_one s from (m ∷ ms) most m _ _ (new_list s from ms most)
+
+-- ---- messages that want fitness
+
+module _ (s : Scene) (from : ℕ) (most : from ≤ highest Push s) where
+  abbrev one_unfit : Message → Bool → Bool
+  one_unfit m b = goes s.options.cells.new Push && ltb (highest Push s) m.uid && not (is_paired s Near m.uid) && not (has m.flags DELETED && covers s.options.expunge Near) && not b
+
+  unfit_one : (m : Message) (xs ys : List Item) → xs ≡ ys → cond (is_unfit s Push (item_above Near from m)) (item_above Near from m ∷ xs) xs ≡ cond (is_unfit s Push (item_of Near m)) (item_of Near m ∷ ys) ys
+  unfit_one m xs ys e = by_test (leb m.uid from) refl
+    where
+      by_test : (b : Bool) → leb m.uid from ≡ b
+          → cond (one_unfit m (b || fit Near m.bytes)) (record { uid = m.uid; flags = m.flags; fit = b || fit Near m.bytes } ∷ xs) xs ≡ cond (one_unfit m (fit Near m.bytes)) (item_of Near m ∷ ys) ys
+      by_test true is =
+          let low : ltb (highest Push s) m.uid ≡ false = grind (arith, nat_tests) in
+          rw (low, blocked (goes s.options.cells.new Push) (not (is_paired s Near m.uid)) (not (has m.flags DELETED && covers s.options.expunge Near)) false, blocked (goes s.options.cells.new Push) (not (is_paired s Near m.uid)) (not (has m.flags DELETED && covers s.options.expunge Near)) (not (fit Near m.bytes))) e
+      by_test false is = rw e refl
+
+  unfit_list : (ms : List Message) → filter (is_unfit s Push) (map (item_above Near from) ms) ≡ filter (is_unfit s Push) (map (item_of Near) ms)
+  unfit_list [] = refl
+  unfit_list (m ∷ ms) = unfit_one m _ _ (unfit_list ms)
 
 -- ---- the plan
 
@@ -166,3 +186,6 @@ module _ (s : Scene) (from : ℕ) (messages : List Message) (most : from ≤ hig
   pub highest_same : (d : Direction) → highest_after one d ≡ highest_after two d
   highest_same Pull = refl
   highest_same Push = rw (greatest_above from messages) refl
+
+  pub unfit_same : all_unfit one ≡ all_unfit two
+  unfit_same = ap (λ (is : List Item). unfit_uids one Pull ++ map (λ i. (Near, i.uid)) is) (unfit_list s from most messages)

@@ -8,8 +8,8 @@ pub mod Logging
 pub mod Readings
 pub mod Validities
 pub mod Begun
-pub mod Told
 pub mod Fitness
 pub mod PlanFacts
 pub mod Passes
+pub mod Told
 pub mod Attempts

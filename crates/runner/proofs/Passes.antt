@@ -13,8 +13,8 @@ use Rattle.rules.specs.declared.state.SyncState.{SyncState}
 use Rattle.rules.specs.Outcome.{count_new}
 use Rattle.rules.specs.Opening.{IsOpening}
 use Rattle.rules.specs.Scene.{scene}
-use Rattle.rules.specs.World.{World, IsInOrder}
-use Rattle.planner.specs.Written.{marks_of}
+use Rattle.rules.specs.World.{World, IsInOrder, scene_of}
+use Rattle.planner.specs.Written.{all_unfit, marks_of}
 use Rattle.sync_state.specs.JournalText.{IsLog}
 use Rattle.sync_state.specs.declared.journal.Logged.{Logged}
 use Rattle.book.specs.declared.book.Pending.{Pending}
@@ -47,7 +47,8 @@ use Rattle.runner.specs.Before.{AreShown, BothListed, HasNoPlan, HasNone, HasPla
 use Rattle.runner.specs.Going.{AreOpen, AtReady, HasLogged, HasUntorn, IsGoing, IsUntorn, log_at, logged_of, logs_of, next_at, no_journal, plan_at, steps_of}
 use Rattle.runner.specs.Parts.{PartOr}
 use Rattle.runner.proofs.Logging.{of_book}
-use Rattle.runner.proofs.PlanFacts.{no_pairs}
+use Rattle.runner.specs.Results.{PassedOver}
+use Rattle.runner.proofs.PlanFacts.{no_pairs, unfit_by}
 use Rattle.runner.proofs.Readings.{planned_files, turned_open, turned_state}
 use Rattle.runner.proofs.Stages.{ready_arrives, stands_of}
 
@@ -229,6 +230,22 @@ module _ (ours : List ℕ → Bool) (alone : Bool) (opening : Opening) where
         clear = c;
         since = since_map alone opening _ _ (λ w g k. (subst (λ (x : Options). IsPlanned ours w x plan) (sym asked.called ∙ c.chosen) (is w g.in_order (c.state ∙ ap (λ (x : SyncState). Some x) (sym g.state)) k.0 mine), k.1)) both.since;
       }
+
+  -- it is that of the world that was listed, and so are the messages that were passed over
+  pub passed_by : (opened : Option Opened) (options : Options) (stream : Stream) (far near : Listing) (plan : Plan) (unfit : List (Side × ℕ)) → IsDrawn opened stream far near options plan.steps
+      → ((w : World) → IsInOrder w → state_of opened ≡ Some w.state → AreShown w.state.max_pushed w far near → All (λ mark. ours mark ≡ true) (marks_of plan.steps) → IsPlanned ours w options plan)
+      → AreUnfit opened far near options unfit → (d : Device) → IsAsked ours opening options stream → BothListed ours alone opening opened far near d → PassedOver ours alone opening plan unfit
+  passed_by None options stream far near plan unfit drawn is are d asked both = absurd drawn
+  passed_by (Some o) options stream far near plan unfit drawn is are d asked both =
+      let c = both.clear in
+      let draws = drawn.0 in
+      let mine : All (λ mark. ours mark ≡ true) (marks_of plan.steps) = asked.are_ours 0 (count_new (scene far near o.state options)) (marks_of plan.steps) (subst (λ (x : Stream). Draws x (count_new (scene far near o.state options)) (marks_of plan.steps)) (sym (no_pairs stream)) draws.drawn) in
+      let read = c.state in
+      let first : o.state ≡ opening.world.state = cc in
+      since_map alone opening _ _ (λ w g k. subst (λ (x : Options). IsPlanned ours w x plan × (unfit ≡ all_unfit (scene_of w x))) (sym asked.called ∙ c.chosen) (
+        is w g.in_order (read ∙ ap (λ (x : SyncState). Some x) (sym g.state)) k.0 mine,
+        unfit_by ours w o.state options far near (first ∙ sym g.state) k.0 unfit are,
+      )) both.since
 
   -- ---- the end
 

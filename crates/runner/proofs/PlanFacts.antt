@@ -15,7 +15,7 @@ use Rattle.rules.specs.PlanEntries.{PlanAgrees}
 use Rattle.rules.specs.Plans.{AreInRange, IsHighest, IsPlan}
 use Rattle.rules.specs.Scene.{Scene, scene}
 use Rattle.rules.specs.World.{World, scene_of, store}
-use Rattle.planner.specs.Written.{all_notes, all_steps, marks_of, side_with}
+use Rattle.planner.specs.Written.{all_notes, all_steps, all_unfit, marks_of, side_with}
 use Rattle.book.specs.Agreement.{Agrees}
 use Rattle.book.specs.BookLogs.{fresh}
 use Rattle.book.specs.Books.{IsSound}
@@ -26,7 +26,7 @@ use Rattle.outside.specs.Opened.{IsRead, Opened, TakesPlan, state_of}
 use Rattle.underway.specs.Plans.{IsPlanned, first_uid}
 use Rattle.runner.specs.Answers.{AreDrawn, Moves, run_of}
 use Rattle.runner.specs.Before.{AreShown, HasNoJournal}
-use Rattle.runner.proofs.Fitness.{count_same, highest_same, notes_same, steps_same}
+use Rattle.runner.proofs.Fitness.{count_same, highest_same, notes_same, steps_same, unfit_same}
 
 -- ---- it may be begun
 
@@ -74,6 +74,9 @@ module _ (ours : List ℕ → Bool) (w : World) (s : SyncState) (options : Optio
 
   least : w.state.max_pushed ≤ w.state.max_pushed
   least = omega arith
+
+  pub unfit_by : (unfit : List (Side × ℕ)) → unfit ≡ all_unfit listed → unfit ≡ all_unfit (scene_of w options)
+  unfit_by unfit e = e ∙ ap (λ (x : Scene). all_unfit x) above_is ∙ unfit_same (scene_of w options) w.state.max_pushed w.near.messages least
 
   pub planned_by : (plan : Plan) (stream : Stream) → AreDrawn stream far near s options (marks_of plan.steps) → All (λ mark. ours mark ≡ true) (marks_of plan.steps) → plan.run ≡ s.run + 1
       → plan.far ≡ side_with far (highest_after listed Pull) → plan.near ≡ side_with near (highest_after listed Push) → plan.steps ≡ all_steps listed (marks_of plan.steps) → plan.notes ≡ all_notes listed → IsPlanned ours w options plan

@@ -1,8 +1,10 @@
--- The copies that are told stand in the state that a commit makes.
-use Rattle.std.proofs.Common.{◌≡◌, ℕ, All, List, [], ◌∷◌, ◌++◌, length, drop, Option, Some, None, unwrap_or, Result, Ok, Err, IfOk, refl, sym, ◌∙◌, ap, subst}
+-- What is told of a run: the copies stand in the state that a commit makes, and the steps are those of the plan of its world.
+use Rattle.std.proofs.Common.{◌≡◌, ℕ, All, List, [], ◌∷◌, ◌++◌, length, drop, take, Bool, false, Option, Some, None, unwrap_or, Result, Ok, Err, IfOk, refl, sym, ◌∙◌, ap, subst}
 use Rattle.std.specs.Prelude.{Contains, IsPermutation}
+use Rattle.std.proofs.lemmas.List.{take-append-drop}
 use Rattle.std.proofs.lemmas.List.Elements.{All-append, All-cons, All-contains_itself, All-head, All-nil, All-tail, All-weaker, Contains-append_left, Contains-append_right}
 use Rattle.std.proofs.lemmas.List.Sorted.{Contains-permutation}
+use Rattle.mailcore.specs.declared.side.Side.{Side}
 use Rattle.mailcore.specs.declared.side.Direction.TheVariants.{Pull, Push}
 use Rattle.rules.specs.declared.entry.Entry.{Entry}
 use Rattle.rules.specs.declared.plan.Plan.{Plan}
@@ -15,15 +17,28 @@ use Rattle.sync_state.specs.declared.journal.Logged.{Logged}
 use Rattle.book.specs.declared.book.Pending.{Pending}
 use Rattle.book.specs.declared.book.Pending.TheVariants.{Missing, Useless, Planned}
 use Rattle.book.specs.Books.{Holds}
-use Rattle.book.specs.Commits.{Makes}
+use Rattle.book.specs.Commits.{CommitsTo, Makes}
 use Rattle.book.specs.Committed.{entries_of_copies, entry_of_copy, kept_entries}
+use Rattle.step_laws.specs.Steps.{Fit}
+use Rattle.run_laws.specs.CommitLaws.{results_of}
+use Rattle.outside.specs.Arrivals.{Arrives}
+use Rattle.outside.specs.BookCalls.{OfBook}
 use Rattle.outside.specs.Devices.{Device}
 use Rattle.outside.specs.Opened.{AreCommitted, IsHeld, Opened, journal_in}
+use Rattle.underway.specs.Openings.{Opening}
+use Rattle.underway.specs.Plans.{IsPlanned}
+use Rattle.underway.proofs.Ends.{ended, whole_at}
+use Rattle.underway.proofs.Growth.{since_map}
+use Rattle.runner.specs.declared.fault.RunFault.{RunFault}
+use Rattle.runner.specs.declared.pass.Pass.{Pass}
+use Rattle.runner.specs.declared.pass.Pass.TheVariants.{Already}
 use Rattle.runner.specs.declared.performed.Performed.{Performed}
 use Rattle.runner.specs.declared.performed.StepResult.{StepResult}
 use Rattle.runner.specs.declared.performed.StepResult.TheVariants as did
-use Rattle.runner.specs.Going.{HasLogged, log_at, logged_of, logs_of, no_journal, plan_at, steps_of}
-use Rattle.runner.specs.Results.{AreResults, IsOtherResult, IsResult}
+use Rattle.runner.specs.Going.{AtReady, HasLogged, IsGoing, log_at, logged_of, logs_of, next_at, no_journal, plan_at, steps_of}
+use Rattle.runner.specs.Results.{AreResults, AreStepsOf, EndsBy, IsOtherResult, IsResult, IsTold, IsToldRest, IsToldWhole, PassedOver}
+use Rattle.runner.proofs.Logging.{of_book}
+use Rattle.runner.proofs.Stages.{ready_arrives, stands_of}
 
 -- a step was performed in a way in which it may be logged
 abbrev pub IsFitting : Performed → Type 0
@@ -103,3 +118,58 @@ told old (Some n) (Some m) ps d h steps f made held =
       each = results m.state.entries ps f (All-weaker (IsAmong copies) (IsAmong m.state.entries)
           (λ p k. All-weaker (Contains copies) (Contains m.state.entries) (λ e c. Contains-permutation (kept ++ copies) m.state.entries e moves (Contains-append_right kept copies e c)) (entry_of_copy p.step (logged_of p.result)) k) ps there);
     }
+
+-- ---- of which plan the steps are
+
+-- the last steps have the last results
+fit_rest : (steps : List Step) (log more : List Logged) → Fit steps (results_of (log ++ more)) → Fit (drop (length log) steps) (results_of more)
+fit_rest steps [] more k = k
+fit_rest [] (l ∷ ls) more k = absurd k
+fit_rest (s ∷ steps) (l ∷ ls) more k = fit_rest steps ls more k.1
+
+module _ (ours : List ℕ → Bool) (alone : Bool) (opening : Opening) where
+  pub ends_by : (opened : Option Opened) (is_taken_up : Bool) (d m d' : Device) → IsGoing opened → next_at opened ≡ None → Arrives ours alone d m → AtReady ours alone opening opened is_taken_up d → OfBook CommitsTo opened m d'
+      → EndsBy ours alone opening (plan_at opened) (log_at opened) d'
+  ends_by opened is_taken_up d m d' g none a k t =
+      let r = ready_arrives ours alone opening opened is_taken_up d m a k in
+      let does = of_book CommitsTo opened m d' g.untorn t in
+      since_map alone opening _ _ (λ w grows at.
+      let stands = stands_of ours alone opening opened w is_taken_up m at in
+      let whole = whole_at ours alone w opening.options (plan_at opened) (log_at opened) none false m stands in
+      record { ended = ended ours alone w opening.options (plan_at opened) (log_at opened) none m d' grows.in_order stands does; planned = whole.planned; fit = whole.fit }) r.since
+
+  told_last : (old now : Option Opened) (ps : List Performed) (d : Device) → HasLogged old now (logs_of ps) → steps_of ps ≡ drop (length (log_at old)) (plan_at old).steps → EndsBy ours alone opening (plan_at now) (log_at now) d
+      → AreStepsOf ours alone opening (plan_at old) (take (length (log_at old)) (plan_at old).steps) ps d
+  told_last old now ps d h steps ends =
+      let n = length (log_at old) in
+      let before = take n (plan_at old).steps in
+      let last = ends.holds in
+      let logged : Fit (plan_at old).steps (results_of (log_at old ++ logs_of ps)) = subst (λ (l : List Logged). Fit (plan_at old).steps (results_of l)) h.log (subst (λ (p : Plan). Fit p.steps (results_of (log_at now))) h.plan last.fit) in
+      record {
+        steps = sym (take-append-drop n (plan_at old).steps) ∙ ap (λ (l : List Step). before ++ l) (sym steps);
+        copies = subst (λ (l : List Step). Fit l (results_of (logs_of ps))) (sym steps) (fit_rest (plan_at old).steps (log_at old) (logs_of ps) logged);
+        over = since_map alone opening _ _ (λ w grows k. (k.ended, subst (λ (p : Plan). IsPlanned ours w opening.options p) h.plan k.planned)) ends;
+      }
+
+  pub told_rest : (old now : Option Opened) (ps : List Performed) (d : Device) → HasLogged old now (logs_of ps) → steps_of ps ≡ drop (length (log_at old)) (plan_at old).steps → EndsBy ours alone opening (plan_at now) (log_at now) d
+      → IsToldRest ours alone opening ps d
+  told_rest old now ps d h steps ends = record { plan = plan_at old; before = take (length (log_at old)) (plan_at old).steps; last = told_last old now ps d h steps ends }
+
+  pub told_whole : (old now : Option Opened) (ps : List Performed) (unfit : List (Side × ℕ)) (d : Device) → log_at old ≡ [] → HasLogged old now (logs_of ps) → steps_of ps ≡ drop (length (log_at old)) (plan_at old).steps → EndsBy ours alone opening (plan_at now) (log_at now) d
+      → PassedOver ours alone opening (plan_at old) unfit → IsToldWhole ours alone opening ps unfit d
+  told_whole old now ps unfit d none h steps ends passed = record {
+    plan = plan_at old;
+    all = subst (λ (l : List Logged). AreStepsOf ours alone opening (plan_at old) (take (length l) (plan_at old).steps) ps d) none (told_last old now ps d h steps ends);
+    passed_over = passed;
+  }
+
+-- ---- from one condition to another
+
+pub told_from : (r : Result Pass RunFault) (honest from start : Type 0) (told : Pass → Type 0) → (honest → start → from) → IfOk r (λ pass. honest → from → told pass) → IfOk r (λ pass. honest → start → told pass)
+told_from (Ok pass) honest from start told leads k = λ h at. k h (leads h at)
+told_from (Err e) honest from start told leads k = tt
+
+-- nothing is told of a run that was made before
+pub told_none : (ours : List ℕ → Bool) (alone : Bool) (opening : Opening) (honest start : Type 0) (d : Device) (r : Result Pass RunFault) → IfOk r (λ pass. pass ≡ Already) → IfOk r (λ pass. honest → start → IsTold ours alone opening pass d)
+told_none ours alone opening honest start d (Ok pass) e = λ h at. rw e tt
+told_none ours alone opening honest start d (Err e) k = tt

@@ -1,19 +1,33 @@
--- What is told of the steps of a run: where the copies stand that are told.
-use Rattle.std.specs.Prelude.{ℕ, All, Contains, List, Some}
+-- What is told of a run: where the copies stand, of which plan the steps are, and which messages were passed over.
+use Rattle.std.specs.Prelude.{◌≡◌, ℕ, All, Bool, Contains, List, [], ◌++◌, Some}
+use Rattle.mailcore.specs.declared.side.Side.{Side}
 use Rattle.mailcore.specs.declared.side.Direction.{Direction}
 use Rattle.mailcore.specs.declared.side.Direction.TheVariants.{Pull, Push}
 use Rattle.rules.specs.declared.entry.Entry.{Entry}
+use Rattle.rules.specs.declared.options.Options.{Options}
+use Rattle.rules.specs.declared.plan.Plan.{Plan}
 use Rattle.rules.specs.declared.plan.Step.{Step}
 use Rattle.rules.specs.declared.plan.Step.TheVariants as step
 use Rattle.rules.specs.declared.state.SyncState.{SyncState}
+use Rattle.rules.specs.World.{World, scene_of}
+use Rattle.planner.specs.Written.{all_unfit}
+use Rattle.sync_state.specs.declared.journal.Logged.{Logged}
 use Rattle.book.specs.declared.book.Pending.TheVariants.{Missing}
 use Rattle.book.specs.Books.{Holds}
+use Rattle.step_laws.specs.Steps.{Fit}
+use Rattle.run_laws.specs.CommitLaws.{results_of}
 use Rattle.outside.specs.Devices.{Device}
+use Rattle.underway.specs.Endings.{EndedAt}
+use Rattle.underway.specs.Openings.{Opening, Since}
+use Rattle.underway.specs.Plans.{IsPlanned}
 use Rattle.runner.specs.declared.pass.Pass.{Pass}
 use Rattle.runner.specs.declared.pass.Pass.TheVariants.{Already, Ran, Finished}
 use Rattle.runner.specs.declared.performed.Performed.{Performed}
 use Rattle.runner.specs.declared.performed.StepResult.{StepResult}
 use Rattle.runner.specs.declared.performed.StepResult.TheVariants as did
+use Rattle.runner.specs.Going.{logs_of, steps_of}
+
+-- ---- where the copies stand
 
 -- the entry of a new message and its copy: each stands on its side
 abbrev pub entry_with : Direction → (uid flags copy : ℕ) → Entry
@@ -50,3 +64,43 @@ abbrev pub HasResults : Pass → Device → Type 0
 HasResults Already d = Unit {0}
 HasResults (Ran performed unfit) d = AreResults performed.items d
 HasResults (Finished performed) d = AreResults performed.items d
+
+-- ---- of which plan the steps are
+
+-- the run is over for this world, and this is its plan, whose steps have these results
+pub record IsOverBy (ours : List ℕ → Bool) (alone : Bool) (w : World) (options : Options) (plan : Plan) (log : List Logged) (d : Device) : Type 0 where
+  pub ended : EndedAt ours alone w options d
+  pub planned : IsPlanned ours w options plan
+  pub fit : Fit plan.steps (results_of log)
+
+-- the run is over for some world since the opening, and that world's plan, whose steps have these results, is this one
+abbrev pub EndsBy : (List ℕ → Bool) → Bool → Opening → Plan → List Logged → Device → Type 0
+EndsBy ours alone opening plan log d = Since alone opening (λ w. IsOverBy ours alone w opening.options plan log d)
+
+-- some world since the opening has this plan, and these messages of it, which only want fitness to be new, were passed over
+abbrev pub PassedOver : (List ℕ → Bool) → Bool → Opening → Plan → List (Side × ℕ) → Type 0
+PassedOver ours alone opening plan unfit = Since alone opening (λ w. IsPlanned ours w opening.options plan × (unfit ≡ all_unfit (scene_of w opening.options)))
+
+-- The steps told are those of this plan behind these ones. The run is over for a world that has this plan, and each new message that is
+-- told, and no other step, has the UID of a copy.
+pub record AreStepsOf (ours : List ℕ → Bool) (alone : Bool) (opening : Opening) (plan : Plan) (before : List Step) (performed : List Performed) (d : Device) : Type 0 where
+  pub steps : plan.steps ≡ before ++ steps_of performed
+  pub copies : Fit (steps_of performed) (results_of (logs_of performed))
+  pub over : Since alone opening (λ w. EndedAt ours alone w opening.options d × IsPlanned ours w opening.options plan)
+
+-- what is told of a run that was planned in this pass: all steps of its plan, and the messages of the world that was listed for it
+pub record IsToldWhole (ours : List ℕ → Bool) (alone : Bool) (opening : Opening) (performed : List Performed) (unfit : List (Side × ℕ)) (d : Device) : Type 0 where
+  pub plan : Plan
+  pub all : AreStepsOf ours alone opening plan [] performed d
+  pub passed_over : PassedOver ours alone opening plan unfit
+
+-- of one that was taken up: the last steps of its plan
+pub record IsToldRest (ours : List ℕ → Bool) (alone : Bool) (opening : Opening) (performed : List Performed) (d : Device) : Type 0 where
+  pub plan : Plan
+  pub before : List Step
+  pub last : AreStepsOf ours alone opening plan before performed d
+
+abbrev pub IsTold : (List ℕ → Bool) → Bool → Opening → Pass → Device → Type 0
+IsTold ours alone opening Already d = Unit {0}
+IsTold ours alone opening (Ran performed unfit) d = IsToldWhole ours alone opening performed.items unfit.items d
+IsTold ours alone opening (Finished performed) d = IsToldRest ours alone opening performed.items d

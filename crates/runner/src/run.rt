@@ -11,7 +11,7 @@ ghost use Rattle.runner.specs.Parts.{IsStuck, Part, PartOr};
 ghost use Rattle.runner.specs.Validities.{LeavesBoxes, TellsChange, TellsChanged, TellsUnlessSame};
 ghost use Rattle.runner.specs.Going.{AreOpen, AtReady, IsGoing, log_at, next_at, plan_at};
 ghost use Rattle.runner.specs.Before.{HasNoPlan, HasPlan, IsKnown, IsTakenUp};
-ghost use Rattle.runner.specs.Results.{HasResults};
+ghost use Rattle.runner.specs.Results.{EndsBy, HasResults, IsTold, PassedOver};
 ghost use Rattle.runner.specs.Answers.{Answers, AnswersTo, AtEnd, HasRepeats, IsChosen, IsEntry, IsKnownEntry, IsRun, Moves, OfFiles, Reaches, RunsBy, as_read, made_in, run_of};
 
 use crate::fault::{RunFault, call_fault};
@@ -35,6 +35,9 @@ fn conclude<O: Outside>(outside: &mut O, is_taken_up: bool) -> Result<(), RunFau
     ensures was_honest { O.honest outside.new → O.honest outside.old }
     ensures committed { OnOk result (AreCommitted (O.opened outside.old) (O.opened outside.new)) }
     ensures held { OnOk result (O.honest outside.new → IsHeld (O.opened outside.new) (O.seen outside.new).device) }
+    ensures ends { OnOk result (O.honest outside.new → AtReady O.ours O.alone opening (O.opened outside.old) is_taken_up
+        (O.seen outside.old).device → EndsBy O.ours O.alone opening (plan_at (O.opened outside.old)) (log_at (O.opened outside.old))
+        (O.seen outside.new).device) }
     ensures part { Part (O.honest outside.new) (AtReady O.ours O.alone opening (O.opened outside.old) is_taken_up)
         (Underway O.ours O.alone opening) (λ _. 0) (λ _. AtEnd O.ours O.alone opening) (O.seen outside.old) (O.seen outside.new) result }
 {
@@ -60,6 +63,8 @@ fn propose<O: Outside, R: Rng>(
     ensures log { OnOk result (log_at (O.opened outside.new) ≡ []) }
     ensures run { IfOk result (λ unfit. IsRun (O.opened outside.old) options.now (R.stream rng.old) (plan_at (O.opened outside.new)).steps
         unfit.items) }
+    ensures passed_over { IfOk result (λ unfit. O.honest outside.new → IsChosen O.ours O.alone opening (O.opened outside.old) options.now
+        (R.stream rng.old) (O.seen outside.old).device → PassedOver O.ours O.alone opening (plan_at (O.opened outside.new)) unfit.items) }
     ensures moved { Moves (R.stream rng.old) (R.stream rng.new) }
     ensures part { PartOr (because (TellsUnlessSame (O.honest outside.new) (O.opened outside.old) (O.seen outside.old).device)
         (HasRepeats (R.stream rng.old))) (O.honest outside.new)
@@ -88,6 +93,8 @@ fn begin<O: Outside, R: Rng>(
     ensures was_honest { O.honest outside.new → O.honest outside.old }
     ensures answer { IfOk result (AnswersTo (run_of (O.opened outside.old) + 1) (O.opened outside.old)) }
     ensures results { IfOk result (λ pass. O.honest outside.new → HasResults pass (O.seen outside.new).device) }
+    ensures told { IfOk result (λ pass. O.honest outside.new → IsChosen O.ours O.alone opening (O.opened outside.old)
+        options.now (R.stream rng.old) (O.seen outside.old).device → IsTold O.ours O.alone opening pass (O.seen outside.new).device) }
     ensures runs { IfOk result (RunsBy (O.opened outside.old) options.now (R.stream rng.old)) }
     ensures fresh { IfOk result (λ pass. pass ≡ Pass.Already → ⊥) }
     ensures moved { Moves (R.stream rng.old) (R.stream rng.new) }
@@ -111,6 +118,8 @@ fn resume<O: Outside>(alloc: Global, outside: &mut O) -> Result<Pass, RunFault>
     ensures was_honest { O.honest outside.new → O.honest outside.old }
     ensures answer { IfOk result (AnswersTo (run_of (O.opened outside.old) + 1) (O.opened outside.old)) }
     ensures results { IfOk result (λ pass. O.honest outside.new → HasResults pass (O.seen outside.new).device) }
+    ensures told { IfOk result (λ pass. O.honest outside.new → IsTakenUp O.ours O.alone opening (O.opened outside.old)
+        (O.seen outside.old).device → IsTold O.ours O.alone opening pass (O.seen outside.new).device) }
     ensures finished { IfOk result (λ pass. pass ≡ Pass.Already → ⊥) }
     ensures part { Part (O.honest outside.new) (IsTakenUp O.ours O.alone opening (O.opened outside.old)) (Underway O.ours O.alone opening)
         made_in (λ _. AtEnd O.ours O.alone opening) (O.seen outside.old) (O.seen outside.new) result }
@@ -150,6 +159,9 @@ fn work<O: Outside, R: Rng>(
     ensures was_honest { O.honest outside.new → O.honest outside.old }
     ensures answer { IfOk result (AnswersTo (run_of (O.opened outside.old) + 1) (O.opened outside.old)) }
     ensures results { IfOk result (λ pass. O.honest outside.new → HasResults pass (O.seen outside.new).device) }
+    ensures told { IfOk result (λ pass. O.honest outside.new → IsKnownEntry O.ours O.alone opening (O.opened outside.old)
+        (run_of (O.opened outside.old) + 1) options.now (R.stream rng.old) (O.seen outside.old).device → IsTold O.ours O.alone opening
+        pass (O.seen outside.new).device) }
     ensures runs { IfOk result (RunsBy (O.opened outside.old) options.now (R.stream rng.old)) }
     ensures fresh { IfOk result (λ pass. pass ≡ Pass.Already → ⊥) }
     ensures moved { Moves (R.stream rng.old) (R.stream rng.new) }
@@ -178,6 +190,9 @@ fn open_and_work<O: Outside, R: Rng>(
     ensures was_honest { O.honest outside.new → O.honest outside.old }
     ensures answer { IfOk result (AnswersTo (run_of (O.opened outside.old) + 1) (O.opened outside.old)) }
     ensures results { IfOk result (λ pass. O.honest outside.new → HasResults pass (O.seen outside.new).device) }
+    ensures told { IfOk result (λ pass. O.honest outside.new → IsKnownEntry O.ours O.alone opening (O.opened outside.old)
+        (run_of (O.opened outside.old) + 1) options.now (R.stream rng.old) (O.seen outside.old).device → IsTold O.ours O.alone opening
+        pass (O.seen outside.new).device) }
     ensures runs { IfOk result (RunsBy (O.opened outside.old) options.now (R.stream rng.old)) }
     ensures fresh { IfOk result (λ pass. pass ≡ Pass.Already → ⊥) }
     ensures moved { Moves (R.stream rng.old) (R.stream rng.new) }
@@ -204,6 +219,8 @@ fn take_up<O: Outside, R: Rng>(
     ensures was_honest { O.honest outside.new → O.honest outside.old }
     ensures answer { IfOk result (AnswersTo run (O.opened outside.old)) }
     ensures results { IfOk result (λ pass. O.honest outside.new → HasResults pass (O.seen outside.new).device) }
+    ensures told { IfOk result (λ pass. O.honest outside.new → IsKnownEntry O.ours O.alone opening (O.opened outside.old)
+        run options.now (R.stream rng.old) (O.seen outside.old).device → IsTold O.ours O.alone opening pass (O.seen outside.new).device) }
     ensures runs { IfOk result (RunsBy (O.opened outside.old) options.now (R.stream rng.old)) }
     ensures stores { IfOk result (λ pass. pass ≡ Pass.Already → LeavesBoxes (O.honest outside.new) O.alone (O.seen outside.old).device
         (O.seen outside.new).device) }
@@ -244,6 +261,11 @@ pub fn pass<O: Outside, R: Rng>(
 
     // A copy that is told as made or found stands beside its source in an entry of the state that the files then hold.
     ensures results { IfOk result (λ pass. O.honest outside.new → HasResults pass (O.seen outside.new).device) }
+
+    // The steps told are those of the plan of the world that the run is over for, in order: all of them, or the last where the plan was
+    // pending. Each new message is told with the UID of a copy. The messages that were passed over are those of the listed world.
+    ensures told { IfOk result (λ pass. O.honest outside.new → IsEntry O.ours O.alone opening run options.now (R.stream rng.old)
+        (O.seen outside.old).device → IsTold O.ours O.alone opening pass (O.seen outside.new).device) }
 
     // The generator moves by whole pairs, so that later marks are its own as well.
     ensures moved { Moves (R.stream rng.old) (R.stream rng.new) }

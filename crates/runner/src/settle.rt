@@ -9,7 +9,7 @@ ghost use Rattle.underway.specs.Openings.{Opening};
 ghost use Rattle.runner.specs.Faults.{IsCaused, LeavesRun, TellsNoRun, because, or_unread};
 ghost use Rattle.runner.specs.Parts.{IsStuck, Never, PartOr};
 ghost use Rattle.runner.specs.Validities.{IsKept, TellsChanged};
-ghost use Rattle.runner.specs.Results.{HasResults};
+ghost use Rattle.runner.specs.Results.{HasResults, IsTold};
 ghost use Rattle.runner.specs.Answers.{HasRepeats, Moves, OfFiles, WillRepeat, made_in};
 ghost use Rattle.runner.specs.Attempts.{AnswersAt, AnswersLast, AtOpening, ChangedLast, FromOpening, HasNoNext, IsTried, MetStops, TriedAt, failed_before, found_by};
 
@@ -82,6 +82,8 @@ fn attempt<O: Outside, R: Rng>(
     ensures answer { IfOk result (λ pass. O.honest outside.new → TriedAt O.ours O.alone opening run.old (O.seen outside.old).device
         → AnswersAt (opening.world.state.run + 1) options.now pass (O.seen outside.old).device (R.stream rng.old)) }
     ensures results { IfOk result (λ pass. O.honest outside.new → HasResults pass (O.seen outside.new).device) }
+    ensures told { IfOk result (λ pass. O.honest outside.new → IsTried O.ours O.alone opening options.now (R.stream rng.old) run.old
+        (O.seen outside.old).device → IsTold O.ours O.alone opening pass (O.seen outside.new).device) }
     ensures greatest { run.old ≡ None → HasNoNext (O.honest outside.new) O.alone (O.seen outside.old).device (O.seen outside.new).device result }
     ensures unfixed { run.old ≡ None → OfFiles (O.honest outside.new) (O.seen outside.old).device (λ s p. s.run + 1 ≡ 2 ^ 64 → run.new ≡ None) }
     ensures stuck { IsStuck (O.seen outside.old) (O.seen outside.new) result }
@@ -142,6 +144,11 @@ pub fn settle<O: Outside, R: Rng>(
 
     // A copy that the last attempt told as made or found stands beside its source in an entry of the state that the files then hold.
     ensures results { IfOk result (λ s. O.honest outside.new → HasResults s.last (O.seen outside.new).device) }
+
+    // From an opening, the steps that it told are those of the plan of the world that the run is over for: all of them, or the last where
+    // the plan was pending, each new message with the UID of a copy. The messages that were passed over are those of the listed world.
+    ensures told { IfOk result (λ s. FromOpening (O.honest outside.new) O.ours O.alone opening options.now (R.stream rng.old)
+        (O.seen outside.old).device (IsTold O.ours O.alone opening s.last (O.seen outside.new).device)) }
 
     // Behind `ValidityChanged` nothing has changed but what the attempts before the last have done.
     ensures changed { IfErr result (λ fault. (side : Side) → fault ≡ RunFault.ValidityChanged side

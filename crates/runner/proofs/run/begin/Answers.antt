@@ -2,7 +2,7 @@ use Rattle.std.proofs.Common.{rules}
 use Rattle.std.proofs.lemmas.Result.{err_from_is_err_and}
 use Rattle.runner.proofs.PartCalls.{left_after, left_never, passed_after}
 use Rattle.runner.proofs.Passes.{none_few, ran_answers, takes_commit, whole_steps}
-use Rattle.runner.proofs.Told.{told}
+use Rattle.runner.proofs.Told.{told, told_whole}
 use Rattle.runner.proofs.run.begin.Goals as goal
 
 pub carry_out-requires : goal.carry_out-requires
@@ -47,3 +47,14 @@ returns-clause-results g c = λ h.
     let performed = c.in_ok-performed.ensures in
     let concluded = c.in_ok-conclude.ensures in
     told (g.O.Outside.opened c.propose.new.outside) (g.O.Outside.opened c.carry_out.new.outside) (g.O.Outside.opened c.conclude.new.outside) c.in_ok-performed.performed.items _ performed.opened performed.steps performed.fits concluded.committed (concluded.held h)
+
+pub returns-clause-told : goal.returns-clause-told
+returns-clause-told g c = λ h k.
+    let proposed = c.in_ok-unfit.ensures in
+    let performed = c.in_ok-performed.ensures in
+    let concluded = c.in_ok-conclude.ensures in
+    let s1 = g.O.Outside.seen c.propose.new.outside in
+    let carried = concluded.was_honest h in
+    let so_far = passed_after _ _ _ _ _ _ _ _ s1 _ performed.was_honest proposed.part performed.part in
+    told_whole g.O.Outside.ours g.O.Outside.alone g.opening (g.O.Outside.opened c.propose.new.outside) (g.O.Outside.opened c.carry_out.new.outside) c.in_ok-performed.performed.items c.in_ok-unfit.unfit.items _ proposed.log performed.opened performed.steps
+    (concluded.ends h (so_far.reaches carried k)) (proposed.passed_over (performed.was_honest carried) k)

@@ -1,7 +1,11 @@
 use Rattle.underway.specs.Conditions.{Underway}
+use Rattle.runner.specs.Going.{AtReady, log_at, plan_at}
+use Rattle.runner.specs.Parts.{Passed}
+use Rattle.runner.specs.Results.{EndsBy}
 use Rattle.runner.proofs.Passes.{end_underway, ended_at, half_ended_at}
 use Rattle.runner.proofs.PartCalls.{from_book, left_call, line_of_book, passed_call}
 use Rattle.runner.proofs.Stages.{left_by, ready_arrives, ready_underway}
+use Rattle.runner.proofs.Told.{ends_by}
 use Rattle.runner.proofs.run.conclude.Goals as goal
 
 pub returns-in-Ok-clause-part : goal.returns-in-Ok-clause-part
@@ -23,3 +27,15 @@ returns-in-Err-clause-part g c =
           (half_ended_at ours alone g.opening opened seek _ m s1.device c.requires.1.0 c.requires.1.1.1 a at)
           (λ x t. end_underway ours alone g.opening s1.device (ended_at ours alone g.opening opened seek _ m s1.device c.requires.1.0 c.requires.1.1.1 a at t)),
     )))
+
+pub returns-in-Ok-clause-ends : goal.returns-in-Ok-clause-ends
+returns-in-Ok-clause-ends g c = λ h k.
+    let ours = g.O.Outside.ours in
+    let alone = g.O.Outside.alone in
+    let opened = g.O.Outside.opened c.args.outside.now in
+    let seek = c.args.is_taken_up in
+    let s0 = g.O.Outside.seen c.args.outside.now in
+    let s1 = g.O.Outside.seen c.commit.new.self in
+    let p : Passed (g.O.Outside.honest c.commit.new.self) (AtReady ours alone g.opening opened seek) (EndsBy ours alone g.opening (plan_at opened) (log_at opened)) 0 s0 s1 =
+    passed_call _ _ _ _ _ _ _ _ _ _ _ c.in-Ok.ensures.call (λ m at a own. ends_by ours alone g.opening opened seek _ m s1.device c.requires.1.0 c.requires.1.1.1 a at own) in
+    p.reaches h k

@@ -6,6 +6,7 @@ use Rattle.runner.proofs.Passes.{boxed_answers, boxed_book, boxed_run, boxed_run
 use Rattle.runner.proofs.PlanFacts.{moved_none}
 use Rattle.runner.proofs.Readings.{book_read, both_open}
 use Rattle.runner.proofs.Validities.{same_told}
+use Rattle.runner.proofs.Told.{told_from}
 use Rattle.runner.proofs.run.open_and_work.Goals as goal
 
 pub open_boxes-requires : goal.open_boxes-requires
@@ -48,3 +49,15 @@ returns-clause-part g c =
 
 pub returns-in_err-open_boxes-clause-moved : goal.returns-in_err-open_boxes-clause-moved
 returns-in_err-open_boxes-clause-moved g c = moved_none _
+
+pub returns-clause-told : goal.returns-clause-told
+returns-clause-told g c =
+    let ours = g.O.Outside.ours in
+    let alone = g.O.Outside.alone in
+    let old = g.O.Outside.opened c.args.outside.now in
+    let new = g.O.Outside.opened c.open_boxes.new.outside in
+    let s1 = g.O.Outside.seen c.open_boxes.new.outside in
+    let same : run_of new ≡ run_of old = rw c.in_ok-open_boxes.ensures.opened (boxed_run old) in
+    let part = c.in_ok-open_boxes.ensures.part in
+    told_from c.work.result _ _ (IsKnownEntry ours alone g.opening old (run_of old + 1) c.args.options.now (g.R.Rng.stream c.args.rng.now) (g.O.Outside.seen c.args.outside.now).device) _
+    (λ h k. record { most = k.most; asked = k.asked; known = part.reaches (c.work.ensures.was_honest h) k.known }) (rw same at c.work.ensures.told)

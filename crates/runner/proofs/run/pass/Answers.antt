@@ -5,6 +5,7 @@ use Rattle.runner.proofs.PartCalls.{left_told, left_weaker, part_after, part_tol
 use Rattle.runner.proofs.Passes.{answers_held, pass_alike, runs_held, stores_joined}
 use Rattle.runner.proofs.PlanFacts.{moved_none}
 use Rattle.runner.proofs.Validities.{files_changed}
+use Rattle.runner.proofs.Told.{told_from}
 use Rattle.runner.proofs.run.pass.Goals as goal
 
 pub returns-in_err-recall-clause-part : goal.returns-in_err-recall-clause-part
@@ -49,3 +50,8 @@ returns-clause-stuck g c = λ b. absurd ((c.in_ok-recall.ensures.stuck b).0)
 
 pub returns-clause-alike : goal.returns-clause-alike
 returns-clause-alike g c = pass_alike _ _ g.O.Outside.ours g.O.Outside.alone g.opening c.args.run c.args.options.now (g.R.Rng.stream c.args.rng.now) (g.O.Outside.seen c.args.outside.now) (g.O.Outside.seen c.take_up.new.outside) c.take_up.result (returns-clause-part g c)
+
+pub returns-clause-told : goal.returns-clause-told
+returns-clause-told g c =
+    let part = c.in_ok-recall.ensures.part in
+    told_from c.take_up.result _ _ _ _ (λ h k. record { most = k.most; asked = k.asked; known = part.reaches (c.take_up.ensures.was_honest h) k.underway }) c.take_up.ensures.told

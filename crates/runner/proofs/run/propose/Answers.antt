@@ -1,4 +1,4 @@
-use Rattle.std.proofs.Common.{◌≡◌, refl, rules, ap, ◌∙◌}
+use Rattle.std.proofs.Common.{◌≡◌, refl, rules, ap, subst, sym, ◌∙◌}
 use Rattle.std.proofs.lemmas.Result.{err_from_is_err_and}
 use Rattle.book.specs.declared.book.Pending.TheVariants.{Missing}
 use Rattle.outside.specs.Opened.{turned}
@@ -8,10 +8,11 @@ use Rattle.runner.specs.Answers.{HasRepeats, IsAsked, IsChosen}
 use Rattle.runner.specs.Before.{IsMade}
 use Rattle.runner.specs.Faults.{because}
 use Rattle.runner.specs.Going.{plan_at}
+use Rattle.runner.specs.Results.{PassedOver}
 use Rattle.runner.specs.Validities.{TellsUnlessSame}
 use Rattle.runner.proofs.PartCalls.{left_after, left_here, left_never, left_weaker, passed_after, passed_weaker, passed_with}
 use Rattle.runner.proofs.Begun.{clear_underway}
-use Rattle.runner.proofs.Passes.{after_plan, begun_going, begun_log, begun_plan, caused_memory, caused_plan, memory_plan, plan_made, run_here, turned_run}
+use Rattle.runner.proofs.Passes.{after_plan, begun_going, begun_log, begun_plan, caused_memory, caused_plan, memory_plan, passed_by, plan_made, run_here, turned_run}
 use Rattle.runner.proofs.PlanFacts.{moved_none}
 use Rattle.runner.proofs.Readings.{none_read, turned_open, turned_read}
 use Rattle.runner.proofs.Validities.{missing_here, unless_same}
@@ -127,3 +128,17 @@ returns-in_err-clear-clause-moved g c = moved_none _
 
 pub returns-in_err-both-clause-moved : goal.returns-in_err-both-clause-moved
 returns-in_err-both-clause-moved g c = moved_none _
+
+pub returns-clause-passed_over : goal.returns-clause-passed_over
+returns-clause-passed_over g c = λ h k.
+    let old = g.O.Outside.opened c.args.outside.now in
+    let now = g.O.Outside.opened c.list_both.new.outside in
+    let s1 = g.O.Outside.seen c.clear.new.outside in
+    let both = c.in_ok-both.both in
+    let plan = c.in_ok-plan.plan in
+    let same : plan_at (g.O.Outside.opened c.write_plan.new.outside) ≡ plan = rw (c.in_ok-write_plan.ensures.opened, c.list_both.ensures.opened, c.in_ok-clear.ensures.opened) (begun_plan (turned (λ _. Missing) old) plan (turned_read (λ _. Missing) old (none_read old c.requires.1.1.0))) in
+    let so_far = passed_after _ _ _ _ _ _ _ _ s1 _ c.in_ok-both.ensures.was_honest c.in_ok-clear.ensures.part c.in_ok-both.ensures.part in
+    let listed = so_far.reaches (c.in_ok-write_plan.ensures.was_honest h) k.none in
+    let unfit = c.in_ok-unfit.unfit.items in
+    let here = passed_by g.O.Outside.ours g.O.Outside.alone g.opening now c.args.options.now (g.R.Rng.stream c.args.rng.now) both.far both.near plan unfit c.in_ok-plan.ensures.drawn c.in_ok-plan.ensures.plan c.in_ok-unfit.ensures.unfit (g.O.Outside.seen c.list_both.new.outside).device k.asked (rw c.list_both.ensures.opened listed) in
+    subst (λ (p : Plan). PassedOver g.O.Outside.ours g.O.Outside.alone g.opening p unfit) (sym same) here

@@ -4,7 +4,7 @@ use Rattle.book.specs.Books.{mended}
 use Rattle.outside.specs.Opened.{turned}
 use Rattle.runner.proofs.PartCalls.{left_after, passed_after}
 use Rattle.runner.proofs.Passes.{book_few, finished_answers, mended_book, mended_going, mended_rest, takes_commit}
-use Rattle.runner.proofs.Told.{told}
+use Rattle.runner.proofs.Told.{told, told_rest}
 use Rattle.runner.proofs.run.resume.Goals as goal
 
 pub carry_out-requires : goal.carry_out-requires
@@ -48,3 +48,12 @@ returns-clause-results g c = λ h.
     let performed = c.in_ok-performed.ensures in
     let concluded = c.in_ok-conclude.ensures in
     told (g.O.Outside.opened c.untear.new.outside) (g.O.Outside.opened c.carry_out.new.outside) (g.O.Outside.opened c.conclude.new.outside) c.in_ok-performed.performed.items _ performed.opened performed.steps performed.fits concluded.committed (concluded.held h)
+
+pub returns-clause-told : goal.returns-clause-told
+returns-clause-told g c = λ h k.
+    let performed = c.in_ok-performed.ensures in
+    let concluded = c.in_ok-conclude.ensures in
+    let s1 = g.O.Outside.seen c.untear.new.outside in
+    let so_far = passed_after _ _ _ _ _ _ _ _ s1 _ performed.was_honest c.in_ok-untear.ensures.part performed.part in
+    told_rest g.O.Outside.ours g.O.Outside.alone g.opening (g.O.Outside.opened c.untear.new.outside) (g.O.Outside.opened c.carry_out.new.outside) c.in_ok-performed.performed.items _ performed.opened performed.steps
+    (concluded.ends h (so_far.reaches (concluded.was_honest h) k))

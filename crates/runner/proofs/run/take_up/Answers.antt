@@ -4,6 +4,7 @@ use Rattle.runner.proofs.PartCalls.{left_here, part_never, part_weaker, passed_n
 use Rattle.runner.proofs.Passes.{end_reaches, known_least, run_of_state}
 use Rattle.runner.proofs.PlanFacts.{moved_none}
 use Rattle.runner.proofs.Readings.{book_read}
+use Rattle.runner.proofs.Told.{told_from, told_none}
 use Rattle.runner.proofs.run.take_up.Goals as goal
 
 pub state-requires : goal.state-requires
@@ -45,3 +46,13 @@ returns-then-run-last-clause-moved g c = moved_none _
 
 pub returns-then-run-last-gt1-clause-moved : goal.returns-then-run-last-gt1-clause-moved
 returns-then-run-last-gt1-clause-moved g c = moved_none _
+
+pub returns-then-run-last-clause-told : goal.returns-then-run-last-clause-told
+returns-then-run-last-clause-told g c = told_none g.O.Outside.ours g.O.Outside.alone g.opening _ _ _ c.skip.result c.skip.ensures.answer
+
+pub returns-clause-told : goal.returns-clause-told
+returns-clause-told g c =
+    let opened = g.O.Outside.opened c.args.outside.now in
+    let same = run_of_state opened c.state.result.now c.state.ensures.state in
+    let is : c.args.run ≡ run_of opened + 1 = omega (arith, same, c.if-run-last.false, c.if-run-last-gt1.false) in
+    told_from c.open_and_work.result _ _ _ _ (λ h k. record { most = let m = k.most in omega (arith, is, m); asked = k.asked; known = k.known }) c.open_and_work.ensures.told

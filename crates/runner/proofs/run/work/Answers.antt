@@ -6,6 +6,7 @@ use Rattle.runner.proofs.PartCalls.{part_never, part_weaker}
 use Rattle.runner.proofs.Passes.{known_planned, known_unplanned}
 use Rattle.runner.proofs.PlanFacts.{moved_none}
 use Rattle.runner.proofs.Readings.{book_read, has_none, has_plan, none_of, some_of}
+use Rattle.runner.proofs.Told.{told_from}
 use Rattle.runner.proofs.run.work.Goals as goal
 
 pub returns-then-is_some-clause-part : goal.returns-then-is_some-clause-part
@@ -28,3 +29,21 @@ returns-else-is_some-clause-part g c =
 
 pub returns-then-is_some-clause-moved : goal.returns-then-is_some-clause-moved
 returns-then-is_some-clause-moved g c = moved_none _
+
+pub returns-then-is_some-clause-told : goal.returns-then-is_some-clause-told
+returns-then-is_some-clause-told g c =
+    let ours = g.O.Outside.ours in
+    let alone = g.O.Outside.alone in
+    let opened = g.O.Outside.opened c.args.outside.now in
+    let i : is_some c.pending.result ≡ true = grind (arith, common_steps) in
+    let j = some_of _ c.pending.result _ c.pending.ensures i in
+    told_from c.resume.result _ _ _ _ (λ h k. known_planned ours alone g.opening opened _ (has_plan opened j.0 j.1) k.most k.known) c.resume.ensures.told
+
+pub returns-else-is_some-clause-told : goal.returns-else-is_some-clause-told
+returns-else-is_some-clause-told g c =
+    let ours = g.O.Outside.ours in
+    let alone = g.O.Outside.alone in
+    let opened = g.O.Outside.opened c.args.outside.now in
+    let i : is_some c.pending.result ≡ false = grind (arith, common_steps) in
+    let none : HasNoPlan opened = has_none opened (book_read opened c.requires.1.1.0) (none_of _ c.pending.result _ c.pending.ensures i) in
+    told_from c.begin.result _ _ _ _ (λ h k. record { asked = k.asked; none = known_unplanned ours alone g.opening opened _ none k.most k.known }) c.begin.ensures.told

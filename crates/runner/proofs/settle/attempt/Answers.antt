@@ -6,6 +6,7 @@ use Rattle.runner.specs.Attempts.{IsTried}
 use Rattle.runner.proofs.Attempts.{asked_later, attempt_answers, attempt_changed, fixed_tried, tried_fixed}
 use Rattle.runner.proofs.PartCalls.{left_mapped, left_told, left_with, part_after, part_mapped, part_told, part_with, passed_weaker, passed_with}
 use Rattle.runner.proofs.PlanFacts.{moved_none}
+use Rattle.runner.proofs.Told.{told_from}
 use Rattle.runner.proofs.settle.attempt.Goals as goal
 
 pub returns-in_err-number-clause-moved : goal.returns-in_err-number-clause-moved
@@ -68,3 +69,14 @@ returns-clause-part g c =
     (λ d k. record { asked = asked_later ours g.opening options old new c.pass.ensures.moved k.0.0; tried = fixed_tried ours alone g.opening run n d fixed (k.0.1, k.1) })
     (λ x d k. let r = k.1 in let e = k.0.1 in r.done (omega (arith, e)))
     (part_with _ p _ _ _ _ _ _ _ _ (part_told _ _ _ _ _ _ _ _ _ _ (record { changed = λ side t. attempt_changed alone _ _ s0.device s1.device s2.device side c.pass.ensures.was_honest c.in_ok-number.ensures.kept t; repeats = λ k. k; unread = λ e t h. inl (t h) }) c.pass.ensures.part)))
+
+pub returns-clause-told : goal.returns-clause-told
+returns-clause-told g c =
+    let ours = g.O.Outside.ours in
+    let alone = g.O.Outside.alone in
+    let n = c.in_ok-number.number in
+    let fixed = c.in_ok-number.ensures.fixed in
+    let part = c.in_ok-number.ensures.part in
+    told_from c.pass.result _ _ _ _ (λ h k.
+    let t = tried_fixed ours alone g.opening c.fix_run.new.run n _ fixed (part.reaches (c.pass.ensures.was_honest h) k.tried) in
+    record { most = let e = t.0 in omega (arith, e); asked = k.asked; underway = t.1 }) c.pass.ensures.told

@@ -185,3 +185,12 @@ returns-in-Ok-clause-done g c = λ h asked at.
 
 pub returns-in-Ok-clause-alike : goal.returns-in-Ok-clause-alike
 returns-in-Ok-clause-alike g c = λ h asked at nobody sound. over_alike g.O.Outside.ours g.O.Outside.alone g.opening (g.O.Outside.seen c.attempt.new.outside).device nobody sound (returns-in-Ok-clause-done g c h asked at)
+
+pub returns-in-Ok-clause-told : goal.returns-in-Ok-clause-told
+returns-in-Ok-clause-told g c = λ h asked at.
+    let i = c.loop-tried.invariant in
+    let now = g.O.Outside.seen c.loop-tried.outside in
+    let s1 = g.O.Outside.seen c.again.new.outside in
+    let before = IsTried g.O.Outside.ours g.O.Outside.alone g.opening c.args.options.now (g.R.Rng.stream c.loop-tried.rng) c.loop-tried.run in
+    let device = found_device c.loop-tried.tried now s1 c.again.ensures.seen in
+    c.in-Ok.ensures.told h (subst before (sym device) (i.left (c.again.ensures.was_honest (c.attempt.ensures.was_honest h)) asked at))
