@@ -44,29 +44,6 @@ Keeps-more (Some xs) None last h k = absurd h
 Keeps-more (Some xs) (Some ys) None h k = absurd k
 Keeps-more (Some xs) (Some ys) (Some zs) h k = k ∙ h
 
--- a text behind another
-pub Appends-more : (first then last : Option (List ℕ)) (text more : List ℕ) → Appends first then text → Appends then last more → Appends first last (text ++ more)
-Appends-more None then last text more h k = tt
-Appends-more (Some xs) None last text more h k = absurd h
-Appends-more (Some xs) (Some ys) None text more h k = absurd k
-Appends-more (Some xs) (Some ys) (Some zs) text more h k = k ∙ ap (λ bs. bs ++ more) h ∙ append_assoc xs text more
-
-pub Appends-nothing : (known : Option (List ℕ)) → Appends known known []
-Appends-nothing None = tt
-Appends-nothing (Some xs) = sym (append-nil xs)
-
--- the text of an item more
-pub Appends-item : {X : Type 0} (f : X → List ℕ) (first then last : Option (List ℕ)) (xs : List X) (i : ℕ) (d : X) → i < length xs
-    → Appends first then (flat_map f (take i xs)) → Appends then last (f (get_or xs i d)) → Appends first last (flat_map f (take (i + 1) xs))
-Appends-item f first then last xs i d h told more =
-    let e = take_more xs i d h in
-    let m = flat_map-append f (take i xs) (get_or xs i d ∷ []) in
-    let n = append-nil (f (get_or xs i d)) in
-    let same : flat_map f (take (i + 1) xs) ≡ flat_map f (take i xs) ++ f (get_or xs i d) =
-    ap (flat_map f) e ∙ m ∙ ap (λ ys. flat_map f (take i xs) ++ ys) n
-    in
-    subst (Appends first last) (sym same) (Appends-more first then last (flat_map f (take i xs)) (f (get_or xs i d)) told more)
-
 abbrev WasTold : Verdict → Type 0
 WasTold Clean = ⊥
 WasTold Faulty = Unit {0}

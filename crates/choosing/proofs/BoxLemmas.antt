@@ -116,8 +116,4 @@ pub put_name-rises : (name : List ℕ) (names : List (List ℕ)) → Rises names
 put_name-rises name [] h = (tt, tt)
 put_name-rises name (n ∷ ns) h = rises-at name n ns (slice_cmp nat_cmp n name) refl h.0 h.1 (put_name-rises name ns h.1)
 
-pub put_names-rises : (names more : List (List ℕ)) → Rises names → Rises (put_names names more)
-put_names-rises names [] h = h
-put_names-rises names (m ∷ ms) h = put_names-rises (put_name m names) ms (put_name-rises m names h)
-
 pub ruleset put_steps = (stays_if_there, goes_there, put_name-rises)

@@ -187,9 +187,6 @@ pub record ToldSo (uid : ℕ) (r : Result (Option ℕ) FarFault) : Type 0 where
   pub is : r ≡ Ok told
   pub is_told : IsTold told uid
 
-eq_true : (a b : ℕ) → a ≡ b → (a == b) ≡ true
-eq_true a b e = grind (arith, e)
-
 told_by : (validity next known uid : ℕ) (given : Option Given) → known ≡ validity → next ≤ uid → uid < 4294967295 → IsOf validity uid given → ToldSo uid (uid_told given known next)
 told_by validity next known uid given e least below (inl g) = record { told = None; is = ap (λ (x : Option Given). uid_told x known next) g; is_told = tt }
 told_by validity next known uid given e least below (inr g) =

@@ -16,11 +16,6 @@ use Rattle.imap_link.proofs.KindLemmas.{passes_is, awaited_stays, tagged_awaited
 
 -- ---- the same bytes end in the same reply
 
-pub record SameEnd {P Q : Reply → Type 0} (x y z : List ℕ) (h : EndsIn P x) (k : EndsIn Q y) : Type 0 where
-  pub passed : h.passed ≡ k.passed
-  pub last : h.last ≡ k.last
-  pub rest : z ≡ []
-
 module _ (r q : Reply) (r_stays : is_passed r ≡ true → ⊥) (q_stays : is_passed q ≡ true → ⊥) where
   pub ends_apart : (ps qs : List Reply) (x y z : List ℕ) → AreUntagged ps → AreUntagged qs → AreReplies (ps ++ r ∷ []) x → AreReplies (qs ++ q ∷ []) y → x ++ z ≡ y
       → (ps ≡ qs) × (r ≡ q) × (z ≡ [])

@@ -70,10 +70,6 @@ module _ (bytes more : List ℕ) where
   faulty_longer : IsFaulty bytes → IsFaulty (bytes ++ more)
   faulty_longer f reply front back rest h fits e = f reply front back (more ++ rest) h fits (sym (append_assoc bytes more rest) ∙ e)
 
-looks_longer : (tag bytes more : List ℕ) (front : Front) → Looks tag bytes front → Looks tag (bytes ++ more) front
-looks_longer tag bytes more fronts.Begun h = tt
-looks_longer tag bytes more (fronts.Whole kind len) h = begins_longer bytes more tag kind len h
-
 faulty_on : (bytes part : List ℕ) (n : ℕ) → part ≡ take n bytes → IsFaulty part → IsFaulty bytes
 faulty_on bytes part n e h = subst IsFaulty (ap (λ (l : List ℕ). l ++ drop n bytes) e ∙ take-append-drop n bytes) (faulty_longer part (drop n bytes) h)
 

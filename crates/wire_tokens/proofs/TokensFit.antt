@@ -66,21 +66,6 @@ item_fits item t h = let p : Part Commands true (Open (goes_on is_digit 58)) Ite
 pub set_fits : (items : List SetItem) (t : List ℕ) → SetText items t → Fits (most_set items) t
 set_fits items t h = items_fit 44 ItemText most_item refl item_fits items t h
 
--- in any set of so many items, and in one of single UIDs
-pub set_most : (items : List SetItem) → most_set items ≤ 22 * length items
-set_most [] = omega arith
-set_most (One x ∷ items) = let r = set_most items in omega (arith, r, sum_by-cons (λ item. most_item item + 1) (One x) items)
-set_most (Range x y ∷ items) = let r = set_most items in omega (arith, r, sum_by-cons (λ item. most_item item + 1) (Range x y) items)
-
-abbrev pub is_one : SetItem → Bool
-is_one (One x) = true
-is_one (Range x y) = false
-
-pub ones_most : (items : List SetItem) → list_all is_one items ≡ true → most_set items ≤ 11 * length items
-ones_most [] h = omega arith
-ones_most (One x ∷ items) h = let rest : list_all is_one items ≡ true = h in let r = ones_most items rest in omega (arith, r, sum_by-cons (λ item. most_item item + 1) (One x) items)
-ones_most (Range x y ∷ items) h = absurd (false≢true h)
-
 -- ---- names and flags
 
 name_fits : (name t : List ℕ) → NameText kinds.Atom name t → Fits (length name) t
