@@ -1,9 +1,9 @@
 //! Reads a world from standard input and prints its plan.
 #![tactic(auto)]
 
+use run_plan::run::{Arguments, run_plan};
 use std::env::{Env, FillError};
 use std::process::ExitCode;
-use worlds::run_plan::{Arguments, run_plan};
 
 fn main(rt: HostRuntime) -> ExitCode {
     // Argument 0 is the program's name.

@@ -65,7 +65,7 @@ pub use reports::performed::PerformedLine;
 // ---- The programs
 
 /// `mbplan`: lists what a run would do.
-pub use worlds::run_plan::{Arguments, run_plan};
+pub use run_plan::run::{Arguments, run_plan};
 /// `mbtrial`: makes a run in memory, with stops.
 pub use run_trial::run::run_trial;
 /// `trial-imapd`: serves one connection.

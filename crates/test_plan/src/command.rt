@@ -10,9 +10,9 @@ use crate::words::{number, place, read_mark};
 use crate::world_calls::WorldCall;
 use crate::written::Part;
 use mailcore::tuid::Tuid;
+use run_plan::run::Arguments;
 use std::alloc::Global;
 use texts::escape::unescape;
-use worlds::run_plan::Arguments;
 use worlds::world::Waiting;
 
 /// What a line of a script asks for.

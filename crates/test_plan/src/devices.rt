@@ -1,9 +1,9 @@
 //! What a run of `mbplan` reads and writes, in memory. It may fail where the script says so.
 
+use run_plan::run::Arguments;
 use std::alloc::Global;
 use std::io;
 use std::io::{ErrorKind, Read, Write};
-use worlds::run_plan::Arguments;
 
 /// What stands behind the last byte of a reader.
 #[derive(Clone, Copy)]

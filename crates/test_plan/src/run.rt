@@ -2,9 +2,9 @@
 
 use crate::devices::{Devices, Sink, Source};
 use crate::failure::LineFault;
+use run_plan::run::run_plan;
 use std::alloc::{AllocError, Global};
 use texts::escape::push_escaped;
-use worlds::run_plan::run_plan;
 
 /// What standard error is told where memory runs out.
 const NO_MEMORY: &[u8] = b"mbplan: no memory\n";

@@ -1,4 +1,4 @@
-//! Worlds, the texts that hold two mailboxes and a state: how they are read and written, and the plan of one.
+//! Worlds, the texts that hold two mailboxes and a state: how they are read and written, and how the lines of a plan are.
 #![tactic(auto)]
 
 pub mod fault;
@@ -8,7 +8,6 @@ pub mod read;
 pub mod read_mailbox;
 mod read_options;
 mod read_state;
-pub mod run_plan;
 pub mod trial_generator;
 pub mod words;
 pub mod world;

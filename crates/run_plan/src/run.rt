@@ -1,27 +1,24 @@
 //! The program `mbplan`, over readers and writers.
 
-ghost use Rattle.std.specs.Prelude.{◌≡◌, ◌≤◌, ◌<◌, ◌⊎◌, IsErr};
+ghost use Rattle.std.specs.Prelude.{◌≡◌, ◌≤◌, ◌<◌, IsErr};
 ghost use Rattle.std.specs.Io.KnownBytes.{Keeps};
 
-use crate::fault::WorldFault;
-use crate::plan_lines::{NoteLine, StepLine, UnfitLine, side_word};
-use crate::read::read_world;
-use crate::trial_generator::TrialGenerator;
-use crate::world::{Waiting, World};
-use mailcore::fault::CoreFault;
+use crate::failure::Failure;
 use mailcore::listing::Listing;
 use mailcore::marks::draw_marks;
 use mailcore::side::Side;
 use mailcore::uid::Uid;
-use planner::fault::PlanFault;
 use planner::news::news;
 use planner::plan::plan;
 use planner::unfit::unfit;
 use rules::plan::Plan;
 use std::alloc::{AllocError, Global};
 use std::io;
-use std::io::{ErrorKind, Read, Write};
-use thiserror::Error;
+use std::io::{Read, Write};
+use worlds::plan_lines::{NoteLine, StepLine, UnfitLine};
+use worlds::read::read_world;
+use worlds::trial_generator::TrialGenerator;
+use worlds::world::{Waiting, World};
 
 /// Whether a program is given arguments.
 #[derive(Clone, Copy, Debug, PartialEq, Eq)]
@@ -30,99 +27,6 @@ pub enum Arguments {
     Absent,
     /// One or more.
     Given,
-}
-
-/// Why there is no plan, as the program tells it.
-#[derive(Clone, Copy, Debug, PartialEq, Eq, Error)]
-enum Failure {
-    #[error("usage")]
-    Usage,
-    #[error("cannot read")]
-    Input,
-    #[error("world line {0}")]
-    World(usize),
-    #[error("validity changed {}", side_word(*.0))]
-    ValidityChanged(Side),
-    #[error("marks repeat")]
-    MarksRepeat,
-    #[error("no memory")]
-    NoMemory,
-}
-
-impl Failure {
-    ghost use Rattle.worlds.specs.Failures.{status_of};
-
-    /// The program's exit status.
-    fn status(self) -> u8
-        ensures { result ≡ status_of self }
-    {
-        match self {
-            Failure::Usage | Failure::World(_) => 2,
-            _ => 1,
-        }
-    }
-}
-
-impl From<AllocError> for Failure {
-    ghost use Rattle.worlds.specs.declared.run_plan.Failure.TheVariants.{NoMemory};
-
-    ghost from_gives = { λ _ e. e ≡ NoMemory };
-
-    fn from(_fault: AllocError) -> Failure {
-        Failure::NoMemory
-    }
-}
-
-impl From<WorldFault> for Failure {
-    ghost use Rattle.worlds.specs.Failures.{of_world};
-
-    ghost from_gives = { λ fault e. e ≡ of_world fault };
-
-    fn from(fault: WorldFault) -> Failure {
-        match fault {
-            WorldFault::Line(line) => Failure::World(line),
-            WorldFault::NoMemory => Failure::NoMemory,
-        }
-    }
-}
-
-impl From<PlanFault> for Failure {
-    ghost use Rattle.worlds.specs.Failures.{of_plan};
-
-    ghost from_gives = { λ fault e. e ≡ of_plan fault };
-
-    fn from(fault: PlanFault) -> Failure {
-        match fault {
-            PlanFault::ValidityChanged(side) => Failure::ValidityChanged(side),
-            PlanFault::NoMemory => Failure::NoMemory,
-        }
-    }
-}
-
-impl From<CoreFault> for Failure {
-    ghost use Rattle.worlds.specs.Failures.{of_marks};
-
-    ghost from_gives = { λ fault e. e ≡ of_marks fault };
-
-    fn from(fault: CoreFault) -> Failure {
-        match fault {
-            CoreFault::MarksRepeat => Failure::MarksRepeat,
-            CoreFault::NoMemory => Failure::NoMemory,
-        }
-    }
-}
-
-impl From<io::Error> for Failure {
-    ghost use Rattle.worlds.specs.Failures.{OfInput};
-
-    ghost from_gives = { λ _ e. OfInput e };
-
-    fn from(fault: io::Error) -> Failure {
-        match fault.kind() {
-            ErrorKind::OutOfMemory => Failure::NoMemory,
-            _ => Failure::Input,
-        }
-    }
 }
 
 /// Reads a world from `input` and writes its plan to `out`: a line for each step and note, and for each message that

@@ -6,8 +6,8 @@ use Rattle.planner.specs.declared.fault.PlanFault.{PlanFault}
 use Rattle.planner.specs.declared.fault.PlanFault.TheVariants.{NoMemory as no_plan, ValidityChanged as changed}
 use Rattle.worlds.specs.declared.fault.WorldFault.{WorldFault}
 use Rattle.worlds.specs.declared.fault.WorldFault.TheVariants.{Line as bad_line, NoMemory as no_world}
-use Rattle.worlds.specs.declared.run_plan.Failure.{Failure}
-use Rattle.worlds.specs.declared.run_plan.Failure.TheVariants.{Usage, Input, World, ValidityChanged, MarksRepeat, NoMemory}
+use Rattle.run_plan.specs.declared.failure.Failure.{Failure}
+use Rattle.run_plan.specs.declared.failure.Failure.TheVariants.{Usage, Input, World, ValidityChanged, MarksRepeat, NoMemory}
 
 abbrev pub of_world : WorldFault → Failure
 of_world (bad_line n) = World n
