@@ -5,6 +5,7 @@ use Rattle.std.specs.List.{list_any}
 use borrow.Author.Tests.{ltb-true}
 use Rattle.std.proofs.lemmas.Bool.{and_parts, eq-eqb, eqb-true, eqb-false, ne_eqb}
 use Rattle.std.proofs.lemmas.List.Folds.{list_any_none}
+use Rattle.std.proofs.lemmas.List.Sums.{sum_by-cons}
 use Rattle.std.proofs.lemmas.Option.{none-some}
 use Rattle.mailcore.specs.declared.side.Side.{Side}
 use Rattle.mailcore.specs.declared.side.Side.TheVariants.{Far, Near}
@@ -22,12 +23,15 @@ use Rattle.planner.specs.Newcomers.{is_candidate, is_newcomer, names_one, passes
 
 -- ---- counts
 
+count_cons : {X : Type 0} (p : X → Bool) (x : X) (xs : List X) → count_by p (x ∷ xs) ≡ cond (p x) 1 0 + count_by p xs
+count_cons p x xs = sum_by-cons (λ y. cond (p y) 1 0) x xs
+
 pub count_same : {X : Type 0} (p q : X → Bool) (xs : List X) → All (λ x. p x ≡ q x) xs → count_by p xs ≡ count_by q xs
 count_same p q [] same = refl
 count_same p q (x ∷ xs) same =
     let first : cond (p x) 1 0 ≡ cond (q x) 1 0 = ap (λ (b : Bool). cond b 1 0) (same 0 x (omega arith)) in
     let rest : count_by p xs ≡ count_by q xs = count_same p q xs (λ k d within. same (suc k) d (omega arith)) in
-    omega arith
+    count_cons p x xs ∙ ap (λ (n : ℕ). n + count_by p xs) first ∙ ap (λ (n : ℕ). cond (q x) 1 0 + n) rest ∙ sym (count_cons q x xs)
 
 pub count_alike : {X : Type 0} (p q : X → Bool) (xs : List X) → ((x : X) → p x ≡ q x) → count_by p xs ≡ count_by q xs
 count_alike p q xs same = count_same p q xs (λ k d within. same (get_or xs k d))
@@ -49,23 +53,31 @@ less_later false m n k e = omega arith
 abbrev OneLess : (Item → Bool) → ℕ → List Item → Type 0
 OneLess r u is = count_by (λ i. r i && not (u == i.uid)) is + cond (passes r (find (λ i. i.uid == u) is)) 1 0 ≡ count_by r is
 
-one_less_more : (r : Item → Bool) (u : ℕ) (i : Item) (is : List Item) → All (λ j. i.uid < j.uid) is → OneLess r u is → (b : Bool) → (i.uid == u) ≡ b → OneLess r u (i ∷ is)
-one_less_more r u i is above rest true e =
+-- the same with the first message apart
+abbrev LessWith : (Item → Bool) → ℕ → Item → List Item → Type 0
+LessWith r u i is =
+    cond (r i && not (u == i.uid)) 1 0 + count_by (λ j. r j && not (u == j.uid)) is + cond (passes r (cond (i.uid == u) (Some i) (find (λ j. j.uid == u) is))) 1 0
+    ≡ cond (r i) 1 0 + count_by r is
+
+less_with : (r : Item → Bool) (u : ℕ) (i : Item) (is : List Item) → All (λ j. i.uid < j.uid) is → OneLess r u is → (b : Bool) → (i.uid == u) ≡ b → LessWith r u i is
+less_with r u i is above rest true e =
     let same : i.uid ≡ u = eqb-true i.uid u e in
     let flipped : (u == i.uid) ≡ true = eq-eqb u i.uid (sym same) in
     let others : count_by (λ j. r j && not (u == j.uid)) is ≡ count_by r is = count_same (λ j. r j && not (u == j.uid)) r is
-      (λ k d within. let up : i.uid < (get_or is k d).uid = above k d within in
-      let apart : (u == (get_or is k d).uid) ≡ false = ne_eqb u (get_or is k d).uid (λ q. omega arith) in
-      ap (λ (b : Bool). r (get_or is k d) && not b) apart ∙ and_true (r (get_or is k d))) in
+    (λ k d within. let up : i.uid < (get_or is k d).uid = above k d within in
+    let apart : (u == (get_or is k d).uid) ≡ false = ne_eqb u (get_or is k d).uid (λ q. omega arith) in
+    ap (λ (b : Bool). r (get_or is k d) && not b) apart ∙ and_true (r (get_or is k d))) in
     rw (e, flipped) (less_here (r i) (count_by (λ j. r j && not (u == j.uid)) is) (count_by r is) others)
-one_less_more r u i is above rest false e =
+less_with r u i is above rest false e =
     let flipped : (u == i.uid) ≡ false = ne_eqb u i.uid (λ q. eqb-false i.uid u e (sym q)) in
     rw (e, flipped) (less_later (r i) (count_by (λ j. r j && not (u == j.uid)) is) (count_by r is) (cond (passes r (find (λ j. j.uid == u) is)) 1 0) rest)
 
 pub one_less : (r : Item → Bool) (u : ℕ) (is : List Item) → IsRising is → OneLess r u is
 one_less r u [] rising = refl
 one_less r u (i ∷ is) rising =
-    one_less_more r u i is (λ k d within. rising 0 (suc k) d (omega arith) (omega arith)) (one_less r u is (AllPairs-tail (λ (a b : Item). a.uid < b.uid) i is rising)) (i.uid == u) refl
+    let rest : OneLess r u is = one_less r u is (AllPairs-tail (λ (a b : Item). a.uid < b.uid) i is rising) in
+    let here : LessWith r u i is = less_with r u i is (λ k d within. rising 0 (suc k) d (omega arith) (omega arith)) rest (i.uid == u) refl in
+    ap (λ (n : ℕ). n + cond (passes r (find (λ j. j.uid == u) (i ∷ is))) 1 0) (count_cons (λ j. r j && not (u == j.uid)) i is) ∙ here ∙ sym (count_cons r i is)
 
 -- ---- what entries name
 
@@ -112,6 +124,9 @@ passes_alike q side e es once positive (Some x) found =
 found_uid : (is : List Item) (u : ℕ) (x : Item) → find (λ i. i.uid == u) is ≡ Some x → x.uid ≡ u
 found_uid is u x h = let f = find_some (λ (i : Item). i.uid == u) is x h in eqb-true x.uid u f.1
 
+joined : (all named first rest less here beside candidates : ℕ) → all ≡ less → named ≡ first + rest → first ≡ here → less + here ≡ beside → beside + rest ≡ candidates → all + named ≡ candidates
+joined all named first rest less here beside candidates a b c d e = omega arith
+
 pub count_named : (q : Item → Bool) (side : Side) (is : List Item) → IsRising is → ((i : Item) → q i ≡ true → 0 < i.uid) → (es : List Entry) → IsOnce side es
     → count_by (λ i. q i && not (list_any (λ a. uid_of side a == i.uid) es)) is + count_by (λ a. passes q (find (λ i. i.uid == uid_of side a) is)) es ≡ count_by q is
 count_named q side is rising positive [] once =
@@ -120,13 +135,14 @@ count_named q side is rising positive [] once =
 count_named q side is rising positive (e ∷ es) once =
     let r : Item → Bool = λ i. q i && not (list_any (λ a. uid_of side a == i.uid) es) in
     let u : ℕ = uid_of side e in
-    let rest = count_named q side is rising positive es (AllPairs-tail (λ a b. uid_on side a ≡ uid_on side b → uid_on side a ≡ None) e es once) in
+    let names : Entry → Bool = λ a. passes q (find (λ i. i.uid == uid_of side a) is) in
+    let rest : count_by r is + count_by names es ≡ count_by q is = count_named q side is rising positive es (AllPairs-tail (λ a b. uid_on side a ≡ uid_on side b → uid_on side a ≡ None) e es once) in
     let less : OneLess r u is = one_less r u is rising in
     let alike : count_by (λ i. q i && not ((u == i.uid) || list_any (λ a. uid_of side a == i.uid) es)) is ≡ count_by (λ i. r i && not (u == i.uid)) is =
-      count_alike (λ i. q i && not ((u == i.uid) || list_any (λ a. uid_of side a == i.uid) es)) (λ i. r i && not (u == i.uid)) is (λ i. and_swapped (q i) (u == i.uid) (list_any (λ a. uid_of side a == i.uid) es)) in
-    let here : cond (passes q (find (λ i. i.uid == u) is)) 1 0 ≡ cond (passes r (find (λ i. i.uid == u) is)) 1 0 =
-      ap (λ (b : Bool). cond b 1 0) (passes_alike q side e es once positive (find (λ i. i.uid == u) is) (λ x h. found_uid is u x h)) in
-    omega arith
+    count_alike (λ i. q i && not ((u == i.uid) || list_any (λ a. uid_of side a == i.uid) es)) (λ i. r i && not (u == i.uid)) is (λ i. and_swapped (q i) (u == i.uid) (list_any (λ a. uid_of side a == i.uid) es)) in
+    let here : cond (names e) 1 0 ≡ cond (passes r (find (λ i. i.uid == u) is)) 1 0 =
+    ap (λ (b : Bool). cond b 1 0) (passes_alike q side e es once positive (find (λ i. i.uid == u) is) (λ x h. found_uid is u x h)) in
+    joined _ _ _ _ _ _ _ _ alike (count_cons names e es) here less rest
 
 -- ---- new messages
 
@@ -155,8 +171,8 @@ pub newcomers_counted : (o : Options) (d : Direction) (highest : ℕ) (is : List
 newcomers_counted o d highest is es rising once =
     let counted = count_named (is_candidate o d highest) (source d) is rising (candidate_positive o d highest) es once in
     let same : count_by (is_newcomer o d highest es) is ≡ count_by (λ i. is_candidate o d highest i && not (list_any (λ a. uid_of (source d) a == i.uid) es)) is =
-      count_alike (is_newcomer o d highest es) (λ i. is_candidate o d highest i && not (list_any (λ a. uid_of (source d) a == i.uid) es)) is
-      (λ i. shuffled (goes o.cells.new d) (nat_lt highest i.uid) (list_any (λ a. uid_of (source d) a == i.uid) es) (has i.flags DELETED && covers o.expunge (source d)) i.fit) in
+    count_alike (is_newcomer o d highest es) (λ i. is_candidate o d highest i && not (list_any (λ a. uid_of (source d) a == i.uid) es)) is
+    (λ i. shuffled (goes o.cells.new d) (nat_lt highest i.uid) (list_any (λ a. uid_of (source d) a == i.uid) es) (has i.flags DELETED && covers o.expunge (source d)) i.fit) in
     omega arith
 
 -- a UID stands in one entry of its side at most

@@ -110,10 +110,10 @@ named_by es side u start count rising within below above short upto beyond =
     sym (filter_behind (λ e. uid_of side e == u) es start within (λ j d a b. ne_eqb (uid_of side (get_or es j d)) u (λ e. let l = ltb-true (uid_of side (get_or es j d)) u (below j d a b) in omega arith))
     ∙ filter_front (λ e. uid_of side e == u) (drop start es) count short
     (λ j d a b.
-      let l = leb-true (uid_of side (get_or (drop start es) j d)) u (upto j d a b) in
-      let place : uid_of side (get_or (drop start es) j d) ≡ uid_of side (get_or es (start + j) d) = ap (λ e. uid_of side e) (get_or-drop start es j d) in
-      let m = ltb-false (uid_of side (get_or es (start + j) d)) u (above (start + j) d (omega arith) (omega (arith, length-drop start es))) in
-      eq-eqb (uid_of side (get_or (drop start es) j d)) u (omega arith))
+    let l = leb-true (uid_of side (get_or (drop start es) j d)) u (upto j d a b) in
+    let place : uid_of side (get_or (drop start es) j d) ≡ uid_of side (get_or es (start + j) d) = ap (λ e. uid_of side e) (get_or-drop start es j d) in
+    let m = ltb-false (uid_of side (get_or es (start + j) d)) u (above (start + j) d (omega arith) (omega (arith, length-drop start es))) in
+    eq-eqb (uid_of side (get_or (drop start es) j d)) u (omega arith))
     (λ j d a b. ne_eqb (uid_of side (get_or (drop start es) j d)) u (λ e. let l = leb-false (uid_of side (get_or (drop start es) j d)) u (beyond j d a b) in omega arith)))
 
 -- the same of the rest of a slice

@@ -9,4 +9,4 @@ use Rattle.planner.proofs.near_order.by_near.Goals as goal
 pub returns : goal.returns
 returns c =
     let rising = IsNonDecreasingBy-from_sort_by_key (λ (e : Entry). uid_of Near e) _ c.in_ok-sort_by_key.ensures.sorted (λ a r q k. search rules) in
-    is_by_near c.args.entries.now _ c.requires ? rising
+    is_by_near c.args.entries.now _ c.requires (search rules) rising
