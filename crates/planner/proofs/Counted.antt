@@ -19,7 +19,7 @@ use Rattle.rules.specs.declared.options.Options.{Options}
 use Rattle.rules.specs.Options.{goes, covers}
 use Rattle.rules.specs.Entries.{ArePairs, uid_of, uid_on}
 use Rattle.rules.proofs.Walks.{AllPairs-tail, find_some}
-use Rattle.planner.specs.Newcomers.{is_candidate, is_newcomer, names_one, passes}
+use Rattle.planner.specs.Newcomers.{IsOnce, is_candidate, is_newcomer, names_one, passes}
 
 -- ---- counts
 
@@ -88,9 +88,6 @@ on_of Near e = refl
 on_is : (o : Option ℕ) (u : ℕ) → unwrap_or o 0 ≡ u → 0 < u → o ≡ Some u
 on_is None u same positive = absurd (omega arith)
 on_is (Some v) u same positive = ap (λ (w : ℕ). Some w) same
-
-abbrev IsOnce : Side → List Entry → Type 0
-IsOnce side es = AllPairs (λ a b. uid_on side a ≡ uid_on side b → uid_on side a ≡ None) es
 
 -- no later entry names what an entry names
 unnamed_later : (side : Side) (e : Entry) (es : List Entry) (u : ℕ) → IsOnce side (e ∷ es) → uid_of side e ≡ u → 0 < u → list_any (λ a. uid_of side a == u) es ≡ false

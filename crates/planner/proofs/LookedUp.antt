@@ -14,6 +14,7 @@ use Rattle.mailcore.specs.declared.listing.Item.{Item}
 use Rattle.mailcore.specs.Listed.{IsRising}
 use Rattle.rules.specs.declared.entry.Entry.{Entry}
 use Rattle.rules.specs.Entries.{ArePairs, EntryBefore, is_full, uid_of}
+use Rattle.rules.specs.Scene.{Scene, is_paired, full_entry}
 use Rattle.rules.proofs.LookUps.{full_near, near_only}
 use Rattle.rules.proofs.Walks.{find_some, find_only, only_one}
 use Rattle.planner.specs.ByNear.{IsByNear}
@@ -172,3 +173,17 @@ is_by_near es ys pairs moved rising = record {
   paired = λ u. sym (list_any-IsPermutation (λ e. uid_of Near e == u) es ys moved);
   full = λ u. find_permuted (λ e. is_full e && uid_of Near e == u) es ys moved (λ x y c d p q. near_only es pairs x y u c d (near_is x u p) (near_is y u q));
 }
+
+-- ---- of the lists of a plan
+
+pub far_rises : (side : Side) → side ≡ Far → (es : List Entry) → ArePairs es → IsNonDecreasingBy (λ e. uid_of side e) es
+far_rises Far is es pairs = entries_rise es pairs
+far_rises Near is es pairs = absurd cc
+
+pub near_paired : (s : Scene) (ordered : List Entry) (side : Side) → side ≡ Near → IsByNear s.entries ordered → (u : ℕ) → list_any (λ e. uid_of side e == u) ordered ≡ is_paired s side u
+near_paired s ordered Far is same u = absurd cc
+near_paired s ordered Near is same u = same.paired u
+
+pub near_full : (s : Scene) (ordered : List Entry) (side : Side) → side ≡ Near → IsByNear s.entries ordered → (u : ℕ) → find (λ e. is_full e && uid_of side e == u) ordered ≡ full_entry s side u
+near_full s ordered Far is same u = absurd cc
+near_full s ordered Near is same u = same.full u
