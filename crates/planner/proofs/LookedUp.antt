@@ -1,7 +1,7 @@
 -- What look-ups by halving find, in lists that rise by what is looked up.
-use Rattle.std.proofs.Common.{◌≡◌, ℕ, zero, suc, ◌<◌, ◌≤◌, Bool, true, false, not, ◌&&◌, ◌||◌, cond, ltb, leb, List, [], ◌∷◌, ◌++◌, Option, Some, None, length, get_or, take, drop, refl, sym, ap, ◌∙◌, subst, inl, inr, arith, ◌+◌}
-use Rattle.std.specs.Prelude.{All, AllPairs, Contains, find, filter, ◌==◌}
-use Rattle.std.specs.List.{list_any, AllWithin, slice_get}
+use Rattle.std.proofs.Common.{◌≡◌, ℕ, zero, suc, ◌<◌, ◌≤◌, Bool, true, false, not, ◌&&◌, ◌||◌, cond, ltb, leb, List, [], ◌∷◌, Option, Some, None, length, get_or, take, drop, refl, sym, ap, ◌∙◌, subst, inl, inr, arith, ◌+◌}
+use Rattle.std.specs.Prelude.{All, Contains, find, filter, ◌==◌}
+use Rattle.std.specs.List.{list_any, AllWithin}
 use Rattle.std.specs.List.Sorted.{IsNonDecreasingBy, IsPermutation}
 use borrow.Author.Tests.{ltb-true, ltb-false, leb-true, leb-false}
 use Rattle.std.proofs.lemmas.Bool.{ne_eqb, and_parts, cases_lt, eq-eqb, eqb-true}
