@@ -3,8 +3,8 @@
 
     bench/plan.py [PROGRAM]
 
-PROGRAM is bin/mbplan if it is left out. One world has 2,000 messages on each side, half of them paired; the planner
-walks whole lists at each question, so it is quadratic in these. One has a single message of 16777216 bytes."""
+PROGRAM is bin/mbplan if it is left out. Worlds have up to 20,000 messages on each side, half of them paired. One has a
+single message of 16777216 bytes."""
 import os
 import resource
 import subprocess
@@ -53,6 +53,7 @@ def main():
     program = sys.argv[1] if len(sys.argv) > 1 else os.path.join(TOP, "bin", "mbplan")
     measure(program, "200 messages a side", many(200))
     measure(program, "2,000 messages a side", many(2000))
+    measure(program, "20,000 messages a side", many(20000))
     measure(program, "a message of 16777216 bytes", biggest())
 
 

@@ -7,3 +7,5 @@ pub mod Unique
 pub mod Theorem
 pub mod Spelled
 pub mod Agreeing
+pub mod LookedUp
+pub mod Counted

@@ -1,9 +1,10 @@
 //! The lists that a plan is made on, and what is looked up in them.
 
-ghost use Rattle.std.specs.Prelude.{◌≡◌, ◌==◌, ◌&&◌, find};
 ghost use Rattle.mailcore.specs.Listed.{IsRising};
-ghost use Rattle.rules.specs.Entries.{ArePairs, is_full, uid_of};
+ghost use Rattle.rules.specs.Entries.{ArePairs};
+ghost use Rattle.planner.specs.ByNear.{IsByNear};
 
+use crate::searches::{full_with, is_named, item_with};
 use mailcore::flags::Flags;
 use mailcore::listing::{Item, Listing};
 use mailcore::side::{Direction, Side};
@@ -17,12 +18,14 @@ pub struct Lists<'a> {
     far: &'a [Item],
     near: &'a [Item],
     entries: &'a [Entry],
+    by_near: &'a [Entry],
     max_pulled: u32,
     max_pushed: u32,
     options: Options,
     ghost far_rising: { IsRising far.now },
     ghost near_rising: { IsRising near.now },
     ghost pairs: { ArePairs entries.now },
+    ghost near_order: { IsByNear entries.now by_near.now },
 }
 
 impl<'a> Lists<'a> {
@@ -31,14 +34,22 @@ impl<'a> Lists<'a> {
     ghost use Rattle.rules.specs.Called.{pair_of};
     ghost use Rattle.planner.specs.Seen.{seen};
 
-    /// The lists of these listings and this state.
-    pub fn new(far: &'a Listing, near: &'a Listing, state: &'a SyncState, options: &Options) -> Self
+    /// The lists of these listings and this state, with its entries also in the order of their near UIDs.
+    pub fn new(
+        far: &'a Listing,
+        near: &'a Listing,
+        state: &'a SyncState,
+        by_near: &'a [Entry],
+        options: &Options,
+    ) -> Self
+        requires { IsByNear state.now.entries by_near.now }
         ensures { seen result ≡ scene far.now near.now state.now options.now }
     {
         Lists {
             far: far.items.as_slice(),
             near: near.items.as_slice(),
             entries: state.entries.as_slice(),
+            by_near,
             max_pulled: state.max_pulled,
             max_pushed: state.max_pushed,
             options: *options,
@@ -83,10 +94,7 @@ impl<'a> Lists<'a> {
     pub fn flags_at(&self, side: Side, uid: u32) -> Option<Flags>
         ensures { result ≡ flags_at (items (seen self.now) side) uid }
     {
-        self.items(side)
-            .iter()
-            .find(|item| item.uid.get() == uid)
-            .map(|item| item.flags)
+        item_with(self.items(side), uid).map(|item| item.flags)
     }
 
     /// Whether the message with this UID is listed.
@@ -100,14 +108,20 @@ impl<'a> Lists<'a> {
     pub fn is_paired(&self, side: Side, uid: u32) -> bool
         ensures { result ≡ is_paired (seen self.now) side uid }
     {
-        self.entries.iter().any(|entry| entry.number(side) == uid)
+        match side {
+            Side::Far => is_named(self.entries, side, uid),
+            Side::Near => is_named(self.by_near, side, uid),
+        }
     }
 
     /// The full entry with this UID, if there is one.
     pub fn full_entry(&self, side: Side, uid: u32) -> Option<Entry>
         ensures { result ≡ full_entry (seen self.now) side uid }
     {
-        find_full(self.entries, side, uid)
+        match side {
+            Side::Far => full_with(self.entries, side, uid),
+            Side::Near => full_with(self.by_near, side, uid),
+        }
     }
 
     /// The pair of a full entry whose messages are both listed.
@@ -125,21 +139,4 @@ impl<'a> Lists<'a> {
             recorded: entry.flags,
         })
     }
-}
-
-fn find_full(entries: &[Entry], side: Side, uid: u32) -> Option<Entry>
-    ensures { result ≡ find (λ e. is_full e && uid_of side e == uid) entries.now }
-{
-    for entry in entries {
-        if is_full_with(entry, side, uid) {
-            return Some(*entry);
-        }
-    }
-    None
-}
-
-fn is_full_with(entry: &Entry, side: Side, uid: u32) -> bool
-    ensures { result ≡ (is_full entry.now && uid_of side entry.now == uid) }
-{
-    entry.is_full() && entry.number(side) == uid
 }

@@ -1,17 +1,17 @@
 //! New messages: those that a run copies to the other side.
 
 ghost use Rattle.std.specs.Prelude.{◌≡◌, ◌<◌, ◌≤◌, ◌^◌, ◌++◌, length, count_by, All, OnOk, IfOk};
-ghost use Rattle.mailcore.specs.Sides.{source};
-ghost use Rattle.rules.specs.Scene.{scene, items};
+ghost use Rattle.rules.specs.Scene.{scene};
 ghost use Rattle.rules.specs.Called.{would_be_new, is_new};
 ghost use Rattle.rules.specs.Outcome.{count_new, news};
 ghost use Rattle.rules.specs.Plans.{IsStep};
+ghost use Rattle.planner.specs.Newcomers.{is_newcomer};
 ghost use Rattle.planner.specs.Seen.{seen};
 ghost use Rattle.planner.specs.Written.{new_steps};
 
 use crate::lists::Lists;
+use crate::newcomers::{Newcomers, may_be_new};
 use crate::pushes::push_step;
-use mailcore::flags::Flag;
 use mailcore::listing::{Item, Listing};
 use mailcore::side::Direction;
 use mailcore::tuid::Tuid;
@@ -24,8 +24,30 @@ use std::alloc::{AllocError, Global};
 pub fn news(far: &Listing, near: &Listing, state: &SyncState, options: &Options) -> usize
     ensures { result ≡ count_new (scene far.now near.now state.now options.now) }
 {
-    let lists = Lists::new(far, near, state, options);
-    lists.count_new(Direction::Pull) + lists.count_new(Direction::Push)
+    count_new(Direction::Pull, state.max_pulled, far, state, options)
+        + count_new(Direction::Push, state.max_pushed, near, state, options)
+}
+
+// How many messages of the source's listing are new in a direction, above the highest UID that was taken over in it.
+fn count_new(
+    direction: Direction,
+    highest: u32,
+    listing: &Listing,
+    state: &SyncState,
+    options: &Options,
+) -> usize
+    ensures counted { result
+        ≡ count_by (is_newcomer options.now direction highest state.now.entries) listing.now.items }
+    ensures few { result < 2 ^ 62 }
+{
+    let newcomers = Newcomers {
+        direction,
+        highest,
+        options: *options,
+        items: listing.items.as_slice(),
+        entries: state.entries.as_slice(),
+    };
+    newcomers.count()
 }
 
 impl Lists<'_> {
@@ -33,29 +55,15 @@ impl Lists<'_> {
     pub fn would_be_new(&self, direction: Direction, item: &Item) -> bool
         ensures { result ≡ would_be_new (seen self.now) direction item.now }
     {
-        let side = direction.source();
-        let uid = item.uid.get();
-        self.options().cells.new.goes(direction)
-            && self.highest(direction) < uid
-            && !self.is_paired(side, uid)
-            && !(item.flags.has(Flag::Deleted) && self.options().expunge.covers(side))
+        let highest = self.highest(direction);
+        may_be_new(&self.options(), direction, highest, item)
+            && !self.is_paired(direction.source(), item.uid.get())
     }
 
     fn is_new(&self, direction: Direction, item: &Item) -> bool
         ensures { result ≡ is_new (seen self.now) direction item.now }
     {
         self.would_be_new(direction, item) && item.fit
-    }
-
-    fn count_new(&self, direction: Direction) -> usize
-        ensures counted { result
-            ≡ count_by (is_new (seen self.now) direction) (items (seen self.now) (source direction)) }
-        ensures few { result < 2 ^ 62 }
-    {
-        self.items(direction.source())
-            .iter()
-            .filter(|item| self.is_new(direction, item))
-            .count()
     }
 
     /// The messages that are copied in a direction, in order.

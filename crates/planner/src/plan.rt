@@ -13,6 +13,7 @@ ghost use Rattle.planner.specs.Written.{CarriesFlags, all_new, all_notes, all_st
 
 use crate::fault::PlanFault;
 use crate::lists::Lists;
+use crate::near_order::by_near;
 use crate::news::push_new;
 use mailcore::listing::{Item, Listing};
 use mailcore::side::{Direction, Side};
@@ -71,7 +72,8 @@ pub fn plan(
     if let Some(side) = side_changed(far, near, state) {
         return Err(PlanFault::ValidityChanged(side));
     }
-    let lists = Lists::new(far, near, state, options);
+    let by_near = by_near(alloc, state.entries.as_slice())?;
+    let lists = Lists::new(far, near, state, &by_near, options);
     let steps = lists.steps(alloc, marks)?;
     let notes = lists.notes(alloc)?;
     Ok(Plan {

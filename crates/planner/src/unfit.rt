@@ -7,6 +7,7 @@ ghost use Rattle.planner.specs.Seen.{seen};
 ghost use Rattle.planner.specs.Written.{unfit_uids, all_unfit};
 
 use crate::lists::Lists;
+use crate::near_order::by_near;
 use mailcore::listing::{Item, Listing};
 use mailcore::side::{Direction, Side};
 use mailcore::uid::Uid;
@@ -27,7 +28,8 @@ pub fn unfit(
 ) -> Result<Vec<(Side, Uid)>, AllocError>
     ensures { IfOk result (λ v. v.items ≡ all_unfit (scene far.now near.now state.now options.now)) }
 {
-    let lists = Lists::new(far, near, state, options);
+    let by_near = by_near(alloc, state.entries.as_slice())?;
+    let lists = Lists::new(far, near, state, &by_near, options);
     let mut found = Vec::new(alloc);
     lists.push_unfit(Direction::Pull, &mut found)?;
     lists.push_unfit(Direction::Push, &mut found)?;
