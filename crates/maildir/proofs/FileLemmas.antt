@@ -161,6 +161,12 @@ removed_at at (y ∷ ys) (suc i) d below e apart =
     other true f = absurd (apart_head y ys apart i d (omega arith) (at_true at y f ∙ sym (at_true at (get_or ys i d) e)))
     other false f = f
 
+pub removed_found : (at : FileName) (ys : List File) (i : ℕ) → position (is_at at.place at.name) ys ≡ Some i → AreApart ys → remove ys i ≡ without at.place at.name ys
+removed_found at ys i found apart =
+    let d : File = record { place = at.place; name = at.name; bytes = [] } in
+    let first = position-Some (is_at at.place at.name) ys i d found in
+    removed_at at ys i d first.0 first.1 apart
+
 -- ---- a new name that is another's, or the file's own
 
 pub left_apart : (from to : FileName) → (from ≡ to → ⊥) → (ys : List File) → left (Some from) to.place to.name ys ≡ without to.place to.name ys

@@ -41,16 +41,22 @@ told_removed at files i old mid new apart tells there forgets closes p n =
         closes p n ∙ ap (option_map (closed i)) (rw e at (forgets p n) ∙ tells p n)
         ∙ sym (position_removed (is_at p n) files i d below (named_at at (get_or files i d) here p n ∙ e))
 
-pub told_pushed : (file : File) (files : List File) (old new : NameIndex) → Tells old files → position (is_at file.place file.name) files ≡ None
-    → ((p : Place) (n : List ℕ) → found_at p n new ≡ cond (is_named (name_of_file file) p n) (Some (length files)) (found_at p n old))
+pub told_pushed : (file : File) (files : List File) (name : List ℕ) (count : ℕ) (old new : NameIndex) → Tells old files → position (is_at file.place file.name) files ≡ None
+    → name ≡ file.name → count ≡ length files
+    → ((p : Place) (n : List ℕ) → found_at p n new ≡ cond (is_named (named file.place name) p n) (Some count) (found_at p n old))
     → Tells new (files ++ file ∷ [])
-told_pushed file files old new tells absent says p n = by_name (is_named (name_of_file file) p n) refl
+told_pushed file files name count old new tells absent named_so counted says p n = by_name (is_named (name_of_file file) p n) refl
   where
+    says_here : found_at p n new ≡ cond (is_named (name_of_file file) p n) (Some (length files)) (found_at p n old)
+    says_here = says p n
+        ∙ ap (λ (l : List ℕ). cond (is_named (named file.place l) p n) (Some count) (found_at p n old)) named_so
+        ∙ ap (λ (k : ℕ). cond (is_named (name_of_file file) p n) (Some k) (found_at p n old)) counted
+
     by_name : (b : Bool) → is_named (name_of_file file) p n ≡ b → found_at p n new ≡ position (is_at p n) (files ++ file ∷ [])
     by_name true e =
         let none = subst (λ (a : FileName). position (is_at a.place a.name) files ≡ None) (asked (name_of_file file) p n e) absent in
-        rw e at (says p n) ∙ sym (position_pushed (is_at p n) files file e none)
-    by_name false e = rw e at (says p n) ∙ tells p n ∙ sym (position_pushed_other (is_at p n) files file e)
+        rw e at says_here ∙ sym (position_pushed (is_at p n) files file e none)
+    by_name false e = rw e at says_here ∙ tells p n ∙ sym (position_pushed_other (is_at p n) files file e)
 
 pub told_renamed : (from to : FileName) (files : List File) (i : ℕ) (file : File) (old mid new : NameIndex) → AreApart files → Tells old files
     → position (is_at from.place from.name) files ≡ Some i → position (is_at to.place to.name) files ≡ None → file ≡ get_or files i file

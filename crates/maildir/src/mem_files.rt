@@ -1,11 +1,10 @@
 //! The files of a folder in memory, found by place and name.
 
-ghost use Rattle.std.specs.Prelude.{◌≡◌, ◌++◌, ◌∷◌, [], find, IfOk, map, OnErr, OnOk, position, Some};
+ghost use Rattle.std.specs.Prelude.{◌≡◌, ◌≢◌, ◌++◌, ◌∷◌, [], false, true, find, IfOk, map, OnErr, OnOk, position, Some};
 ghost use Rattle.std.specs.List.{list_any};
 ghost use Rattle.std.specs.Option.{option_map};
 ghost use Rattle.maildir.specs.Folders.{AreApart, is_at, left, moved, name_at, without};
 ghost use Rattle.maildir.specs.IndexedFiles.{Tells};
-ghost use Rattle.maildir.specs.MemFiles.{HasSpace};
 
 use crate::folder::{File, FileName, Location};
 use crate::name_index::NameIndex;
@@ -22,6 +21,8 @@ pub(crate) struct MemFiles {
 }
 
 impl MemFiles {
+    ghost use Rattle.maildir.specs.MemFiles.{HasSpace};
+
     // No file.
     pub(crate) fn new(alloc: Global) -> Self
         ensures { result.files.items ≡ [] }
@@ -78,7 +79,7 @@ impl MemFiles {
             place: file.place,
             name: file.name.as_slice(),
         });
-        self.index.insert(file.place, key, self.files.len());
+        self.index.note(file.place, key, self.files.len());
         self.files.push_reserved(file);
     }
 
@@ -91,7 +92,7 @@ impl MemFiles {
             return;
         };
         let _ = self.files.remove(i);
-        self.index.remove(at.place, at.name);
+        self.index.forget(at.place, at.name);
         self.index.close_gap(i);
     }
 
@@ -102,7 +103,7 @@ impl MemFiles {
         ensures { self.new.files.items
             ≡ map (moved (name_at from.entry) to) (left (Some (name_at from.entry)) to.place to.name self.old.files.items) }
     {
-        if from.place == to.place && from.name == to.name.as_slice() {
+        if is_same(from, &to) {
             return;
         }
         self.remove(Location {
@@ -112,8 +113,8 @@ impl MemFiles {
         let Some(i) = self.place_of(from) else {
             return;
         };
-        self.index.remove(from.place, from.name);
-        self.index.insert(to.place, key, i);
+        self.index.forget(from.place, from.name);
+        self.index.note(to.place, key, i);
         let file = &mut self.files[i];
         file.place = to.place;
         file.name = to.name;
@@ -125,4 +126,12 @@ impl MemFiles {
     {
         self.index.get(at.place, at.name)
     }
+}
+
+// Whether this is the file's place and name.
+fn is_same(at: Location<'_>, file: &FileName) -> bool
+    ensures same { result ≡ true → name_at at.entry ≡ file.now }
+    ensures other { result ≡ false → name_at at.entry ≢ file.now }
+{
+    at.place == file.place && at.name == file.name.as_slice()
 }

@@ -51,7 +51,7 @@ impl NameIndex {
     }
 
     // Says that the file of this place and name, which has no other index, stands here.
-    pub(crate) fn insert(&mut self, place: Place, name: Vec<u8>, spot: usize)
+    pub(crate) fn note(&mut self, place: Place, name: Vec<u8>, spot: usize)
         requires { HasRoom self.old }
         ensures { (p : Place) (n : List ℕ) → found_at p n self.new ≡ cond (is_named (named place name.items) p n) (Some spot) (found_at p n self.old) }
     {
@@ -62,7 +62,7 @@ impl NameIndex {
     }
 
     // Forgets the file of this place and name.
-    pub(crate) fn remove(&mut self, place: Place, name: &[u8])
+    pub(crate) fn forget(&mut self, place: Place, name: &[u8])
         ensures gone { (p : Place) (n : List ℕ) → found_at p n self.new ≡ cond (is_named (named place name.now) p n) None (found_at p n self.old) }
         ensures room { KeepsRoom self.old self.new }
     {
