@@ -1,8 +1,8 @@
 -- Lists of files that stand apart.
-use Rattle.std.proofs.Common.{◌≡◌, ℕ, zero, suc, ◌<◌, Bool, true, false, not, cond, ltb, ◌||◌, List, [], ◌∷◌, ◌++◌, length, get_or, set, map, Option, None, Some, All, refl, sym, ap, subst, ◌∙◌, arith}
+use Rattle.std.proofs.Common.{◌≡◌, ℕ, zero, suc, ◌<◌, Bool, true, false, not, cond, ltb, ◌||◌, List, [], ◌∷◌, ◌++◌, length, get_or, set, map, Option, None, Some, All, refl, sym, ap, subst, ◌∙◌, inl, inr, arith}
 use Rattle.std.specs.Prelude.{nat_eq, position, Result, Ok, Err, OnOk, OnErr}
 use Rattle.std.specs.Cmp.Lexicographic.{pointwise, bytes_decides}
-use Rattle.std.proofs.lemmas.Bool.{and_parts, false≢true, true≢false}
+use Rattle.std.proofs.lemmas.Bool.{and_parts, cases_Bool, false≢true, true≢false}
 use Rattle.std.proofs.lemmas.List.{get_or-map, length-map}
 use Rattle.std.proofs.lemmas.List.Elements.{filter_passes, All-get_or}
 use Rattle.std.proofs.lemmas.Bool.Decides.{nat_tests}
@@ -181,10 +181,10 @@ left_apart from to differ (y ∷ ys) =
 
 pub renamed_to_itself : (at : FileName) (ys : List File) → map (moved at at) (left (Some at) at.place at.name ys) ≡ ys
 renamed_to_itself at [] = refl
-renamed_to_itself at (y ∷ ys) = by_test (is_at at.place at.name y) refl
-  where
-    by_test : (b : Bool) → is_at at.place at.name y ≡ b → map (moved at at) (left (Some at) at.place at.name (y ∷ ys)) ≡ y ∷ ys
-    by_test true e =
-        let same : record { place = at.place; name = at.name; bytes = y.bytes } ≡ y = ap (λ (a : FileName). let x : File = record { place = a.place; name = a.name; bytes = y.bytes } in x) (sym (at_true at y e)) in
-        rw (e, e) (rw same (ap (λ (l : List File). y ∷ l) (renamed_to_itself at ys)))
-    by_test false e = rw (e, e) (ap (λ (l : List File). y ∷ l) (renamed_to_itself at ys))
+renamed_to_itself at (y ∷ ys) =
+    elim (cases_Bool (is_at at.place at.name y)) [
+      | inl e ↦
+          let same : record { place = at.place; name = at.name; bytes = y.bytes } ≡ y = ap (λ (a : FileName). let x : File = record { place = a.place; name = a.name; bytes = y.bytes } in x) (sym (at_true at y e)) in
+          rw (e, e, same) (ap (λ (l : List File). y ∷ l) (renamed_to_itself at ys))
+      | inr e ↦ rw (e, e) (ap (λ (l : List File). y ∷ l) (renamed_to_itself at ys))
+    ]

@@ -1,9 +1,10 @@
 -- Where the first element that passes stands in a list that changes.
-use Rattle.std.proofs.Common.{◌≡◌, ℕ, zero, suc, ◌+◌, ◌-◌, ◌<◌, ◌≤◌, Bool, true, false, not, cond, ltb, ◌&&◌, List, [], ◌∷◌, ◌++◌, length, get_or, set, take, drop, map, Option, None, Some, refl, sym, ap, subst, ◌∙◌, arith}
+use Rattle.std.proofs.Common.{◌≡◌, ℕ, zero, suc, ◌+◌, ◌-◌, ◌<◌, ◌≤◌, Bool, true, false, not, cond, ltb, ◌&&◌, List, [], ◌∷◌, ◌++◌, length, get_or, set, take, drop, map, Option, None, Some, refl, sym, ap, subst, ◌∙◌, inl, inr, arith}
 use Rattle.std.specs.Prelude.{position, find, is_some, filter}
 use Rattle.std.specs.List.{position_from, position_or_len, remove, list_any}
 use Rattle.std.specs.Option.{option_map}
 use Rattle.std.proofs.lemmas.Iterator.Adapters.{position_from-zero}
+use Rattle.std.proofs.lemmas.Bool.{cases_Bool}
 use Rattle.std.proofs.lemmas.List.Quantifiers.{position-Some}
 use Rattle.maildir.specs.NameIndexes.{closed}
 
@@ -16,11 +17,10 @@ module _ {X : Type 0} (t : X → Bool) where
 
   from_filtered : (n : ℕ) (xs : List X) → position_from t n (filter (λ x. not (t x)) xs) ≡ None
   from_filtered n [] = refl
-  from_filtered n (x ∷ xs) = by_test (t x) refl
-    where
-      by_test : (b : Bool) → t x ≡ b → position_from t n (cond (not (t x)) (x ∷ filter (λ y. not (t y)) xs) (filter (λ y. not (t y)) xs)) ≡ None
-      by_test true e = rw e (from_filtered n xs)
-      by_test false e = rw (e, e) (from_filtered (n + 1) xs)
+  from_filtered n (x ∷ xs) = elim (cases_Bool (t x)) [
+    | inl e ↦ rw e (from_filtered n xs)
+    | inr e ↦ rw (e, e) (from_filtered (n + 1) xs)
+  ]
 
   -- each that does not pass stays
   pub position_filtered : (xs : List X) → position t (filter (λ x. not (t x)) xs) ≡ None
@@ -44,23 +44,20 @@ module _ {X : Type 0} (t : X → Bool) where
 
   from_down : (gap n : ℕ) (xs : List X) → gap ≤ n → position_from t n xs ≡ option_map (closed gap) (position_from t (n + 1) xs)
   from_down gap n [] above = refl
-  from_down gap n (x ∷ xs) above = by_test (t x) refl
-    where
-      by_test : (b : Bool) → t x ≡ b → cond (t x) (Some n) (position_from t (n + 1) xs) ≡ option_map (closed gap) (cond (t x) (Some (n + 1)) (position_from t (n + 1 + 1) xs))
-      by_test true e = rw e (ap (λ (m : ℕ). Some m) (sym (closed_above gap n above)))
-      by_test false e = rw e (from_down gap (n + 1) xs (omega arith))
+  from_down gap n (x ∷ xs) above = elim (cases_Bool (t x)) [
+    | inl e ↦ rw e (ap (λ (m : ℕ). Some m) (sym (closed_above gap n above)))
+    | inr e ↦ rw e (from_down gap (n + 1) xs (omega arith))
+  ]
 
   from_removed : (n : ℕ) (xs : List X) (i : ℕ) (d : X) → i < length xs → t (get_or xs i d) ≡ false
       → position_from t n (remove xs i) ≡ option_map (closed (n + i)) (position_from t n xs)
   from_removed n [] i d below e = absurd (omega arith)
   from_removed n (x ∷ xs) zero d below e = rw e (from_down (n + 0) n xs (omega arith))
-  from_removed n (x ∷ xs) (suc i) d below e = by_test (t x) refl
-    where
-      by_test : (b : Bool) → t x ≡ b → cond (t x) (Some n) (position_from t (n + 1) (remove xs i)) ≡ option_map (closed (n + suc i)) (cond (t x) (Some n) (position_from t (n + 1) xs))
-      by_test true f = rw f (ap (λ (m : ℕ). Some m) (sym (closed_below (n + suc i) n (omega arith))))
-      by_test false f =
-          let same : n + 1 + i ≡ n + suc i = omega arith in
-          rw f (subst (λ (gap : ℕ). position_from t (n + 1) (remove xs i) ≡ option_map (closed gap) (position_from t (n + 1) xs)) same (from_removed (n + 1) xs i d (omega arith) e))
+  from_removed n (x ∷ xs) (suc i) d below e = elim (cases_Bool (t x)) [
+    | inl f ↦ rw f (ap (λ (m : ℕ). Some m) (sym (closed_below (n + suc i) n (omega arith))))
+    | inr f ↦ let same : n + 1 + i ≡ n + suc i = omega arith in
+        rw f (subst (λ (gap : ℕ). position_from t (n + 1) (remove xs i) ≡ option_map (closed gap) (position_from t (n + 1) xs)) same (from_removed (n + 1) xs i d (omega arith) e))
+  ]
 
   pub position_removed : (xs : List X) (i : ℕ) (d : X) → i < length xs → t (get_or xs i d) ≡ false
       → position t (remove xs i) ≡ option_map (closed i) (position t xs)
@@ -76,13 +73,11 @@ module _ {X : Type 0} (t : X → Bool) where
 
   from_pushed : (n : ℕ) (xs : List X) (y : X) → t y ≡ true → position_from t n xs ≡ None → position_from t n (xs ++ y ∷ []) ≡ Some (n + length xs)
   from_pushed n [] y e none = rw e (ap (λ (m : ℕ). Some m) (omega arith))
-  from_pushed n (x ∷ xs) y e none = by_test (t x) refl none
-    where
-      by_test : (b : Bool) → t x ≡ b → cond (t x) (Some n) (position_from t (n + 1) xs) ≡ None → cond (t x) (Some n) (position_from t (n + 1) (xs ++ y ∷ [])) ≡ Some (n + length (x ∷ xs))
-      by_test true f none' = absurd (some_none (rw f at none'))
-      by_test false f none' =
-          let rest : position_from t (n + 1) xs ≡ None = rw f at none' in
-          rw f (from_pushed (n + 1) xs y e rest ∙ ap (λ (m : ℕ). Some m) (omega arith))
+  from_pushed n (x ∷ xs) y e none = elim (cases_Bool (t x)) [
+    | inl f ↦ absurd (some_none (rw f at none))
+    | inr f ↦ let rest : position_from t (n + 1) xs ≡ None = rw f at none in
+        rw f (from_pushed (n + 1) xs y e rest ∙ ap (λ (m : ℕ). Some m) (omega arith))
+  ]
 
   pub position_pushed_other : (xs : List X) (y : X) → t y ≡ false → position t (xs ++ y ∷ []) ≡ position t xs
   position_pushed_other xs y e = position_is (xs ++ y ∷ []) ∙ from_pushed_other 0 xs y e ∙ sym (position_is xs)
@@ -101,13 +96,11 @@ module _ {X : Type 0} (t : X → Bool) where
   from_set_new : (n : ℕ) (xs : List X) (i : ℕ) (y : X) → i < length xs → t y ≡ true → position_from t n xs ≡ None → position_from t n (set xs i y) ≡ Some (n + i)
   from_set_new n [] i y below e none = absurd (omega arith)
   from_set_new n (x ∷ xs) zero y below e none = rw e (ap (λ (m : ℕ). Some m) (omega arith))
-  from_set_new n (x ∷ xs) (suc i) y below e none = by_test (t x) refl none
-    where
-      by_test : (b : Bool) → t x ≡ b → cond (t x) (Some n) (position_from t (n + 1) xs) ≡ None → cond (t x) (Some n) (position_from t (n + 1) (set xs i y)) ≡ Some (n + suc i)
-      by_test true f none' = absurd (some_none (rw f at none'))
-      by_test false f none' =
-          let rest : position_from t (n + 1) xs ≡ None = rw f at none' in
-          rw f (from_set_new (n + 1) xs i y (omega arith) e rest ∙ ap (λ (m : ℕ). Some m) (omega arith))
+  from_set_new n (x ∷ xs) (suc i) y below e none = elim (cases_Bool (t x)) [
+    | inl f ↦ absurd (some_none (rw f at none))
+    | inr f ↦ let rest : position_from t (n + 1) xs ≡ None = rw f at none in
+        rw f (from_set_new (n + 1) xs i y (omega arith) e rest ∙ ap (λ (m : ℕ). Some m) (omega arith))
+  ]
 
   pub position_set_other : (xs : List X) (i : ℕ) (y d : X) → i < length xs → t (get_or xs i d) ≡ false → t y ≡ false → position t (set xs i y) ≡ position t xs
   position_set_other xs i y d below e f = position_is (set xs i y) ∙ from_set_other 0 xs i y d below e f ∙ sym (position_is xs)
@@ -120,22 +113,20 @@ module _ {X : Type 0} (t : X → Bool) where
 
   from_any : (n : ℕ) (xs : List X) → is_some (position_from t n xs) ≡ list_any t xs
   from_any n [] = refl
-  from_any n (x ∷ xs) = by_test (t x) refl
-    where
-      by_test : (b : Bool) → t x ≡ b → is_some (cond (t x) (Some n) (position_from t (n + 1) xs)) ≡ list_any t (x ∷ xs)
-      by_test true e = rw e refl
-      by_test false e = rw e (from_any (n + 1) xs)
+  from_any n (x ∷ xs) = elim (cases_Bool (t x)) [
+    | inl e ↦ rw e refl
+    | inr e ↦ rw e (from_any (n + 1) xs)
+  ]
 
   pub position_any : (xs : List X) → is_some (position t xs) ≡ list_any t xs
   position_any xs = ap is_some (position_is xs) ∙ from_any 0 xs
 
   from_find : (n : ℕ) (xs : List X) → position_from t n xs ≡ None → find t xs ≡ None
   from_find n [] none = refl
-  from_find n (x ∷ xs) none = by_test (t x) refl none
-    where
-      by_test : (b : Bool) → t x ≡ b → cond (t x) (Some n) (position_from t (n + 1) xs) ≡ None → find t (x ∷ xs) ≡ None
-      by_test true e none' = absurd (some_none (rw e at none'))
-      by_test false e none' = rw e (from_find (n + 1) xs (rw e at none'))
+  from_find n (x ∷ xs) none = elim (cases_Bool (t x)) [
+    | inl e ↦ absurd (some_none (rw e at none))
+    | inr e ↦ rw e (from_find (n + 1) xs (rw e at none))
+  ]
 
   pub find_none : (xs : List X) → position t xs ≡ None → find t xs ≡ None
   find_none xs none = from_find 0 xs (sym (position_is xs) ∙ none)
@@ -150,11 +141,10 @@ module _ {X : Type 0} (t : X → Bool) where
 
   from_absent : (n : ℕ) (xs : List X) → position_from t n xs ≡ None → filter (λ x. not (t x)) xs ≡ xs
   from_absent n [] none = refl
-  from_absent n (x ∷ xs) none = by_test (t x) refl none
-    where
-      by_test : (b : Bool) → t x ≡ b → cond (t x) (Some n) (position_from t (n + 1) xs) ≡ None → filter (λ y. not (t y)) (x ∷ xs) ≡ x ∷ xs
-      by_test true e none' = absurd (some_none (rw e at none'))
-      by_test false e none' = rw e (ap (λ (l : List X). x ∷ l) (from_absent (n + 1) xs (rw e at none')))
+  from_absent n (x ∷ xs) none = elim (cases_Bool (t x)) [
+    | inl e ↦ absurd (some_none (rw e at none))
+    | inr e ↦ rw e (ap (λ (l : List X). x ∷ l) (from_absent (n + 1) xs (rw e at none)))
+  ]
 
   -- nothing goes
   pub filter_absent : (xs : List X) → position t xs ≡ None → filter (λ x. not (t x)) xs ≡ xs

@@ -58,15 +58,19 @@ told_pushed file files name count old new tells absent named_so counted says p n
         rw e at says_here ∙ sym (position_pushed (is_at p n) files file e none)
     by_name false e = rw e at says_here ∙ tells p n ∙ sym (position_pushed_other (is_at p n) files file e)
 
-pub told_renamed : (from to : FileName) (files : List File) (i : ℕ) (file : File) (old mid new : NameIndex) → AreApart files → Tells old files
+pub told_renamed : (from to : FileName) (files : List File) (i : ℕ) (file : File) (name : List ℕ) (old mid new : NameIndex) → AreApart files → Tells old files
     → position (is_at from.place from.name) files ≡ Some i → position (is_at to.place to.name) files ≡ None → file ≡ get_or files i file
     → ((p : Place) (n : List ℕ) → found_at p n mid ≡ cond (is_named from p n) None (found_at p n old))
-    → ((p : Place) (n : List ℕ) → found_at p n new ≡ cond (is_named to p n) (Some i) (found_at p n mid))
+    → name ≡ to.name
+    → ((p : Place) (n : List ℕ) → found_at p n new ≡ cond (is_named (named to.place name) p n) (Some i) (found_at p n mid))
     → Tells new (set files i (record { place = to.place; name = to.name; bytes = file.bytes }))
-told_renamed from to files i file old mid new apart tells there absent is forgets says p n =
+told_renamed from to files i file name old mid new apart tells there absent is forgets named_so says p n =
     let first = position-Some (is_at from.place from.name) files i file there in
     by_name first.0 first.1 (is_named to p n) refl (is_named from p n) refl
   where
+    says_here : found_at p n new ≡ cond (is_named to p n) (Some i) (found_at p n mid)
+    says_here = says p n ∙ ap (λ (l : List ℕ). cond (is_named (named to.place l) p n) (Some i) (found_at p n mid)) named_so
+
     next : File
     next = record { place = to.place; name = to.name; bytes = file.bytes }
 
@@ -81,10 +85,10 @@ told_renamed from to files i file old mid new apart tells there absent is forget
         → found_at p n new ≡ position (is_at p n) (set files i next)
     by_name below here true e t f =
         let none = subst (λ (a : FileName). position (is_at a.place a.name) files ≡ None) (asked to p n e) absent in
-        rw e at (says p n) ∙ sym (position_set_new (is_at p n) files i next below e none)
+        rw e at says_here ∙ sym (position_set_new (is_at p n) files i next below e none)
     by_name below here false e true f =
-        rw e at (says p n) ∙ rw f at (forgets p n)
+        rw e at says_here ∙ rw f at (forgets p n)
         ∙ sym (ap (position (is_at p n)) (moved_where from to files i file there is apart) ∙ position_mapped (is_at p n) (moved from to) (gone e (asked from p n f)) files)
     by_name below here false e false f =
-        rw e at (says p n) ∙ rw f at (forgets p n) ∙ tells p n
+        rw e at says_here ∙ rw f at (forgets p n) ∙ tells p n
         ∙ sym (position_set_other (is_at p n) files i next file below (named_at from (get_or files i file) here p n ∙ f) e)

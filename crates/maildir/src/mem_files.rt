@@ -53,7 +53,9 @@ impl MemFiles {
         ensures { option_map (λ bytes. bytes.now) result
             ≡ option_map (λ file. file.bytes) (find (is_at at.entry.place at.entry.name.now) self.now.files.items) }
     {
-        let i = self.place_of(at)?;
+        let Some(i) = self.place_of(at) else {
+            return None;
+        };
         Some(self.files[i].bytes.as_slice())
     }
 
