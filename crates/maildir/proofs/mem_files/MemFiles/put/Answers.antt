@@ -20,7 +20,7 @@ invariant_of-self c =
     record {
       apart = subst AreApart (sym (c.push_reserved.ensures.items ∙ ap (λ (l : List File). l ++ file ∷ []) gone)) (apart_added old file c.args.self.now.apart);
       told = subst (Tells c.note.new.self) (sym c.push_reserved.ensures.items)
-          (told_pushed file c.remove.new.self.files.items c.args.key.items c.len.result c.remove.new.self.index c.note.new.self c.remove.new.self.told absent c.requires.name ? c.note.ensures);
+          (told_pushed file c.remove.new.self.files.items c.args.key.items c.len.result c.remove.new.self.index c.note.new.self c.remove.new.self.told absent c.requires.name (c.len.ensures ∙ c.remove.new.self.files.ok.0) c.note.ensures);
     }
 
 pub returns : goal.returns

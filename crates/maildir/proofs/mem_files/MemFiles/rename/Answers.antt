@@ -20,7 +20,7 @@ returns-in_default c =
     let to = c.args.to in
     let old : List File = c.args.self.now.files.items in
     let gone = c.remove.ensures.files ∙ ap (λ (name : List ℕ). without to.place name old) c.as_slice.ensures in
-    let same = gone ∙ sym (left_apart from to (c.is_same.ensures.other c.else-is_same.false) old) in
+    let same = gone ∙ sym (left_apart from to (c.is_same.ensures.other c.if-is_same.false) old) in
     sym (moved_nowhere from to c.remove.new.self.files.items (sym c.place_of.ensures ∙ c.in_default.is)) ∙ ap (λ (l : List File). map (moved from to) l) same
 
 pub returns : goal.returns
@@ -29,7 +29,7 @@ returns c =
     let to = c.args.to in
     let old : List File = c.args.self.now.files.items in
     let gone = c.remove.ensures.files ∙ ap (λ (name : List ℕ). without to.place name old) c.as_slice.ensures in
-    let same = gone ∙ sym (left_apart from to (c.is_same.ensures.other c.else-is_same.false) old) in
+    let same = gone ∙ sym (left_apart from to (c.is_same.ensures.other c.if-is_same.false) old) in
     moved_where from to c.remove.new.self.files.items c.in-Some.i c.index_mut-file.result.now (sym c.in-Some.ensures) c.index_mut-file.ensures.value c.remove.new.self.apart
     ∙ ap (λ (l : List File). map (moved from to) l) same
 
@@ -39,7 +39,7 @@ invariant_of-self c =
     let to = c.args.to in
     let old : List File = c.args.self.now.files.items in
     let gone : c.remove.new.self.files.items ≡ without to.place to.name old = c.remove.ensures.files ∙ ap (λ (name : List ℕ). without to.place name old) c.as_slice.ensures in
-    let same = gone ∙ sym (left_apart from to (c.is_same.ensures.other c.else-is_same.false) old) in
+    let same = gone ∙ sym (left_apart from to (c.is_same.ensures.other c.if-is_same.false) old) in
     let absent : position (is_at to.place to.name) c.remove.new.self.files.items ≡ None =
     ap (position (is_at to.place to.name)) gone ∙ position_filtered (is_at to.place to.name) old in
     let now_is = moved_where from to c.remove.new.self.files.items c.in-Some.i c.index_mut-file.result.now (sym c.in-Some.ensures) c.index_mut-file.ensures.value c.remove.new.self.apart
