@@ -1,6 +1,6 @@
 -- Lists of files that stand apart.
 use Rattle.std.proofs.Common.{◌≡◌, ℕ, zero, suc, ◌<◌, Bool, true, false, not, cond, ltb, ◌||◌, List, [], ◌∷◌, ◌++◌, length, get_or, set, map, Option, None, Some, All, refl, sym, ap, subst, ◌∙◌, inl, inr, arith}
-use Rattle.std.specs.Prelude.{nat_eq, position, Result, Ok, Err, OnOk, OnErr}
+use Rattle.std.specs.Prelude.{nat_eq, position}
 use Rattle.std.specs.Cmp.Lexicographic.{pointwise, bytes_decides}
 use Rattle.std.proofs.lemmas.Bool.{and_parts, cases_Bool, false≢true, true≢false}
 use Rattle.std.proofs.lemmas.List.{get_or-map, length-map}

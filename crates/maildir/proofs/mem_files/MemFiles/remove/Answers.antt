@@ -1,8 +1,7 @@
-use Rattle.std.proofs.Common.{◌≡◌, ◌++◌, ◌∷◌, [], List, ℕ, Some, None, sym, ap, subst, ◌∙◌, map}
+use Rattle.std.proofs.Common.{◌≡◌, List, Some, None, sym, subst, ◌∙◌}
 use Rattle.std.specs.Prelude.{position}
 use Rattle.maildir.specs.declared.folder.File.{File}
-use Rattle.maildir.specs.declared.folder.FileName.{FileName}
-use Rattle.maildir.specs.Folders.{AreApart, is_at, left, moved, name_at, without}
+use Rattle.maildir.specs.Folders.{AreApart, is_at, name_at}
 use Rattle.maildir.specs.IndexedFiles.{Tells}
 use Rattle.maildir.proofs.FileLemmas.{apart_left, removed_found}
 use Rattle.maildir.proofs.PlaceLemmas.{filter_absent}
