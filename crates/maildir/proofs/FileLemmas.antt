@@ -1,12 +1,12 @@
 -- Lists of files that stand apart.
-use Rattle.std.proofs.Common.{◌≡◌, ℕ, zero, suc, ◌<◌, Bool, true, false, not, cond, ltb, ◌||◌, List, [], ◌∷◌, ◌++◌, length, get_or, set, map, Option, None, Some, All, refl, sym, ap, subst, ◌∙◌, arith}
-use Rattle.std.specs.Prelude.{nat_eq, position, Result, Ok, Err, OnOk, OnErr}
+use Rattle.std.proofs.Common.{◌≡◌, ℕ, zero, suc, ◌<◌, Bool, true, false, not, cond, ltb, ◌||◌, List, [], ◌∷◌, ◌++◌, length, get_or, set, map, Option, None, Some, All, refl, sym, ap, subst, ◌∙◌, inl, inr, arith}
+use Rattle.std.specs.Prelude.{nat_eq, position}
 use Rattle.std.specs.Cmp.Lexicographic.{pointwise, bytes_decides}
-use Rattle.std.proofs.lemmas.Bool.{and_parts, false≢true, true≢false}
+use Rattle.std.proofs.lemmas.Bool.{and_parts, cases_Bool, false≢true, true≢false}
 use Rattle.std.proofs.lemmas.List.{get_or-map, length-map}
 use Rattle.std.proofs.lemmas.List.Elements.{filter_passes, All-get_or}
 use Rattle.std.proofs.lemmas.Bool.Decides.{nat_tests}
-use Rattle.std.specs.List.{position_or_len}
+use Rattle.std.specs.List.{position_or_len, remove}
 use Rattle.std.proofs.lemmas.List.Sums.{fails_before_first}
 use Rattle.std.proofs.lemmas.List.Quantifiers.{all_pairs_push, position-Some}
 use Rattle.std.proofs.lemmas.List.Kept.{AllPairs-filter}
@@ -97,19 +97,6 @@ apart_moved from to files apart =
     apart_moved_two from to (get_or ys i d) (get_or ys j d) (ok i d (omega arith)) (ok j d (omega arith)) (stays i j d less (omega arith))
     (ap name_of_file (sym (get_or-map (moved from to) ys i d d (omega arith))) ∙ same ∙ ap name_of_file (get_or-map (moved from to) ys j d d (omega arith)))
 
--- the same after a call that may find no memory
-pub apart_after_add : {T E : Type 0} (r : Result T E) (old new : List File) (file : File)
-    → OnOk r (new ≡ without file.place file.name old ++ file ∷ []) → OnErr r (new ≡ old) → AreApart old → AreApart new
-apart_after_add (Ok x) old new file ok err apart = subst AreApart (sym ok) (apart_added old file apart)
-apart_after_add (Err e) old new file ok err apart = subst AreApart (sym err) apart
-
-pub apart_pushed : (is_pushed : Bool) (old dropped new : List File) (file : File)
-    → dropped ≡ without file.place file.name old → new ≡ cond is_pushed (dropped ++ file ∷ []) dropped → AreApart old → AreApart new
-apart_pushed true old dropped new file is pushed apart =
-    subst AreApart (sym (pushed ∙ ap (λ (l : List File). l ++ file ∷ []) is)) (apart_added old file apart)
-apart_pushed false old dropped new file is pushed apart =
-    subst AreApart (sym (pushed ∙ is)) (apart_left None file.place file.name old apart)
-
 -- ---- one file is renamed
 
 pub moved_none : (from to : FileName) (ys : List File) → ((k : ℕ) (d : File) → k < length ys → is_at from.place from.name (get_or ys k d) ≡ false) → map (moved from to) ys ≡ ys
@@ -151,3 +138,53 @@ moved_nowhere from to ys none =
         → cond b (Some (position_or_len (is_at from.place from.name) ys)) None ≡ None → k < position_or_len (is_at from.place from.name) ys
     past k below true e same = cc
     past k below false e same = grind (arith, nat_tests)
+
+-- ---- one file goes
+
+without_none : (at : FileName) (ys : List File) → ((k : ℕ) (d : File) → k < length ys → is_at at.place at.name (get_or ys k d) ≡ false) → without at.place at.name ys ≡ ys
+without_none at [] none = refl
+without_none at (y ∷ ys) none =
+    rw (none 0 y (omega arith)) (ap (λ (l : List File). y ∷ l) (without_none at ys (λ k d below. none (suc k) d (omega arith))))
+
+pub removed_at : (at : FileName) (ys : List File) (i : ℕ) (d : File) → i < length ys → is_at at.place at.name (get_or ys i d) ≡ true → AreApart ys
+    → remove ys i ≡ without at.place at.name ys
+removed_at at [] i d below e apart = absurd (omega arith)
+removed_at at (y ∷ ys) zero d below e apart = rw e (sym (without_none at ys (λ k d' below'. none k d' below' (is_at at.place at.name (get_or ys k d')) refl)))
+  where
+    none : (k : ℕ) (d' : File) → k < length ys → (b : Bool) → is_at at.place at.name (get_or ys k d') ≡ b → b ≡ false
+    none k d' below' true f = absurd (apart_head y ys apart k d' below' (at_true at y e ∙ sym (at_true at (get_or ys k d') f)))
+    none k d' below' false f = refl
+removed_at at (y ∷ ys) (suc i) d below e apart =
+    rw (other (is_at at.place at.name y) refl) (ap (λ (l : List File). y ∷ l) (removed_at at ys i d (omega arith) e (apart_tail y ys apart)))
+  where
+    other : (b : Bool) → is_at at.place at.name y ≡ b → is_at at.place at.name y ≡ false
+    other true f = absurd (apart_head y ys apart i d (omega arith) (at_true at y f ∙ sym (at_true at (get_or ys i d) e)))
+    other false f = f
+
+pub removed_found : (at : FileName) (ys : List File) (i : ℕ) → position (is_at at.place at.name) ys ≡ Some i → AreApart ys → remove ys i ≡ without at.place at.name ys
+removed_found at ys i found apart =
+    let d : File = record { place = at.place; name = at.name; bytes = [] } in
+    let first = position-Some (is_at at.place at.name) ys i d found in
+    removed_at at ys i d first.0 first.1 apart
+
+-- ---- a new name that is another's, or the file's own
+
+pub left_apart : (from to : FileName) → (from ≡ to → ⊥) → (ys : List File) → left (Some from) to.place to.name ys ≡ without to.place to.name ys
+left_apart from to differ [] = refl
+left_apart from to differ (y ∷ ys) =
+    rw (same (is_at from.place from.name y) refl (is_at to.place to.name y) refl, left_apart from to differ ys) refl
+  where
+    same : (s : Bool) → is_at from.place from.name y ≡ s → (t : Bool) → is_at to.place to.name y ≡ t → is_left (Some from) to.place to.name y ≡ not (is_at to.place to.name y)
+    same true e true f = absurd (differ (sym (at_true from y e) ∙ at_true to y f))
+    same true e false f = rw (e, f) refl
+    same false e t f = rw e refl
+
+pub renamed_to_itself : (at : FileName) (ys : List File) → map (moved at at) (left (Some at) at.place at.name ys) ≡ ys
+renamed_to_itself at [] = refl
+renamed_to_itself at (y ∷ ys) =
+    elim (cases_Bool (is_at at.place at.name y)) [
+      | inl e ↦
+          let same : record { place = at.place; name = at.name; bytes = y.bytes } ≡ y = ap (λ (a : FileName). let x : File = record { place = a.place; name = a.name; bytes = y.bytes } in x) (sym (at_true at y e)) in
+          rw (e, e, same) (ap (λ (l : List File). y ∷ l) (renamed_to_itself at ys))
+      | inr e ↦ rw (e, e) (ap (λ (l : List File). y ∷ l) (renamed_to_itself at ys))
+    ]

@@ -1,6 +1,9 @@
 pub mod CutLemmas
 pub mod FileLemmas
+pub mod IndexLemmas
 pub mod LetterLemmas
 pub mod MetaLemmas
 pub mod NameLemmas
 pub mod NumberLemmas
+pub mod PlaceLemmas
+pub mod ToldLemmas

@@ -2,8 +2,11 @@ pub mod Cut
 pub mod DiskFolders
 pub mod FlaggedNames
 pub mod Folders
+pub mod IndexedFiles
 pub mod Letters
+pub mod MemFiles
 pub mod MemFolders
 pub mod Metas
+pub mod NameIndexes
 pub mod Names
 pub mod Number

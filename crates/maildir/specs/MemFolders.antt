@@ -7,7 +7,7 @@ use Rattle.maildir.specs.Folders.{Stored, without}
 use Rattle.maildir.specs.declared.mem_folder.MemFolder.{MemFolder}
 
 abbrev pub stored_in : MemFolder → Stored
-stored_in m = record { is_there = m.is_there; files = m.files.items; copy = m.copy; meta = m.meta }
+stored_in m = record { is_there = m.is_there; files = m.files.files.items; copy = m.copy; meta = m.meta }
 
 -- a folder that is there, without a file
 abbrev pub empty : Stored

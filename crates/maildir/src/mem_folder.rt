@@ -1,12 +1,11 @@
 //! A folder in memory, whose calls stop where a schedule says so.
 
-ghost use Rattle.std.specs.Prelude.{◌≡◌, ◌≤◌, ◌&&◌, ◌++◌, ◌∷◌, [], true, map, find, IfOk, OnOk, OnErr, Some, None, false, is_some, vec_capacity};
-ghost use Rattle.std.specs.Prelude.{vec_len, position};
+ghost use Rattle.std.specs.Prelude.{◌≡◌, true, map, IfOk, OnOk, OnErr, None, false, is_some};
 ghost use Rattle.std.specs.Option.{option_map};
-ghost use Rattle.std.specs.List.{list_any};
-ghost use Rattle.maildir.specs.Folders.{is_at, without, left, is_left, moved, name_of_file, name_at, is_there, renamed, AreApart, bytes_of, text_of};
+ghost use Rattle.maildir.specs.Folders.{name_of_file, is_there, renamed, bytes_of, text_of};
 
-use crate::folder::{File, FileName, Folder, Location, Origin, Place, Source};
+use crate::folder::{File, FileName, Folder, Location, Origin, Source};
+use crate::mem_files::MemFiles;
 use device::DeviceFault;
 use device::schedule::{Moment, Scheduled, Stop};
 use mailcore::octets::Octets;
@@ -36,11 +35,10 @@ pub enum FolderCall {
 pub struct MemFolder {
     alloc: Global,
     is_there: bool,
-    files: Vec<File>,
+    files: MemFiles,
     copy: Option<Octets>,
     meta: Option<Octets>,
     stopping: Scheduled<FolderCall>,
-    ghost apart: { AreApart files.items },
 }
 
 impl MemFolder {
@@ -54,7 +52,7 @@ impl MemFolder {
         MemFolder {
             alloc,
             is_there: true,
-            files: Vec::new(alloc),
+            files: MemFiles::new(alloc),
             copy: None,
             meta: None,
             stopping: Scheduled::new(alloc, schedule),
@@ -68,7 +66,9 @@ impl MemFolder {
         ensures ok { OnOk result (seen_of self.new ≡ record (seen_of self.old) { stored = with_file file (stored_in self.old) }) }
         ensures err { OnErr result (seen_of self.new ≡ seen_of self.old) }
     {
-        add_file(&mut self.files, file)
+        let key = self.files.make_room(file.name.as_slice())?;
+        self.files.put(key, file);
+        Ok(())
     }
 
     /// Puts a meta file there.
@@ -89,7 +89,7 @@ impl MemFolder {
     pub fn files(&self) -> &[File]
         ensures { result.now ≡ (stored_in self.now).files }
     {
-        &self.files
+        self.files.as_slice()
     }
 
     /// The text of its meta file.
@@ -112,7 +112,7 @@ impl MemFolder {
     {
         let found = match file {
             Source::Meta => self.meta(),
-            Source::Mail(file) => bytes_at(&self.files, file.place, file.name),
+            Source::Mail(file) => self.files.bytes_at(file),
         };
         match found {
             Some(bytes) => Ok(Some(Vec::from_slice(self.alloc, bytes)?)),
@@ -126,7 +126,7 @@ impl MemFolder {
     {
         match from {
             Origin::Tmp => self.copy.is_some(),
-            Origin::Delivered(file) => has_file(&self.files, file.place, file.name),
+            Origin::Delivered(file) => self.files.has(file),
         }
     }
 
@@ -141,11 +141,12 @@ impl MemFolder {
             Origin::Tmp => self.place_copy(to),
             Origin::Delivered(file) => {
                 let name = copy_of(self.alloc, to.name)?;
+                let key = self.files.make_room(to.name)?;
                 let to = FileName {
                     place: to.place,
                     name,
                 };
-                rename_file(&mut self.files, file, to);
+                self.files.rename(file, key, to);
                 Ok(())
             }
         }
@@ -159,20 +160,17 @@ impl MemFolder {
         ensures stopping { self.new.stopping ≡ self.old.stopping }
     {
         let name = copy_of(self.alloc, to.name)?;
-        self.files.reserve(1)?;
+        let key = self.files.make_room(to.name)?;
         let Some(bytes) = self.copy.take() else {
             unreachable!()
         };
-        drop_file(&mut self.files, to.place, to.name);
         let file = File {
             place: to.place,
             name,
             bytes,
         };
-        match self.files.push(file) {
-            Ok(()) => Ok(()),
-            Err(_) => unreachable!(),
-        }
+        self.files.put(key, file);
+        Ok(())
     }
 }
 
@@ -191,7 +189,7 @@ impl Folder for MemFolder {
         if !self.is_there {
             return Ok(None);
         }
-        match names_of(self.alloc, &self.files) {
+        match names_of(self.alloc, self.files.as_slice()) {
             Ok(names) => Ok(Some(names)),
             Err(_) => Err(self.stopping.lack()),
         }
@@ -240,10 +238,10 @@ impl Folder for MemFolder {
 
     fn remove(&mut self, file: Location<'_>) -> Result<(), DeviceFault> {
         let moment = self.stopping.begin(FolderCall::Remove)?;
-        if stops_before(moment) || !has_file(&self.files, file.place, file.name) {
+        if stops_before(moment) || !self.files.has(file) {
             return Err(self.stopping.stop());
         }
-        drop_file(&mut self.files, file.place, file.name);
+        self.files.remove(file);
         if moment.is_some() {
             return Err(self.stopping.stop());
         }
@@ -282,100 +280,6 @@ fn stops_before(moment: Option<Moment>) -> bool
     ensures none { moment ≡ None → result ≡ false }
 {
     matches!(moment, Some(Moment::Before | Moment::Part(_)))
-}
-
-// Whether a file stands at this place under this name.
-fn has_file(files: &[File], place: Place, name: &[u8]) -> bool
-    ensures { result ≡ list_any (is_at place name.now) files.now }
-{
-    files.iter().any(|file| is_at(file, place, name))
-}
-
-// Adds a file, in place of one that has its place and name. The room for it was taken before.
-fn add_file(files: &mut Vec<File>, file: File) -> Result<(), AllocError>
-    ensures ok { OnOk result (files.new.items ≡ without file.place file.name files.old.items ++ file ∷ []) }
-    ensures err { OnErr result (files.new.items ≡ files.old.items) }
-{
-    files.reserve(1)?;
-    drop_file(files, file.place, file.name.as_slice());
-    match files.push(file) {
-        Ok(()) => Ok(()),
-        Err(_) => unreachable!(),
-    }
-}
-
-// Takes the file at this place under this name out.
-fn drop_file(files: &mut Vec<File>, place: Place, name: &[u8])
-    ensures items { files.new.items ≡ without place name.now files.old.items }
-    ensures room { vec_capacity files.new ≡ vec_capacity files.old }
-    ensures len { vec_len files.new ≤ vec_len files.old }
-{
-    leave(files, None, place, name);
-}
-
-// Takes the file at this place under this name out, unless it is the one that is spared.
-fn leave(files: &mut Vec<File>, spared: Option<Location<'_>>, place: Place, name: &[u8])
-    ensures items { files.new.items ≡ left (option_map name_at spared.entry) place name.now files.old.items }
-    ensures room { vec_capacity files.new ≡ vec_capacity files.old }
-    ensures len { vec_len files.new ≤ vec_len files.old }
-{
-    let mut i = 0;
-    while i < files.len() {
-        if is_left(&files[i], spared, place, name) {
-            i += 1;
-        } else {
-            let _ = files.remove(i);
-        }
-    }
-}
-
-fn is_left(file: &File, spared: Option<Location<'_>>, place: Place, name: &[u8]) -> bool
-    ensures { result ≡ is_left (option_map name_at spared.entry) place name.now file.now }
-{
-    match spared {
-        Some(other) => is_at(file, other.place, other.name) || !is_at(file, place, name),
-        None => !is_at(file, place, name),
-    }
-}
-
-// Gives the file a new place and name, where one is there; a file that had them goes.
-fn rename_file(files: &mut Vec<File>, from: Location<'_>, to: FileName)
-    requires { AreApart files.old.items }
-    ensures { files.new.items ≡ map (moved (name_at from.entry) to) (left (Some (name_at from.entry)) to.place to.name files.old.items) }
-{
-    leave(files, Some(from), to.place, to.name.as_slice());
-    let Some(i) = place_of(files, from) else {
-        return;
-    };
-    let file = &mut files[i];
-    file.place = to.place;
-    file.name = to.name;
-}
-
-// Where the file with this place and name is in the list.
-fn place_of(files: &[File], at: Location<'_>) -> Option<usize>
-    ensures { result ≡ position (is_at at.entry.place at.entry.name.now) files.now }
-{
-    files.iter().position(|file| is_at(file, at.place, at.name))
-}
-
-// Whether a file stands at this place under this name.
-fn is_at(file: &File, place: Place, name: &[u8]) -> bool
-    ensures { result ≡ is_at place name.now file.now }
-{
-    file.place == place && file.name.as_slice() == name
-}
-
-// The bytes of the file at this place under this name.
-fn bytes_at<'a>(files: &'a [File], place: Place, name: &[u8]) -> Option<&'a [u8]>
-    ensures { option_map (λ bytes. bytes.now) result ≡ option_map (λ file. file.bytes) (find (is_at place name.now) files.now) }
-{
-    for file in files {
-        if is_at(file, place, name) {
-            return Some(file.bytes.as_slice());
-        }
-    }
-    None
 }
 
 // The names of files.
