@@ -11,7 +11,7 @@ ghost use Rattle.runner.specs.Parts.{IsStuck, Never, PartOr};
 ghost use Rattle.runner.specs.Validities.{IsKept, TellsChanged};
 ghost use Rattle.runner.specs.Results.{HasResults, IsTold};
 ghost use Rattle.runner.specs.Answers.{HasRepeats, Moves, OfFiles, WillRepeat, made_in};
-ghost use Rattle.runner.specs.Attempts.{AnswersAt, AnswersLast, AtOpening, ChangedLast, FromOpening, HasNoNext, IsTried, MetStops, TriedAt, failed_before, found_by};
+ghost use Rattle.runner.specs.Attempts.{AnswersAt, AnswersLast, AtOpening, ChangedLast, FromOpening, HasNoNext, IsTried, MetBefore, MetStops, TriedAt, failed_before, found_by};
 
 use crate::fault::{RunFault, call_fault};
 use crate::pass::{Pass, Settled};
@@ -165,10 +165,11 @@ pub fn settle<O: Outside, R: Rng>(
     // Behind the greatest run number there is no other.
     ensures greatest { HasNoNext (O.honest outside.new) O.alone (O.seen outside.old).device (O.seen outside.new).device result }
 
-    // Each attempt but the last met a stop, and each of all where that is what is answered. Where the outside had failed before, the
-    // first met one, and it changed nothing.
+    // Each attempt but the last met one stop, and each of all where that is what is answered, and no other call stopped. Where the outside
+    // had failed before, the first met one that was counted then, and it changed nothing.
     ensures stops { IfOk result (λ s. MetStops s.stops (O.seen outside.old) (O.seen outside.new) × (failed_before (O.seen outside.old) ≤ s.stops)) }
     ensures stopped { IsErrOf result RunFault.Stopped → MetStops tries (O.seen outside.old) (O.seen outside.new) }
+    ensures ended { IfErr result (λ fault. (fault ≡ RunFault.Stopped → ⊥) → MetBefore tries (O.seen outside.old) (O.seen outside.new)) }
     ensures stuck { tries ≤ 1 → IsStuck (O.seen outside.old) (O.seen outside.new) result }
 {
     let mut run = None;
