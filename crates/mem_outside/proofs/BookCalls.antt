@@ -108,10 +108,10 @@ tells_files NoMemory files h = tt
 pub not_opened : (b : Sides) (c c' : Counts) (s s' : DeviceSeen Files) (does : Unit {0} → Effect Device) (e : BookFault) (tells : OutsideFault)
     → s'.stored ≡ s.stored → TellsOpen s'.stored e → c.is_broken ≡ false → BookFails e tells c c'
     → Call {T = Unit {0}} (Unit {0}) (Arrives every true) (λ _. 0) FromShelf does LeavesUnread (seen_at b c s) (seen_at b c' s') (Err tells)
-not_opened b c c' s s' does e tells same open whole f =
+not_opened b c c' s s' does e tells same shows whole f =
     let device = ap (λ (f : Files). record { far = b.far; near = b.near; files = f }) same in
     failed b c c' s s' (λ _. 0) FromShelf does LeavesUnread e tells whole f (from_shelf e) tt
-    (device, tells_files e s.stored (subst (λ (f : Files). TellsOpen f e) same open)) (device, tt)
+    (device, tells_files e s.stored (subst (λ (f : Files). TellsOpen f e) same shows)) (device, tt)
 
 -- ---- a call of the book
 
