@@ -259,10 +259,10 @@ pub failed_few : {T : Type 0} (n : ℕ) (start now s1 s2 : Seen) (x : T) → (n 
 failed_few n start now s1 s2 x first e stuck = whole_few n start now s1 first e (unstopped_whole s1 s2 (Ok x) (λ k. k) stuck)
 
 -- the last one had another fault
-pub met_before : {T : Type 0} {reasons : Reasons} (h : Type 0) (a u : Device → Type 0) (n tries : ℕ) (start now s1 s2 : Seen) (f : RunFault) → MetStops n start now → (n ≡ 0 → now ≡ start) → s1 ≡ found_by n now → IsStuck {T = T} s1 s2 (Err f) → Left reasons h a u f s1 s2
+pub met_before : (T : Type 0) {reasons : Reasons} (h : Type 0) (a u : Device → Type 0) (n tries : ℕ) (start now s1 s2 : Seen) (f : RunFault) → MetStops n start now → (n ≡ 0 → now ≡ start) → s1 ≡ found_by n now → IsStuck {T = T} s1 s2 (Err f) → Left reasons h a u f s1 s2
     → n < tries → (f ≡ run.Stopped → ⊥) → MetBefore tries start s2
-met_before h a u n tries start now s1 s2 f met first e stuck l few other =
-    let whole = unstopped_whole s1 s2 (Err f) other stuck in
+met_before T h a u n tries start now s1 s2 f met first e stuck l few other =
+    let whole = unstopped_whole {T = T} s1 s2 (Err f) other stuck in
     record {
       earlier = n;
       few = few;

@@ -160,7 +160,7 @@ returns-in-Err-clause-ended g c = λ other.
     let now = g.O.Outside.seen c.loop-tried.outside in
     let s1 = g.O.Outside.seen c.again.new.outside in
     let s2 = g.O.Outside.seen c.attempt.new.outside in
-    met_before {T = Pass} _ _ _ c.loop-tried.tried c.args.tries s0 now s1 s2 c.in-Err.fault i.stops i.first c.again.ensures.seen c.in-Err.ensures.stuck c.in-Err.ensures.part (omega arith) other
+    met_before Pass _ _ _ c.loop-tried.tried c.args.tries s0 now s1 s2 c.in-Err.fault i.stops i.first c.again.ensures.seen c.in-Err.ensures.stuck c.in-Err.ensures.part (omega arith) other
 
 pub returns-in-Err-clause-greatest : goal.returns-in-Err-clause-greatest
 returns-in-Err-clause-greatest g c = λ h s p held is.
