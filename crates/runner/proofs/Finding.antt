@@ -3,6 +3,7 @@ use Rattle.std.proofs.Common.{◌≡◌, ◌<◌, ◌+◌, inl, inr, ℕ, Bool, 
 use Rattle.std.specs.Prelude.{All, Contains, find, nat_eq, nat_le, ◌&&◌}
 use Rattle.std.specs.Cmp.Lexicographic.{pointwise, bytes_decides}
 use Rattle.std.specs.Option.{option_map}
+use Rattle.std.proofs.Math.Seq.{drop-nil}
 use Rattle.std.proofs.lemmas.Bool.{and_right, both_ways}
 use Rattle.std.proofs.lemmas.List.Elements.{All-contains, All-cons, All-head, All-nil, All-push, All-tail}
 use Rattle.rand_core.specs.Stream.{Stream}
@@ -231,8 +232,7 @@ not_none [] p e = cc
 not_none (q ∷ ps) p e = cc
 
 next_first : (steps : List Step) (log : List Logged) (s : Step) (rest : List Step) → s ∷ rest ≡ drop (length log) steps → next_of steps log ≡ Some s
-next_first [] [] s rest e = cc
-next_first [] (l ∷ ls) s rest e = cc
+next_first [] log s rest e = let none = e ∙ drop-nil (length log) in cc
 next_first (t ∷ steps) [] s rest e = cc
 next_first (t ∷ steps) (l ∷ ls) s rest e = next_first steps ls s rest e
 
