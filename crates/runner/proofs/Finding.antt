@@ -6,7 +6,6 @@ use Rattle.std.specs.Option.{option_map}
 use Rattle.std.proofs.Math.Seq.{drop-nil}
 use Rattle.std.proofs.lemmas.Bool.{and_right, both_ways}
 use Rattle.std.proofs.lemmas.List.Elements.{All-contains, All-cons, All-head, All-nil, All-push, All-tail}
-use Rattle.rand_core.specs.Stream.{Stream}
 use Rattle.mailcore.specs.declared.side.Side.{Side}
 use Rattle.mailcore.specs.declared.side.Side.TheVariants.{Far, Near}
 use Rattle.mailcore.specs.declared.side.Direction.{Direction}
@@ -51,11 +50,9 @@ use Rattle.runner.specs.declared.pass.Pass.TheVariants.{Already, Ran, Finished}
 use Rattle.runner.specs.declared.performed.Performed.{Performed}
 use Rattle.runner.specs.declared.performed.StepResult.{StepResult}
 use Rattle.runner.specs.declared.performed.StepResult.TheVariants as did
-use Rattle.runner.specs.Answers.{Moves, as_read}
-use Rattle.runner.specs.Attempts.{TriedAt, found_by}
-use Rattle.runner.specs.Finding.{AreFoundSo, FindsAt, FindsBy, FindsLast, FindsSame, IsFoundSo, IsNew, OfSame, copy_at, copy_under, told_found}
+use Rattle.runner.specs.Answers.{as_read}
+use Rattle.runner.specs.Finding.{AreFoundSo, FindsAt, FindsBy, FindsSame, IsFoundSo, IsNew, OfSame, copy_at, copy_under, told_found}
 use Rattle.runner.specs.Going.{AtReady, CopiesUnder, HasLogged, log_at, logged_of, logs_of, next_at, plan_at, steps_of}
-use Rattle.runner.proofs.Attempts.{began_at}
 use Rattle.runner.proofs.Stages.{stands_of}
 
 -- ---- what others add bears no mark of ours
@@ -265,8 +262,8 @@ same_plan a b d (Finished performed) e k = subst (λ (p : Plan). AreFoundSo p d 
 -- from one condition to another, behind calls that change no copy
 pub finds_from : (ours : List ℕ → Bool) (a b : Option Opened) (d0 d1 : Device) (r : Result Pass RunFault) (h0 h1 from start : Type 0) → plan_at b ≡ plan_at a → (h1 → h0) → (h1 → start → from) → (h0 → FindsSame ours d0 d1)
     → IfOk r (λ pass. h1 → from → OfSame ours d1 (λ d. FindsBy b d pass)) → IfOk r (λ pass. h1 → start → OfSame ours d0 (λ d. FindsBy a d pass))
-finds_from ours a b d0 d1 (Err e) h0 h1 from start plan honest leads same k = tt
-finds_from ours a b d0 d1 (Ok pass) h0 h1 from start plan honest leads same k = λ h at d to. same_plan b a d pass plan (k h (leads h at) d (same_then ours d d0 d1 to (same (honest h))))
+finds_from ours a b d0 d1 (Err e) h0 h1 from start kept honest leads same k = tt
+finds_from ours a b d0 d1 (Ok pass) h0 h1 from start kept honest leads same k = λ h at d to. same_plan b a d pass kept (k h (leads h at) d (same_then ours d d0 d1 to (same (honest h))))
 
 pub finds_none : (ours : List ℕ → Bool) (opened : Option Opened) (honest start : Type 0) (d : Device) (r : Result Pass RunFault) → IfOk r (λ pass. pass ≡ Already) → IfOk r (λ pass. honest → start → OfSame ours d (λ x. FindsBy opened x pass))
 finds_none ours opened honest start d (Ok pass) e = λ h at x same. rw e tt
@@ -291,12 +288,3 @@ pub finds_tried : (ours : List ℕ → Bool) (a b : Device) (r : Result Pass Run
 finds_tried ours a b (Err e) h0 h1 from start honest leads files same k = tt
 finds_tried ours a b (Ok pass) h0 h1 from start honest leads files same k = λ h at s p held d to.
     k h (leads h at) s p (subst (λ (f : Files). Holds f s p) (sym (files (honest h))) held) d (same_then ours d a b to (same (honest h)))
-
--- the last of several
-pub last_finds : (ours : List ℕ → Bool) (alone : Bool) (opening : Opening) (n : ℕ) (fixed : Option ℕ) (start now s1 : Seen) (stream drawn : Stream) (pass : Pass) → (n ≡ 0 → now ≡ start) → (n ≡ 0 → drawn ≡ stream) → Moves stream drawn → s1 ≡ found_by n now → TriedAt ours alone opening fixed now.device
-    → FindsAt ours s1.device pass → FindsLast ours alone opening n pass start.device stream
-unfolding began_at
-last_finds ours alone opening n fixed start now s1 stream drawn pass first undrawn moved e t finds = record {
-  began = began_at ours alone opening n fixed start now s1 stream drawn first undrawn moved e t;
-  finds = finds;
-}
