@@ -60,5 +60,5 @@ returns-clause-told g c =
 pub returns-clause-found : goal.returns-clause-found
 returns-clause-found g c =
     let part = c.in_ok-recall.ensures.part in
-    finds_held g.O.Outside.ours (g.O.Outside.opened c.recall.new.outside) _ (g.O.Outside.seen c.recall.new.outside).device c.take_up.result _ _ _ _ c.take_up.ensures.was_honest
+    finds_held g.O.Outside.ours (g.O.Outside.opened c.recall.new.outside) (g.O.Outside.seen c.args.outside.now).device (g.O.Outside.seen c.recall.new.outside).device c.take_up.result _ _ _ _ c.take_up.ensures.was_honest
     (λ h k. record { most = k.most; asked = k.asked; known = part.reaches (c.take_up.ensures.was_honest h) k.underway }) c.in_ok-recall.ensures.same c.in_ok-recall.ensures.held c.take_up.ensures.found

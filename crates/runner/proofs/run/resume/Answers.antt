@@ -71,4 +71,4 @@ returns-clause-found g c = λ h k d to.
     let old = g.O.Outside.opened c.args.outside.now in
     let s1 = g.O.Outside.seen c.untear.new.outside in
     let same : plan_at (g.O.Outside.opened c.untear.new.outside) ≡ plan_at old = rw untorn.opened (mended_plan old) in
-    subst (λ (p : Plan). AreFoundSo p d c.in_ok-performed.performed.items) same (performed.found carried (part.reaches (performed.was_honest carried) k) d (same_then g.O.Outside.ours d _ s1.device to (untorn.same (performed.was_honest carried))))
+    subst (λ (p : Plan). AreFoundSo p d c.in_ok-performed.performed.items) same (performed.found carried (part.reaches (performed.was_honest carried) k) d (same_then g.O.Outside.ours d (g.O.Outside.seen c.args.outside.now).device s1.device to (untorn.same (performed.was_honest carried))))

@@ -89,7 +89,7 @@ returns-clause-found g c =
     let n = c.in_ok-number.number in
     let fixed = c.in_ok-number.ensures.fixed in
     let part = c.in_ok-number.ensures.part in
-    finds_tried ours _ (g.O.Outside.seen c.fix_run.new.outside).device c.pass.result _ _ _ _ c.pass.ensures.was_honest (λ h k.
+    finds_tried ours (g.O.Outside.seen c.args.outside.now).device (g.O.Outside.seen c.fix_run.new.outside).device c.pass.result _ _ _ _ c.pass.ensures.was_honest (λ h k.
     let t = tried_fixed ours alone g.opening c.fix_run.new.run n _ fixed (part.reaches (c.pass.ensures.was_honest h) k.tried) in
     record { most = let e = t.0 in omega (arith, e); asked = k.asked; underway = t.1 })
     (λ h. let k = c.in_ok-number.ensures.kept h in k.files) c.in_ok-number.ensures.same c.pass.ensures.found
