@@ -59,7 +59,7 @@ returns-clause-told g c =
     told_from c.open_and_work.result _ _ _ _ (λ h k. record { most = let m = k.most in omega (arith, is, m); asked = k.asked; known = k.known }) c.open_and_work.ensures.told
 
 pub returns-then-run-last-clause-found : goal.returns-then-run-last-clause-found
-returns-then-run-last-clause-found g c = finds_none g.O.Outside.ours _ _ _ _ c.skip.result c.skip.ensures.answer
+returns-then-run-last-clause-found g c = finds_none g.O.Outside.ours (g.O.Outside.opened c.args.outside.now) _ _ (g.O.Outside.seen c.args.outside.now).device c.skip.result c.skip.ensures.answer
 
 pub returns-clause-found : goal.returns-clause-found
 returns-clause-found g c =
