@@ -29,6 +29,7 @@ use Rattle.runner.specs.Faults.{IsCaused, IsLastRun, LeavesRun, Reasons, because
 use Rattle.runner.specs.Parts.{IsStuck, Left}
 use Rattle.runner.specs.Answers.{Answers, IsAsked, Moves, RunsBy, as_read, run_of}
 use Rattle.runner.specs.Attempts.{AnswersAt, AnswersLast, AtOpening, Began, ChangedLast, HasNoNext, MetBefore, MetStops, TellsNoNext, TriedAt, failed_before, found_by}
+use Rattle.runner.specs.Finding.{FindsAt, FindsLast}
 use Rattle.runner.specs.Validities.{IsKept, TellsChanged}
 use Rattle.runner.proofs.PartCalls.{TellsNoBook}
 use Rattle.runner.proofs.Passes.{planned_state, run_of_state, unplanned_state}
@@ -314,6 +315,15 @@ unfolding began_at
 last_answers ours alone opening options n fixed start now s1 stream drawn pass first undrawn moved e t answers = record {
   began = began_at ours alone opening n fixed start now s1 stream drawn first undrawn moved e t;
   answers = answers (subst (λ (d : Device). TriedAt ours alone opening fixed d) (sym (found_device n now s1 e)) t);
+}
+
+-- what it told as found
+pub last_finds : (ours : List ℕ → Bool) (alone : Bool) (opening : Opening) (n : ℕ) (fixed : Option ℕ) (start now s1 : Seen) (stream drawn : Stream) (pass : Pass) → (n ≡ 0 → now ≡ start) → (n ≡ 0 → drawn ≡ stream) → Moves stream drawn → s1 ≡ found_by n now → TriedAt ours alone opening fixed now.device
+    → FindsAt ours s1.device pass → FindsLast ours alone opening n pass start.device stream
+unfolding began_at
+last_finds ours alone opening n fixed start now s1 stream drawn pass first undrawn moved e t finds = record {
+  began = began_at ours alone opening n fixed start now s1 stream drawn first undrawn moved e t;
+  finds = finds;
 }
 
 pub changed_last : (ours : List ℕ → Bool) (alone : Bool) (opening : Opening) (h repeats : Type 0) (unread : OutsideFault → Type 0) (n tries : ℕ) (fixed : Option ℕ) (start now s1 s2 : Seen) (stream drawn : Stream) (side : Side) (f : RunFault) → (n ≡ 0 → now ≡ start) → (n ≡ 0 → drawn ≡ stream) → Moves stream drawn → s1 ≡ found_by n now → TriedAt ours alone opening fixed now.device

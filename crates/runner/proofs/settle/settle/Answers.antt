@@ -4,7 +4,7 @@ use Rattle.underway.specs.Conditions.{Underway}
 use Rattle.runner.specs.declared.pass.Pass.{Pass}
 use Rattle.runner.specs.Attempts.{IsTried}
 use Rattle.runner.specs.Faults.{TellsNoRun}
-use Rattle.runner.proofs.Attempts.{caused_since, changed_last, failed_few, found_device, greatest_since, kept_none, last_answers, leaves_since, met_before, moved_twice, stops_kept, stops_more, stuck_first, stuck_more, tried_underway}
+use Rattle.runner.proofs.Attempts.{caused_since, changed_last, failed_few, found_device, greatest_since, kept_none, last_answers, last_finds, leaves_since, met_before, moved_twice, stops_kept, stops_more, stuck_first, stuck_more, tried_underway}
 use Rattle.runner.proofs.PartCalls.{leaves_map}
 use Rattle.runner.proofs.Passes.{over_alike}
 use Rattle.runner.proofs.PlanFacts.{moved_none}
@@ -203,3 +203,14 @@ returns-in-Ok-clause-told g c = λ h asked at.
     let before = IsTried g.O.Outside.ours g.O.Outside.alone g.opening c.args.options.now (g.R.Rng.stream c.loop-tried.rng) c.loop-tried.run in
     let device = found_device c.loop-tried.tried now s1 c.again.ensures.seen in
     c.in-Ok.ensures.told h (subst before (sym device) (i.left (c.again.ensures.was_honest (c.attempt.ensures.was_honest h)) asked at))
+
+pub returns-in-Ok-clause-found : goal.returns-in-Ok-clause-found
+returns-in-Ok-clause-found g c = λ h asked at.
+    let i = c.loop-tried.invariant in
+    let s0 = g.O.Outside.seen c.args.outside.now in
+    let now = g.O.Outside.seen c.loop-tried.outside in
+    let s1 = g.O.Outside.seen c.again.new.outside in
+    let before = IsTried g.O.Outside.ours g.O.Outside.alone g.opening c.args.options.now (g.R.Rng.stream c.loop-tried.rng) c.loop-tried.run in
+    let device = found_device c.loop-tried.tried now s1 c.again.ensures.seen in
+    let t = i.left (c.again.ensures.was_honest (c.attempt.ensures.was_honest h)) asked at in
+    last_finds g.O.Outside.ours g.O.Outside.alone g.opening c.loop-tried.tried c.loop-tried.run s0 now s1 _ _ c.in-Ok.last i.first i.undrawn i.moved c.again.ensures.seen t.tried (c.in-Ok.ensures.found h (subst before (sym device) t))
