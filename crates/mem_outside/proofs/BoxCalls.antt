@@ -1,5 +1,5 @@
 -- From what a call does to both lists to what the outside says of it.
-use Rattle.std.proofs.Common.{◌≡◌, ◌<◌, ◌+◌, ◌⊎◌, inl, inr, ap, sym, ◌∙◌, refl, subst, ℕ, Bool, true, false, List, [], ◌∷◌, map, Ok, Err, Option, None, Some, arith}
+use Rattle.std.proofs.Common.{◌≡◌, ◌<◌, ◌≤◌, ◌+◌, ◌⊎◌, inl, inr, ⊎_elim, ap, sym, ◌∙◌, refl, subst, ℕ, Bool, true, false, List, [], ◌∷◌, map, Ok, Err, Option, None, Some, arith}
 use Rattle.std.specs.Prelude.{MatchOption, if◌then◌else◌}
 use Rattle.std.proofs.lemmas.List.{append-nil}
 use Rattle.std.proofs.lemmas.List.Elements.{All-nil}
@@ -17,7 +17,7 @@ use Rattle.outside.specs.declared.outside.Carried.{Carried}
 use Rattle.outside.specs.declared.outside.Carried.TheVariants.{Absent, Unfit, Made}
 use Rattle.outside.specs.Arrivals.{Arrives, IsMerge, none, left}
 use Rattle.outside.specs.BoxCalls.{Admits, Carry, Turns}
-use Rattle.outside.specs.Calls.{Call, FromBox, IsCounted, IsStop, LeavesBy}
+use Rattle.outside.specs.Calls.{Call, FromBox, IsCounted, IsStop, LeavesBy, stops_told}
 use Rattle.outside.specs.Devices.{Device, box}
 use Rattle.mem_outside.specs.BoxConditions.{Counts, ComesBehind, Halts, IsCountedAs}
 use Rattle.mem_outside.specs.Carrying.{CarriesSides, CarriesTo}
@@ -64,17 +64,15 @@ counted_so b b' c c' s (fault.BadState line) h = absurd h
 counted_so b b' c c' s (fault.BadJournal line) h = absurd h
 counted_so b b' c c' s fault.NoMemory h = tt
 
-stopped_so : (c c' : Counts) (n : ℕ) → (c.is_broken ≡ true) ⊎ (c.stops < c'.stops) → (c.is_broken ≡ true) ⊎ (c.stops + n < c'.stops + n)
-stopped_so c c' n (inl broken) = inl broken
-stopped_so c c' n (inr more) = inr (omega arith)
+broken_or_whole : (is_broken : Bool) → (is_broken ≡ true) ⊎ (is_broken ≡ false)
+broken_or_whole true = inl refl
+broken_or_whole false = inr refl
 
-stop_counted : (c c' : Counts) (n : ℕ) (e : OutsideFault) → IsCountedAs e c c' → IsStop e → (c.is_broken ≡ true) ⊎ (c.stops + n < c'.stops + n)
-stop_counted c c' n fault.Stopped h is = stopped_so c c' n h
-stop_counted c c' n fault.Refused h is = absurd (cc)
-stop_counted c c' n (fault.Box side number) h is = absurd h
-stop_counted c c' n (fault.BadState line) h is = absurd h
-stop_counted c c' n (fault.BadJournal line) h is = absurd h
-stop_counted c c' n fault.NoMemory h is = absurd (cc)
+stop_counted : (c c' : Counts) (e : OutsideFault) → Halts e c c' → IsStop e → (c.is_broken ≡ true) ⊎ (c.stops < c'.stops)
+stop_counted c c' e h is = ⊎_elim (λ b. inl b) (λ w. inr (omega (arith, h.stops w, ap stops_told is))) (broken_or_whole c.is_broken)
+
+stops_no_less : (c c' : Counts) (e : OutsideFault) → Halts e c c' → c.stops ≤ c'.stops
+stops_no_less c c' e h = ⊎_elim (λ b. omega (arith, ap (λ (x : Counts). x.stops) (h.stuck b).1)) (λ w. omega (arith, h.stops w)) (broken_or_whole c.is_broken)
 
 -- a call that has a fault, and leaves this
 pub halted : {T : Type 0} (b b' : Sides) (c c' : Counts) (s : DeviceSeen Files) (copies : T → ℕ) (does : T → Effect Device) (leaves : OutsideFault → Effect Device) (e : OutsideFault)
@@ -85,14 +83,15 @@ pub halted : {T : Type 0} (b b' : Sides) (c c' : Counts) (s : DeviceSeen Files) 
 halted b b' c c' s copies does leaves e done same h = record {
   acts = record {
     is_broken = h.is_broken;
-    counted = stop_counted c c' s.stops e h.counted;
-    no_less = omega (arith, h.stops);
-    stuck = λ broken. ((h.stuck broken).0, ap (λ (x : Sides). record { stored = record { far = x.far; near = x.near; files = s.stored }; is_broken = c'.is_broken; stops = c'.stops + s.stops }) (same broken) ∙ ap (λ (x : Counts). record { stored = record { far = b.far; near = b.near; files = s.stored }; is_broken = x.is_broken; stops = x.stops + s.stops }) ((h.stuck broken).1));
+    counted = stop_counted c c' e h;
+    no_less = stops_no_less c c' e h;
+    stuck = λ broken. ((h.stuck broken).0, ap (λ (x : Sides). record { stored = record { far = x.far; near = x.near; files = s.stored }; is_broken = c'.is_broken; stops = c'.stops }) (same broken) ∙ ap (λ (x : Counts). record { stored = record { far = b.far; near = b.near; files = s.stored }; is_broken = x.is_broken; stops = x.stops }) ((h.stuck broken).1));
     left = λ _. alone _ _ _ done;
   };
   counts = record {
     told = told_by_box e c c' h.counted;
     counted = counted_so b b' c c' s e h.counted;
+    stopped = h.stops;
     refusals = h.refusals;
     faults = omega arith;
     appends = h.copies;
@@ -118,7 +117,7 @@ went_with b b' c c' s copies may_tell does leaves x done whole same = record {
   acts = record {
     was_whole = whole;
     is_whole = ap (λ (y : Counts). y.is_broken) same ∙ whole;
-    stops = ap (λ (y : Counts). y.stops + s.stops) same;
+    stops = ap (λ (y : Counts). y.stops) same;
     effect = λ _. alone _ _ _ done;
   };
   counts = record {

@@ -1,9 +1,11 @@
 -- How the faults of a book are told.
-use Rattle.std.specs.Prelude.{Bool, true, false, Result, Ok, Err}
+use Rattle.std.specs.Prelude.{◌≡◌, ◌⊎◌, ◌+◌, true, Result, Ok, Err}
 use Rattle.sync_state.specs.declared.fault.BookFault.{BookFault}
 use Rattle.sync_state.specs.declared.fault.BookFault.TheVariants as book
 use Rattle.outside.specs.declared.fault.OutsideFault.{OutsideFault}
 use Rattle.outside.specs.declared.fault.OutsideFault.TheVariants as outside
+use Rattle.outside.specs.Calls.{stops_told}
+use Rattle.mem_outside.specs.BoxConditions.{Counts}
 
 abbrev pub told : BookFault → OutsideFault
 told book.Stopped = outside.Stopped
@@ -11,10 +13,15 @@ told (book.BadState line) = outside.BadState line
 told (book.BadJournal line) = outside.BadJournal line
 told book.NoMemory = outside.NoMemory
 
-abbrev pub told_by : {T : Type 0} → Result T BookFault → Result T OutsideFault
-told_by (Ok answer) = Ok answer
-told_by (Err fault) = Err (told fault)
+-- A call of the book has this fault. It is told, or that it could not be counted, and from then on each call stops. A stop that is told is
+-- counted once, and no other.
+pub record BookFails (fault : BookFault) (tells : OutsideFault) (old new : Counts) : Type 0 where
+  pub is_told : (tells ≡ told fault) ⊎ (tells ≡ outside.NoMemory)
+  pub now : new ≡ record old { is_broken = true; stops = old.stops + stops_told tells }
 
-abbrev pub is_fault : {T E : Type 0} → Result T E → Bool
-is_fault (Ok answer) = false
-is_fault (Err fault) = true
+-- a call of the book with this answer ends with this result
+abbrev pub BookEnded : (answer : Result (Unit {0}) BookFault) → (result : Result (Unit {0}) OutsideFault) → Counts → Counts → Type 0
+BookEnded (Ok x) (Ok y) old new = new ≡ old
+BookEnded (Ok x) (Err tells) old new = ⊥
+BookEnded (Err fault) (Ok y) old new = ⊥
+BookEnded (Err fault) (Err tells) old new = BookFails fault tells old new

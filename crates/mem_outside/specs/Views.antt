@@ -1,5 +1,5 @@
 -- What the outside in memory is, as its calls are seen.
-use Rattle.std.specs.Prelude.{ℕ, ◌+◌, Bool, true, false, List, map, Option, None, Some}
+use Rattle.std.specs.Prelude.{ℕ, Bool, true, false, List, map, Option, None, Some}
 use Rattle.device.specs.Calls.{Seen as DeviceSeen}
 use Rattle.mailcore.specs.declared.side.Side.{Side}
 use Rattle.mailcore.specs.declared.side.Side.TheVariants.{Far, Near as NearSide}
@@ -75,7 +75,7 @@ abbrev pub seen_at : Sides → Counts → DeviceSeen Files → Seen
 seen_at sides counts shelf = record {
   device = record { far = sides.far; near = sides.near; files = shelf.stored };
   is_broken = counts.is_broken;
-  stops = counts.stops + shelf.stops;
+  stops = counts.stops;
   refusals = counts.refusals;
   faults = 0;
   appends = counts.copies;

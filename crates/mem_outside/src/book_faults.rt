@@ -1,7 +1,7 @@
 //! How the faults of a book are told.
 
 ghost use Rattle.std.specs.Prelude.{◌≡◌};
-ghost use Rattle.mem_outside.specs.BookFaults.{told, told_by};
+ghost use Rattle.mem_outside.specs.BookFaults.{told};
 
 use outside::fault::OutsideFault;
 use sync_state::fault::BookFault;
@@ -15,15 +15,5 @@ pub(crate) fn told(fault: BookFault) -> OutsideFault
         BookFault::BadState(line) => OutsideFault::BadState(line),
         BookFault::BadJournal(line) => OutsideFault::BadJournal(line),
         BookFault::NoMemory => OutsideFault::NoMemory,
-    }
-}
-
-/// How an answer of the book is told.
-pub(crate) fn told_by(answer: Result<(), BookFault>) -> Result<(), OutsideFault>
-    ensures { result ≡ told_by answer }
-{
-    match answer {
-        Ok(()) => Ok(()),
-        Err(fault) => Err(told(fault)),
     }
 }

@@ -1,11 +1,11 @@
-//! Whether calls of the mailboxes are answered, which of them stop or are refused, and how many have.
+//! Whether calls of the outside are answered, which calls of a mailbox stop or are refused, and how many have.
 
 ghost use Rattle.std.specs.Prelude.{◌≡◌, ◌+◌, true, false, OnOk, IfErr};
 ghost use Rattle.outside.specs.BoxCalls.{copies_made};
-ghost use Rattle.mem_outside.specs.BookFaults.{is_fault, told_by};
+ghost use Rattle.mem_outside.specs.BookFaults.{BookEnded, BookFails};
 ghost use Rattle.mem_outside.specs.BoxConditions.{Halts, ComesBehind, untouched};
 
-use crate::book_faults::told_by;
+use crate::book_faults::told;
 use device::DeviceFault;
 use device::schedule::{Moment, Scheduled, Stop};
 use device::stop_count::StopCount;
@@ -37,14 +37,16 @@ pub enum BoxCall {
     Expunge,
 }
 
-/// The condition of both mailboxes: whether their calls are answered, the stops and refusals to come, and how many calls
-/// have stopped, were refused, and have made a copy.
+/// The condition of both mailboxes and the book: whether calls are answered, the stops and refusals of a mailbox to come, and how many
+/// calls have stopped, were refused, and have made a copy.
 #[derive(Debug, Drop)]
 pub struct BoxCondition {
     is_broken: bool,
     stopping: Scheduled<BoxCall>,
     /// A refused call is kept as a stop of this.
     refusing: Scheduled<BoxCall>,
+    /// An element for each stop that was told.
+    stops: StopCount,
     /// An element for each copy.
     copies: StopCount,
 }
@@ -54,7 +56,7 @@ impl Model for BoxCondition {
 
     ghost Value = { Counts };
 
-    ghost view = { λ c. record { is_broken = c.is_broken; stops = c.stopping.stops; refusals = c.refusing.stops; copies = c.copies } };
+    ghost view = { λ c. record { is_broken = c.is_broken; stops = c.stops; refusals = c.refusing.stops; copies = c.copies } };
 }
 
 impl BoxCondition {
@@ -67,15 +69,16 @@ impl BoxCondition {
             is_broken: false,
             stopping: Scheduled::new(alloc, stops),
             refusing: Scheduled::new(alloc, refusals),
+            stops: StopCount::new(alloc),
             copies: StopCount::new(alloc),
         }
     }
 
-    /// How many calls have stopped.
+    /// How many calls have stopped, those of the book as well.
     pub fn stops(&self) -> usize
         ensures { result ≡ self.now.stops }
     {
-        self.stopping.stop_count()
+        self.stops.get()
     }
 
     /// Begins a call, and says whether it stops behind its effect. `Stopped`, `Refused` and `NoMemory`: it has no effect.
@@ -137,17 +140,31 @@ impl BoxCondition {
         OutsideFault::NoMemory
     }
 
-    /// Ends a call of the book. Where it has a fault, each later call stops.
+    /// Ends a call of the book. Where it has a fault, each later call stops. `NoMemory`: its stop could not be counted, too.
     pub(crate) fn end_book(&mut self, answer: Result<(), BookFault>) -> Result<(), OutsideFault>
-        ensures told { result ≡ told_by answer }
-        ensures now { self.new ≡ record self.old { is_broken = is_fault answer } }
+        ensures { BookEnded answer result self.old self.new }
     {
-        self.is_broken = answer.is_err();
-        told_by(answer)
+        match answer {
+            Ok(()) => Ok(()),
+            Err(fault) => Err(self.fail_book(fault)),
+        }
+    }
+
+    /// A call of the book has this fault, and from now on each call stops. Gives what it answers: `NoMemory` where its stop cannot be
+    /// counted.
+    pub(crate) fn fail_book(&mut self, fault: BookFault) -> OutsideFault
+        ensures { BookFails fault result self.old self.new }
+    {
+        self.break_off();
+        let told = told(fault);
+        if told == OutsideFault::Stopped && self.stops.push().is_err() {
+            return OutsideFault::NoMemory;
+        }
+        told
     }
 
     /// From now on each call stops, until `reopen`.
-    pub(crate) fn break_off(&mut self)
+    fn break_off(&mut self)
         ensures { self.new ≡ record self.old { is_broken = true } }
     {
         self.is_broken = true;
@@ -158,7 +175,6 @@ impl BoxCondition {
         ensures { self.new ≡ record self.old { is_broken = false } }
     {
         self.is_broken = false;
-        self.stopping.reopen();
         self.refusing.reopen();
     }
 
@@ -176,9 +192,9 @@ impl BoxCondition {
         ensures halted { Halts result self.old self.new }
     {
         self.break_off();
-        match self.stopping.stop() {
-            DeviceFault::Stopped => OutsideFault::Stopped,
-            DeviceFault::NoMemory => OutsideFault::NoMemory,
+        match self.stops.push() {
+            Ok(()) => OutsideFault::Stopped,
+            Err(_) => OutsideFault::NoMemory,
         }
     }
 

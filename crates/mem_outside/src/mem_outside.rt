@@ -4,7 +4,6 @@ ghost use Rattle.std.specs.Prelude.{◌≡◌, true, false, not, None};
 ghost use Rattle.book.specs.MemShelves as mem;
 ghost use Rattle.mem_outside.specs.Views.{is_there, is_whole, shelf_of};
 
-use crate::book_faults::told;
 use crate::box_condition::{BoxCall, BoxCondition};
 use crate::boxes::Boxes;
 use crate::carrying::{CopyAs, carry};
@@ -142,8 +141,7 @@ impl Outside for MemOutside {
             }
             Err(refused) => {
                 self.shelf = Some(refused.shelf);
-                self.condition.break_off();
-                Err(told(refused.fault))
+                Err(self.condition.fail_book(refused.fault))
             }
         }
     }

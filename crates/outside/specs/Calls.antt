@@ -1,5 +1,5 @@
 -- What a call of the outside does, whether it stops or not, and what it counts.
-use Rattle.std.specs.Prelude.{◌≡◌, ◌<◌, ◌≤◌, ◌+◌, ℕ, Bool, true, Result, Ok, Err}
+use Rattle.std.specs.Prelude.{◌≡◌, ◌<◌, ◌≤◌, ◌+◌, ℕ, Bool, true, false, Result, Ok, Err}
 use Rattle.device.specs.Calls.{Seen as DeviceSeen, Effect, Between, Acts, Leaves, Stays, Answers}
 use Rattle.outside.specs.declared.fault.OutsideFault.{OutsideFault}
 use Rattle.outside.specs.declared.fault.OutsideFault.TheVariants.{Stopped, Refused, Box, BadState, BadJournal, NoMemory}
@@ -31,6 +31,15 @@ pub record CountsCopies (copies : ℕ) (old new : Seen) : Type 0 where
   pub faults : new.faults ≡ old.faults
   pub appends : new.appends ≡ old.appends + copies
 
+-- how many stops a fault tells
+abbrev pub stops_told : OutsideFault → ℕ
+stops_told Stopped = 1
+stops_told Refused = 0
+stops_told (Box side number) = 0
+stops_told (BadState line) = 0
+stops_told (BadJournal line) = 0
+stops_told NoMemory = 0
+
 -- a refusal and another fault of a box are counted
 abbrev pub IsCounted : OutsideFault → Seen → Seen → Type 0
 IsCounted Stopped old new = Unit {0}
@@ -40,10 +49,12 @@ IsCounted (BadState line) old new = Unit {0}
 IsCounted (BadJournal line) old new = Unit {0}
 IsCounted NoMemory old new = Unit {0}
 
--- a call that ended with a fault, which is one that it may tell; where the outside was broken nothing is counted
+-- A call that ended with a fault, which is one that it may tell. A stop that it tells is counted once, and no other; where the outside
+-- was broken nothing is counted.
 pub record CountsFault (may_tell : OutsideFault → Type 0) (fault : OutsideFault) (old new : Seen) : Type 0 where
   pub told : may_tell fault
   pub counted : IsCounted fault old new
+  pub stopped : old.is_broken ≡ false → new.stops ≡ old.stops + stops_told fault
   pub refusals : old.refusals ≤ new.refusals
   pub faults : old.faults ≤ new.faults
   pub appends : old.appends ≤ new.appends

@@ -9,7 +9,7 @@ use Rattle.mailcore.specs.Stores.{Waiting}
 use Rattle.outside.specs.declared.fault.OutsideFault.{OutsideFault}
 use Rattle.outside.specs.declared.fault.OutsideFault.TheVariants as fault
 use Rattle.outside.specs.Arrivals.{Arrives, IsMerge, none, left}
-use Rattle.outside.specs.Calls.{Call, IsCounted, IsStop, LeavesBy}
+use Rattle.outside.specs.Calls.{Call, IsCounted, IsStop, LeavesBy, stops_told}
 use Rattle.outside.specs.Devices.{Device}
 use Rattle.parts.specs.Devices.{every, seen_with}
 use Rattle.parts.specs.PartCalls.{Part, LeavesSome}
@@ -55,6 +55,7 @@ stuck honest copies may_tell does leaves d c broken may same = record {
   counts = record {
     told = may;
     counted = tt;
+    stopped = λ whole. absurd (cc);
     refusals = omega arith;
     faults = omega arith;
     appends = omega arith;
@@ -72,13 +73,8 @@ is_counted (fault.BadState line) d d' c c' h = tt
 is_counted (fault.BadJournal line) d d' c c' h = tt
 is_counted fault.NoMemory d d' c c' h = tt
 
-stop_counted : (e : OutsideFault) (c c' : Counts) → IsCountedAs e c c' → IsStop e → (c.is_broken ≡ true) ⊎ (c.stops < c'.stops)
-stop_counted fault.Stopped c c' h is = inr h
-stop_counted fault.Refused c c' h is = absurd (cc)
-stop_counted (fault.Box side number) c c' h is = absurd (cc)
-stop_counted (fault.BadState line) c c' h is = absurd (cc)
-stop_counted (fault.BadJournal line) c c' h is = absurd (cc)
-stop_counted fault.NoMemory c c' h is = absurd (cc)
+stop_counted : (e : OutsideFault) (c c' : Counts) → c'.stops ≡ c.stops + stops_told e → IsStop e → (c.is_broken ≡ true) ⊎ (c.stops < c'.stops)
+stop_counted e c c' n is = inr (omega (arith, n, ap stops_told is))
 
 failed : {T : Type 0} (honest : Type 0) (copies : T → ℕ) (may_tell : OutsideFault → Type 0) (does : T → Effect Device) (leaves : OutsideFault → Effect Device) (d d' : Device) (c c' : Counts) (e told : OutsideFault)
     → c.is_broken ≡ false → Fails e told c c' → may_tell told → (honest → leaves told d d')
@@ -86,14 +82,15 @@ failed : {T : Type 0} (honest : Type 0) (copies : T → ℕ) (may_tell : Outside
 failed honest copies may_tell does leaves d d' c c' e told whole f may left_so = record {
   acts = record {
     is_broken = f.is_broken;
-    counted = stop_counted told c c' f.counted;
-    no_less = f.stops;
+    counted = stop_counted told c c' f.stops;
+    no_less = omega (arith, f.stops);
     stuck = λ broken. absurd (cc);
     left = λ h. alone _ _ _ (left_so h);
   };
   counts = record {
     told = may;
     counted = is_counted told d d' c c' f.counted;
+    stopped = λ _. f.stops;
     refusals = f.refusals;
     faults = f.faults;
     appends = f.copies;

@@ -1,5 +1,5 @@
 -- What stands between two attempts at a run.
-use Rattle.std.proofs.Common.{◌≡◌, ◌⊎◌, ◌≤◌, ◌<◌, ◌+◌, true, false, inl, inr, if◌then◌else◌, ℕ, Bool, List, Option, Some, None, Result, Ok, Err, IfOk, IsErrAnd, ◌^◌, refl, sym, ◌∙◌, ap, subst, arith}
+use Rattle.std.proofs.Common.{◌≡◌, ◌⊎◌, ◌≤◌, ◌<◌, ◌+◌, true, false, inl, inr, ⊎_elim, if◌then◌else◌, ℕ, Bool, List, Option, Some, None, Result, Ok, Err, IfOk, IsErrAnd, ◌^◌, refl, sym, ◌∙◌, ap, subst, arith}
 use Rattle.std.proofs.lemmas.Bool.{cases_eq, ne_eqb}
 use Rattle.rand_core.specs.Stream.{Stream}
 use Rattle.mailcore.specs.Draws.{Draws, after_pairs}
@@ -25,10 +25,11 @@ use Rattle.mailcore.specs.declared.side.Side.{Side}
 use Rattle.runner.specs.declared.fault.RunFault.{RunFault}
 use Rattle.runner.specs.declared.pass.Pass.{Pass}
 use Rattle.runner.specs.declared.fault.RunFault.TheVariants as run
-use Rattle.runner.specs.Faults.{IsCaused, IsLastRun, LeavesRun, Reasons, because, call_fault, or_unread}
+use Rattle.runner.specs.Faults.{IsCaused, IsLastRun, LeavesRun, Reasons, because, call_fault, or_unread, stops_met}
 use Rattle.runner.specs.Parts.{IsStuck, Left}
 use Rattle.runner.specs.Answers.{Answers, IsAsked, Moves, RunsBy, as_read, run_of}
-use Rattle.runner.specs.Attempts.{AnswersAt, AnswersLast, AtOpening, Began, ChangedLast, HasNoNext, MetStops, TellsNoNext, TriedAt, failed_before, found_by}
+use Rattle.runner.specs.Attempts.{AnswersAt, AnswersLast, AtOpening, Began, ChangedLast, HasNoNext, MetBefore, MetStops, TellsNoNext, TriedAt, failed_before, found_by}
+use Rattle.runner.specs.Finding.{FindsAt, FindsLast}
 use Rattle.runner.specs.Validities.{IsKept, TellsChanged}
 use Rattle.runner.proofs.PartCalls.{TellsNoBook}
 use Rattle.runner.proofs.Passes.{planned_state, run_of_state, unplanned_state}
@@ -173,6 +174,16 @@ module _ (ours : List ℕ → Bool) (alone : Bool) where
 
 -- ---- counts
 
+none_met : (f : RunFault) → (f ≡ run.Stopped → ⊥) → stops_met f ≡ 0
+none_met run.Stopped other = absurd (other refl)
+none_met (run.Refused step) other = refl
+none_met (run.ValidityChanged side) other = refl
+none_met (run.BadState line) other = refl
+none_met (run.BadJournal line) other = refl
+none_met (run.StoreFault side number) other = refl
+none_met run.MarksRepeat other = refl
+none_met run.NoMemory other = refl
+
 -- as an attempt finds the outside
 pub found_first : (n : ℕ) (s : Seen) → n ≡ 0 → found_by n s ≡ s
 found_first n s e = rw e refl
@@ -200,42 +211,65 @@ failed_at_most s = either s.is_broken
     either true = omega arith
     either false = omega arith
 
--- one more attempt met a stop
-pub stops_more : {reasons : Reasons} (h : Type 0) (a u : Device → Type 0) (n : ℕ) (start now s1 s2 : Seen) → MetStops n start now → (n ≡ 0 → now ≡ start) → s1 ≡ found_by n now → Left reasons h a u run.Stopped s1 s2 → MetStops (n + 1) start s2
-stops_more h a u n start now s1 s2 met first e l = by_cause l.caused
+broken_or_whole : (s : Seen) → (s.is_broken ≡ true) ⊎ (s.is_broken ≡ false)
+broken_or_whole s = either s.is_broken
   where
-    stops : s1.stops ≡ now.stops
-    stops = ap (λ (x : Seen). x.stops) e
+    either : (b : Bool) → (b ≡ true) ⊎ (b ≡ false)
+    either true = inl refl
+    either false = inr refl
+
+-- an attempt that found the outside whole was the first only where it had not failed before
+whole_few : (n : ℕ) (start now s1 : Seen) → (n ≡ 0 → now ≡ start) → s1 ≡ found_by n now → s1.is_broken ≡ false → failed_before start ≤ n
+whole_few n start now s1 first e whole = by_first (cases_eq n 0)
+  where
+    by_first : (n ≡ 0) ⊎ ((n ≡ 0) → ⊥) → failed_before start ≤ n
+    by_first (inl z) =
+        let same : s1 ≡ start = e ∙ found_first n now z ∙ first z in
+        let f = not_failed start (sym (ap (λ (x : Seen). x.is_broken) same) ∙ whole) in
+        omega (arith, f)
+    by_first (inr f) = let m = failed_at_most start in omega (arith, m, f)
+
+-- one more attempt met a stop
+pub stops_more : {T : Type 0} {reasons : Reasons} (h : Type 0) (a u : Device → Type 0) (n : ℕ) (start now s1 s2 : Seen) (r : Result T RunFault) → MetStops n start now → (n ≡ 0 → now ≡ start) → s1 ≡ found_by n now → IsStuck s1 s2 r → Left reasons h a u run.Stopped s1 s2 → MetStops (n + 1) start s2
+stops_more h a u n start now s1 s2 r met first e stuck l = by_state (broken_or_whole s1)
+  where
+    at : s1.stops ≡ now.stops
+    at = ap (λ (x : Seen). x.stops) e
 
     by_first : s1.is_broken ≡ true → (n ≡ 0) ⊎ ((n ≡ 0) → ⊥) → MetStops (n + 1) start s2
     by_first b (inl z) =
         let same : s1 ≡ start = e ∙ found_first n now z ∙ first z in
         let k = failed start (sym (ap (λ (x : Seen). x.is_broken) same) ∙ b) in
-        let less = l.no_less in
-        let at = ap (λ (x : Seen). x.stops) same in
-        let least = less.stops in
-        omega (arith, z, k, at, least)
-    by_first b (inr f) = let w = found_whole n now s1 e f in cc
+        let still = ap (λ (x : Seen). x.stops) ((stuck b).1 ∙ same) in
+        omega (arith, z, k, still)
+    by_first b (inr f) = let w = found_whole n now s1 e f in absurd (cc)
 
-    by_cause : (s1.is_broken ≡ true) ⊎ (s1.stops < s2.stops) → MetStops (n + 1) start s2
-    by_cause (inl b) = by_first b (cases_eq n 0)
-    by_cause (inr k) = let m = failed_at_most start in omega (arith, k, stops, met, m)
+    by_state : (s1.is_broken ≡ true) ⊎ (s1.is_broken ≡ false) → MetStops (n + 1) start s2
+    by_state (inl b) = by_first b (cases_eq n 0)
+    by_state (inr w) = let more = l.stops w in let few = whole_few n start now s1 first e w in omega (arith, more, few, at, met)
 
 -- one that was answered adds none
 pub stops_kept : (n : ℕ) (start now s1 s2 : Seen) → MetStops n start now → s1 ≡ found_by n now → s2.stops ≡ s1.stops → MetStops n start s2
 stops_kept n start now s1 s2 met e k = let at = ap (λ (x : Seen). x.stops) e in omega (arith, met, at, k)
 
--- an attempt that was answered found the outside whole
-pub failed_few : {T : Type 0} (n : ℕ) (start now s1 s2 : Seen) (x : T) → (n ≡ 0 → now ≡ start) → s1 ≡ found_by n now → IsStuck s1 s2 (Ok x) → failed_before start ≤ n
-failed_few {T} n start now s1 s2 x first e stuck = by_first (cases_eq n 0)
-  where
-    by_flag : (b : Bool) → start.is_broken ≡ b → n ≡ 0 → failed_before start ≤ n
-    by_flag true k z = absurd ((stuck (ap (λ (y : Seen). y.is_broken) (e ∙ found_first n now z ∙ first z) ∙ k)).0)
-    by_flag false k z = let f = not_failed start k in omega (arith, f)
+-- an attempt that was not stopped found the outside whole
+unstopped_whole : {T : Type 0} (s1 s2 : Seen) (r : Result T RunFault) → (IsErrAnd r (λ fault. fault ≡ run.Stopped) → ⊥) → IsStuck s1 s2 r → s1.is_broken ≡ false
+unstopped_whole s1 s2 r other stuck = ⊎_elim (λ b. absurd (other (stuck b).0)) (λ w. w) (broken_or_whole s1)
 
-    by_first : (n ≡ 0) ⊎ ((n ≡ 0) → ⊥) → failed_before start ≤ n
-    by_first (inl z) = by_flag start.is_broken refl z
-    by_first (inr f) = let m = failed_at_most start in omega (arith, m, f)
+pub failed_few : {T : Type 0} (n : ℕ) (start now s1 s2 : Seen) (x : T) → (n ≡ 0 → now ≡ start) → s1 ≡ found_by n now → IsStuck s1 s2 (Ok x) → failed_before start ≤ n
+failed_few n start now s1 s2 x first e stuck = whole_few n start now s1 first e (unstopped_whole s1 s2 (Ok x) (λ k. k) stuck)
+
+-- the last one had another fault
+pub met_before : (T : Type 0) {reasons : Reasons} (h : Type 0) (a u : Device → Type 0) (n tries : ℕ) (start now s1 s2 : Seen) (f : RunFault) → MetStops n start now → (n ≡ 0 → now ≡ start) → s1 ≡ found_by n now → IsStuck {T = T} s1 s2 (Err f) → Left reasons h a u f s1 s2
+    → n < tries → (f ≡ run.Stopped → ⊥) → MetBefore tries start s2
+met_before T h a u n tries start now s1 s2 f met first e stuck l few other =
+    let whole = unstopped_whole {T = T} s1 s2 (Err f) other stuck in
+    record {
+      earlier = n;
+      few = few;
+      least = whole_few n start now s1 first e whole;
+      met = stops_kept n start now s1 s2 met e (l.stops whole ∙ ap (λ (k : ℕ). s1.stops + k) (none_met f other) ∙ omega arith);
+    }
 
 -- the first attempt, where the outside had failed before
 pub stuck_first : {T : Type 0} (n : ℕ) (start now s1 s2 : Seen) (r : Result T RunFault) → n ≡ 0 → (n ≡ 0 → now ≡ start) → s1 ≡ found_by n now → IsStuck s1 s2 r → IsStuck start s2 r
@@ -281,6 +315,15 @@ unfolding began_at
 last_answers ours alone opening options n fixed start now s1 stream drawn pass first undrawn moved e t answers = record {
   began = began_at ours alone opening n fixed start now s1 stream drawn first undrawn moved e t;
   answers = answers (subst (λ (d : Device). TriedAt ours alone opening fixed d) (sym (found_device n now s1 e)) t);
+}
+
+-- what it told as found
+pub last_finds : (ours : List ℕ → Bool) (alone : Bool) (opening : Opening) (n : ℕ) (fixed : Option ℕ) (start now s1 : Seen) (stream drawn : Stream) (pass : Pass) → (n ≡ 0 → now ≡ start) → (n ≡ 0 → drawn ≡ stream) → Moves stream drawn → s1 ≡ found_by n now → TriedAt ours alone opening fixed now.device
+    → FindsAt ours s1.device pass → FindsLast ours alone opening n pass start.device stream
+unfolding began_at
+last_finds ours alone opening n fixed start now s1 stream drawn pass first undrawn moved e t finds = record {
+  began = began_at ours alone opening n fixed start now s1 stream drawn first undrawn moved e t;
+  finds = finds;
 }
 
 pub changed_last : (ours : List ℕ → Bool) (alone : Bool) (opening : Opening) (h repeats : Type 0) (unread : OutsideFault → Type 0) (n tries : ℕ) (fixed : Option ℕ) (start now s1 s2 : Seen) (stream drawn : Stream) (side : Side) (f : RunFault) → (n ≡ 0 → now ≡ start) → (n ≡ 0 → drawn ≡ stream) → Moves stream drawn → s1 ≡ found_by n now → TriedAt ours alone opening fixed now.device

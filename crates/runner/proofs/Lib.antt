@@ -13,3 +13,4 @@ pub mod PlanFacts
 pub mod Passes
 pub mod Told
 pub mod Attempts
+pub mod Finding

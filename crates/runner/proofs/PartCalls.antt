@@ -1,17 +1,17 @@
 -- From the calls of the outside to parts, and from parts to longer ones.
-use Rattle.std.proofs.Common.{◌≡◌, ◌⊎◌, ◌≤◌, ◌<◌, ◌+◌, inl, inr, ⊎_elim, ℕ, true, false, Option, Result, Ok, Err, refl, ◌∙◌, ap, subst, arith}
+use Rattle.std.proofs.Common.{◌≡◌, ◌⊎◌, ◌≤◌, ◌<◌, ◌+◌, inl, inr, ⊎_elim, ℕ, true, false, Option, Result, Ok, Err, refl, sym, ◌∙◌, ap, subst, arith}
 use Rattle.device.specs.Calls.{Effect}
 use Rattle.mailcore.specs.declared.side.Side.{Side}
 use Rattle.sync_state.specs.declared.journal.Logged.{Logged}
 use Rattle.outside.specs.declared.fault.OutsideFault.{OutsideFault}
 use Rattle.outside.specs.declared.fault.OutsideFault.TheVariants as out
 use Rattle.outside.specs.BookCalls.{FromLog}
-use Rattle.outside.specs.Calls.{Call, FromBook, FromBox, IsCounted, Seen}
+use Rattle.outside.specs.Calls.{Call, FromBook, FromBox, IsCounted, Seen, stops_told}
 use Rattle.outside.specs.Devices.{Device}
 use Rattle.outside.specs.Opened.{Opened}
 use Rattle.runner.specs.declared.fault.RunFault.{RunFault}
 use Rattle.runner.specs.declared.fault.RunFault.TheVariants as run
-use Rattle.runner.specs.Faults.{IsCaused, IsLost, LeavesRun, Reasons, call_fault, step_fault}
+use Rattle.runner.specs.Faults.{IsCaused, IsLost, LeavesRun, Reasons, call_fault, step_fault, stops_met}
 use Rattle.runner.specs.Parts.{Left, Never, NoLess, Part, PartOr, Passed}
 
 -- ---- a bad line of the state or the journal
@@ -88,6 +88,36 @@ called_by reasons (out.BadState line) s0 s1 stop h t = t.state line refl
 called_by reasons (out.BadJournal line) s0 s1 stop h t = t.journal line refl
 called_by reasons out.NoMemory s0 s1 stop h t = tt
 
+-- ---- how many stops it tells
+
+step_stops : (e : OutsideFault) (number : ℕ) → stops_met (step_fault e number) ≡ stops_told e
+step_stops out.Stopped number = refl
+step_stops out.Refused number = refl
+step_stops (out.Box side code) number = refl
+step_stops (out.BadState line) number = refl
+step_stops (out.BadJournal line) number = refl
+step_stops out.NoMemory number = refl
+
+call_stops : (e : OutsideFault) → stops_met (call_fault e) ≡ stops_told e
+call_stops out.Stopped = refl
+call_stops out.Refused = refl
+call_stops (out.Box side code) = refl
+call_stops (out.BadState line) = refl
+call_stops (out.BadJournal line) = refl
+call_stops out.NoMemory = refl
+
+-- a fault of the run's own tells none
+no_stop : (reasons : Reasons) (f : RunFault) (s : Seen) → s.is_broken ≡ false → IsCaused reasons f s s → stops_met f ≡ 0
+no_stop reasons run.Stopped s whole (inl broken) = absurd (cc)
+no_stop reasons run.Stopped s whole (inr more) = omega (arith, more)
+no_stop reasons (run.Refused step) s whole h = refl
+no_stop reasons (run.ValidityChanged side) s whole h = refl
+no_stop reasons (run.BadState line) s whole h = refl
+no_stop reasons (run.BadJournal line) s whole h = refl
+no_stop reasons (run.StoreFault side code) s whole h = refl
+no_stop reasons run.MarksRepeat s whole h = refl
+no_stop reasons run.NoMemory s whole h = refl
+
 -- ---- what a fault leaves
 
 pub after_step : (u : Device → Type 0) (e : OutsideFault) (number : ℕ) (s0 s1 : Seen) → IsCounted e s0 s1 → TellsNoBook e → u s1.device → LeavesRun u (step_fault e number) s0 s1
@@ -145,6 +175,7 @@ module _ {T : Type 0} (honest : Type 0) (from : Device → Type 0) (others : Eff
       record {
         caused = caused_by _ e number s0 s1 a.counted n.counted (line n.told);
         no_less = no_less e c;
+        stops = λ whole. n.stopped whole ∙ ap (λ (k : ℕ). s0.stops + k) (sym (step_stops e number));
         left = λ h at. let k = a.left h in let r = f k.mid at k.before k.behind n.told in after_step underway e number s0 s1 n.counted r.0 r.1;
       }
 
@@ -156,6 +187,7 @@ module _ {T : Type 0} (honest : Type 0) (from : Device → Type 0) (others : Eff
       record {
         caused = called_by _ e s0 s1 a.counted n.counted (line n.told);
         no_less = no_less e c;
+        stops = λ whole. n.stopped whole ∙ ap (λ (k : ℕ). s0.stops + k) (sym (call_stops e));
         left = λ h at. let k = a.left h in let r = f k.mid at k.before k.behind n.told in after_call underway e s0 s1 n.counted r.0 r.1;
       }
 
@@ -212,6 +244,7 @@ pub left_after : {reasons : Reasons} (h0 h1 : Type 0) (a b underway : Device →
 left_after {reasons} h0 h1 a b underway m f s0 s1 s2 honest p q = record {
   caused = later reasons f s0 s1 s2 p.is_whole p.stops p.refusals p.faults (omega (arith, p.appends)) q.caused;
   no_less = let n = q.no_less in record { stops = omega (arith, p.stops, n.stops); refusals = omega (arith, p.refusals, n.refusals); faults = omega (arith, p.faults, n.faults); appends = omega (arith, p.appends, n.appends) };
+  stops = λ _. q.stops p.is_whole ∙ ap (λ (k : ℕ). k + stops_met f) p.stops;
   left = λ h at. leaves_later underway f s0 s1 s2 p.refusals p.faults (q.left h (p.reaches (honest h) at));
 }
 
@@ -220,6 +253,7 @@ pub left_here : {reasons : Reasons} (h : Type 0) (a b underway : Device → Type
 left_here {reasons} h a b underway m f s0 s1 p caused g = record {
   caused = later reasons f s0 s1 s1 p.is_whole p.stops p.refusals p.faults (omega (arith, p.appends)) caused;
   no_less = record { stops = omega (arith, p.stops); refusals = omega (arith, p.refusals); faults = omega (arith, p.faults); appends = omega (arith, p.appends) };
+  stops = λ _. omega (arith, p.stops, no_stop reasons f s1 p.is_whole caused);
   left = λ honest at. g (p.reaches honest at);
 }
 
@@ -228,6 +262,7 @@ pub left_lost : {reasons : Reasons} (h : Type 0) (a underway : Device → Type 0
 left_lost h a underway m s0 s1 some p side number lost = record {
   caused = inr (inr (lost (omega (arith, some, p.appends))));
   no_less = record { stops = omega (arith, p.stops); refusals = omega (arith, p.refusals); faults = omega (arith, p.faults); appends = omega (arith, p.appends) };
+  stops = λ _. omega (arith, p.stops);
   left = λ honest at. absurd (p.reaches honest at);
 }
 
@@ -244,7 +279,7 @@ passed_weaker h a a' b b' m n s0 s1 same f g p = record {
 }
 
 pub left_weaker : {reasons : Reasons} (h : Type 0) (a a' underway : Device → Type 0) (f : RunFault) (s0 s1 : Seen) → ((d : Device) → a' d → a d) → Left reasons h a underway f s0 s1 → Left reasons h a' underway f s0 s1
-left_weaker h a a' underway f s0 s1 g l = record { caused = l.caused; no_less = l.no_less; left = λ honest at. l.left honest (g s0.device at) }
+left_weaker h a a' underway f s0 s1 g l = record { caused = l.caused; no_less = l.no_less; stops = l.stops; left = λ honest at. l.left honest (g s0.device at) }
 
 pub part_weaker : {T : Type 0} (reasons : Reasons) (h : Type 0) (a a' underway : Device → Type 0) (copies : T → ℕ) (reaches reaches' : T → Device → Type 0) (s0 s1 : Seen) (r : Result T RunFault) → ((d : Device) → a' d → a d) → ((x : T) (d : Device) → reaches x d → reaches' x d) → PartOr reasons h a underway copies reaches s0 s1 r → PartOr reasons h a' underway copies reaches' s0 s1 r
 part_weaker reasons h a a' underway copies reaches reaches' s0 s1 (Ok x) f g p = passed_weaker h a a' (reaches x) (reaches' x) (copies x) (copies x) s0 s1 refl f (g x) p
@@ -289,7 +324,7 @@ caused_told c c' run.MarksRepeat s0 s1 k h = k.repeats h
 caused_told c c' run.NoMemory s0 s1 k h = h
 
 pub left_told : (c c' : Reasons) (h : Type 0) (a underway : Device → Type 0) (f : RunFault) (s0 s1 : Seen) → AreReasons c c' → Left c h a underway f s0 s1 → Left c' h a underway f s0 s1
-left_told c c' h a underway f s0 s1 k l = record { caused = caused_told c c' f s0 s1 k l.caused; no_less = l.no_less; left = l.left }
+left_told c c' h a underway f s0 s1 k l = record { caused = caused_told c c' f s0 s1 k l.caused; no_less = l.no_less; stops = l.stops; left = l.left }
 
 pub part_told : {T : Type 0} (c c' : Reasons) (h : Type 0) (a underway : Device → Type 0) (copies : T → ℕ) (reaches : T → Device → Type 0) (s0 s1 : Seen) (r : Result T RunFault) → AreReasons c c' → PartOr c h a underway copies reaches s0 s1 r → PartOr c' h a underway copies reaches s0 s1 r
 part_told c c' h a underway copies reaches s0 s1 (Ok x) k p = p
@@ -308,14 +343,14 @@ part_never c h a underway copies reaches s0 s1 r p = part_told Never _ h a under
 -- ---- the same part that leaves another condition
 
 pub left_mapped : {reasons : Reasons} (h : Type 0) (a a' u u' : Device → Type 0) (f : RunFault) (s0 s1 : Seen) → ((d : Device) → a' d → a d) → ((d : Device) → u d → u' d) → Left reasons h a u f s0 s1 → Left reasons h a' u' f s0 s1
-left_mapped h a a' u u' f s0 s1 g k l = record { caused = l.caused; no_less = l.no_less; left = λ honest at. leaves_map u u' f s0 s1 (k s1.device) (l.left honest (g s0.device at)) }
+left_mapped h a a' u u' f s0 s1 g k l = record { caused = l.caused; no_less = l.no_less; stops = l.stops; left = λ honest at. leaves_map u u' f s0 s1 (k s1.device) (l.left honest (g s0.device at)) }
 
 pub part_mapped : {T : Type 0} (reasons : Reasons) (h : Type 0) (a a' u u' : Device → Type 0) (copies : T → ℕ) (reaches reaches' : T → Device → Type 0) (s0 s1 : Seen) (r : Result T RunFault) → ((d : Device) → a' d → a d) → ((d : Device) → u d → u' d) → ((x : T) (d : Device) → reaches x d → reaches' x d) → PartOr reasons h a u copies reaches s0 s1 r → PartOr reasons h a' u' copies reaches' s0 s1 r
 part_mapped reasons h a a' u u' copies reaches reaches' s0 s1 (Ok x) f k g p = passed_weaker h a a' (reaches x) (reaches' x) (copies x) (copies x) s0 s1 refl f (g x) p
 part_mapped reasons h a a' u u' copies reaches reaches' s0 s1 (Err e) f k g p = left_mapped h a a' u u' e s0 s1 f k p
 
 pub left_with : {reasons : Reasons} (p h : Type 0) (a u : Device → Type 0) (f : RunFault) (s0 s1 : Seen) → Left reasons h a u f s0 s1 → Left reasons h (λ d. p × a d) (λ d. p × u d) f s0 s1
-left_with p h a u f s0 s1 k = record { caused = k.caused; no_less = k.no_less; left = λ honest at. leaves_map u (λ d. p × u d) f s0 s1 (λ x. (at.0, x)) (k.left honest at.1) }
+left_with p h a u f s0 s1 k = record { caused = k.caused; no_less = k.no_less; stops = k.stops; left = λ honest at. leaves_map u (λ d. p × u d) f s0 s1 (λ x. (at.0, x)) (k.left honest at.1) }
 
 pub part_with : {T : Type 0} (reasons : Reasons) (p h : Type 0) (a u : Device → Type 0) (copies : T → ℕ) (reaches : T → Device → Type 0) (s0 s1 : Seen) (r : Result T RunFault) → PartOr reasons h a u copies reaches s0 s1 r → PartOr reasons h (λ d. p × a d) (λ d. p × u d) copies (λ x d. p × reaches x d) s0 s1 r
 part_with reasons p h a u copies reaches s0 s1 (Ok x) k = passed_with p h a (reaches x) (copies x) s0 s1 k

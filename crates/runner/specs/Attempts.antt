@@ -93,6 +93,13 @@ found_by earlier seen = record seen { is_broken = if earlier == 0 then seen.is_b
 abbrev pub failed_before : Seen → ℕ
 failed_before seen = if seen.is_broken then 1 else 0
 
--- in each of so many attempts a call stopped, but in the first where the outside had failed before
+-- in each of so many attempts a call stopped, but in the first where the outside had failed before, and no other call did
 abbrev pub MetStops : (attempts : ℕ) → (old new : Seen) → Type 0
-MetStops attempts old new = old.stops + (attempts - failed_before old) ≤ new.stops
+MetStops attempts old new = new.stops ≡ old.stops + (attempts - failed_before old)
+
+-- each attempt before the last, of which there may be so many, met a stop, and the last met none
+pub record MetBefore (tries : ℕ) (old new : Seen) : Type 0 where
+  pub earlier : ℕ
+  pub few : earlier < tries
+  pub least : failed_before old ≤ earlier
+  pub met : MetStops earlier old new

@@ -32,6 +32,17 @@ step_fault (out.BadState line) number = run.BadState line
 step_fault (out.BadJournal line) number = run.BadJournal line
 step_fault out.NoMemory number = run.NoMemory
 
+-- how many stops a fault tells
+abbrev pub stops_met : RunFault → ℕ
+stops_met run.Stopped = 1
+stops_met (run.Refused step) = 0
+stops_met (run.ValidityChanged side) = 0
+stops_met (run.BadState line) = 0
+stops_met (run.BadJournal line) = 0
+stops_met (run.StoreFault side number) = 0
+stops_met run.MarksRepeat = 0
+stops_met run.NoMemory = 0
+
 -- ---- why a run may tell a fault
 
 -- a copy was made whose UID was not told, and it was not found

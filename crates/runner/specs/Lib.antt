@@ -6,3 +6,4 @@ pub mod Results
 pub mod Answers
 pub mod Validities
 pub mod Attempts
+pub mod Finding

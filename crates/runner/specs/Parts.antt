@@ -4,7 +4,7 @@ use Rattle.outside.specs.Calls.{Seen}
 use Rattle.outside.specs.Devices.{Device}
 use Rattle.runner.specs.declared.fault.RunFault.{RunFault}
 use Rattle.runner.specs.declared.fault.RunFault.TheVariants.{Stopped}
-use Rattle.runner.specs.Faults.{IsCaused, LeavesRun, Reasons, because}
+use Rattle.runner.specs.Faults.{IsCaused, LeavesRun, Reasons, because, stops_met}
 
 -- none of the counts falls
 pub record NoLess (old new : Seen) : Type 0 where
@@ -22,10 +22,11 @@ pub record Passed (honest : Type 0) (from to : Device → Type 0) (copies : ℕ)
   pub appends : new.appends ≡ old.appends + copies
   pub reaches : honest → from old.device → to new.device
 
--- a part that ended with a fault
+-- a part that ended with a fault; where the outside was whole before, a stop that it tells was counted once, and no other
 pub record Left (reasons : Reasons) (honest : Type 0) (from underway : Device → Type 0) (fault : RunFault) (old new : Seen) : Type 0 where
   pub caused : IsCaused reasons fault old new
   pub no_less : NoLess old new
+  pub stops : old.is_broken ≡ false → new.stops ≡ old.stops + stops_met fault
   pub left : honest → from old.device → LeavesRun underway fault old new
 
 -- a part that may tell a fault of the run's own, for these reasons

@@ -12,6 +12,7 @@ ghost use Rattle.runner.specs.Faults.{TellsUnread, because, or_unread};
 ghost use Rattle.runner.specs.Parts.{IsStuck, Never, Part, PartOr};
 ghost use Rattle.runner.specs.Validities.{BothSame, HasSame, HaveValidities, IsKept, KeepsValidities, LeavesBoxes, TellsChange, TellsOther, recorded_in};
 ghost use Rattle.runner.specs.Going.{AreOpen, AtReady};
+ghost use Rattle.runner.specs.Finding.{FindsSame};
 ghost use Rattle.runner.specs.Before.{BothListed, FarListed, HasNoPlan, HasNone, HasPlan, IsClear, IsKnown, IsMade, IsTakenUp};
 
 use crate::fault::{RunFault, call_fault};
@@ -28,6 +29,7 @@ pub(crate) fn recall<O: Outside>(outside: &mut O) -> Result<(), RunFault>
     ensures held { OnOk result (O.honest outside.new → IsHeld (O.opened outside.new) (O.seen outside.old).device) }
     ensures kept { OnOk result (O.honest outside.new → IsKept O.alone (O.seen outside.old).device (O.seen outside.new).device) }
     ensures stuck { IsStuck (O.seen outside.old) (O.seen outside.new) result }
+    ensures same { OnOk result (O.honest outside.new → FindsSame O.ours (O.seen outside.old).device (O.seen outside.new).device) }
     ensures part { PartOr (or_unread (TellsUnread (O.honest outside.new) (O.seen outside.new).device) Never) (O.honest outside.new)
         (Underway O.ours O.alone opening) (Underway O.ours O.alone opening)
         (λ _. 0) (λ _. IsKnown O.ours O.alone opening (O.opened outside.new)) (O.seen outside.old) (O.seen outside.new) result }
@@ -64,6 +66,7 @@ pub(crate) fn untear<O: Outside>(outside: &mut O) -> Result<(), RunFault>
     requires plan { HasPlan (O.opened outside.old) }
     ensures was_honest { O.honest outside.new → O.honest outside.old }
     ensures opened { OnOk result (O.opened outside.new ≡ turned mended (O.opened outside.old)) }
+    ensures same { OnOk result (O.honest outside.new → FindsSame O.ours (O.seen outside.old).device (O.seen outside.new).device) }
     ensures part { Part (O.honest outside.new) (IsTakenUp O.ours O.alone opening (O.opened outside.old)) (Underway O.ours O.alone opening)
         (λ _. 0) (λ _. AtReady O.ours O.alone opening (O.opened outside.new) true) (O.seen outside.old) (O.seen outside.new) result }
 {
@@ -231,6 +234,7 @@ fn open_one<O: Outside>(outside: &mut O, side: Side) -> Result<(), RunFault>
     ensures opened { OnOk result (O.opened outside.new ≡ with_box side (O.opened outside.old)) }
     ensures kept { OnOk result (O.honest outside.new → HasSame (O.opened outside.old) side (O.seen outside.new).device × IsKept O.alone
         (O.seen outside.old).device (O.seen outside.new).device) }
+    ensures same { OnOk result (O.honest outside.new → FindsSame O.ours (O.seen outside.old).device (O.seen outside.new).device) }
     ensures part { PartOr (because (TellsOther (O.honest outside.new) O.alone (O.opened outside.old) side (O.seen outside.old).device
         (O.seen outside.new).device) ⊥) (O.honest outside.new) (IsKnown O.ours O.alone opening (O.opened outside.old))
         (Underway O.ours O.alone opening) (λ _. 0) (λ _. IsKnown O.ours O.alone opening (O.opened outside.new)) (O.seen outside.old)
@@ -260,6 +264,7 @@ pub(crate) fn open_boxes<O: Outside>(outside: &mut O) -> Result<(), RunFault>
     ensures opened { OnOk result (O.opened outside.new ≡ with_box Side.Near (with_box Side.Far (O.opened outside.old))) }
     ensures kept { OnOk result (O.honest outside.new → BothSame (O.opened outside.old) (O.seen outside.new).device × IsKept O.alone
         (O.seen outside.old).device (O.seen outside.new).device) }
+    ensures same { OnOk result (O.honest outside.new → FindsSame O.ours (O.seen outside.old).device (O.seen outside.new).device) }
     ensures part { PartOr (because (TellsChange (O.honest outside.new) O.alone (O.opened outside.old) (O.seen outside.old).device
         (O.seen outside.new).device) ⊥) (O.honest outside.new) (IsKnown O.ours O.alone opening (O.opened outside.old))
         (Underway O.ours O.alone opening) (λ _. 0) (λ _. IsKnown O.ours O.alone opening (O.opened outside.new)) (O.seen outside.old)

@@ -12,6 +12,7 @@ ghost use Rattle.runner.specs.Validities.{LeavesBoxes, TellsChange, TellsChanged
 ghost use Rattle.runner.specs.Going.{AreOpen, AtReady, IsGoing, log_at, next_at, plan_at};
 ghost use Rattle.runner.specs.Before.{HasNoPlan, HasPlan, IsKnown, IsTakenUp};
 ghost use Rattle.runner.specs.Results.{EndsBy, HasResults, IsTold, PassedOver};
+ghost use Rattle.runner.specs.Finding.{FindsAt, FindsBy, OfSame};
 ghost use Rattle.runner.specs.Answers.{Answers, AnswersTo, AtEnd, HasRepeats, IsChosen, IsEntry, IsKnownEntry, IsRun, Moves, OfFiles, Reaches, RunsBy, as_read, made_in, run_of};
 
 use crate::fault::{RunFault, call_fault};
@@ -98,6 +99,9 @@ fn begin<O: Outside, R: Rng>(
     ensures runs { IfOk result (RunsBy (O.opened outside.old) options.now (R.stream rng.old)) }
     ensures fresh { IfOk result (λ pass. pass ≡ Pass.Already → ⊥) }
     ensures moved { Moves (R.stream rng.old) (R.stream rng.new) }
+    ensures found { IfOk result (λ pass. O.honest outside.new → IsChosen O.ours O.alone opening (O.opened outside.old)
+        options.now (R.stream rng.old) (O.seen outside.old).device
+        → OfSame O.ours (O.seen outside.old).device (λ d. FindsBy (O.opened outside.old) d pass)) }
     ensures part { PartOr (because (TellsUnlessSame (O.honest outside.new) (O.opened outside.old) (O.seen outside.old).device)
         (HasRepeats (R.stream rng.old))) (O.honest outside.new)
         (IsChosen O.ours O.alone opening (O.opened outside.old) options.now (R.stream rng.old)) (Underway O.ours O.alone opening) made_in
@@ -121,6 +125,9 @@ fn resume<O: Outside>(alloc: Global, outside: &mut O) -> Result<Pass, RunFault>
     ensures told { IfOk result (λ pass. O.honest outside.new → IsTakenUp O.ours O.alone opening (O.opened outside.old)
         (O.seen outside.old).device → IsTold O.ours O.alone opening pass (O.seen outside.new).device) }
     ensures finished { IfOk result (λ pass. pass ≡ Pass.Already → ⊥) }
+    ensures found { IfOk result (λ pass. O.honest outside.new → IsTakenUp O.ours O.alone opening (O.opened outside.old)
+        (O.seen outside.old).device
+        → OfSame O.ours (O.seen outside.old).device (λ d. FindsBy (O.opened outside.old) d pass)) }
     ensures part { Part (O.honest outside.new) (IsTakenUp O.ours O.alone opening (O.opened outside.old)) (Underway O.ours O.alone opening)
         made_in (λ _. AtEnd O.ours O.alone opening) (O.seen outside.old) (O.seen outside.new) result }
 {
@@ -165,6 +172,9 @@ fn work<O: Outside, R: Rng>(
     ensures runs { IfOk result (RunsBy (O.opened outside.old) options.now (R.stream rng.old)) }
     ensures fresh { IfOk result (λ pass. pass ≡ Pass.Already → ⊥) }
     ensures moved { Moves (R.stream rng.old) (R.stream rng.new) }
+    ensures found { IfOk result (λ pass. O.honest outside.new → IsKnownEntry O.ours O.alone opening (O.opened outside.old)
+        (run_of (O.opened outside.old) + 1) options.now (R.stream rng.old) (O.seen outside.old).device
+        → OfSame O.ours (O.seen outside.old).device (λ d. FindsBy (O.opened outside.old) d pass)) }
     ensures part { PartOr (because (TellsUnlessSame (O.honest outside.new) (O.opened outside.old) (O.seen outside.old).device)
         (HasRepeats (R.stream rng.old))) (O.honest outside.new)
         (IsKnownEntry O.ours O.alone opening (O.opened outside.old) (run_of (O.opened outside.old) + 1) options.now (R.stream rng.old))
@@ -196,6 +206,9 @@ fn open_and_work<O: Outside, R: Rng>(
     ensures runs { IfOk result (RunsBy (O.opened outside.old) options.now (R.stream rng.old)) }
     ensures fresh { IfOk result (λ pass. pass ≡ Pass.Already → ⊥) }
     ensures moved { Moves (R.stream rng.old) (R.stream rng.new) }
+    ensures found { IfOk result (λ pass. O.honest outside.new → IsKnownEntry O.ours O.alone opening (O.opened outside.old)
+        (run_of (O.opened outside.old) + 1) options.now (R.stream rng.old) (O.seen outside.old).device
+        → OfSame O.ours (O.seen outside.old).device (λ d. FindsBy (O.opened outside.old) d pass)) }
     ensures part { PartOr (because (TellsChange (O.honest outside.new) O.alone (O.opened outside.old) (O.seen outside.old).device
         (O.seen outside.new).device) (HasRepeats (R.stream rng.old))) (O.honest outside.new)
         (IsKnownEntry O.ours O.alone opening (O.opened outside.old) (run_of (O.opened outside.old) + 1) options.now (R.stream rng.old))
@@ -225,6 +238,9 @@ fn take_up<O: Outside, R: Rng>(
     ensures stores { IfOk result (λ pass. pass ≡ Pass.Already → LeavesBoxes (O.honest outside.new) O.alone (O.seen outside.old).device
         (O.seen outside.new).device) }
     ensures moved { Moves (R.stream rng.old) (R.stream rng.new) }
+    ensures found { IfOk result (λ pass. O.honest outside.new → IsKnownEntry O.ours O.alone opening (O.opened outside.old)
+        run options.now (R.stream rng.old) (O.seen outside.old).device
+        → OfSame O.ours (O.seen outside.old).device (λ d. FindsBy (O.opened outside.old) d pass)) }
     ensures part { PartOr (because (TellsChange (O.honest outside.new) O.alone (O.opened outside.old) (O.seen outside.old).device
         (O.seen outside.new).device) (HasRepeats (R.stream rng.old))) (O.honest outside.new)
         (IsKnownEntry O.ours O.alone opening (O.opened outside.old) run options.now (R.stream rng.old)) (Underway O.ours O.alone opening)
@@ -266,6 +282,11 @@ pub fn pass<O: Outside, R: Rng>(
     // pending. Each new message is told with the UID of a copy. The messages that were passed over are those of the listed world.
     ensures told { IfOk result (λ pass. O.honest outside.new → IsEntry O.ours O.alone opening run options.now (R.stream rng.old)
         (O.seen outside.old).device → IsTold O.ours O.alone opening pass (O.seen outside.new).device) }
+
+    // A copy is told as found exactly if it stood on its side when the pass began, under the UID that it has: that of the first step that
+    // was not logged alone, and none where the plan was made in this pass.
+    ensures found { IfOk result (λ pass. O.honest outside.new → IsEntry O.ours O.alone opening run options.now (R.stream rng.old)
+        (O.seen outside.old).device → FindsAt O.ours (O.seen outside.old).device pass) }
 
     // The generator moves by whole pairs, so that later marks are its own as well.
     ensures moved { Moves (R.stream rng.old) (R.stream rng.new) }

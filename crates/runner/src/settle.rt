@@ -10,8 +10,9 @@ ghost use Rattle.runner.specs.Faults.{IsCaused, LeavesRun, TellsNoRun, because, 
 ghost use Rattle.runner.specs.Parts.{IsStuck, Never, PartOr};
 ghost use Rattle.runner.specs.Validities.{IsKept, TellsChanged};
 ghost use Rattle.runner.specs.Results.{HasResults, IsTold};
+ghost use Rattle.runner.specs.Finding.{FindsAt, FindsLast, FindsSame};
 ghost use Rattle.runner.specs.Answers.{HasRepeats, Moves, OfFiles, WillRepeat, made_in};
-ghost use Rattle.runner.specs.Attempts.{AnswersAt, AnswersLast, AtOpening, ChangedLast, FromOpening, HasNoNext, IsTried, MetStops, TriedAt, failed_before, found_by};
+ghost use Rattle.runner.specs.Attempts.{AnswersAt, AnswersLast, AtOpening, ChangedLast, FromOpening, HasNoNext, IsTried, MetBefore, MetStops, TriedAt, failed_before, found_by};
 
 use crate::fault::{RunFault, call_fault};
 use crate::pass::{Pass, Settled};
@@ -27,6 +28,7 @@ fn next_run<O: Outside>(outside: &mut O) -> Result<u64, RunFault>
     ensures was_honest { O.honest outside.new → O.honest outside.old }
     ensures kept { OnOk result (O.honest outside.new → IsKept O.alone (O.seen outside.old).device (O.seen outside.new).device) }
     ensures greatest { HasNoNext (O.honest outside.new) O.alone (O.seen outside.old).device (O.seen outside.new).device result }
+    ensures same { OnOk result (O.honest outside.new → FindsSame O.ours (O.seen outside.old).device (O.seen outside.new).device) }
     ensures stuck { IsStuck (O.seen outside.old) (O.seen outside.new) result }
     ensures part { PartOr (or_unread (TellsNoRun (O.honest outside.new) (O.seen outside.new).device) Never) (O.honest outside.new)
         (AtOpening O.ours O.alone opening) (AtOpening O.ours O.alone opening)
@@ -54,6 +56,7 @@ fn fix_run<O: Outside>(outside: &mut O, run: &mut Option<u64>) -> Result<u64, Ru
     ensures fixed { IfOk result (λ number. run.new ≡ Some number) }
     ensures kept { OnOk result (O.honest outside.new → IsKept O.alone (O.seen outside.old).device (O.seen outside.new).device) }
     ensures greatest { run.old ≡ None → HasNoNext (O.honest outside.new) O.alone (O.seen outside.old).device (O.seen outside.new).device result }
+    ensures same { OnOk result (O.honest outside.new → FindsSame O.ours (O.seen outside.old).device (O.seen outside.new).device) }
     ensures stuck { IsStuck (O.seen outside.old) (O.seen outside.new) result }
     ensures part { PartOr (or_unread (TellsNoRun (O.honest outside.new) (O.seen outside.new).device) Never) (O.honest outside.new)
         (TriedAt O.ours O.alone opening run.old) (TriedAt O.ours O.alone opening run.new)
@@ -84,6 +87,8 @@ fn attempt<O: Outside, R: Rng>(
     ensures results { IfOk result (λ pass. O.honest outside.new → HasResults pass (O.seen outside.new).device) }
     ensures told { IfOk result (λ pass. O.honest outside.new → IsTried O.ours O.alone opening options.now (R.stream rng.old) run.old
         (O.seen outside.old).device → IsTold O.ours O.alone opening pass (O.seen outside.new).device) }
+    ensures found { IfOk result (λ pass. O.honest outside.new → IsTried O.ours O.alone opening options.now (R.stream rng.old) run.old
+        (O.seen outside.old).device → FindsAt O.ours (O.seen outside.old).device pass) }
     ensures greatest { run.old ≡ None → HasNoNext (O.honest outside.new) O.alone (O.seen outside.old).device (O.seen outside.new).device result }
     ensures unfixed { run.old ≡ None → OfFiles (O.honest outside.new) (O.seen outside.old).device (λ s p. s.run + 1 ≡ 2 ^ 64 → run.new ≡ None) }
     ensures stuck { IsStuck (O.seen outside.old) (O.seen outside.new) result }
@@ -150,6 +155,11 @@ pub fn settle<O: Outside, R: Rng>(
     ensures told { IfOk result (λ s. FromOpening (O.honest outside.new) O.ours O.alone opening options.now (R.stream rng.old)
         (O.seen outside.old).device (IsTold O.ours O.alone opening s.last (O.seen outside.new).device)) }
 
+    // A copy that it told as found stood on its side when it began, and has the UID that it had there; each other one was made by it.
+    ensures found { IfOk result (λ s. FromOpening (O.honest outside.new) O.ours O.alone opening options.now (R.stream rng.old)
+        (O.seen outside.old).device
+        (FindsLast O.ours O.alone opening s.stops s.last (O.seen outside.old).device (R.stream rng.old))) }
+
     // Behind `ValidityChanged` nothing has changed but what the attempts before the last have done.
     ensures changed { IfErr result (λ fault. (side : Side) → fault ≡ RunFault.ValidityChanged side
         → FromOpening (O.honest outside.new) O.ours O.alone opening options.now (R.stream rng.old) (O.seen outside.old).device
@@ -165,10 +175,11 @@ pub fn settle<O: Outside, R: Rng>(
     // Behind the greatest run number there is no other.
     ensures greatest { HasNoNext (O.honest outside.new) O.alone (O.seen outside.old).device (O.seen outside.new).device result }
 
-    // Each attempt but the last met a stop, and each of all where that is what is answered. Where the outside had failed before, the
-    // first met one, and it changed nothing.
+    // Each attempt but the last met one stop, and each of all where that is what is answered, and no other call stopped. Where the outside
+    // had failed before, the first met one that was counted then, and it changed nothing.
     ensures stops { IfOk result (λ s. MetStops s.stops (O.seen outside.old) (O.seen outside.new) × (failed_before (O.seen outside.old) ≤ s.stops)) }
     ensures stopped { IsErrOf result RunFault.Stopped → MetStops tries (O.seen outside.old) (O.seen outside.new) }
+    ensures ended { IfErr result (λ fault. (fault ≡ RunFault.Stopped → ⊥) → MetBefore tries (O.seen outside.old) (O.seen outside.new)) }
     ensures stuck { tries ≤ 1 → IsStuck (O.seen outside.old) (O.seen outside.new) result }
 {
     let mut run = None;

@@ -11,6 +11,7 @@ ghost use Rattle.underway.specs.Conditions.{Underway};
 ghost use Rattle.underway.specs.Openings.{Opening};
 ghost use Rattle.runner.specs.Parts.{Part};
 ghost use Rattle.runner.specs.Going.{IsGoing, AtDone, AtReady, FitsNext, HasLogged, log_at, logged_of, logs_of, made, made_by, next_at, number_at, plan_at, steps_of};
+ghost use Rattle.runner.specs.Finding.{AreFoundSo, IsFoundSo, OfSame, copy_at, told_found};
 ghost use Rattle.outside.specs.Calls.{Writes};
 
 use crate::changing::{FlagStep, carry_flags, mark_deleted, remove};
@@ -38,6 +39,9 @@ fn perform<O: Outside>(
     ensures was_honest { O.honest outside.new → O.honest outside.old }
     ensures opened { O.opened outside.new ≡ O.opened outside.old }
     ensures fits { IfOk result (λ r. FitsStep step.now (logged_of r)) }
+    ensures found { IfOk result (λ r. O.honest outside.new → AtReady O.ours O.alone opening (O.opened outside.old) is_taken_up
+        (O.seen outside.old).device → OfSame O.ours (O.seen outside.old).device (λ d. told_found r ≡ copy_at
+        (plan_at (O.opened outside.old)) step.now d)) }
     ensures part { Part (O.honest outside.new) (AtReady O.ours O.alone opening (O.opened outside.old) is_taken_up)
         (Underway O.ours O.alone opening) made_by (λ r. AtDone O.ours O.alone opening (O.opened outside.old) (logged_of r))
         (O.seen outside.old) (O.seen outside.new) result }
@@ -135,8 +139,10 @@ fn advance<O: Outside>(
     ensures opened { IfOk result (λ p. HasLogged (O.opened outside.old) (O.opened outside.new) (logged_of p.result ∷ [])) }
     ensures step { IfOk result (λ p. p.step ≡ step) }
     ensures fits { IfOk result (λ p. FitsStep p.step (logged_of p.result)) }
+    ensures found { IfOk result (λ p. O.honest outside.new → AtReady O.ours O.alone opening (O.opened outside.old) is_taken_up
+        (O.seen outside.old).device → OfSame O.ours (O.seen outside.old).device (λ d. IsFoundSo (plan_at (O.opened outside.old)) d p)) }
     ensures part { Part (O.honest outside.new) (AtReady O.ours O.alone opening (O.opened outside.old) is_taken_up)
-        (Underway O.ours O.alone opening) (λ p. made_by p.result) (λ _. AtReady O.ours O.alone opening (O.opened outside.new) is_taken_up)
+        (Underway O.ours O.alone opening) (λ p. made_by p.result) (λ _. AtReady O.ours O.alone opening (O.opened outside.new) false)
         (O.seen outside.old) (O.seen outside.new) result }
 {
     let result = perform(outside, number, &step, is_taken_up)?;
@@ -159,6 +165,9 @@ pub(crate) fn carry_out<O: Outside>(
     ensures steps { IfOk result (λ performed. steps_of performed.items ≡ drop (length (log_at (O.opened outside.old)))
         (plan_at (O.opened outside.old)).steps) }
     ensures fits { IfOk result (λ performed. All (λ p. FitsStep p.step (logged_of p.result)) performed.items) }
+    ensures found { IfOk result (λ performed. O.honest outside.new → AtReady O.ours O.alone opening (O.opened outside.old) is_taken_up
+        (O.seen outside.old).device → OfSame O.ours (O.seen outside.old).device (λ d. AreFoundSo (plan_at (O.opened outside.old)) d
+        performed.items)) }
     ensures part { Part (O.honest outside.new) (AtReady O.ours O.alone opening (O.opened outside.old) is_taken_up)
         (Underway O.ours O.alone opening) (λ performed. made performed.items)
         (λ _. AtReady O.ours O.alone opening (O.opened outside.new) is_taken_up) (O.seen outside.old) (O.seen outside.new) result }

@@ -84,7 +84,7 @@ impl Stage {
 
 /// How many calls have stopped.
 fn stops_of(parts: &Parts) -> usize {
-    parts.condition.stops().saturating_add(parts.shelf.stops())
+    parts.condition.stops()
 }
 
 /// An outside of these parts, opened again.

@@ -7,7 +7,7 @@ ghost use Rattle.underway.specs.Conditions.{IsOver, Underway};
 ghost use Rattle.underway.specs.Endings.{IsDone};
 ghost use Rattle.underway.specs.Openings.{Opening};
 ghost use Rattle.runner.specs.Answers.{WillRepeat};
-ghost use Rattle.runner.specs.Attempts.{AnswersLast, ChangedLast, FromOpening, HasNoNext, MetStops, failed_before};
+ghost use Rattle.runner.specs.Attempts.{AnswersLast, ChangedLast, FromOpening, HasNoNext, MetBefore, MetStops, failed_before};
 ghost use Rattle.runner.specs.Faults.{IsCaused, LeavesRun, TellsNoRun, because, or_unread};
 ghost use Rattle.runner.specs.Parts.{IsStuck};
 ghost use Rattle.trial.specs.Openings.{trial_stream};
@@ -51,9 +51,10 @@ pub fn settle_trial<O: Outside>(
         → IsCaused (or_unread (TellsNoRun (O.honest outside.new) (O.seen outside.new).device) (because (λ side. Unit {0}) (WillRepeat trial_stream))) fault (O.seen outside.old) (O.seen outside.new)) }
     ensures greatest { HasNoNext (O.honest outside.new) O.alone (O.seen outside.old).device (O.seen outside.new).device result }
 
-    // Each attempt but the last met a stop, and each of all where that is what is answered.
+    // Each attempt but the last met one stop, and each of all where that is what is answered, and no other call stopped.
     ensures stops { IfOk result (λ s. MetStops s.stops (O.seen outside.old) (O.seen outside.new) × (failed_before (O.seen outside.old) ≤ s.stops)) }
     ensures stopped { IsErrOf result RunFault.Stopped → MetStops tries (O.seen outside.old) (O.seen outside.new) }
+    ensures ended { IfErr result (λ fault. (fault ≡ RunFault.Stopped → ⊥) → MetBefore tries (O.seen outside.old) (O.seen outside.new)) }
     ensures stuck { tries ≤ 1 → IsStuck (O.seen outside.old) (O.seen outside.new) result }
 {
     settle(alloc, outside, options, tries, &mut TrialGenerator::new())

@@ -1,6 +1,7 @@
 use Rattle.std.proofs.Common.{true}
 use Rattle.runner.proofs.PartCalls.{from_box, left_step, line_of_box, passed_call}
 use Rattle.runner.proofs.Stages.{ready_arrives, ready_underway, sought_told}
+use Rattle.runner.proofs.Finding.{seek_told}
 use Rattle.runner.proofs.copying.seek.Goals as goal
 
 pub returns-in-Ok-clause-part : goal.returns-in-Ok-clause-part
@@ -21,3 +22,10 @@ returns-in-Err-clause-part g c =
 
 pub find_mark-requires : goal.find_mark-requires
 find_mark-requires g c = record { is_open = c.requires.1.0.boxes c.target-side.result }
+
+pub returns-in-Ok-clause-found : goal.returns-in-Ok-clause-found
+returns-in-Ok-clause-found g c = λ honest k.
+    let w = c.in-Ok.ensures.call in
+    let acts = w.acts in
+    let e = acts.effect honest in
+    seek_told g.O.Outside.ours g.O.Outside.alone g.opening (g.O.Outside.opened c.args.outside.now) c.args.direction c.args.mark c.requires.1.1 _ e.mid e.before k c.in-Ok.found (rw (c.first_uid-from.ensures, c.target-side.ensures) at (e.behind).1)

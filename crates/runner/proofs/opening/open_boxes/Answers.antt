@@ -4,6 +4,7 @@ use Rattle.std.proofs.lemmas.Result.{err_from_is_err_and}
 use Rattle.runner.proofs.PartCalls.{left_told, part_after, part_told}
 use Rattle.runner.proofs.Readings.{boxed_read}
 use Rattle.runner.proofs.Validities.{both_opened, far_told, near_told}
+use Rattle.runner.proofs.Finding.{same_joined}
 use Rattle.runner.proofs.opening.open_boxes.Goals as goal
 
 pub open_one-requires-2 : goal.open_one-requires-2
@@ -26,3 +27,6 @@ returns-clause-part g c =
 
 pub returns-clause-kept : goal.returns-clause-kept
 returns-clause-kept g c = let s0 = g.O.Outside.seen c.args.outside.now in let s1 = g.O.Outside.seen c.open_one.new.outside in let s2 = g.O.Outside.seen c.open_one-2.new.outside in both_opened _ _ g.O.Outside.alone (g.O.Outside.opened c.args.outside.now) (g.O.Outside.opened c.open_one.new.outside) s0.device s1.device s2.device c.open_one-2.result c.open_one-2.ensures.was_honest c.in_ok-open_one.ensures.opened c.in_ok-open_one.ensures.kept c.open_one-2.ensures.kept
+
+pub returns-clause-same : goal.returns-clause-same
+returns-clause-same g c = let s0 = g.O.Outside.seen c.args.outside.now in let s1 = g.O.Outside.seen c.open_one.new.outside in let s2 = g.O.Outside.seen c.open_one-2.new.outside in same_joined g.O.Outside.ours _ _ s0.device s1.device s2.device c.open_one-2.result c.open_one-2.ensures.was_honest c.in_ok-open_one.ensures.same c.open_one-2.ensures.same

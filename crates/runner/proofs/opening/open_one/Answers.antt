@@ -4,6 +4,7 @@ use Rattle.runner.specs.Before.{IsKnown}
 use Rattle.runner.proofs.PartCalls.{from_box, left_call, left_here, line_of_box, passed_call}
 use Rattle.runner.proofs.Readings.{known_arrives, opened_known}
 use Rattle.runner.proofs.Validities.{any_read, other_read, same_read}
+use Rattle.runner.proofs.Finding.{same_read as copies_read}
 use Rattle.runner.proofs.opening.open_one.Goals as goal
 
 pub returns-then-before-validity-clause-part : goal.returns-then-before-validity-clause-part
@@ -30,3 +31,9 @@ returns-then-before-validity-clause-kept g c = λ honest. let w = c.in-Ok.ensure
 
 pub returns-in-None-clause-kept : goal.returns-in-None-clause-kept
 returns-in-None-clause-kept g c = λ honest. let w = c.in-Ok.ensures.call in let acts = w.acts in let e = acts.effect honest in any_read g.O.Outside.ours g.O.Outside.alone (g.O.Outside.opened c.args.outside.now) c.args.side _ e.mid _ (sym c.recorded_validity-recorded.ensures ∙ c.in-None.is) e.before e.behind.0
+
+pub returns-then-before-validity-clause-same : goal.returns-then-before-validity-clause-same
+returns-then-before-validity-clause-same g c = λ honest. let w = c.in-Ok.ensures.call in let acts = w.acts in let e = acts.effect honest in copies_read g.O.Outside.ours g.O.Outside.alone _ e.mid _ e.before (e.behind).0
+
+pub returns-in-None-clause-same : goal.returns-in-None-clause-same
+returns-in-None-clause-same g c = λ honest. let w = c.in-Ok.ensures.call in let acts = w.acts in let e = acts.effect honest in copies_read g.O.Outside.ours g.O.Outside.alone _ e.mid _ e.before (e.behind).0

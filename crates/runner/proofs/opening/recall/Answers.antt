@@ -2,6 +2,7 @@ use Rattle.runner.proofs.PartCalls.{left_call, line_of_shelf, passed_call, stuck
 use Rattle.runner.proofs.Readings.{held_before, read_known, unread_files, unread_left}
 use Rattle.runner.proofs.Validities.{kept_read}
 use Rattle.underway.proofs.Arrived.{underway_arrives}
+use Rattle.runner.proofs.Finding.{same_read}
 use Rattle.runner.proofs.opening.recall.Goals as goal
 
 pub returns-in-Ok-clause-part : goal.returns-in-Ok-clause-part
@@ -29,3 +30,6 @@ returns-in-Ok-clause-stuck g c = λ b. absurd (whole_call _ _ _ _ _ _ _ _ _ c.in
 
 pub returns-in-Err-clause-stuck : goal.returns-in-Err-clause-stuck
 returns-in-Err-clause-stuck g c = λ b. rw c.call_fault.ensures (stuck_call _ _ _ _ _ _ _ _ c.in-Err.fault c.in-Err.ensures.call b)
+
+pub returns-in-Ok-clause-same : goal.returns-in-Ok-clause-same
+returns-in-Ok-clause-same g c = λ honest. let w = c.in-Ok.ensures.call in let acts = w.acts in let e = acts.effect honest in same_read g.O.Outside.ours g.O.Outside.alone _ e.mid _ e.before (e.behind).0

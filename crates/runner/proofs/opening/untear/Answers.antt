@@ -5,6 +5,7 @@ use Rattle.underway.specs.Conditions.{Underway}
 use Rattle.runner.proofs.PartCalls.{from_book, left_call, line_of_book, passed_call}
 use Rattle.runner.proofs.Readings.{half_untorn, known_arrives, plan_read, taken_known, untorn}
 use Rattle.runner.proofs.Stages.{left_by, ready_underway}
+use Rattle.runner.proofs.Finding.{same_mended}
 use Rattle.runner.proofs.opening.untear.Goals as goal
 
 pub mend-requires : goal.mend-requires
@@ -28,3 +29,6 @@ returns-in-Err-clause-part g c =
           (half_untorn ours alone g.opening opened _ m s1.device c.requires.1 a at)
           (λ x t. ready_underway ours alone g.opening (turned mended opened) true s1.device (untorn ours alone g.opening opened _ m s1.device c.requires.1 a at t)),
     )))
+
+pub returns-in-Ok-clause-same : goal.returns-in-Ok-clause-same
+returns-in-Ok-clause-same g c = λ honest. let w = c.in-Ok.ensures.call in let acts = w.acts in let e = acts.effect honest in same_mended g.O.Outside.ours g.O.Outside.alone (g.O.Outside.opened c.args.outside.now) _ e.mid _ e.before e.behind

@@ -3,6 +3,7 @@ use Rattle.std.proofs.lemmas.Result.{err_from_is_err_and}
 use Rattle.runner.proofs.PartCalls.{left_after, left_never, passed_after}
 use Rattle.runner.proofs.Passes.{none_few, ran_answers, takes_commit, whole_steps}
 use Rattle.runner.proofs.Told.{told, told_whole}
+use Rattle.runner.proofs.Finding.{all_new, same_none}
 use Rattle.runner.proofs.run.begin.Goals as goal
 
 pub carry_out-requires : goal.carry_out-requires
@@ -58,3 +59,13 @@ returns-clause-told g c = λ h k.
     let so_far = passed_after _ _ _ _ _ _ _ _ s1 _ performed.was_honest proposed.part performed.part in
     told_whole g.O.Outside.ours g.O.Outside.alone g.opening (g.O.Outside.opened c.propose.new.outside) (g.O.Outside.opened c.carry_out.new.outside) c.in_ok-performed.performed.items c.in_ok-unfit.unfit.items _ proposed.log performed.opened performed.steps
     (concluded.ends h (so_far.reaches carried k)) (proposed.passed_over (performed.was_honest carried) k)
+
+pub returns-clause-found : goal.returns-clause-found
+returns-clause-found g c = λ h k d to.
+    let proposed = c.in_ok-unfit.ensures in
+    let performed = c.in_ok-performed.ensures in
+    let carried = c.in_ok-conclude.ensures.was_honest h in
+    let part = proposed.part in
+    let s1 = g.O.Outside.seen c.propose.new.outside in
+    let ready = part.reaches (performed.was_honest carried) k in
+    all_new g.O.Outside.ours g.O.Outside.alone g.opening (g.O.Outside.opened c.propose.new.outside) c.in_ok-performed.performed.items s1.device performed.steps ready (performed.found carried ready s1.device (same_none g.O.Outside.ours s1.device))

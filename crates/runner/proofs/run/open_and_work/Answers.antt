@@ -1,12 +1,14 @@
 use Rattle.std.proofs.Common.{◌≡◌, ◌≤◌, ◌+◌, refl, rules}
 use Rattle.std.proofs.lemmas.Result.{err_from_is_err_and}
 use Rattle.runner.specs.Answers.{IsAsked, IsKnownEntry, run_of}
+use Rattle.runner.specs.Going.{plan_at}
 use Rattle.runner.proofs.PartCalls.{left_told, left_weaker, part_after, part_told, passed_weaker, passed_with}
 use Rattle.runner.proofs.Passes.{boxed_answers, boxed_book, boxed_run, boxed_runs}
 use Rattle.runner.proofs.PlanFacts.{moved_none}
 use Rattle.runner.proofs.Readings.{book_read, both_open}
 use Rattle.runner.proofs.Validities.{same_told}
 use Rattle.runner.proofs.Told.{told_from}
+use Rattle.runner.proofs.Finding.{boxed_plan, finds_from}
 use Rattle.runner.proofs.run.open_and_work.Goals as goal
 
 pub open_boxes-requires : goal.open_boxes-requires
@@ -61,3 +63,17 @@ returns-clause-told g c =
     let part = c.in_ok-open_boxes.ensures.part in
     told_from c.work.result _ _ (IsKnownEntry ours alone g.opening old (run_of old + 1) c.args.options.now (g.R.Rng.stream c.args.rng.now) (g.O.Outside.seen c.args.outside.now).device) _
     (λ h k. record { most = k.most; asked = k.asked; known = part.reaches (c.work.ensures.was_honest h) k.known }) (rw same at c.work.ensures.told)
+
+pub returns-clause-found : goal.returns-clause-found
+returns-clause-found g c =
+    let ours = g.O.Outside.ours in
+    let alone = g.O.Outside.alone in
+    let old = g.O.Outside.opened c.args.outside.now in
+    let new = g.O.Outside.opened c.open_boxes.new.outside in
+    let s0 = g.O.Outside.seen c.args.outside.now in
+    let s1 = g.O.Outside.seen c.open_boxes.new.outside in
+    let same : run_of new ≡ run_of old = rw c.in_ok-open_boxes.ensures.opened (boxed_run old) in
+    let plan : plan_at new ≡ plan_at old = rw c.in_ok-open_boxes.ensures.opened (boxed_plan old) in
+    let part = c.in_ok-open_boxes.ensures.part in
+    finds_from ours old new s0.device s1.device c.work.result _ _ _ (IsKnownEntry ours alone g.opening old (run_of old + 1) c.args.options.now (g.R.Rng.stream c.args.rng.now) s0.device) plan c.work.ensures.was_honest
+    (λ h k. record { most = k.most; asked = k.asked; known = part.reaches (c.work.ensures.was_honest h) k.known }) c.in_ok-open_boxes.ensures.same (rw same at c.work.ensures.found)

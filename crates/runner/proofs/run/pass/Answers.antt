@@ -6,6 +6,7 @@ use Rattle.runner.proofs.Passes.{answers_held, pass_alike, runs_held, stores_joi
 use Rattle.runner.proofs.PlanFacts.{moved_none}
 use Rattle.runner.proofs.Validities.{files_changed}
 use Rattle.runner.proofs.Told.{told_from}
+use Rattle.runner.proofs.Finding.{finds_held}
 use Rattle.runner.proofs.run.pass.Goals as goal
 
 pub returns-in_err-recall-clause-part : goal.returns-in_err-recall-clause-part
@@ -55,3 +56,9 @@ pub returns-clause-told : goal.returns-clause-told
 returns-clause-told g c =
     let part = c.in_ok-recall.ensures.part in
     told_from c.take_up.result _ _ _ _ (λ h k. record { most = k.most; asked = k.asked; known = part.reaches (c.take_up.ensures.was_honest h) k.underway }) c.take_up.ensures.told
+
+pub returns-clause-found : goal.returns-clause-found
+returns-clause-found g c =
+    let part = c.in_ok-recall.ensures.part in
+    finds_held g.O.Outside.ours (g.O.Outside.opened c.recall.new.outside) (g.O.Outside.seen c.args.outside.now).device (g.O.Outside.seen c.recall.new.outside).device c.take_up.result _ _ _ _ c.take_up.ensures.was_honest
+    (λ h k. record { most = k.most; asked = k.asked; known = part.reaches (c.take_up.ensures.was_honest h) k.underway }) c.in_ok-recall.ensures.same c.in_ok-recall.ensures.held c.take_up.ensures.found

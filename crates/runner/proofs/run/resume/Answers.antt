@@ -1,10 +1,14 @@
-use Rattle.std.proofs.Common.{rules}
+use Rattle.std.proofs.Common.{◌≡◌, rules, subst}
+use Rattle.rules.specs.declared.plan.Plan.{Plan}
+use Rattle.runner.specs.Finding.{AreFoundSo}
+use Rattle.runner.specs.Going.{plan_at}
 use Rattle.std.proofs.lemmas.Result.{err_from_is_err_and}
 use Rattle.book.specs.Books.{mended}
 use Rattle.outside.specs.Opened.{turned}
 use Rattle.runner.proofs.PartCalls.{left_after, passed_after}
 use Rattle.runner.proofs.Passes.{book_few, finished_answers, mended_book, mended_going, mended_rest, takes_commit}
 use Rattle.runner.proofs.Told.{told, told_rest}
+use Rattle.runner.proofs.Finding.{mended_plan, same_then}
 use Rattle.runner.proofs.run.resume.Goals as goal
 
 pub carry_out-requires : goal.carry_out-requires
@@ -57,3 +61,14 @@ returns-clause-told g c = λ h k.
     let so_far = passed_after _ _ _ _ _ _ _ _ s1 _ performed.was_honest c.in_ok-untear.ensures.part performed.part in
     told_rest g.O.Outside.ours g.O.Outside.alone g.opening (g.O.Outside.opened c.untear.new.outside) (g.O.Outside.opened c.carry_out.new.outside) c.in_ok-performed.performed.items _ performed.opened performed.steps
     (concluded.ends h (so_far.reaches (concluded.was_honest h) k))
+
+pub returns-clause-found : goal.returns-clause-found
+returns-clause-found g c = λ h k d to.
+    let performed = c.in_ok-performed.ensures in
+    let untorn = c.in_ok-untear.ensures in
+    let carried = c.in_ok-conclude.ensures.was_honest h in
+    let part = untorn.part in
+    let old = g.O.Outside.opened c.args.outside.now in
+    let s1 = g.O.Outside.seen c.untear.new.outside in
+    let same : plan_at (g.O.Outside.opened c.untear.new.outside) ≡ plan_at old = rw untorn.opened (mended_plan old) in
+    subst (λ (p : Plan). AreFoundSo p d c.in_ok-performed.performed.items) same (performed.found carried (part.reaches (performed.was_honest carried) k) d (same_then g.O.Outside.ours d (g.O.Outside.seen c.args.outside.now).device s1.device to (untorn.same (performed.was_honest carried))))

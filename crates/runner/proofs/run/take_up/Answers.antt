@@ -5,6 +5,7 @@ use Rattle.runner.proofs.Passes.{end_reaches, known_least, run_of_state}
 use Rattle.runner.proofs.PlanFacts.{moved_none}
 use Rattle.runner.proofs.Readings.{book_read}
 use Rattle.runner.proofs.Told.{told_from, told_none}
+use Rattle.runner.proofs.Finding.{finds_none}
 use Rattle.runner.proofs.run.take_up.Goals as goal
 
 pub state-requires : goal.state-requires
@@ -56,3 +57,13 @@ returns-clause-told g c =
     let same = run_of_state opened c.state.result.now c.state.ensures.state in
     let is : c.args.run ≡ run_of opened + 1 = omega (arith, same, c.if-run-last.false, c.if-run-last-gt1.false) in
     told_from c.open_and_work.result _ _ _ _ (λ h k. record { most = let m = k.most in omega (arith, is, m); asked = k.asked; known = k.known }) c.open_and_work.ensures.told
+
+pub returns-then-run-last-clause-found : goal.returns-then-run-last-clause-found
+returns-then-run-last-clause-found g c = finds_none g.O.Outside.ours (g.O.Outside.opened c.args.outside.now) _ _ (g.O.Outside.seen c.args.outside.now).device c.skip.result c.skip.ensures.answer
+
+pub returns-clause-found : goal.returns-clause-found
+returns-clause-found g c =
+    let opened = g.O.Outside.opened c.args.outside.now in
+    let same = run_of_state opened c.state.result.now c.state.ensures.state in
+    let is : c.args.run ≡ run_of opened + 1 = omega (arith, same, c.if-run-last.false, c.if-run-last-gt1.false) in
+    told_from c.open_and_work.result _ _ _ _ (λ h k. record { most = let m = k.most in omega (arith, is, m); asked = k.asked; known = k.known }) c.open_and_work.ensures.found

@@ -47,3 +47,21 @@ returns-else-is_some-clause-told g c =
     let i : is_some c.pending.result ≡ false = grind (arith, common_steps) in
     let none : HasNoPlan opened = has_none opened (book_read opened c.requires.1.1.0) (none_of _ c.pending.result _ c.pending.ensures i) in
     told_from c.begin.result _ _ _ _ (λ h k. record { asked = k.asked; none = known_unplanned ours alone g.opening opened _ none k.most k.known }) c.begin.ensures.told
+
+pub returns-then-is_some-clause-found : goal.returns-then-is_some-clause-found
+returns-then-is_some-clause-found g c =
+    let ours = g.O.Outside.ours in
+    let alone = g.O.Outside.alone in
+    let opened = g.O.Outside.opened c.args.outside.now in
+    let i : is_some c.pending.result ≡ true = grind (arith, common_steps) in
+    let j = some_of _ c.pending.result _ c.pending.ensures i in
+    told_from c.resume.result _ _ _ _ (λ h k. known_planned ours alone g.opening opened _ (has_plan opened j.0 j.1) k.most k.known) c.resume.ensures.found
+
+pub returns-else-is_some-clause-found : goal.returns-else-is_some-clause-found
+returns-else-is_some-clause-found g c =
+    let ours = g.O.Outside.ours in
+    let alone = g.O.Outside.alone in
+    let opened = g.O.Outside.opened c.args.outside.now in
+    let i : is_some c.pending.result ≡ false = grind (arith, common_steps) in
+    let none : HasNoPlan opened = has_none opened (book_read opened c.requires.1.1.0) (none_of _ c.pending.result _ c.pending.ensures i) in
+    told_from c.begin.result _ _ _ _ (λ h k. record { asked = k.asked; none = known_unplanned ours alone g.opening opened _ none k.most k.known }) c.begin.ensures.found

@@ -7,6 +7,7 @@ use Rattle.runner.proofs.Attempts.{asked_later, attempt_answers, attempt_changed
 use Rattle.runner.proofs.PartCalls.{left_mapped, left_told, left_with, part_after, part_mapped, part_told, part_with, passed_weaker, passed_with}
 use Rattle.runner.proofs.PlanFacts.{moved_none}
 use Rattle.runner.proofs.Told.{told_from}
+use Rattle.runner.proofs.Finding.{finds_tried}
 use Rattle.runner.proofs.settle.attempt.Goals as goal
 
 pub returns-in_err-number-clause-moved : goal.returns-in_err-number-clause-moved
@@ -80,3 +81,15 @@ returns-clause-told g c =
     told_from c.pass.result _ _ _ _ (λ h k.
     let t = tried_fixed ours alone g.opening c.fix_run.new.run n _ fixed (part.reaches (c.pass.ensures.was_honest h) k.tried) in
     record { most = let e = t.0 in omega (arith, e); asked = k.asked; underway = t.1 }) c.pass.ensures.told
+
+pub returns-clause-found : goal.returns-clause-found
+returns-clause-found g c =
+    let ours = g.O.Outside.ours in
+    let alone = g.O.Outside.alone in
+    let n = c.in_ok-number.number in
+    let fixed = c.in_ok-number.ensures.fixed in
+    let part = c.in_ok-number.ensures.part in
+    finds_tried ours (g.O.Outside.seen c.args.outside.now).device (g.O.Outside.seen c.fix_run.new.outside).device c.pass.result _ _ _ _ c.pass.ensures.was_honest (λ h k.
+    let t = tried_fixed ours alone g.opening c.fix_run.new.run n _ fixed (part.reaches (c.pass.ensures.was_honest h) k.tried) in
+    record { most = let e = t.0 in omega (arith, e); asked = k.asked; underway = t.1 })
+    (λ h. let k = c.in_ok-number.ensures.kept h in k.files) c.in_ok-number.ensures.same c.pass.ensures.found

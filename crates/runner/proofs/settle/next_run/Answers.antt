@@ -4,6 +4,7 @@ use Rattle.runner.proofs.Attempts.{last_run, next_read, next_unread, opening_lef
 use Rattle.runner.proofs.PartCalls.{left_call, left_here, line_of_shelf, passed_call, stuck_call, whole_call}
 use Rattle.runner.proofs.Readings.{unread_files}
 use Rattle.runner.proofs.Validities.{kept_read}
+use Rattle.runner.proofs.Finding.{same_read}
 use Rattle.runner.proofs.settle.next_run.Goals as goal
 
 pub returns-then-last-clause-part : goal.returns-then-last-clause-part
@@ -67,3 +68,10 @@ returns-else-last-clause-stuck g c = λ b. absurd (whole_call _ _ _ _ _ _ _ _ _ 
 
 pub returns-in-Err-clause-stuck : goal.returns-in-Err-clause-stuck
 returns-in-Err-clause-stuck g c = λ b. rw c.call_fault.ensures (stuck_call _ _ _ _ _ _ _ _ c.in-Err.fault c.in-Err.ensures.call b)
+
+pub returns-else-last-clause-same : goal.returns-else-last-clause-same
+returns-else-last-clause-same g c = λ honest.
+    let w = c.in-Ok.ensures.call in
+    let acts = w.acts in
+    let e = acts.effect honest in
+    same_read g.O.Outside.ours g.O.Outside.alone _ e.mid _ e.before (e.behind).0

@@ -4,7 +4,7 @@ use Rattle.underway.specs.Conditions.{Underway}
 use Rattle.runner.specs.declared.pass.Pass.{Pass}
 use Rattle.runner.specs.Attempts.{IsTried}
 use Rattle.runner.specs.Faults.{TellsNoRun}
-use Rattle.runner.proofs.Attempts.{caused_since, changed_last, failed_few, found_device, greatest_since, kept_none, last_answers, leaves_since, moved_twice, stops_kept, stops_more, stuck_first, stuck_more, tried_underway}
+use Rattle.runner.proofs.Attempts.{caused_since, changed_last, failed_few, found_device, greatest_since, kept_none, last_answers, last_finds, leaves_since, met_before, moved_twice, stops_kept, stops_more, stuck_first, stuck_more, tried_underway}
 use Rattle.runner.proofs.PartCalls.{leaves_map}
 use Rattle.runner.proofs.Passes.{over_alike}
 use Rattle.runner.proofs.PlanFacts.{moved_none}
@@ -49,7 +49,7 @@ loop-tried-preserved g c =
     record {
       was_honest = λ h. i.was_honest (c.again.ensures.was_honest (c.attempt.ensures.was_honest h));
       moved = moved_twice _ _ _ i.moved c.attempt.ensures.moved;
-      stops = stops_more _ _ _ tried s0 now s1 s2 i.stops i.first e part;
+      stops = stops_more _ _ _ tried s0 now s1 s2 _ i.stops i.first e c.attempt.ensures.stuck part;
       refusals = let k = i.refusals in let m = n.refusals in omega (arith, k, refusals, m);
       faults = let k = i.faults in let m = n.faults in omega (arith, k, faults, m);
       appends = let k = i.appends in let m = n.appends in omega (arith, k, appends, m);
@@ -153,6 +153,15 @@ returns-in-Err-clause-caused g c = λ other.
     let appends : s0.appends ≤ s1.appends = (let k = i.appends in let r = ap (λ (s : Seen). s.appends) e in omega (arith, k, r)) in
     caused_since _ _ (TellsNoRun (g.O.Outside.honest c.attempt.new.outside) (g.O.Outside.seen c.attempt.new.outside).device) c.in-Err.fault s0 s1 s2 refusals faults appends other (λ k. (g.R.Rng.stream c.loop-tried.rng, i.moved, k)) (λ e t. t) part.caused
 
+pub returns-in-Err-clause-ended : goal.returns-in-Err-clause-ended
+returns-in-Err-clause-ended g c = λ other.
+    let i = c.loop-tried.invariant in
+    let s0 = g.O.Outside.seen c.args.outside.now in
+    let now = g.O.Outside.seen c.loop-tried.outside in
+    let s1 = g.O.Outside.seen c.again.new.outside in
+    let s2 = g.O.Outside.seen c.attempt.new.outside in
+    met_before Pass _ _ _ c.loop-tried.tried c.args.tries s0 now s1 s2 c.in-Err.fault i.stops i.first c.again.ensures.seen c.in-Err.ensures.stuck c.in-Err.ensures.part (omega arith) other
+
 pub returns-in-Err-clause-greatest : goal.returns-in-Err-clause-greatest
 returns-in-Err-clause-greatest g c = λ h s p held is.
     let i = c.loop-tried.invariant in
@@ -194,3 +203,14 @@ returns-in-Ok-clause-told g c = λ h asked at.
     let before = IsTried g.O.Outside.ours g.O.Outside.alone g.opening c.args.options.now (g.R.Rng.stream c.loop-tried.rng) c.loop-tried.run in
     let device = found_device c.loop-tried.tried now s1 c.again.ensures.seen in
     c.in-Ok.ensures.told h (subst before (sym device) (i.left (c.again.ensures.was_honest (c.attempt.ensures.was_honest h)) asked at))
+
+pub returns-in-Ok-clause-found : goal.returns-in-Ok-clause-found
+returns-in-Ok-clause-found g c = λ h asked at.
+    let i = c.loop-tried.invariant in
+    let s0 = g.O.Outside.seen c.args.outside.now in
+    let now = g.O.Outside.seen c.loop-tried.outside in
+    let s1 = g.O.Outside.seen c.again.new.outside in
+    let before = IsTried g.O.Outside.ours g.O.Outside.alone g.opening c.args.options.now (g.R.Rng.stream c.loop-tried.rng) c.loop-tried.run in
+    let device = found_device c.loop-tried.tried now s1 c.again.ensures.seen in
+    let t = i.left (c.again.ensures.was_honest (c.attempt.ensures.was_honest h)) asked at in
+    last_finds g.O.Outside.ours g.O.Outside.alone g.opening c.loop-tried.tried c.loop-tried.run s0 now s1 _ _ c.in-Ok.last i.first i.undrawn i.moved c.again.ensures.seen t.tried (c.in-Ok.ensures.found h (subst before (sym device) t))

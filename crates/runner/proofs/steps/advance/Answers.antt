@@ -1,6 +1,5 @@
 use Rattle.std.proofs.lemmas.Result.{err_from_is_err_and}
 use Rattle.runner.proofs.PartCalls.{add_none, left_after, passed_after, passed_weaker}
-use Rattle.runner.proofs.Stages.{either_ready}
 use Rattle.runner.proofs.steps.advance.Goals as goal
 
 pub returns-in_err-log-clause-part : goal.returns-in_err-log-clause-part
@@ -15,4 +14,7 @@ returns-clause-part g c =
     let s1 = g.O.Outside.seen c.perform.new.outside in
     let rest = rw c.perform.ensures.opened at c.in_ok-log.ensures.part in
     let both = passed_after _ _ _ _ _ _ _ _ s1 _ c.in_ok-log.ensures.was_honest c.in_ok-result.ensures.part rest in
-    passed_weaker _ _ _ _ _ _ _ _ _ (add_none _) (λ d k. k) (either_ready g.O.Outside.ours g.O.Outside.alone g.opening (g.O.Outside.opened c.log.new.outside) c.args.is_taken_up) both
+    passed_weaker _ _ _ _ _ _ _ _ _ (add_none _) (λ d k. k) (λ d k. k) both
+
+pub returns-clause-found : goal.returns-clause-found
+returns-clause-found g c = λ h k d same. c.in_ok-result.ensures.found (c.in_ok-log.ensures.was_honest h) k d same

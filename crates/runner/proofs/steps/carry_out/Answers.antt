@@ -1,11 +1,12 @@
-use Rattle.std.proofs.Common.{◌≡◌, List, [], ◌∷◌, ◌++◌, sym, ◌∙◌, ap, append-nil, Some, None}
+use Rattle.std.proofs.Common.{◌≡◌, List, [], ◌∷◌, ◌++◌, refl, sym, ◌∙◌, ap, append-nil, Some, None}
 use Rattle.std.proofs.lemmas.List.Elements.{All-push}
 use Rattle.std.proofs.lemmas.Result.{err_from_is_err_and}
 use Rattle.rules.specs.declared.plan.Step.{Step}
 use Rattle.underway.proofs.NextSteps.{drop_none}
 use Rattle.runner.specs.Going.{log_at, next_at, plan_at, steps_of}
-use Rattle.runner.proofs.PartCalls.{left_after, left_here, passed_after}
-use Rattle.runner.proofs.Stages.{ready_underway}
+use Rattle.runner.proofs.PartCalls.{left_after, left_here, passed_after, passed_weaker}
+use Rattle.runner.proofs.Stages.{either_ready, ready_underway}
+use Rattle.runner.proofs.Finding.{found_next, not_none}
 use Rattle.runner.proofs.LoopLemmas.{made_more, logged_on, steps_on, less_left}
 use Rattle.runner.proofs.Told.{IsFitting}
 use Rattle.runner.proofs.steps.carry_out.Goals as goal
@@ -37,12 +38,18 @@ loop-number-preserved g c =
     let p = c.in_ok-one.one in
     let is : next_at b ≡ Some p.step = rw one.step c.in-Some.ensures.1 in
     let pushed : c.push.new.self.items ≡ ps ++ p ∷ [] = rw (← c.try_reserve.ensures.items) c.in-Ok-push.ensures.items in
+    let ours = g.O.Outside.ours in
+    let alone = g.O.Outside.alone in
+    let went = passed_weaker _ _ _ _ _ _ _ _ _ refl (λ d k. k) (either_ready ours alone g.opening (g.O.Outside.opened c.advance.new.outside) c.args.is_taken_up) one.part in
     rw pushed (record {
       opened = logged_on start b _ ps p i.opened one.opened;
       steps = steps_on b _ ps p _ one.opened is i.steps;
       fits = All-push IsFitting ps p i.fits one.fits;
       was_honest = λ h. i.was_honest (one.was_honest h);
-      part = rw (← made_more ps p) (passed_after _ _ _ _ _ _ _ _ s1 _ one.was_honest i.part one.part);
+      part = rw (← made_more ps p) (passed_after _ _ _ _ _ _ _ _ s1 _ one.was_honest i.part went);
+      first = λ e. absurd (not_none ps p e);
+      later = λ e h k. let before = i.part in let after = one.part in after.reaches h (before.reaches (one.was_honest h) k);
+      found = λ h k. let before = i.part in found_next ours alone g.opening start b c.args.is_taken_up ps p (g.O.Outside.seen c.args.outside.now) s1 i.opened is i.first (λ e. i.later e (one.was_honest h) k) (before.reaches (one.was_honest h) k) (i.found (one.was_honest h) k) (one.found h);
     })
 
 pub returns-clause-steps : goal.returns-clause-steps

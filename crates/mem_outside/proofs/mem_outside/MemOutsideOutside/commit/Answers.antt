@@ -18,7 +18,6 @@ returns-clause-call c =
     let s : Standing = record { is_ready = book.is_ready; shelf = mem.seen_of book.shelf } in
     let s' : Standing = record { is_ready = book'.is_ready; shelf = mem.seen_of book'.shelf } in
     let whole : m.condition.is_broken ≡ false = sym c.is_broken.ensures ∙ c.if-is_broken.false in
-    let ready = rw c.in-Some.is at (m.whole whole) in
-    rw (c.in-Some.is, c.end_book.ensures.told, c.end_book.ensures.now)
-    (book_call b m.condition false s s' FromBook _ _ c.commit-answer.result tt tt (λ is. absurd (cc)) c.commit-answer.ensures.ends ready whole
-    (committed_so b m.condition s.shelf s'.shelf book.pending c.commit-answer.result (c.commit-answer.ensures.leaves refl)))
+    rw c.in-Some.is
+    (book_call b m.condition c.end_book.new.self false s s' FromBook _ _ c.commit-answer.result c.end_book.result tt tt (λ is. absurd (cc)) c.commit-answer.ensures.ends c.end_book.ensures whole
+    (committed_so b m.condition c.end_book.new.self s.shelf s'.shelf book.pending c.commit-answer.result (c.commit-answer.ensures.leaves refl)))

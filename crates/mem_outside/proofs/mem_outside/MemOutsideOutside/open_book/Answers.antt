@@ -16,7 +16,7 @@ returns-in-Ok-clause-call c =
     let o : Opened = record { state = book.state; pending = book.pending; far = m.far_is_open; near = m.near_is_open } in
     let whole : m.condition.is_broken ≡ false = sym c.is_broken.ensures ∙ c.if-is_broken.false in
     rw (← c.take_shelf-shelf.ensures.shelf)
-    (opened b m.condition (mem.seen_of c.take_shelf-shelf.result) (mem.seen_of book.shelf) o (c.in-Ok.ensures.files refl) c.in-Ok.ensures.unstopped (c.in-Ok.ensures.held refl) whole)
+    (opened b m.condition (mem.seen_of c.take_shelf-shelf.result) (mem.seen_of book.shelf) o (c.in-Ok.ensures.files refl) (c.in-Ok.ensures.held refl) whole)
 
 pub returns-in-Err-clause-call : goal.returns-in-Err-clause-call
 returns-in-Err-clause-call c =
@@ -24,6 +24,5 @@ returns-in-Err-clause-call c =
     let refused = c.in-Err.refused in
     let b : Sides = sides_of m.boxes in
     let whole : m.condition.is_broken ≡ false = sym c.is_broken.ensures ∙ c.if-is_broken.false in
-    rw (← c.take_shelf-shelf.ensures.shelf, c.told.ensures, c.break_off.ensures, c.take_shelf-shelf.ensures.taken)
-    (not_opened b m.condition (mem.seen_of c.take_shelf-shelf.result) (mem.seen_of refused.shelf) _ refused.fault (c.in-Err.ensures.handed_back refl)
-    (c.take_shelf-shelf.ensures.whole (m.whole whole)) (c.in-Err.ensures.refused refl) c.in-Err.ensures.told whole)
+    rw (← c.take_shelf-shelf.ensures.shelf, c.take_shelf-shelf.ensures.taken)
+    (not_opened b m.condition c.fail_book.new.self (mem.seen_of c.take_shelf-shelf.result) (mem.seen_of refused.shelf) _ refused.fault c.fail_book.result (c.in-Err.ensures.handed_back refl) (c.in-Err.ensures.refused refl) whole c.fail_book.ensures)
