@@ -1,0 +1,154 @@
+//! An outside of which it is told how far its plan is.
+
+ghost use Rattle.std.specs.Prelude.{◌≡◌};
+ghost use Rattle.outside.specs.Opened.{IsRead};
+
+use crate::progress::Progress;
+use mailcore::flags::Flags;
+use mailcore::listing::Listing;
+use mailcore::side::{Direction, Side};
+use mailcore::tuid::Tuid;
+use mailcore::uid::Uid;
+use outside::fault::OutsideFault;
+use outside::outside::{Carried, Outside};
+use rules::plan::Plan;
+use rules::state::SyncState;
+use sync_state::journal::Journal;
+
+/// An outside that passes each call on. Where a plan is read or begun, or one more step of it is logged, it tells how many are.
+#[derive(Drop)]
+pub struct WatchedOutside<O: Outside, P: Progress> {
+    outside: O,
+    progress: P,
+}
+
+impl<O: Outside, P: Progress> WatchedOutside<O, P> {
+    /// This outside, and who is told.
+    pub fn new(outside: O, progress: P) -> Self
+        ensures { result.outside ≡ outside }
+    {
+        WatchedOutside { outside, progress }
+    }
+
+    /// Tells how many steps of the plan are logged, if one is pending.
+    fn tell(&self)
+        requires read { IsRead (O.opened self.now.outside) }
+    {
+        if let Some(journal) = self.outside.pending() {
+            let logged = journal.log.as_slice().len();
+            self.progress
+                .tell(logged, journal.plan.steps.as_slice().len());
+        }
+    }
+}
+
+impl<O: Outside, P: Progress> Outside for WatchedOutside<O, P> {
+    ghost honest = { λ watched. O.honest watched.outside };
+
+    ghost ours = { O.ours };
+
+    ghost alone = { O.alone };
+
+    ghost seen = { λ watched. O.seen watched.outside };
+
+    ghost opened = { λ watched. O.opened watched.outside };
+
+    #[tactic(auto, using(crate::proofs::PlanReads::is_read_as_book))]
+    fn open_book(&mut self) -> Result<(), OutsideFault> {
+        self.outside.open_book()?;
+        self.tell();
+        Ok(())
+    }
+
+    fn state(&self) -> &SyncState {
+        self.outside.state()
+    }
+
+    fn pending(&self) -> Option<&Journal> {
+        self.outside.pending()
+    }
+
+    fn discard(&mut self) -> Result<(), OutsideFault> {
+        self.outside.discard()
+    }
+
+    fn mend(&mut self) -> Result<(), OutsideFault> {
+        self.outside.mend()
+    }
+
+    #[tactic(auto, using(crate::proofs::PlanReads::is_read_begun))]
+    fn begin(&mut self, plan: Plan) -> Result<(), OutsideFault> {
+        self.outside.begin(plan)?;
+        self.tell();
+        Ok(())
+    }
+
+    #[tactic(auto, using(crate::proofs::PlanReads::is_read_logged))]
+    fn done(&mut self, step: usize, copy: Option<Uid>) -> Result<(), OutsideFault> {
+        self.outside.done(step, copy)?;
+        self.tell();
+        Ok(())
+    }
+
+    #[tactic(auto, using(crate::proofs::PlanReads::is_read_logged))]
+    fn void(&mut self, step: usize) -> Result<(), OutsideFault> {
+        self.outside.void(step)?;
+        self.tell();
+        Ok(())
+    }
+
+    fn commit(&mut self) -> Result<(), OutsideFault> {
+        self.outside.commit()
+    }
+
+    fn open_box(&mut self, side: Side) -> Result<u32, OutsideFault> {
+        self.outside.open_box(side)
+    }
+
+    fn admit(&mut self) -> Result<(), OutsideFault> {
+        self.outside.admit()
+    }
+
+    fn list_far(&mut self) -> Result<Listing, OutsideFault> {
+        self.outside.list_far()
+    }
+
+    fn list_near(&mut self, from: u32) -> Result<Listing, OutsideFault> {
+        self.outside.list_near(from)
+    }
+
+    fn find_mark(
+        &mut self,
+        side: Side,
+        mark: Tuid,
+        from: u32,
+    ) -> Result<Option<Uid>, OutsideFault> {
+        self.outside.find_mark(side, mark, from)
+    }
+
+    fn carry(
+        &mut self,
+        direction: Direction,
+        uid: Uid,
+        mark: Tuid,
+        flags: Flags,
+    ) -> Result<Carried, OutsideFault> {
+        self.outside.carry(direction, uid, mark, flags)
+    }
+
+    fn add_flags(&mut self, side: Side, uid: Uid, flags: Flags) -> Result<(), OutsideFault> {
+        self.outside.add_flags(side, uid, flags)
+    }
+
+    fn remove_flags(&mut self, side: Side, uid: Uid, flags: Flags) -> Result<(), OutsideFault> {
+        self.outside.remove_flags(side, uid, flags)
+    }
+
+    fn expunge(&mut self, side: Side, uid: Uid) -> Result<(), OutsideFault> {
+        self.outside.expunge(side, uid)
+    }
+
+    fn reopen(&mut self) {
+        self.outside.reopen();
+    }
+}
