@@ -1,5 +1,5 @@
 -- A plan whose steps and notes agree with the entries does so as a journal of which nothing is logged.
-use Rattle.std.proofs.Common.{◌≡◌, ◌∙◌, ℕ, Bool, true, false, not, List, [], ◌∷◌, Option, Some, None, position, refl, sym, ap}
+use Rattle.std.proofs.Common.{◌≡◌, ◌∙◌, ℕ, Bool, false, not, List, [], ◌∷◌, Option, Some, None, position, refl, sym, ap}
 use Rattle.std.specs.Prelude.{All}
 use Rattle.std.proofs.lemmas.Bool.{false≢true, not_from_true}
 use Rattle.std.proofs.lemmas.List.Quantifiers.{position-Some}

@@ -14,11 +14,11 @@ use Rattle.book.specs.declared.book.Pending.TheVariants.{Missing, Useless, Plann
 use Rattle.sync_state.specs.Cuts.{same_cut, no_cut}
 use Rattle.sync_state.specs.Lines.{lines_text, OneLine, IsBadLine}
 use Rattle.sync_state.specs.StateText.{StateText, StateLines, state_lines}
-use Rattle.sync_state.specs.JournalText.{journal_lines, IsBadJournal, JournalLines, HasGo}
+use Rattle.sync_state.specs.JournalText.{journal_lines, IsBadJournal, HasGo}
 use Rattle.sync_state.specs.JournalReading.{IsWritten}
 use Rattle.book.specs.Agreement.{disagreement}
 use Rattle.book.specs.Shelves.{Files}
-use Rattle.book.specs.Books.{HoldsState, HoldsJournal, IsUseless, IsPending, IsAhead, IsDisagreeing, IsRefused, Held, Holds, TellsStateFile, TellsJournalFile, JournalRefused, TellsOpen}
+use Rattle.book.specs.Books.{HoldsState, HoldsJournal, IsUseless, IsPending, IsRefused, Held, Holds, TellsStateFile, TellsJournalFile, TellsOpen}
 use Rattle.sync_state.proofs.KnownStates.{state_is_lines}
 use Rattle.sync_state.proofs.KnownJournals.{written_known}
 use Rattle.book.proofs.KnownBooks.{state_of_file, written_has_go}

@@ -12,6 +12,7 @@ pub mod EntryPairLemmas
 pub mod FreshAgreement
 pub mod GoParts
 pub mod HeldBooks
+pub mod HighestLemmas
 pub mod KnownBooks
 pub mod LogAgreement
 pub mod LoggedLemmas

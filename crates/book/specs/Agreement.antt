@@ -1,5 +1,5 @@
 -- When a journal agrees with the state on which its plan was made: its plan does, and each copy has a UID of its own.
-use Rattle.std.specs.Prelude.{ℕ, ◌+◌, ◌≡◌, ◌≢◌, All, AllPairs, Bool, true, false, not, ◌&&◌, ◌||◌, ◌==◌, List, [], ◌∷◌, ◌++◌, map, position, Option, Some, None}
+use Rattle.std.specs.Prelude.{ℕ, ◌+◌, ◌≡◌, ◌≢◌, All, AllPairs, Bool, true, false, not, ◌&&◌, ◌||◌, ◌==◌, List, [], ◌∷◌, ◌++◌, map, position, Option, None}
 use Rattle.std.specs.List.{list_any, list_all, flat_map, zip}
 use Rattle.std.specs.Option.{option_map}
 use Rattle.mailcore.specs.declared.side.Side.{Side}

@@ -1,5 +1,5 @@
 -- That a journal fits has one proof, and so has that a state is sound, so that a book can keep it.
-use Rattle.std.specs.Prelude.{List, [], ◌∷◌, All}
+use Rattle.std.specs.Prelude.{List, [], ◌∷◌}
 use Rattle.rules.specs.declared.entry.Entry.{Entry}
 use Rattle.sync_state.specs.StateText.{IsEntry, HasText}
 use Rattle.std.proofs.Props.{props}
@@ -18,6 +18,8 @@ use Rattle.sync_state.specs.Words.{IsUidOrNone}
 use Rattle.std.specs.Prelude.{Option, None, Some, ℕ}
 use Rattle.sync_state.specs.JournalText.{IsStep, IsNote, IsPlan, LogsNew, LogsOther, FitsStep, IsLog, HasJournal}
 use Rattle.book.specs.Books.{Fits, IsSound}
+use Rattle.book.specs.Highest.{Bounds}
+use Rattle.book.specs.declared.highest.Highest.{Highest}
 
 IsStep-prop : (s : Step) → IsProp (IsStep s)
 IsStep-prop (step.New direction uid flags mark) = Prim.hlevel props
@@ -77,3 +79,8 @@ HasText-prop state = Prim.hlevel (IsEntry-prop, props)
 
 pub IsSound-prop : (state : SyncState) → IsProp (IsSound state)
 IsSound-prop state = Prim.hlevel (HasText-prop, props)
+
+pub Bounds-prop : (entries : List Entry) (pending : Pending) (highest : Highest) → IsProp (Bounds entries pending highest)
+Bounds-prop entries Missing highest = Prim.hlevel props
+Bounds-prop entries Useless highest = Prim.hlevel props
+Bounds-prop entries (Planned written) highest = Prim.hlevel props

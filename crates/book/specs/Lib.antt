@@ -9,6 +9,7 @@ pub mod Commits
 pub mod Committed
 pub mod DiskShelves
 pub mod EntryOrders
+pub mod Highest
 pub mod MemShelves
 pub mod Shelves
 pub mod Standings

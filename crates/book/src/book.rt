@@ -4,9 +4,11 @@ ghost use Rattle.std.specs.Prelude.{◌≡◌, false, true, Some, Ok, IfOk, IfEr
 ghost use Rattle.sync_state.specs.declared.journal.WrittenJournal.{WrittenJournal};
 ghost use Rattle.book.specs.Books.{Holds, HoldsState, HoldsJournal, IsPlanned, IsSound, IsUnstopped, Fits, Ends, mended};
 ghost use Rattle.book.specs.Books.{TellsOpen, TellsStateFile, TellsJournalFile, TellsPending, StopsTold};
-ghost use Rattle.book.specs.BookLaws.{Fits-prop, IsSound-prop};
+ghost use Rattle.book.specs.BookLaws.{Bounds-prop, Fits-prop, IsSound-prop};
+ghost use Rattle.book.specs.Highest.{Bounds};
 
 use crate::agreement::disagreement;
+use crate::highest::Highest;
 use crate::shelf::{File, Shelf};
 use rules::state::SyncState;
 use std::alloc::Global;
@@ -114,11 +116,14 @@ pub struct Book<S: Shelf> {
     pub(crate) shelf: S,
     pub(crate) state: SyncState,
     pub(crate) pending: Pending,
+    // Above it each UID is free, so that a copy's UID, which is the highest as a rule, need not be sought.
+    pub(crate) highest: Highest,
     pub(crate) is_ready: bool,
     pub ghost is_whole: { is_ready ≡ true → (S.seen shelf).is_broken ≡ false },
     pub ghost holds: { is_ready ≡ true → S.is_honest ≡ true → Holds (S.seen shelf).stored state pending },
     pub ghost fits: { Fits state pending } by { Fits-prop state pending },
     pub ghost sound: { IsSound state } by { IsSound-prop state },
+    pub ghost bounded: { Bounds state.entries pending highest } by { Bounds-prop state.entries pending highest },
 }
 
 impl<S: Shelf> Book<S> {
@@ -138,13 +143,17 @@ impl<S: Shelf> Book<S> {
     {
         let mut shelf = shelf;
         match read_files(alloc, &mut shelf) {
-            Ok((state, pending)) => Ok(Book {
-                alloc,
-                shelf,
-                state,
-                pending,
-                is_ready: true,
-            }),
+            Ok((state, pending)) => {
+                let highest = Highest::taken(state.entries.as_slice(), &pending);
+                Ok(Book {
+                    alloc,
+                    shelf,
+                    state,
+                    pending,
+                    highest,
+                    is_ready: true,
+                })
+            }
             Err(fault) => Err(OpenFault { shelf, fault }),
         }
     }
@@ -179,6 +188,7 @@ impl<S: Shelf> Book<S> {
             shelf,
             state: _,
             pending: _,
+            highest: _,
             is_ready: _,
         } = self;
         shelf

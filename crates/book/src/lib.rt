@@ -8,6 +8,7 @@ pub mod book_log;
 pub mod commit;
 pub mod committed;
 pub mod disk_shelf;
+mod highest;
 pub mod laws;
 pub mod mem_shelf;
 pub mod shelf;

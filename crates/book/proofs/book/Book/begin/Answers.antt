@@ -4,7 +4,9 @@ use Rattle.book.specs.declared.book.Pending.{Pending}
 use Rattle.book.specs.declared.book.Pending.TheVariants.{Missing, Useless, Planned}
 use Rattle.sync_state.specs.declared.journal.Logged.{Logged}
 use Rattle.book.specs.Books.{Holds, Fits}
+use Rattle.rules.specs.declared.entry.Entry.{Entry}
 use Rattle.book.specs.BookLogs.{begun}
+use Rattle.book.specs.Highest.{Bounds}
 use Rattle.book.proofs.BookLemmas.{journal_put}
 use Rattle.book.proofs.BeginLemmas.{plan_behind_nothing, begun_or_not, begun_fits}
 use Rattle.book.proofs.TurnLemmas.{turned, turned_or_half}
@@ -41,6 +43,7 @@ invariant_of-self-2 g c =
           subst (λ (p : Pending). Holds new book.state p) (sym now)
           (journal_put _ old new book.state Missing (begun plan) (c.in_ok-append.ensures.effect honest)
           (plan_behind_nothing book.state old.journal plan c.deref.result.now c.requires.has_text c.requires.next c.requires.agrees text) held);
+      bounded = subst (λ (es : List Entry). Bounds es (Planned (record { journal = record { plan = plan; log = c.from_vec-log.result }; is_torn = false })) c.taken-self.result) c.as_slice.ensures.all c.taken-self.ensures;
       fits = subst (λ (p : Pending). Fits book.state p) (sym now) (begun_fits book.state plan c.requires.has_text c.requires.next c.requires.agrees);
     }
 

@@ -5,6 +5,7 @@ use Rattle.book.specs.Books.{Holds, Fits, torn}
 use Rattle.book.specs.BookLogs.{logged_more}
 use Rattle.book.proofs.BookLemmas.{journal_put}
 use Rattle.book.proofs.LoggedLemmas.{logged_or_not, more_behind, more_fits}
+use Rattle.book.specs.Highest.{Bounds}
 use Rattle.book.proofs.TurnLemmas.{turned, turned_or_half}
 use Rattle.book.proofs.book.Book.log.Goals as goal
 
@@ -44,6 +45,7 @@ invariant_of-self-2 g c =
           (journal_put _ old new book.state book.pending (logged_more book.pending c.args.logged) (c.in_ok-append.ensures.effect honest)
           (more_behind book.state old.journal book.pending c.args.step c.args.logged c.deref.result.now c.requires.next (c.requires.free ready) c.ranges.step.fits (c.deref.ensures.value ∙ c.in_ok-line.ensures))
           (book.holds ready honest));
+      bounded = subst (λ (p : Pending). Bounds book.state.entries p c.behind-highest.result) (sym c.in_ok-log_pending.ensures.ok) (c.behind-highest.ensures book.state.entries book.bounded);
       fits = subst (λ (p : Pending). Fits book.state p) (sym c.in_ok-log_pending.ensures.ok)
           (more_fits book.state book.pending c.args.step c.args.logged c.requires.next (c.requires.free ready) book.fits);
     }

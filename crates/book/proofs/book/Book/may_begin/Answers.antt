@@ -1,4 +1,4 @@
-use Rattle.std.proofs.Common.{◌≡◌, List, subst}
+use Rattle.std.proofs.Common.{List, subst}
 use Rattle.rules.specs.declared.entry.Entry.{Entry}
 use Rattle.book.specs.Agreement.{Agrees}
 use Rattle.book.specs.BookLogs.{fresh}
