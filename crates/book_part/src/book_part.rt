@@ -104,7 +104,8 @@ impl<S: Shelf + Drop> BookPart<S> {
         ensures kept { OnOk result (kept_of self.new ≡ turned (λ _. Missing) (kept_of self.old)) }
         ensures told { IfErr result FromBook }
         ensures stops { Stops self.old self.new result }
-        ensures part { PartChanges (S.is_honest ≡ true) (λ _. OfKept (λ p. Turns p Missing) (kept_of self.old)) (OfKept (λ p. TurnsHalf p Missing) (kept_of self.old)) (files_of self.old) (files_of self.new) result }
+        ensures part { PartChanges (S.is_honest ≡ true) (λ _. OfKept (λ p. Turns p Missing) (kept_of self.old))
+            (OfKept (λ p. TurnsHalf p Missing) (kept_of self.old)) (files_of self.old) (files_of self.new) result }
     {
         let Desk::Open(book) = &mut self.desk else {
             unreachable!()
@@ -118,7 +119,8 @@ impl<S: Shelf + Drop> BookPart<S> {
         ensures kept { OnOk result (kept_of self.new ≡ turned mended (kept_of self.old)) }
         ensures told { IfErr result FromBook }
         ensures stops { Stops self.old self.new result }
-        ensures part { PartChanges (S.is_honest ≡ true) (λ _. OfKept (λ p. Turns p (mended p)) (kept_of self.old)) (OfKept (λ p. TurnsHalf p p) (kept_of self.old)) (files_of self.old) (files_of self.new) result }
+        ensures part { PartChanges (S.is_honest ≡ true) (λ _. OfKept (λ p. Turns p (mended p)) (kept_of self.old))
+            (OfKept (λ p. TurnsHalf p p) (kept_of self.old)) (files_of self.old) (files_of self.new) result }
     {
         let Desk::Open(book) = &mut self.desk else {
             unreachable!()
@@ -132,7 +134,8 @@ impl<S: Shelf + Drop> BookPart<S> {
         ensures kept { OnOk result (kept_of self.new ≡ turned (λ _. begun plan) (kept_of self.old)) }
         ensures told { IfErr result FromBook }
         ensures stops { Stops self.old self.new result }
-        ensures part { PartChanges (S.is_honest ≡ true) (λ _. OfKept (λ _. Turns Missing (begun plan)) (kept_of self.old)) (OfKept (λ _. TurnsHalf Missing Useless) (kept_of self.old)) (files_of self.old) (files_of self.new) result }
+        ensures part { PartChanges (S.is_honest ≡ true) (λ _. OfKept (λ _. Turns Missing (begun plan)) (kept_of self.old))
+            (OfKept (λ _. TurnsHalf Missing Useless) (kept_of self.old)) (files_of self.old) (files_of self.new) result }
     {
         let Desk::Open(book) = &mut self.desk else {
             unreachable!()
@@ -148,7 +151,8 @@ impl<S: Shelf + Drop> BookPart<S> {
         ensures kept { OnOk result (kept_of self.new ≡ turned (λ p. logged_more p (as_done copy)) (kept_of self.old)) }
         ensures told { IfErr result (FromLog (kept_of self.old) (as_done copy)) }
         ensures stops { Stops self.old self.new result }
-        ensures part { PartChanges (S.is_honest ≡ true) (λ _. OfKept (λ p. Turns p (logged_more p (as_done copy))) (kept_of self.old)) (OfKept (λ p. TurnsHalf p (torn p)) (kept_of self.old)) (files_of self.old) (files_of self.new) result }
+        ensures part { PartChanges (S.is_honest ≡ true) (λ _. OfKept (λ p. Turns p (logged_more p (as_done copy))) (kept_of self.old))
+            (OfKept (λ p. TurnsHalf p (torn p)) (kept_of self.old)) (files_of self.old) (files_of self.new) result }
     {
         let Desk::Open(book) = &mut self.desk else {
             unreachable!()
@@ -162,7 +166,8 @@ impl<S: Shelf + Drop> BookPart<S> {
         ensures kept { OnOk result (kept_of self.new ≡ turned (λ p. logged_more p Void) (kept_of self.old)) }
         ensures told { IfErr result FromBook }
         ensures stops { Stops self.old self.new result }
-        ensures part { PartChanges (S.is_honest ≡ true) (λ _. OfKept (λ p. Turns p (logged_more p Void)) (kept_of self.old)) (OfKept (λ p. TurnsHalf p (torn p)) (kept_of self.old)) (files_of self.old) (files_of self.new) result }
+        ensures part { PartChanges (S.is_honest ≡ true) (λ _. OfKept (λ p. Turns p (logged_more p Void)) (kept_of self.old))
+            (OfKept (λ p. TurnsHalf p (torn p)) (kept_of self.old)) (files_of self.old) (files_of self.new) result }
     {
         let Desk::Open(book) = &mut self.desk else {
             unreachable!()
@@ -177,7 +182,8 @@ impl<S: Shelf + Drop> BookPart<S> {
         ensures held { OnOk result (S.is_honest ≡ true → IsHeld (kept_of self.new) (files_of self.new)) }
         ensures told { IfErr result FromBook }
         ensures stops { Stops self.old self.new result }
-        ensures part { PartChanges (S.is_honest ≡ true) (λ _. OfKept CommitsTo (kept_of self.old)) (OfKept CommitsHalf (kept_of self.old)) (files_of self.old) (files_of self.new) result }
+        ensures part { PartChanges (S.is_honest ≡ true) (λ _. OfKept CommitsTo (kept_of self.old)) (OfKept CommitsHalf (kept_of self.old))
+            (files_of self.old) (files_of self.new) result }
     {
         let Desk::Open(book) = &mut self.desk else {
             unreachable!()

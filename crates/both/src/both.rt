@@ -79,7 +79,8 @@ impl<L: Link + Drop, F: Folder + Drop, S: Shelf + Drop> Both<L, F, S> {
         ensures tally { self.new.tally ≡ self.old.tally }
         ensures told { IfErr result FromBox }
         ensures why { IsErrOf result OutsideFault.Stopped → CopyCause self.old self.new }
-        ensures part { Part (honest_of self.new) (Carry Direction.Pull uid flags mark) (LeavesBy (Carry Direction.Pull uid flags mark) (SetsAside Side.Near)) (device_of self.old) (device_of self.new) result }
+        ensures part { Part (honest_of self.new) (Carry Direction.Pull uid flags mark)
+            (LeavesBy (Carry Direction.Pull uid flags mark) (SetsAside Side.Near)) (device_of self.old) (device_of self.new) result }
     {
         let text = match self.far.draft(uid, mark)? {
             Draft::Absent => return Ok(Carried::Absent),
@@ -99,7 +100,8 @@ impl<L: Link + Drop, F: Folder + Drop, S: Shelf + Drop> Both<L, F, S> {
         ensures tally { self.new.tally ≡ self.old.tally }
         ensures told { IfErr result FromBox }
         ensures why { IsErrOf result OutsideFault.Stopped → CopyCause self.old self.new }
-        ensures part { Part (honest_of self.new) (Carry Direction.Push uid flags mark) (LeavesBy (Carry Direction.Push uid flags mark) (SetsAside Side.Far)) (device_of self.old) (device_of self.new) result }
+        ensures part { Part (honest_of self.new) (Carry Direction.Push uid flags mark)
+            (LeavesBy (Carry Direction.Push uid flags mark) (SetsAside Side.Far)) (device_of self.old) (device_of self.new) result }
     {
         let text = match self.near.draft(uid, mark)? {
             Draft::Absent => return Ok(Carried::Absent),

@@ -42,7 +42,8 @@ impl Found {
         alloc: Global,
         patterns: &Patterns,
     ) -> Result<Vec<MailboxName>, ListFault>
-        ensures { IfOk result (λ boxes. (is_chosen : List ℕ → Bool) → Tells is_chosen patterns.now → boxes.items ≡ boxes_among is_chosen self.now.far.items self.now.near.items) }
+        ensures { IfOk result (λ boxes. (is_chosen : List ℕ → Bool) → Tells is_chosen patterns.now
+            → boxes.items ≡ boxes_among is_chosen self.now.far.items self.now.near.items) }
     {
         match boxes_among(alloc, patterns, &self.far, &self.near) {
             Ok(boxes) => Ok(boxes),

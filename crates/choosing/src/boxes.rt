@@ -17,7 +17,8 @@ pub fn boxes_among(
     near: &[MailboxName],
 ) -> Result<Vec<MailboxName>, AllocError>
     ensures rising { IfOk result (λ boxes. Rises boxes.items) }
-    ensures boxes { IfOk result (λ boxes. (is_chosen : List ℕ → Bool) → Tells is_chosen patterns.now → boxes.items ≡ boxes_among is_chosen far.now near.now) }
+    ensures boxes { IfOk result (λ boxes. (is_chosen : List ℕ → Bool) → Tells is_chosen patterns.now
+        → boxes.items ≡ boxes_among is_chosen far.now near.now) }
 {
     let mut boxes = Vec::new(alloc);
     add_chosen(alloc, &mut boxes, patterns, far)?;
@@ -33,7 +34,8 @@ fn add_chosen(
     names: &[MailboxName],
 ) -> Result<(), AllocError>
     ensures rising { Rises boxes.old.items → OnOk result (Rises boxes.new.items) }
-    ensures boxes { OnOk result ((is_chosen : List ℕ → Bool) → Tells is_chosen patterns.now → boxes.new.items ≡ put_names boxes.old.items (filter is_chosen names.now)) }
+    ensures boxes { OnOk result ((is_chosen : List ℕ → Bool) → Tells is_chosen patterns.now
+        → boxes.new.items ≡ put_names boxes.old.items (filter is_chosen names.now)) }
 {
     for name in names {
         if matches(patterns, name.as_str()) {

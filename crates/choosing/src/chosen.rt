@@ -20,7 +20,8 @@ pub fn unknown_name<'a>(config: &Config, wanted: &'a Chosen) -> Option<&'a str>
 }
 
 fn first_unknown<'a>(config: &Config, names: &'a [String]) -> Option<&'a str>
-    ensures { option_map (λ name. name.now) result ≡ option_map string_bytes (find (λ name. not (is_known config.now (string_bytes name))) names.now) }
+    ensures { option_map (λ name. name.now) result ≡ option_map string_bytes
+        (find (λ name. not (is_known config.now (string_bytes name))) names.now) }
 {
     for name in names {
         if !is_known(config, name.as_str()) {

@@ -150,7 +150,8 @@ impl Draft {
 
     /// Takes what a line says.
     fn set(&mut self, setting: Setting) -> Result<(), FaultKind>
-        ensures { IsTaken (is_again (name_said setting) (standing_of self.old)) (named (name_said setting) (standing_of self.old)) (standing_of self.new) result }
+        ensures { IsTaken (is_again (name_said setting) (standing_of self.old)) (named (name_said setting) (standing_of self.old))
+            (standing_of self.new) result }
     {
         match setting {
             Setting::Section(name) => self.set_name(name),
@@ -184,7 +185,8 @@ impl Draft {
 
     /// Names the section. `DefinedTwice`: the name is another's.
     fn set_name(&mut self, name: String) -> Result<(), FaultKind>
-        ensures { IsTaken (is_again (Some (string_bytes name)) (standing_of self.old)) (named (Some (string_bytes name)) (standing_of self.old)) (standing_of self.new) result }
+        ensures { IsTaken (is_again (Some (string_bytes name)) (standing_of self.old))
+            (named (Some (string_bytes name)) (standing_of self.old)) (standing_of self.new) result }
     {
         self.name = name.clone()?;
         match self.section.place() {

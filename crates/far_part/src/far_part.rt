@@ -81,7 +81,8 @@ impl<L: Link + Drop> FarPart<L> {
         ensures was_honest { honest_of self.new → honest_of self.old }
         ensures told { IfErr result FromBox }
         ensures stops { Stops self.old self.new result }
-        ensures part { Part (honest_of self.new) (Answers (λ validity s. validity ≡ s.validity)) (λ _. Stays) (store_of self.old) (store_of self.new) result }
+        ensures part { Part (honest_of self.new) (Answers (λ validity s. validity ≡ s.validity)) (λ _. Stays) (store_of self.old)
+            (store_of self.new) result }
     {
         self.is_fresh = false;
         let desk = std::mem::replace(&mut self.desk, Desk::Moving);
@@ -107,7 +108,8 @@ impl<L: Link + Drop> FarPart<L> {
         ensures numbers { IfOk result HasNumbers }
         ensures told { IfErr result FromBox }
         ensures stops { Stops self.old self.new result }
-        ensures part { Part (honest_of self.new) (Answers (λ listing s. Shows Far s listing)) (λ _. Stays) (store_of self.old) (store_of self.new) result }
+        ensures part { Part (honest_of self.new) (Answers (λ listing s. Shows Far s listing)) (λ _. Stays) (store_of self.old)
+            (store_of self.new) result }
     {
         if !self.is_fresh {
             self.select_again()?;
@@ -124,7 +126,8 @@ impl<L: Link + Drop> FarPart<L> {
         ensures numbers { IfOk result HasNumbers }
         ensures told { IfErr result FromBox }
         ensures stops { Stops self.old self.new result }
-        ensures part { Part (honest_of self.new) (Answers (λ listing s. Shows Far s listing)) (λ _. Stays) (store_of self.old) (store_of self.new) result }
+        ensures part { Part (honest_of self.new) (Answers (λ listing s. Shows Far s listing)) (λ _. Stays) (store_of self.old)
+            (store_of self.new) result }
     {
         let Desk::Open(far) = &mut self.desk else {
             return Err(OutsideFault::Stopped);
@@ -163,7 +166,8 @@ impl<L: Link + Drop> FarPart<L> {
         ensures was_honest { honest_of self.new → honest_of self.old }
         ensures told { IfErr result FromBox }
         ensures stops { Stops self.old self.new result }
-        ensures part { Part (honest_of self.new) (Answers (λ found s. found ≡ marked_from mark from s)) (λ _. Stays) (store_of self.old) (store_of self.new) result }
+        ensures part { Part (honest_of self.new) (Answers (λ found s. found ≡ marked_from mark from s)) (λ _. Stays) (store_of self.old)
+            (store_of self.new) result }
     {
         let Desk::Open(far) = &mut self.desk else {
             return Err(OutsideFault::Stopped);
@@ -179,7 +183,8 @@ impl<L: Link + Drop> FarPart<L> {
         ensures some { IfOk result (IsSomeDraft Far mark) }
         ensures told { IfErr result FromBox }
         ensures stops { Stops self.old self.new result }
-        ensures part { Part (honest_of self.new) (Answers (λ draft s. IsDraft Far mark (bytes_of uid s) draft)) (λ _. Stays) (store_of self.old) (store_of self.new) result }
+        ensures part { Part (honest_of self.new) (Answers (λ draft s. IsDraft Far mark (bytes_of uid s) draft)) (λ _. Stays)
+            (store_of self.old) (store_of self.new) result }
     {
         let Desk::Open(far) = &mut self.desk else {
             return Err(OutsideFault::Stopped);
@@ -211,7 +216,8 @@ impl<L: Link + Drop> FarPart<L> {
         ensures was_honest { honest_of self.new → honest_of self.old }
         ensures told { IfErr result FromBox }
         ensures stops { Stops self.old self.new result }
-        ensures part { PartChanges (honest_of self.new) (λ _ old new. new ≡ flags_added uid flags old) Nothing (store_of self.old) (store_of self.new) result }
+        ensures part { PartChanges (honest_of self.new) (λ _ old new. new ≡ flags_added uid flags old) Nothing (store_of self.old)
+            (store_of self.new) result }
     {
         self.is_fresh = false;
         let Desk::Open(far) = &mut self.desk else {
@@ -227,7 +233,8 @@ impl<L: Link + Drop> FarPart<L> {
         ensures was_honest { honest_of self.new → honest_of self.old }
         ensures told { IfErr result FromBox }
         ensures stops { Stops self.old self.new result }
-        ensures part { PartChanges (honest_of self.new) (λ _ old new. new ≡ flags_removed uid flags old) Nothing (store_of self.old) (store_of self.new) result }
+        ensures part { PartChanges (honest_of self.new) (λ _ old new. new ≡ flags_removed uid flags old) Nothing (store_of self.old)
+            (store_of self.new) result }
     {
         self.is_fresh = false;
         let Desk::Open(far) = &mut self.desk else {
@@ -243,7 +250,8 @@ impl<L: Link + Drop> FarPart<L> {
         ensures was_honest { honest_of self.new → honest_of self.old }
         ensures told { IfErr result FromBox }
         ensures stops { Stops self.old self.new result }
-        ensures part { PartChanges (honest_of self.new) (λ _ old new. new ≡ removed Far uid old) Nothing (store_of self.old) (store_of self.new) result }
+        ensures part { PartChanges (honest_of self.new) (λ _ old new. new ≡ removed Far uid old) Nothing (store_of self.old)
+            (store_of self.new) result }
     {
         self.is_fresh = false;
         let Desk::Open(far) = &mut self.desk else {
@@ -325,9 +333,11 @@ fn draft_in<L: Link + Drop>(
     ensures was_honest { L.honest far.new.session.wire.link → L.honest far.old.session.wire.link }
     ensures next { far.new.next ≡ far.old.next }
     ensures stops { StopsHere (state_of far.old.session) (state_of far.new.session) (told_by result) }
-    ensures remains { L.honest far.new.session.wire.link → (m : FarMailbox) → selected (server_of far.old.session) ≡ Some m → Remains (server_of far.old.session) (server_of far.new.session) }
+    ensures remains { L.honest far.new.session.wire.link → (m : FarMailbox) → selected (server_of far.old.session) ≡ Some m
+        → Remains (server_of far.old.session) (server_of far.new.session) }
     ensures some { IfOk result (IsSomeDraft Side.Far mark) }
-    ensures draft { L.honest far.new.session.wire.link → (m : FarMailbox) → selected (server_of far.old.session) ≡ Some m → IsStore m.store → AreInRange m.store.messages
+    ensures draft { L.honest far.new.session.wire.link → (m : FarMailbox) → selected (server_of far.old.session) ≡ Some m → IsStore m.store
+        → AreInRange m.store.messages
         → IfOk result (IsDraft Side.Far mark (bytes_of uid m.store)) }
 {
     if !far.load(uid)? {

@@ -70,8 +70,10 @@ impl<L: Link> Session<L> {
         ensures sent { SentSo tag.now (state_of self.old) (state_of self.new) result }
         ensures outcome { L.honest self.new.wire.link → (c : Command) → InTwo tag.now front.now rest.now c
             → Exchanged c result self.new.wire.heard.items (server_of self.old) (server_of self.new) }
-        ensures idle { IfOk result (λ len. L.honest self.new.wire.link → IsStill (ends_of (L.line self.new.wire.link) (drop len self.new.wire.heard.items))) }
-        ensures answer { IfOk result (λ len. (len ≤ length self.new.wire.heard.items) × IsAnswerText tag.now statuses.Ok (take len self.new.wire.heard.items)) }
+        ensures idle { IfOk result (λ len. L.honest self.new.wire.link
+            → IsStill (ends_of (L.line self.new.wire.link) (drop len self.new.wire.heard.items))) }
+        ensures answer { IfOk result (λ len. (len ≤ length self.new.wire.heard.items)
+            × IsAnswerText tag.now statuses.Ok (take len self.new.wire.heard.items)) }
     {
         self.offer(tag, front)?;
         let answered = self.wire.finish(tag, rest, false)?;
@@ -85,9 +87,12 @@ impl<L: Link> Session<L> {
         ensures was_honest { L.honest self.new.wire.link → L.honest self.old.wire.link }
         ensures stuck { self.old.is_ready ≡ false → self.new ≡ self.old }
         ensures asked { AskedSo (state_of self.old) (state_of self.new) result }
-        ensures outcome { L.honest self.new.wire.link → Exchanged (command_at (self.old.tags + 1) (request_to_add addition.now)) result self.new.wire.heard.items (server_of self.old) (server_of self.new) }
-        ensures idle { IfOk result (λ len. L.honest self.new.wire.link → IsStill (ends_of (L.line self.new.wire.link) (drop len self.new.wire.heard.items))) }
-        ensures answer { IfOk result (λ len. (len ≤ length self.new.wire.heard.items) × IsAnswerText (tag_text self.new.tags) statuses.Ok (take len self.new.wire.heard.items)) }
+        ensures outcome { L.honest self.new.wire.link → Exchanged (command_at (self.old.tags + 1) (request_to_add addition.now)) result
+            self.new.wire.heard.items (server_of self.old) (server_of self.new) }
+        ensures idle { IfOk result (λ len. L.honest self.new.wire.link
+            → IsStill (ends_of (L.line self.new.wire.link) (drop len self.new.wire.heard.items))) }
+        ensures answer { IfOk result (λ len. (len ≤ length self.new.wire.heard.items)
+            × IsAnswerText (tag_text self.new.tags) statuses.Ok (take len self.new.wire.heard.items)) }
     {
         self.begin()?;
         let tag = self.next_tag()?;
@@ -118,8 +123,10 @@ impl<L: Link> Session<L> {
         ensures was_honest { L.honest self.new.wire.link → L.honest self.old.wire.link }
         ensures stuck { self.old.is_ready ≡ false → self.new ≡ self.old }
         ensures ends { EndsSo 1 (state_of self.old) (state_of self.new) result }
-        ensures outcome { L.honest self.new.wire.link → IsSelected addition.now.name.now validity next (server_of self.old) → (m : FarMailbox) → selected (server_of self.old) ≡ Some m
-            → Outcome (Adds m addition.now.flags addition.now.bytes.now) (NoUidLeft m) (AddsSome m addition.now.flags addition.now.bytes.now) result (server_of self.old) (server_of self.new) }
+        ensures outcome { L.honest self.new.wire.link → IsSelected addition.now.name.now validity next (server_of self.old)
+            → (m : FarMailbox) → selected (server_of self.old) ≡ Some m
+            → Outcome (Adds m addition.now.flags addition.now.bytes.now) (NoUidLeft m)
+            (AddsSome m addition.now.flags addition.now.bytes.now) result (server_of self.old) (server_of self.new) }
     {
         let len = self.ask_to_add(addition)?;
         let given = self.given(len)?;
@@ -146,7 +153,8 @@ impl<L: Link> FarBox<L> {
         ensures next { IfOk result (λ told. self.new.next ≡ next_known self.old.next told) }
         ensures unknown { OnErr result (self.new.next ≡ self.old.next) }
         ensures outcome { L.honest self.new.session.wire.link → (m : FarMailbox) → selected (server_of self.old.session) ≡ Some m
-            → Outcome (Adds m flags bytes.now) (NoUidLeft m) (AddsSome m flags bytes.now) result (server_of self.old.session) (server_of self.new.session) }
+            → Outcome (Adds m flags bytes.now) (NoUidLeft m) (AddsSome m flags bytes.now) result (server_of self.old.session)
+            (server_of self.new.session) }
     {
         let addition = Addition {
             name: &self.name,

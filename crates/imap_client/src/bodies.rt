@@ -141,8 +141,10 @@ impl<L: Link> Session<L> {
         ensures was_honest { L.honest self.new.wire.link → L.honest self.old.wire.link }
         ensures stuck { self.old.is_ready ≡ false → self.new ≡ self.old }
         ensures ends { EndsSo 1 (state_of self.old) (state_of self.new) result }
-        ensures remains { L.honest self.new.wire.link → (m : FarMailbox) → selected (server_of self.old) ≡ Some m → Remains (server_of self.old) (server_of self.new) }
-        ensures outcome { L.honest self.new.wire.link → (m : FarMailbox) → selected (server_of self.old) ≡ Some m → IsStore m.store → AreInRange m.store.messages
+        ensures remains { L.honest self.new.wire.link → (m : FarMailbox) → selected (server_of self.old) ≡ Some m
+            → Remains (server_of self.old) (server_of self.new) }
+        ensures outcome { L.honest self.new.wire.link → (m : FarMailbox) → selected (server_of self.old) ≡ Some m → IsStore m.store
+            → AreInRange m.store.messages
             → Outcome (Tells (λ found. text_of found ≡ bytes_of uid m.store)) Never Remains result (server_of self.old) (server_of self.new) }
     {
         let len = self.ask(&Call::Body(uid))?;
@@ -168,8 +170,10 @@ impl<L: Link> FarBox<L> {
             × (self.old.session.is_ready ≡ false → after.session ≡ self.old.session)
             × EndsSo 1 (state_of self.old.session) (state_of after.session) result
             × ((after.name ≡ self.old.name) × (after.validity ≡ self.old.validity) × (after.next ≡ self.old.next))
-            × (L.honest after.session.wire.link → (m : FarMailbox) → selected (server_of self.old.session) ≡ Some m → Remains (server_of self.old.session) (server_of after.session))
-            × (L.honest after.session.wire.link → (m : FarMailbox) → selected (server_of self.old.session) ≡ Some m → IsStore m.store → AreInRange m.store.messages
+            × (L.honest after.session.wire.link → (m : FarMailbox) → selected (server_of self.old.session) ≡ Some m
+            → Remains (server_of self.old.session) (server_of after.session))
+            × (L.honest after.session.wire.link → (m : FarMailbox) → selected (server_of self.old.session) ≡ Some m → IsStore m.store
+            → AreInRange m.store.messages
             → Outcome (Tells (λ found. option_map (λ b. b.now) found ≡ bytes_of uid m.store)) Never Remains result
             (server_of self.old.session) (server_of after.session)))) }
     {
@@ -186,8 +190,10 @@ impl<L: Link> FarBox<L> {
         ensures stuck { self.old.session.is_ready ≡ false → self.new.session ≡ self.old.session }
         ensures ends { EndsSo 1 (state_of self.old.session) (state_of self.new.session) result }
         ensures same { (self.new.name ≡ self.old.name) × (self.new.validity ≡ self.old.validity) × (self.new.next ≡ self.old.next) }
-        ensures remains { L.honest self.new.session.wire.link → (m : FarMailbox) → selected (server_of self.old.session) ≡ Some m → Remains (server_of self.old.session) (server_of self.new.session) }
-        ensures outcome { L.honest self.new.session.wire.link → (m : FarMailbox) → selected (server_of self.old.session) ≡ Some m → IsStore m.store → AreInRange m.store.messages
+        ensures remains { L.honest self.new.session.wire.link → (m : FarMailbox) → selected (server_of self.old.session) ≡ Some m
+            → Remains (server_of self.old.session) (server_of self.new.session) }
+        ensures outcome { L.honest self.new.session.wire.link → (m : FarMailbox) → selected (server_of self.old.session) ≡ Some m
+            → IsStore m.store → AreInRange m.store.messages
             → Outcome (Tells (λ is_there. (if is_there then Some self.new.body.items else None) ≡ bytes_of uid m.store)) Never Remains result
             (server_of self.old.session) (server_of self.new.session) }
     {

@@ -69,7 +69,8 @@ impl<L: Link> Session<L> {
         ensures still_honest { IfErr result (λ e. L.honest e.1.wire.link → L.honest self.wire.link) }
         ensures ok { IfOk result (λ b. EndsSo 1 (state_of self) (state_of b.session) (Ok b)) }
         ensures err { IfErr result (λ e. EndsSo {T = FarBox L L.Link} 1 (state_of self) (state_of e.1) (Err e.0)) }
-        ensures selects { IfOk result (λ b. L.honest b.session.wire.link → Selects name.now b.validity b.next (server_of self) (server_of b.session)) }
+        ensures selects { IfOk result (λ b. L.honest b.session.wire.link
+            → Selects name.now b.validity b.next (server_of self) (server_of b.session)) }
         ensures fails { IfErr result (λ e. L.honest e.1.wire.link → is_logged_in (server_of self).condition ≡ true
             → Outcome {T = FarBox L L.Link} (λ b. Never) (NoMailbox name.now) (Chooses name.now) (Err e.0) (server_of self) (server_of e.1)) }
     {
@@ -101,9 +102,11 @@ impl<L: Link> Session<L> {
         ensures stuck { self.old.is_ready ≡ false → self.new ≡ self.old }
         ensures ends { EndsSo 1 (state_of self.old) (state_of self.new) result }
         ensures name { IfOk result (λ c. c.name.items ≡ name.now) }
-        ensures chosen { IfOk result (λ c. L.honest self.new.wire.link → Selects name.now c.validity c.next (server_of self.old) (server_of self.new)) }
+        ensures chosen { IfOk result (λ c. L.honest self.new.wire.link
+            → Selects name.now c.validity c.next (server_of self.old) (server_of self.new)) }
         ensures outcome { L.honest self.new.wire.link → is_logged_in (server_of self.old).condition ≡ true
-            → Outcome (λ c. Selects name.now c.validity c.next) (NoMailbox name.now) (Chooses name.now) result (server_of self.old) (server_of self.new) }
+            → Outcome (λ c. Selects name.now c.validity c.next) (NoMailbox name.now) (Chooses name.now) result (server_of self.old)
+            (server_of self.new) }
     {
         let len = self.ask(&Call::Select(name))?;
         let opening = self.opening(len)?;

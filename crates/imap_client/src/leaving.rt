@@ -25,7 +25,8 @@ impl<L: Link> Session<L> {
         ensures still_honest { IfErr result (λ e. L.honest e.1 → L.honest self.wire.link) }
         ensures steady { IfOk result (λ l. (self.is_ready ≡ true) × (L.stops l ≡ L.stops self.wire.link)) }
         ensures leaves { IfOk result (λ l. L.honest l → Leaves (server_of self) (L.line l).end.server) }
-        ensures fails { IfErr result (λ e. L.honest e.1 → Outcome {T = Unit {0}} (λ _. Leaves) Never Leaves (Err e.0) (server_of self) (L.line e.1).end.server) }
+        ensures fails { IfErr result (λ e. L.honest e.1 → Outcome {T = Unit {0}} (λ _. Leaves) Never Leaves (Err e.0) (server_of self)
+            (L.line e.1).end.server) }
     {
         let mut session = self;
         match session.log_out() {

@@ -80,7 +80,8 @@ impl<L: Link> Session<L> {
     fn items_heard(&self, len: usize) -> Result<Items, FarFault>
         requires within { len ≤ length self.now.wire.heard.items }
         requires speaks { Speaks (take len self.now.wire.heard.items) }
-        ensures told { (rs : List Reply) → AreReplies rs (take len self.now.wire.heard.items) → ReadsAs (λ items. items) result (items_told (rows_of rs)) }
+        ensures told { (rs : List Reply) → AreReplies rs (take len self.now.wire.heard.items)
+            → ReadsAs (λ items. items) result (items_told (rows_of rs)) }
         ensures err { IfErr result IsReadFault }
     {
         let alloc = self.wire.alloc;
@@ -94,8 +95,10 @@ impl<L: Link> Session<L> {
         ensures was_honest { L.honest self.new.wire.link → L.honest self.old.wire.link }
         ensures stuck { self.old.is_ready ≡ false → self.new ≡ self.old }
         ensures ends { EndsSo 1 (state_of self.old) (state_of self.new) result }
-        ensures remains { L.honest self.new.wire.link → (m : FarMailbox) → selected (server_of self.old) ≡ Some m → Remains (server_of self.old) (server_of self.new) }
-        ensures outcome { L.honest self.new.wire.link → (m : FarMailbox) → selected (server_of self.old) ≡ Some m → IsStore m.store → AreInRange m.store.messages
+        ensures remains { L.honest self.new.wire.link → (m : FarMailbox) → selected (server_of self.old) ≡ Some m
+            → Remains (server_of self.old) (server_of self.new) }
+        ensures outcome { L.honest self.new.wire.link → (m : FarMailbox) → selected (server_of self.old) ≡ Some m → IsStore m.store
+            → AreInRange m.store.messages
             → Outcome (Tells (λ items. items ≡ map (item_of Far) m.store.messages)) Never Remains result (server_of self.old) (server_of self.new) }
     {
         let len = self.ask(&Call::Listing)?;
@@ -117,11 +120,14 @@ impl<L: Link> FarBox<L> {
         ensures stuck { self.old.session.is_ready ≡ false → self.new.session ≡ self.old.session }
         ensures ends { EndsSo 1 (state_of self.old.session) (state_of self.new.session) result }
         ensures same { (self.new.name ≡ self.old.name) × (self.new.validity ≡ self.old.validity) × (self.new.next ≡ self.old.next) }
-        ensures remains { L.honest self.new.session.wire.link → (m : FarMailbox) → selected (server_of self.old.session) ≡ Some m → Remains (server_of self.old.session) (server_of self.new.session) }
+        ensures remains { L.honest self.new.session.wire.link → (m : FarMailbox) → selected (server_of self.old.session) ≡ Some m
+            → Remains (server_of self.old.session) (server_of self.new.session) }
         ensures numbers { IfOk result (λ listing. (0 < listing.validity) × (0 < listing.next)) }
-        ensures outcome { L.honest self.new.session.wire.link → (m : FarMailbox) → selected (server_of self.old.session) ≡ Some m → IsStore m.store → AreInRange m.store.messages
+        ensures outcome { L.honest self.new.session.wire.link → (m : FarMailbox) → selected (server_of self.old.session) ≡ Some m
+            → IsStore m.store → AreInRange m.store.messages
             → Outcome (Tells (ListsFrom self.old.next m.store)) Never Remains result (server_of self.old.session) (server_of self.new.session) }
-        ensures shows { L.honest self.new.session.wire.link → (m : FarMailbox) → selected (server_of self.old.session) ≡ Some m → IsStore m.store → AreInRange m.store.messages
+        ensures shows { L.honest self.new.session.wire.link → (m : FarMailbox) → selected (server_of self.old.session) ≡ Some m
+            → IsStore m.store → AreInRange m.store.messages
             → self.old.next ≡ m.store.next → IfOk result (λ listing. Shows Far m.store listing) }
     {
         let items = self.session.items()?;

@@ -113,7 +113,8 @@ impl<L: Link> Session<L> {
     fn mark_heard(&self, len: usize, mark: Tuid, from: u32) -> Result<Option<Uid>, FarFault>
         requires within { len ≤ length self.now.wire.heard.items }
         requires speaks { Speaks (take len self.now.wire.heard.items) }
-        ensures told { (rs : List Reply) → AreReplies rs (take len self.now.wire.heard.items) → ReadsAs (λ uid. uid) result (uid_found (least_marked mark from rs)) }
+        ensures told { (rs : List Reply) → AreReplies rs (take len self.now.wire.heard.items)
+            → ReadsAs (λ uid. uid) result (uid_found (least_marked mark from rs)) }
         ensures err { IfErr result IsReadFault }
     {
         let replies = read_replies(self.wire.alloc, &self.wire.heard[..len])?;
@@ -125,8 +126,10 @@ impl<L: Link> Session<L> {
         ensures was_honest { L.honest self.new.wire.link → L.honest self.old.wire.link }
         ensures stuck { self.old.is_ready ≡ false → self.new ≡ self.old }
         ensures ends { EndsSo 1 (state_of self.old) (state_of self.new) result }
-        ensures remains { L.honest self.new.wire.link → (m : FarMailbox) → selected (server_of self.old) ≡ Some m → Remains (server_of self.old) (server_of self.new) }
-        ensures outcome { L.honest self.new.wire.link → (m : FarMailbox) → selected (server_of self.old) ≡ Some m → IsStore m.store → AreInRange m.store.messages
+        ensures remains { L.honest self.new.wire.link → (m : FarMailbox) → selected (server_of self.old) ≡ Some m
+            → Remains (server_of self.old) (server_of self.new) }
+        ensures outcome { L.honest self.new.wire.link → (m : FarMailbox) → selected (server_of self.old) ≡ Some m → IsStore m.store
+            → AreInRange m.store.messages
             → Outcome (Tells (λ found. found ≡ marked_from mark from m.store)) Never Remains result (server_of self.old) (server_of self.new) }
     {
         let len = self.ask(&Call::Heads(from))?;
@@ -148,8 +151,10 @@ impl<L: Link> FarBox<L> {
         ensures stuck { self.old.session.is_ready ≡ false → self.new.session ≡ self.old.session }
         ensures ends { EndsSo 1 (state_of self.old.session) (state_of self.new.session) result }
         ensures same { (self.new.name ≡ self.old.name) × (self.new.validity ≡ self.old.validity) × (self.new.next ≡ self.old.next) }
-        ensures remains { L.honest self.new.session.wire.link → (m : FarMailbox) → selected (server_of self.old.session) ≡ Some m → Remains (server_of self.old.session) (server_of self.new.session) }
-        ensures outcome { L.honest self.new.session.wire.link → (m : FarMailbox) → selected (server_of self.old.session) ≡ Some m → IsStore m.store → AreInRange m.store.messages
+        ensures remains { L.honest self.new.session.wire.link → (m : FarMailbox) → selected (server_of self.old.session) ≡ Some m
+            → Remains (server_of self.old.session) (server_of self.new.session) }
+        ensures outcome { L.honest self.new.session.wire.link → (m : FarMailbox) → selected (server_of self.old.session) ≡ Some m
+            → IsStore m.store → AreInRange m.store.messages
             → Outcome (Tells (λ found. found ≡ marked_from mark from m.store)) Never Remains result
             (server_of self.old.session) (server_of self.new.session) }
     {

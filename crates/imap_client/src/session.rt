@@ -67,7 +67,8 @@ impl<L: Link> Session<L> {
         ensures ok { IfOk result (λ s. (L.honest s.wire.link → L.honest link) × Opened (L.stops link) (state_of s)) }
         ensures server { IfOk result (λ s. L.honest s.wire.link → Restarts (L.line link).end.server (server_of s)) }
         ensures err { IfErr result (λ e. (L.honest e.1 → L.honest link) × IsHearing e.0 × (L.stops link ≤ L.stops e.1)) }
-        ensures left { IfErr result (λ e. L.honest e.1 → Outcome (λ (_ : Unit {0}). Restarts) Never Restarts (Err e.0) (L.line link).end.server (L.line e.1).end.server) }
+        ensures left { IfErr result (λ e. L.honest e.1 → Outcome (λ (_ : Unit {0}). Restarts) Never Restarts (Err e.0)
+            (L.line link).end.server (L.line e.1).end.server) }
     {
         let mut session = Session::closed(alloc, link);
         match session.reconnect() {
@@ -156,9 +157,12 @@ impl<L: Link> Session<L> {
         ensures was_honest { L.honest self.new.wire.link → L.honest self.old.wire.link }
         ensures tags { self.new.tags ≡ self.old.tags }
         ensures sent { SentSo command.now.tag (state_of self.old) (state_of self.new) result }
-        ensures outcome { L.honest self.new.wire.link → AnsweredSo command.now result self.new.wire.heard.items (server_of self.old) (server_of self.new) }
-        ensures idle { IfOk result (λ a. L.honest self.new.wire.link → IsStill (ends_of (L.line self.new.wire.link) (drop a.len self.new.wire.heard.items))) }
-        ensures answer { IfOk result (λ a. (a.len ≤ length self.new.wire.heard.items) × IsAnswerText command.now.tag a.status (take a.len self.new.wire.heard.items)) }
+        ensures outcome { L.honest self.new.wire.link → AnsweredSo command.now result self.new.wire.heard.items (server_of self.old)
+            (server_of self.new) }
+        ensures idle { IfOk result (λ a. L.honest self.new.wire.link → IsStill
+            (ends_of (L.line self.new.wire.link) (drop a.len self.new.wire.heard.items))) }
+        ensures answer { IfOk result (λ a. (a.len ≤ length self.new.wire.heard.items)
+            × IsAnswerText command.now.tag a.status (take a.len self.new.wire.heard.items)) }
     {
         let text = text_of(self.wire.alloc, command)?;
         let answered = self.wire.finish(&command.tag, &text, false)?;
@@ -194,9 +198,12 @@ impl<L: Link> Session<L> {
         requires idle { L.honest self.old.wire.link → IsStill (ends_of (L.line self.old.wire.link) self.old.wire.heard.items) }
         ensures was_honest { L.honest self.new.wire.link → L.honest self.old.wire.link }
         ensures asked { ExchangedSo (state_of self.old) (state_of self.new) result }
-        ensures outcome { L.honest self.new.wire.link → AnsweredSo (command_at (self.old.tags + 1) request) result self.new.wire.heard.items (server_of self.old) (server_of self.new) }
-        ensures idle { IfOk result (λ a. L.honest self.new.wire.link → IsStill (ends_of (L.line self.new.wire.link) (drop a.len self.new.wire.heard.items))) }
-        ensures answer { IfOk result (λ a. (a.len ≤ length self.new.wire.heard.items) × IsAnswerText (tag_text self.new.tags) a.status (take a.len self.new.wire.heard.items)) }
+        ensures outcome { L.honest self.new.wire.link → AnsweredSo (command_at (self.old.tags + 1) request) result self.new.wire.heard.items
+            (server_of self.old) (server_of self.new) }
+        ensures idle { IfOk result (λ a. L.honest self.new.wire.link → IsStill
+            (ends_of (L.line self.new.wire.link) (drop a.len self.new.wire.heard.items))) }
+        ensures answer { IfOk result (λ a. (a.len ≤ length self.new.wire.heard.items)
+            × IsAnswerText (tag_text self.new.tags) a.status (take a.len self.new.wire.heard.items)) }
     {
         let command = self.command(request)?;
         self.send(&command)
@@ -209,9 +216,12 @@ impl<L: Link> Session<L> {
         ensures was_honest { L.honest self.new.wire.link → L.honest self.old.wire.link }
         ensures stuck { self.old.is_ready ≡ false → self.new ≡ self.old }
         ensures asked { AskedSo (state_of self.old) (state_of self.new) result }
-        ensures outcome { L.honest self.new.wire.link → AnsweredSo (command_at (self.old.tags + 1) (request_of call.now)) result self.new.wire.heard.items (server_of self.old) (server_of self.new) }
-        ensures idle { IfOk result (λ a. L.honest self.new.wire.link → IsStill (ends_of (L.line self.new.wire.link) (drop a.len self.new.wire.heard.items))) }
-        ensures answer { IfOk result (λ a. (a.len ≤ length self.new.wire.heard.items) × IsAnswerText (tag_text self.new.tags) a.status (take a.len self.new.wire.heard.items)) }
+        ensures outcome { L.honest self.new.wire.link → AnsweredSo (command_at (self.old.tags + 1) (request_of call.now)) result
+            self.new.wire.heard.items (server_of self.old) (server_of self.new) }
+        ensures idle { IfOk result (λ a. L.honest self.new.wire.link → IsStill
+            (ends_of (L.line self.new.wire.link) (drop a.len self.new.wire.heard.items))) }
+        ensures answer { IfOk result (λ a. (a.len ≤ length self.new.wire.heard.items)
+            × IsAnswerText (tag_text self.new.tags) a.status (take a.len self.new.wire.heard.items)) }
     {
         self.begin()?;
         let request = call.request(self.wire.alloc)?;
@@ -224,9 +234,12 @@ impl<L: Link> Session<L> {
         ensures was_honest { L.honest self.new.wire.link → L.honest self.old.wire.link }
         ensures stuck { self.old.is_ready ≡ false → self.new ≡ self.old }
         ensures asked { AskedSo (state_of self.old) (state_of self.new) result }
-        ensures outcome { L.honest self.new.wire.link → Exchanged (command_at (self.old.tags + 1) (request_of call.now)) result self.new.wire.heard.items (server_of self.old) (server_of self.new) }
-        ensures idle { IfOk result (λ len. L.honest self.new.wire.link → IsStill (ends_of (L.line self.new.wire.link) (drop len self.new.wire.heard.items))) }
-        ensures answer { IfOk result (λ len. (len ≤ length self.new.wire.heard.items) × IsAnswerText (tag_text self.new.tags) statuses.Ok (take len self.new.wire.heard.items)) }
+        ensures outcome { L.honest self.new.wire.link → Exchanged (command_at (self.old.tags + 1) (request_of call.now)) result
+            self.new.wire.heard.items (server_of self.old) (server_of self.new) }
+        ensures idle { IfOk result (λ len. L.honest self.new.wire.link
+            → IsStill (ends_of (L.line self.new.wire.link) (drop len self.new.wire.heard.items))) }
+        ensures answer { IfOk result (λ len. (len ≤ length self.new.wire.heard.items)
+            × IsAnswerText (tag_text self.new.tags) statuses.Ok (take len self.new.wire.heard.items)) }
     {
         let answered = self.ask_status(call)?;
         self.judge(answered)

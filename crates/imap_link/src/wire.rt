@@ -58,7 +58,8 @@ impl<L: Link> Wire<L> {
         ensures counts { L.stops self.old.link ≤ L.stops self.new.link }
         ensures steady { OnOk result (L.stops self.new.link ≡ L.stops self.old.link) }
         ensures quiet { L.honest self.new.link → Quiet (L.line self.old.link).end.server (L.line self.new.link).end.server }
-        ensures same { OnOk result (L.honest self.new.link → Keeps (ends_of (L.line self.old.link) self.old.heard.items) (ends_of (L.line self.new.link) self.new.heard.items)) }
+        ensures same { OnOk result (L.honest self.new.link → Keeps (ends_of (L.line self.old.link) self.old.heard.items)
+            (ends_of (L.line self.new.link) self.new.heard.items)) }
         ensures grows { OnOk result ((bytes : List ℕ) × (self.new.heard.items ≡ self.old.heard.items ++ bytes)) }
         ensures fault { IfErr result IsStop }
         ensures stopped { IsErrOf result FarFault.Stopped → L.stops self.old.link < L.stops self.new.link }
@@ -79,10 +80,12 @@ impl<L: Link> Wire<L> {
         ensures counts { L.stops self.old.link ≤ L.stops self.new.link }
         ensures steady { OnOk result (L.stops self.new.link ≡ L.stops self.old.link) }
         ensures quiet { L.honest self.new.link → Quiet (L.line self.old.link).end.server (L.line self.new.link).end.server }
-        ensures same { OnOk result (L.honest self.new.link → Keeps (ends_of (L.line self.old.link) self.old.heard.items) (ends_of (L.line self.new.link) self.new.heard.items)) }
+        ensures same { OnOk result (L.honest self.new.link → Keeps (ends_of (L.line self.old.link) self.old.heard.items)
+            (ends_of (L.line self.new.link) self.new.heard.items)) }
         ensures grows { OnOk result ((bytes : List ℕ) × (self.new.heard.items ≡ self.old.heard.items ++ bytes)) }
         ensures heard { IfOk result (λ r. Begins tag.now r.0 (drop read self.new.heard.items) r.1) }
-        ensures fault { IfErr result (λ fault. L.honest self.new.link → IsStop fault ⊎ IsFaulty (drop read (ends_of (L.line self.old.link) self.old.heard.items).coming)) }
+        ensures fault { IfErr result (λ fault. L.honest self.new.link → IsStop fault ⊎ IsFaulty
+            (drop read (ends_of (L.line self.old.link) self.old.heard.items).coming)) }
         ensures known { IfErr result IsHearing }
         ensures stopped { IsErrOf result FarFault.Stopped → L.stops self.old.link < L.stops self.new.link }
     {
@@ -104,8 +107,10 @@ impl<L: Link> Wire<L> {
         ensures steady { OnOk result (L.stops self.new.link ≡ L.stops self.old.link) }
         ensures quiet { L.honest self.new.link → Quiet (L.line self.old.link).end.server (L.line self.new.link).end.server }
         ensures told { IfOk result (λ told. Tells tag.now self.new.heard.items told) }
-        ensures same { OnOk result (L.honest self.new.link → Keeps (ends_of (L.line self.old.link) self.old.heard.items) (ends_of (L.line self.new.link) self.new.heard.items)) }
-        ensures fault { IfErr result (λ fault. L.honest self.new.link → Expects tag.now (ends_of (L.line self.old.link) self.old.heard.items).coming → IsStop fault) }
+        ensures same { OnOk result (L.honest self.new.link → Keeps (ends_of (L.line self.old.link) self.old.heard.items)
+            (ends_of (L.line self.new.link) self.new.heard.items)) }
+        ensures fault { IfErr result (λ fault. L.honest self.new.link → Expects tag.now
+            (ends_of (L.line self.old.link) self.old.heard.items).coming → IsStop fault) }
         ensures known { IfErr result IsHearing }
         ensures stopped { IsErrOf result FarFault.Stopped → (L.stops self.old.link < L.stops self.new.link) ⊎ SaysBye tag.now self.new.heard.items }
     {

@@ -171,7 +171,8 @@ impl Service {
 
     /// Answers a line with a fault, whose end was met.
     fn end_line(&mut self, dropped: Dropped, out: &mut Vec<u8>) -> Result<Unread, AllocError>
-        ensures ok { IfOk result (λ after. IsNothing after × Answered (dropped_answer self.old (fault_of dropped.fault) dropped.last) out.old.items out.new.items self.new) }
+        ensures ok { IfOk result (λ after. IsNothing after × Answered (dropped_answer self.old (fault_of dropped.fault) dropped.last)
+            out.old.items out.new.items self.new) }
         ensures err { OnErr result (self.new ≡ self.old) }
     {
         if dropped.loses_octets() {

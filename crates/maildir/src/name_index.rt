@@ -53,7 +53,8 @@ impl NameIndex {
     // Says that the file of this place and name, which has no other index, stands here.
     pub(crate) fn note(&mut self, place: Place, name: Vec<u8>, spot: usize)
         requires { HasRoom self.old }
-        ensures { (p : Place) (n : List ℕ) → found_at p n self.new ≡ cond (is_named (named place name.items) p n) (Some spot) (found_at p n self.old) }
+        ensures { (p : Place) (n : List ℕ) → found_at p n self.new ≡ cond (is_named (named place name.items) p n) (Some spot)
+            (found_at p n self.old) }
     {
         match place {
             Place::New => insert_spot(&mut self.fresh, name, spot),

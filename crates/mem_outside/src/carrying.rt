@@ -36,7 +36,8 @@ pub(crate) fn carry(
     uid: Uid,
     copy: CopyAs,
 ) -> Option<Carried>
-    ensures { MatchOption result (sides_of boxes.new ≡ sides_of boxes.old) (λ carried. CarriesSides direction uid copy.flags copy.mark carried (sides_of boxes.old) (sides_of boxes.new)) }
+    ensures { MatchOption result (sides_of boxes.new ≡ sides_of boxes.old)
+        (λ carried. CarriesSides direction uid copy.flags copy.mark carried (sides_of boxes.old) (sides_of boxes.new)) }
 {
     match direction {
         Direction::Pull => carry_to(alloc, Side::Far, &boxes.far, &mut boxes.near, uid, copy),
@@ -53,7 +54,8 @@ fn carry_to(
     uid: Uid,
     copy: CopyAs,
 ) -> Option<Carried>
-    ensures { MatchOption result (store_of to.new ≡ store_of to.old) (λ carried. CarriesTo side uid copy.flags copy.mark carried (store_of from.now) (store_of to.old) (store_of to.new)) }
+    ensures { MatchOption result (store_of to.new ≡ store_of to.old) (λ carried. CarriesTo side uid copy.flags copy.mark carried
+        (store_of from.now) (store_of to.old) (store_of to.new)) }
 {
     let Some(message) = message_of(&from.messages, uid) else {
         return Some(Carried::Absent);

@@ -103,7 +103,8 @@ impl MemOutside {
 fn take_shelf(book: &mut Option<Book<MemShelf>>, shelf: &mut Option<MemShelf>) -> MemShelf
     requires there { is_there book.old shelf.old ≡ true }
     ensures shelf { mem.seen_of result ≡ shelf_of (λ b. mem.seen_of b.shelf) mem.seen_of book.old shelf.old }
-    ensures whole { is_whole (λ b. b.is_ready) (λ s. not (mem.seen_of s).is_broken) book.old shelf.old ≡ true → (mem.seen_of result).is_broken ≡ false }
+    ensures whole { is_whole (λ b. b.is_ready) (λ s. not (mem.seen_of s).is_broken) book.old shelf.old ≡ true
+        → (mem.seen_of result).is_broken ≡ false }
     ensures taken { book.new ≡ None }
 {
     match book.take() {

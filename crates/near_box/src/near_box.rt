@@ -430,7 +430,8 @@ impl<F: Folder> NearBox<F> {
     fn raise_next(&mut self, count: u32) -> Result<(), NearFault>
         requires begun { self.old.is_ready ≡ false }
         requires fits { self.old.survey.meta.next + count < 2 ^ 32 }
-        ensures effect { F.is_honest ≡ true → TurnsFiles (with_meta (meta_text (raised self.old.survey.meta count))) Nothing self.old self.new result }
+        ensures effect { F.is_honest ≡ true → TurnsFiles (with_meta (meta_text (raised self.old.survey.meta count))) Nothing self.old
+            self.new result }
         ensures meta { OnOk result ((self.new.survey.meta ≡ raised self.old.survey.meta count) × (self.new.survey.has_meta ≡ true)) }
         ensures waiting { self.new.survey.waiting ≡ self.old.survey.waiting }
         ensures entries { self.new.survey.entries ≡ self.old.survey.entries }
@@ -459,7 +460,8 @@ impl<F: Folder> NearBox<F> {
         ensures failed { (self.new.is_ready ≡ self.old.is_ready) × (self.new.fresh ≡ self.old.fresh) × (self.new.missed ≡ self.old.missed) }
         ensures survey { OnOk result (let old = self.old.survey in
             Extends (entries_from old.meta.next old.waiting.items) [] (raised old.meta count) old self.new.survey) }
-        ensures effect { F.is_honest ≡ true → Admits self.old.survey.waiting.items self.old.survey.meta (stored_in self.old) (stored_in self.new) result }
+        ensures effect { F.is_honest ≡ true → Admits self.old.survey.waiting.items self.old.survey.meta (stored_in self.old)
+            (stored_in self.new) result }
     {
         let mut number = self.survey.meta.next;
         self.raise_next(count)?;

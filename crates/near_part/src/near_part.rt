@@ -74,7 +74,8 @@ impl<F: Folder + Drop> NearPart<F> {
         ensures told { IfErr result FromBox }
         ensures own { IfErr result FromNear }
         ensures stops { OpenStops self.old self.new result }
-        ensures part { Part (F.is_honest ≡ true) (Answers (λ validity n. validity ≡ n.store.validity)) (λ _. Stays) (mailbox_of self.old) (mailbox_of self.new) result }
+        ensures part { Part (F.is_honest ≡ true) (Answers (λ validity n. validity ≡ n.store.validity)) (λ _. Stays) (mailbox_of self.old)
+            (mailbox_of self.new) result }
     {
         let folder = take(&mut self.desk);
         match NearBox::open(self.alloc, folder, self.fresh) {
@@ -97,7 +98,8 @@ impl<F: Folder + Drop> NearPart<F> {
         ensures told { IfErr result FromBox }
         ensures own { IfErr result FromNear }
         ensures stops { Stops self.old self.new result }
-        ensures part { PartChanges (F.is_honest ≡ true) (λ _ old new. new ≡ admitted_near old) AdmitsSome (mailbox_of self.old) (mailbox_of self.new) result }
+        ensures part { PartChanges (F.is_honest ≡ true) (λ _ old new. new ≡ admitted_near old) AdmitsSome (mailbox_of self.old)
+            (mailbox_of self.new) result }
     {
         let Desk::Open(near) = &mut self.desk else {
             unreachable!()
@@ -113,7 +115,8 @@ impl<F: Folder + Drop> NearPart<F> {
         ensures told { IfErr result FromBox }
         ensures own { IfErr result FromNear }
         ensures stops { Stops self.old self.new result }
-        ensures part { Part (F.is_honest ≡ true) (Answers (λ listing n. ShowsAbove Side.Near from n.store listing)) (λ _. Stays) (mailbox_of self.old) (mailbox_of self.new) result }
+        ensures part { Part (F.is_honest ≡ true) (Answers (λ listing n. ShowsAbove Side.Near from n.store listing)) (λ _. Stays)
+            (mailbox_of self.old) (mailbox_of self.new) result }
     {
         let Desk::Open(near) = &mut self.desk else {
             unreachable!()
@@ -128,7 +131,8 @@ impl<F: Folder + Drop> NearPart<F> {
         ensures told { IfErr result FromBox }
         ensures own { IfErr result FromNear }
         ensures stops { Stops self.old self.new result }
-        ensures part { Part (F.is_honest ≡ true) (Answers (λ found n. found ≡ marked_from mark from n.store)) (λ _. Stays) (mailbox_of self.old) (mailbox_of self.new) result }
+        ensures part { Part (F.is_honest ≡ true) (Answers (λ found n. found ≡ marked_from mark from n.store)) (λ _. Stays)
+            (mailbox_of self.old) (mailbox_of self.new) result }
     {
         let Desk::Open(near) = &mut self.desk else {
             unreachable!()
@@ -144,7 +148,8 @@ impl<F: Folder + Drop> NearPart<F> {
         ensures told { IfErr result FromBox }
         ensures own { IfErr result FromNear }
         ensures stops { Stops self.old self.new result }
-        ensures part { Part (F.is_honest ≡ true) (Answers (λ draft n. IsDraft Side.Near mark (bytes_of uid n.store) draft)) (λ _. Stays) (mailbox_of self.old) (mailbox_of self.new) result }
+        ensures part { Part (F.is_honest ≡ true) (Answers (λ draft n. IsDraft Side.Near mark (bytes_of uid n.store) draft)) (λ _. Stays)
+            (mailbox_of self.old) (mailbox_of self.new) result }
     {
         let Desk::Open(near) = &mut self.desk else {
             unreachable!()
@@ -174,7 +179,8 @@ impl<F: Folder + Drop> NearPart<F> {
         ensures told { IfErr result FromBox }
         ensures own { IfErr result FromNear }
         ensures stops { Stops self.old self.new result }
-        ensures part { PartChanges (F.is_honest ≡ true) (λ _ old new. new ≡ on_store (flags_added uid flags) old) Nothing (mailbox_of self.old) (mailbox_of self.new) result }
+        ensures part { PartChanges (F.is_honest ≡ true) (λ _ old new. new ≡ on_store (flags_added uid flags) old) Nothing
+            (mailbox_of self.old) (mailbox_of self.new) result }
     {
         let Desk::Open(near) = &mut self.desk else {
             unreachable!()
@@ -189,7 +195,8 @@ impl<F: Folder + Drop> NearPart<F> {
         ensures told { IfErr result FromBox }
         ensures own { IfErr result FromNear }
         ensures stops { Stops self.old self.new result }
-        ensures part { PartChanges (F.is_honest ≡ true) (λ _ old new. new ≡ on_store (flags_removed uid flags) old) Nothing (mailbox_of self.old) (mailbox_of self.new) result }
+        ensures part { PartChanges (F.is_honest ≡ true) (λ _ old new. new ≡ on_store (flags_removed uid flags) old) Nothing
+            (mailbox_of self.old) (mailbox_of self.new) result }
     {
         let Desk::Open(near) = &mut self.desk else {
             unreachable!()
@@ -204,7 +211,8 @@ impl<F: Folder + Drop> NearPart<F> {
         ensures told { IfErr result FromBox }
         ensures own { IfErr result FromNear }
         ensures stops { Stops self.old self.new result }
-        ensures part { PartChanges (F.is_honest ≡ true) (λ _ old new. new ≡ on_store (expunged (uid ∷ [])) old) Nothing (mailbox_of self.old) (mailbox_of self.new) result }
+        ensures part { PartChanges (F.is_honest ≡ true) (λ _ old new. new ≡ on_store (expunged (uid ∷ [])) old) Nothing
+            (mailbox_of self.old) (mailbox_of self.new) result }
     {
         let Desk::Open(near) = &mut self.desk else {
             unreachable!()

@@ -62,7 +62,8 @@ pub trait Outside {
     fn open_book(&mut self) -> Result<(), OutsideFault>
         ensures was_honest { honest self.new → honest self.old }
         ensures book { OnOk result (IsBook (opened self.new)) }
-        ensures call { Call (honest self.new) (Arrives ours alone) (λ _. 0) FromShelf (λ _. ReadsBook (opened self.new)) LeavesUnread (seen self.old) (seen self.new) result };
+        ensures call { Call (honest self.new) (Arrives ours alone) (λ _. 0) FromShelf (λ _. ReadsBook (opened self.new)) LeavesUnread
+            (seen self.old) (seen self.new) result };
 
     /// What the last run recorded.
     fn state(&self) -> &SyncState
@@ -80,21 +81,25 @@ pub trait Outside {
         requires read { IsRead (opened self.old) }
         ensures was_honest { honest self.new → honest self.old }
         ensures opened { OnOk result (opened self.new ≡ turned (λ _. Missing) (opened self.old)) }
-        ensures call { Writes (honest self.new) (Arrives ours alone) FromBook (OfBook (λ p. TurnsJournal p Missing) (opened self.old)) (OfBook (λ p. TurnsHalf p Missing) (opened self.old)) (seen self.old) (seen self.new) result };
+        ensures call { Writes (honest self.new) (Arrives ours alone) FromBook (OfBook (λ p. TurnsJournal p Missing) (opened self.old))
+            (OfBook (λ p. TurnsHalf p Missing) (opened self.old)) (seen self.old) (seen self.new) result };
 
     /// Takes a torn last line off the journal, if there is one.
     fn mend(&mut self) -> Result<(), OutsideFault>
         requires read { IsRead (opened self.old) }
         ensures was_honest { honest self.new → honest self.old }
         ensures opened { OnOk result (opened self.new ≡ turned mended (opened self.old)) }
-        ensures call { Writes (honest self.new) (Arrives ours alone) FromBook (OfBook (λ p. TurnsJournal p (mended p)) (opened self.old)) (OfBook (λ p. TurnsHalf p p) (opened self.old)) (seen self.old) (seen self.new) result };
+        ensures call { Writes (honest self.new) (Arrives ours alone) FromBook (OfBook (λ p. TurnsJournal p (mended p)) (opened self.old))
+            (OfBook (λ p. TurnsHalf p p) (opened self.old)) (seen self.old) (seen self.new) result };
 
     /// Writes the whole plan of the next run, of which no step is logged.
     fn begin(&mut self, plan: Plan) -> Result<(), OutsideFault>
         requires takes { TakesPlan (opened self.old) plan }
         ensures was_honest { honest self.new → honest self.old }
         ensures opened { OnOk result (opened self.new ≡ turned (λ _. begun plan) (opened self.old)) }
-        ensures call { Writes (honest self.new) (Arrives ours alone) FromBook (OfBook (λ _. TurnsJournal Missing (begun plan)) (opened self.old)) (OfBook (λ _. TurnsHalf Missing Useless) (opened self.old)) (seen self.old) (seen self.new) result };
+        ensures call { Writes (honest self.new) (Arrives ours alone) FromBook
+            (OfBook (λ _. TurnsJournal Missing (begun plan)) (opened self.old)) (OfBook (λ _. TurnsHalf Missing Useless) (opened self.old))
+            (seen self.old) (seen self.new) result };
 
     /// Logs the step of this number, counted from 1, as done. A new message has a copy, whose UID this is.
     ///
@@ -103,14 +108,18 @@ pub trait Outside {
         requires takes { TakesLog (opened self.old) step (as_done copy) }
         ensures was_honest { honest self.new → honest self.old }
         ensures opened { OnOk result (opened self.new ≡ turned (λ p. logged_more p (as_done copy)) (opened self.old)) }
-        ensures call { Writes (honest self.new) (Arrives ours alone) (FromLog (opened self.old) (as_done copy)) (OfBook (λ p. TurnsJournal p (logged_more p (as_done copy))) (opened self.old)) (OfBook (λ p. TurnsHalf p (torn p)) (opened self.old)) (seen self.old) (seen self.new) result };
+        ensures call { Writes (honest self.new) (Arrives ours alone) (FromLog (opened self.old) (as_done copy))
+            (OfBook (λ p. TurnsJournal p (logged_more p (as_done copy))) (opened self.old))
+            (OfBook (λ p. TurnsHalf p (torn p)) (opened self.old)) (seen self.old) (seen self.new) result };
 
     /// Logs the step of this number, counted from 1, as void.
     fn void(&mut self, step: usize) -> Result<(), OutsideFault>
         requires takes { TakesLog (opened self.old) step Void }
         ensures was_honest { honest self.new → honest self.old }
         ensures opened { OnOk result (opened self.new ≡ turned (λ p. logged_more p Void) (opened self.old)) }
-        ensures call { Writes (honest self.new) (Arrives ours alone) FromBook (OfBook (λ p. TurnsJournal p (logged_more p Void)) (opened self.old)) (OfBook (λ p. TurnsHalf p (torn p)) (opened self.old)) (seen self.old) (seen self.new) result };
+        ensures call { Writes (honest self.new) (Arrives ours alone) FromBook
+            (OfBook (λ p. TurnsJournal p (logged_more p Void)) (opened self.old)) (OfBook (λ p. TurnsHalf p (torn p)) (opened self.old))
+            (seen self.old) (seen self.new) result };
 
     /// Puts the state that the finished plan makes in place of the old one, and then removes the journal.
     fn commit(&mut self) -> Result<(), OutsideFault>
@@ -118,20 +127,23 @@ pub trait Outside {
         ensures was_honest { honest self.new → honest self.old }
         ensures opened { OnOk result (AreCommitted (opened self.old) (opened self.new)) }
         ensures held { result ≡ Ok tt → honest self.new → IsHeld (opened self.new) (seen self.new).device }
-        ensures call { Writes (honest self.new) (Arrives ours alone) FromBook (OfBook CommitsTo (opened self.old)) (OfBook CommitsHalf (opened self.old)) (seen self.old) (seen self.new) result };
+        ensures call { Writes (honest self.new) (Arrives ours alone) FromBook (OfBook CommitsTo (opened self.old))
+            (OfBook CommitsHalf (opened self.old)) (seen self.old) (seen self.new) result };
 
     /// Selects the far mailbox, or opens the near one, and tells its UIDVALIDITY.
     fn open_box(&mut self, side: Side) -> Result<u32, OutsideFault>
         ensures was_honest { honest self.new → honest self.old }
         ensures opened { OnOk result (opened self.new ≡ with_box side (opened self.old)) }
-        ensures call { Reads (honest self.new) (Arrives ours alone) (λ validity d. validity ≡ (box d side).validity) (seen self.old) (seen self.new) result };
+        ensures call { Reads (honest self.new) (Arrives ours alone) (λ validity d. validity ≡ (box d side).validity) (seen self.old)
+            (seen self.new) result };
 
     /// Gives the waiting near files their UIDs.
     fn admit(&mut self) -> Result<(), OutsideFault>
         requires is_open { IsOpen Side.Near (opened self.old) }
         ensures was_honest { honest self.new → honest self.old }
         ensures opened { opened self.new ≡ opened self.old }
-        ensures call { Changes {T = Unit {0}} (honest self.new) (Arrives ours alone) (λ _. Admits) AdmitsPart (seen self.old) (seen self.new) result };
+        ensures call { Changes {T = Unit {0}} (honest self.new) (Arrives ours alone) (λ _. Admits) AdmitsPart (seen self.old)
+            (seen self.new) result };
 
     /// What the far mailbox lists.
     fn list_far(&mut self) -> Result<Listing, OutsideFault>
@@ -154,7 +166,8 @@ pub trait Outside {
         requires is_open { IsOpen side (opened self.old) }
         ensures was_honest { honest self.new → honest self.old }
         ensures opened { opened self.new ≡ opened self.old }
-        ensures call { Reads (honest self.new) (Arrives ours alone) (λ found d. found ≡ marked_from mark from (box d side)) (seen self.old) (seen self.new) result };
+        ensures call { Reads (honest self.new) (Arrives ours alone) (λ found d. found ≡ marked_from mark from (box d side)) (seen self.old)
+            (seen self.new) result };
 
     /// Copies the message of the direction's source with this UID to its target, under this mark and with these flags.
     fn carry(
@@ -168,28 +181,32 @@ pub trait Outside {
         requires near_open { IsOpen Side.Near (opened self.old) }
         ensures was_honest { honest self.new → honest self.old }
         ensures opened { opened self.new ≡ opened self.old }
-        ensures call { Call (honest self.new) (Arrives ours alone) copies_made FromBox (Carry direction uid flags mark) (LeavesBy (Carry direction uid flags mark) (SetsAside (target direction))) (seen self.old) (seen self.new) result };
+        ensures call { Call (honest self.new) (Arrives ours alone) copies_made FromBox (Carry direction uid flags mark)
+            (LeavesBy (Carry direction uid flags mark) (SetsAside (target direction))) (seen self.old) (seen self.new) result };
 
     /// Sets these flags of a message. Nothing is done where it is not there.
     fn add_flags(&mut self, side: Side, uid: Uid, flags: Flags) -> Result<(), OutsideFault>
         requires is_open { IsOpen side (opened self.old) }
         ensures was_honest { honest self.new → honest self.old }
         ensures opened { opened self.new ≡ opened self.old }
-        ensures call { Changes {T = Unit {0}} (honest self.new) (Arrives ours alone) (λ _. Turns side (flags_added uid flags)) Nothing (seen self.old) (seen self.new) result };
+        ensures call { Changes {T = Unit {0}} (honest self.new) (Arrives ours alone) (λ _. Turns side (flags_added uid flags)) Nothing
+            (seen self.old) (seen self.new) result };
 
     /// Clears these flags of a message. Nothing is done where it is not there.
     fn remove_flags(&mut self, side: Side, uid: Uid, flags: Flags) -> Result<(), OutsideFault>
         requires is_open { IsOpen side (opened self.old) }
         ensures was_honest { honest self.new → honest self.old }
         ensures opened { opened self.new ≡ opened self.old }
-        ensures call { Changes {T = Unit {0}} (honest self.new) (Arrives ours alone) (λ _. Turns side (flags_removed uid flags)) Nothing (seen self.old) (seen self.new) result };
+        ensures call { Changes {T = Unit {0}} (honest self.new) (Arrives ours alone) (λ _. Turns side (flags_removed uid flags)) Nothing
+            (seen self.old) (seen self.new) result };
 
     /// Removes a message, if it is there. A far message is removed only if it is marked as deleted (RFC 9051, section 6.4.9).
     fn expunge(&mut self, side: Side, uid: Uid) -> Result<(), OutsideFault>
         requires is_open { IsOpen side (opened self.old) }
         ensures was_honest { honest self.new → honest self.old }
         ensures opened { opened self.new ≡ opened self.old }
-        ensures call { Changes {T = Unit {0}} (honest self.new) (Arrives ours alone) (λ _. Turns side (removed side uid)) Nothing (seen self.old) (seen self.new) result };
+        ensures call { Changes {T = Unit {0}} (honest self.new) (Arrives ours alone) (λ _. Turns side (removed side uid)) Nothing
+            (seen self.old) (seen self.new) result };
 
     /// Opens all again, so that calls are answered again. It keeps both mailboxes and the shelf, and nothing else.
     fn reopen(&mut self)

@@ -35,7 +35,8 @@ pub fn serve_stream<R: Read, W: Write>(
     output: &mut W,
 ) -> Result<(), ServeFault>
     ensures hung_up { server.new.connection ≡ None }
-    ensures ok { OnOk result (Serves server.old.server (R.remaining input.old) (R.remaining input.new) (W.contents output.old) (W.contents output.new) server.new.server) }
+    ensures ok { OnOk result (Serves server.old.server (R.remaining input.old) (R.remaining input.new) (W.contents output.old)
+        (W.contents output.new) server.new.server) }
     ensures err { OnErr result (BreaksOff (connected server.old.server) (R.remaining input.old) (R.remaining input.new) server.new.server) }
 {
     let hello = server.connect();
@@ -53,7 +54,8 @@ fn greet_and_answer<R: Read, W: Write>(
 ) -> Result<(), ServeFault>
     requires new { server.old ≡ connected server.old.server }
     requires greets { AreReplies greeting hello.now }
-    ensures ok { OnOk result (Serves server.old.server (R.remaining input.old) (R.remaining input.new) (W.contents output.old) (W.contents output.new) server.new.server) }
+    ensures ok { OnOk result (Serves server.old.server (R.remaining input.old) (R.remaining input.new) (W.contents output.old)
+        (W.contents output.new) server.new.server) }
     ensures err { OnErr result (BreaksOff server.old (R.remaining input.old) (R.remaining input.new) server.new.server) }
 {
     send(hello, output)?;
@@ -67,7 +69,8 @@ fn answer_pieces<R: Read, W: Write>(
     output: &mut W,
 ) -> Result<(), ServeFault>
     requires { IsSome server.old.connection }
-    ensures ok { OnOk result (Converses server.old (R.remaining input.old) (R.remaining input.new) (W.contents output.old) (W.contents output.new) server.new) }
+    ensures ok { OnOk result (Converses server.old (R.remaining input.old) (R.remaining input.new) (W.contents output.old)
+        (W.contents output.new) server.new) }
     ensures ended { OnOk result (IsEnd (R.remaining input.new) server.new.server) }
     ensures err { OnErr result (BreaksOff server.old (R.remaining input.old) (R.remaining input.new) server.new.server) }
 {
@@ -87,7 +90,8 @@ fn answer_next<R: Read, W: Write>(
     output: &mut W,
 ) -> Result<Turn, ServeFault>
     requires { IsSome server.old.connection }
-    ensures ok { OnOk result (Converses server.old (R.remaining input.old) (R.remaining input.new) (W.contents output.old) (W.contents output.new) server.new) }
+    ensures ok { OnOk result (Converses server.old (R.remaining input.old) (R.remaining input.new) (W.contents output.old)
+        (W.contents output.new) server.new) }
     ensures ended { IfOk result (λ turn. IsEndOn turn (R.remaining input.new) server.new.server) }
     ensures err { OnErr result (BreaksOff server.old (R.remaining input.old) (R.remaining input.new) server.new.server) }
 {

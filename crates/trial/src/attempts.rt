@@ -34,7 +34,8 @@ pub fn settle_trial<O: Outside>(
     // From an opening, the run is over where it answers, and underway after any fault.
     ensures done { OnOk result (FromOpening (O.honest outside.new) O.ours O.alone opening options.now trial_stream (O.seen outside.old).device
         (IsOver O.ours O.alone opening (O.seen outside.new).device)) }
-    ensures left { IfErr result (λ fault. FromOpening (O.honest outside.new) O.ours O.alone opening options.now trial_stream (O.seen outside.old).device
+    ensures left { IfErr result (λ fault. FromOpening (O.honest outside.new) O.ours O.alone opening options.now trial_stream
+        (O.seen outside.old).device
         (LeavesRun (Underway O.ours O.alone opening) fault (O.seen outside.old) (O.seen outside.new))) }
 
     // Where nobody else adds messages, both mailboxes and the state are alike then to the outcome that the rules name for the opening.
@@ -48,7 +49,8 @@ pub fn settle_trial<O: Outside>(
         → FromOpening (O.honest outside.new) O.ours O.alone opening options.now trial_stream (O.seen outside.old).device
         (ChangedLast O.ours O.alone opening tries side (O.seen outside.old).device trial_stream (O.seen outside.new).device)) }
     ensures caused { IfErr result (λ fault. (fault ≡ RunFault.Stopped → ⊥)
-        → IsCaused (or_unread (TellsNoRun (O.honest outside.new) (O.seen outside.new).device) (because (λ side. Unit {0}) (WillRepeat trial_stream))) fault (O.seen outside.old) (O.seen outside.new)) }
+        → IsCaused (or_unread (TellsNoRun (O.honest outside.new) (O.seen outside.new).device)
+        (because (λ side. Unit {0}) (WillRepeat trial_stream))) fault (O.seen outside.old) (O.seen outside.new)) }
     ensures greatest { HasNoNext (O.honest outside.new) O.alone (O.seen outside.old).device (O.seen outside.new).device result }
 
     // Each attempt but the last met one stop, and each of all where that is what is answered, and no other call stopped.
