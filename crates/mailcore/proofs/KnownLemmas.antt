@@ -6,7 +6,7 @@ use Rattle.std.proofs.Math.Bool.{or-false}
 use Rattle.std.specs.List.{list_any}
 use Rattle.std.specs.Str.{bytes_eq}
 use Rattle.rand_core.specs.Stream.{Stream}
-use Rattle.mailcore.specs.Draws.{RUN_LENGTH, is_listed, GivesListed, GivesNew}
+use Rattle.mailcore.specs.Draws.{is_listed, GivesListed, GivesNew}
 use Rattle.mailcore.proofs.PairLemmas.{is_listed-push}
 
 -- what is said of a call that has a value, where it has one
