@@ -3,6 +3,7 @@ pub mod CopyLemmas
 pub mod DrawLemmas
 pub mod FlagLetters
 pub mod FlagRules
+pub mod KnownLemmas
 pub mod LineLemmas
 pub mod MarkText
 pub mod OperationLemmas

@@ -1,16 +1,22 @@
 //! Marks for new copies, drawn from a generator.
 
-ghost use Rattle.std.specs.Prelude.{◌≡◌, ◌≢◌, ◌+◌, All, AllPairs, IfNone, IfOk, IfSome, IsErr, IsErrOf, List, ℕ};
+ghost use Rattle.std.specs.Prelude.{◌≡◌, ◌≢◌, ◌+◌, All, AllPairs, IfNone, IfOk, IfSome, IsErr, IsErrOf, List, ◌<◌, ◌≤◌, ◌∷◌, [], ◌++◌, ℕ};
+ghost use Rattle.std.specs.HashSet.{spare};
 ghost use Rattle.mailcore.specs.Mark.{IsMark};
-ghost use Rattle.mailcore.specs.Draws.{after_pair, after_pairs, Draws, GivesListed, GivesNew, next_mark, Repeats, RUN_LENGTH};
+ghost use Rattle.mailcore.specs.Draws.{after_pair, after_pairs, Draws, GivesListed, GivesNew, is_listed, next_mark, Repeats, RUN_LENGTH};
 
 use crate::fault::CoreFault;
 use crate::tuid::Tuid;
 use rand_core::Rng;
 use std::alloc::Global;
+use std::collections::HashSet;
+use std::hash::{BuildHasherDefault, FoldHasher};
 
 // How many draws in a row may give marks that are listed before a drawing is given up.
 const MAX_DRAWS: usize = 64;
+
+// The marks that are drawn, to tell a repeat without a walk over them.
+type Known = HashSet<Tuid, BuildHasherDefault<FoldHasher>, Global>;
 
 /// Draws `count` marks from `rng`, no two alike.
 ///
@@ -37,23 +43,35 @@ pub fn draw_marks<R: Rng>(alloc: Global, rng: &mut R, count: usize) -> Result<Ve
     ensures no_memory { IsErrOf result CoreFault.NoMemory → R.stream rng.new ≡ R.stream rng.old }
 {
     let mut marks = Vec::with_capacity(alloc, count)?;
+    let mut known = HashSet::with_capacity(alloc, count)?;
     'marks: for _ in 0..count {
-        let Some(mark) = draw_new(rng, marks.as_slice()) else {
+        let Some(mark) = draw_new(rng, &known) else {
             return Err(CoreFault::MarksRepeat);
         };
+        know(&mut known, mark);
         marks.push_reserved(mark);
     }
     Ok(marks)
 }
 
-// The mark of the first draw that is not listed, or none if as many as a drawing bears with are.
-fn draw_new<R: Rng>(rng: &mut R, listed: &[Tuid]) -> Option<Tuid>
-    ensures new { IfSome result (λ mark. GivesNew (R.stream rng.old) listed.now mark (R.stream rng.new)) }
-    ensures listed { IfNone result (GivesListed (R.stream rng.old) listed.now RUN_LENGTH (R.stream rng.new)) }
+// Adds a mark to the known ones, which have room for it.
+fn know(known: &mut Known, mark: Tuid)
+    requires room { 0 < spare known.old }
+    ensures known { (other : List ℕ) → is_listed known.new.keys other ≡ is_listed (known.old.keys ++ mark ∷ []) other }
+    ensures room { spare known.old ≤ spare known.new + 1 }
+{
+    // It is not refused, since there is room.
+    let _ = known.insert(mark);
+}
+
+// The mark of the first draw that is not known, or none if as many as a drawing bears with are.
+fn draw_new<R: Rng>(rng: &mut R, known: &Known) -> Option<Tuid>
+    ensures new { IfSome result (λ mark. GivesNew (R.stream rng.old) known.now.keys mark (R.stream rng.new)) }
+    ensures listed { IfNone result (GivesListed (R.stream rng.old) known.now.keys RUN_LENGTH (R.stream rng.new)) }
 {
     'draws: for _ in 0..MAX_DRAWS {
         let mark = draw(rng);
-        if !listed.contains(&mark) {
+        if !known.contains(&mark) {
             return Some(mark);
         }
     }
