@@ -123,10 +123,10 @@ zip_nil : {K X : Type 0} (ks : List K) → zip {X = X} ks [] ≡ []
 zip_nil [] = refl
 zip_nil (k ∷ ks) = refl
 
-no_copies : (steps : List Step) → copies_of steps [] ≡ []
+pub no_copies : (steps : List Step) → copies_of steps [] ≡ []
 no_copies steps = ap (λ (z : List (Step × Logged)). flat_map (λ p. copy_of p.0 p.1) z) (zip_nil steps)
 
-copies_more : (steps : List Step) (log : List Logged) (i : ℕ) (s : Step) (l : Logged) → i < length steps → i < length log
+pub copies_more : (steps : List Step) (log : List Logged) (i : ℕ) (s : Step) (l : Logged) → i < length steps → i < length log
     → copies_of steps (take (i + 1) log) ≡ copies_of steps (take i log) ++ copy_of (get_or steps i s) (get_or log i l)
 copies_more [] log i s l a b = absurd (omega arith)
 copies_more (x ∷ steps) [] i s l a b = absurd (omega arith)

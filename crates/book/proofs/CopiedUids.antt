@@ -41,10 +41,10 @@ source_at side uid (step.Gone d far near) h = absurd (false≢true h)
 source_at side uid (step.Flags d far near set cleared) h = absurd (false≢true h)
 source_at side uid (step.Expunge s u) h = absurd (false≢true h)
 
-below_trans : (a b c : ℕ × ℕ × ℕ) → is_below a b ≡ true → is_below b c ≡ true → is_below a c ≡ true
+pub below_trans : (a b c : ℕ × ℕ × ℕ) → is_below a b ≡ true → is_below b c ≡ true → is_below a c ≡ true
 below_trans (a, b, c) (d, e, f) (g, h, i) l m = grind (arith, nat_tests)
 
-below_itself : (a : ℕ × ℕ × ℕ) → is_below a a ≡ true → ⊥
+pub below_itself : (a : ℕ × ℕ × ℕ) → is_below a a ≡ true → ⊥
 below_itself (a, b, c) l = grind (arith, nat_tests)
 
 later_source : (side : Side) (uid : ℕ) (p : ℕ × ℕ × ℕ) (steps : List Step) → rises p (map step_place steps) ≡ true → list_any (is_source_of side uid) steps ≡ true

@@ -1,5 +1,5 @@
 -- What is above the highest UID of a side is free.
-use Rattle.std.proofs.Common.{◌≡◌, ◌∙◌, ◌≤◌, ◌<◌, ℕ, zero, suc, Bool, true, false, ◌&&◌, ◌||◌, ◌==◌, List, [], ◌∷◌, ◌++◌, max, length, get_or, refl, sym, ap, subst, arith, append_assoc}
+use Rattle.std.proofs.Common.{◌≡◌, ◌∙◌, ◌≤◌, ◌<◌, ℕ, zero, suc, Bool, true, false, ◌&&◌, ◌||◌, ◌==◌, List, [], ◌∷◌, ◌++◌, max, length, get_or, take, ◌+◌, refl, sym, ap, subst, arith, append_assoc}
 use Rattle.std.specs.Prelude.{if◌then◌else◌}
 use Rattle.std.specs.List.{fold, list_any, zip}
 use Rattle.std.proofs.Math.Nat.{le-max_left, le-max_right}
@@ -23,8 +23,8 @@ use Rattle.book.specs.declared.highest.Highest.{Highest}
 use Rattle.book.specs.Agreement.{Copy, copy_of, copies_of, is_named, is_side, is_source_of, is_taken}
 use Rattle.book.specs.Books.{mended}
 use Rattle.book.specs.BookLogs.{logged_more}
-use Rattle.book.specs.Highest.{Bounds, BoundsSide, copied_uid, highest_copied, highest_named, highest_source, next_copies, on, raised, source_uid}
-use Rattle.book.proofs.AgreementLemmas.{any_flat}
+use Rattle.book.specs.Highest.{Bounds, BoundsCopies, copied_uid, highest_copied, highest_named, highest_source, next_copies, on, raised, source_uid}
+use Rattle.book.proofs.AgreementLemmas.{any_flat, copies_more, no_copies}
 use Rattle.book.proofs.CopiedUids.{not_taken}
 
 -- ---- above the greatest of a list
@@ -63,16 +63,37 @@ copy_above side uid (step.Expunge s u) l h = refl
 none_of_three : (a b c : Bool) → a ≡ false → b ≡ false → c ≡ false → (a || (b || c)) ≡ false
 none_of_three a b c x y z = ap (λ (t : Bool). t || (b || c)) x ∙ ap (λ (t : Bool). t || c) y ∙ z
 
+named_above : (entries : List Entry) (side : Side) (uid : ℕ) → highest_named side entries < uid → is_named entries side uid ≡ false
+named_above entries side uid over = (above (λ e. uid_of side e) (λ e. uid_of side e == uid) uid (λ e h. other (uid_of side e) uid h) 0 entries over).1
+
+sources_above : (steps : List Step) (side : Side) (uid : ℕ) → highest_source side steps < uid → list_any (is_source_of side uid) steps ≡ false
+sources_above steps side uid over = (above (λ s. source_uid side s) (is_source_of side uid) uid (λ s h. source_above side uid s h) 0 steps over).1
+
 pub free_above : (entries : List Entry) (j : Journal) (side : Side) (uid : ℕ) → highest_named side entries < uid → highest_source side j.plan.steps < uid
     → highest_copied side j.plan.steps j.log < uid → is_taken entries j.plan.steps (copies_of j.plan.steps j.log) (side, uid) ≡ false
 free_above entries j side uid named sources copied =
     let steps : List Step = j.plan.steps in
     let test : Copy → Bool = λ c. is_side c.0 side && c.1 == uid in
-    let n = above (λ e. uid_of side e) (λ e. uid_of side e == uid) uid (λ e h. other (uid_of side e) uid h) 0 entries named in
-    let s = above (λ x. source_uid side x) (is_source_of side uid) uid (λ x h. source_above side uid x h) 0 steps sources in
     let c = above (λ (p : Step × Logged). copied_uid side p.0 p.1) (λ p. list_any test (copy_of p.0 p.1)) uid (λ p h. copy_above side uid p.0 p.1 h) 0 (zip steps j.log) copied in
-    none_of_three (is_named entries side uid) (list_any (is_source_of side uid) steps) (list_any test (copies_of steps j.log)) n.1 s.1
+    none_of_three (is_named entries side uid) (list_any (is_source_of side uid) steps) (list_any test (copies_of steps j.log))
+    (named_above entries side uid named) (sources_above steps side uid sources)
     (any_flat test (λ (p : Step × Logged). copy_of p.0 p.1) (zip steps j.log) ∙ c.1)
+
+-- before a step is logged
+planned_above : (entries : List Entry) (steps : List Step) (side : Side) (uid : ℕ) → max (highest_named side entries) (highest_source side steps) < uid
+    → is_taken entries steps [] (side, uid) ≡ false
+planned_above entries steps side uid over =
+    let n = highest_named side entries in
+    let s = highest_source side steps in
+    let left : n ≤ max n s = le-max_left n s in
+    let right : s ≤ max n s = le-max_right n s in
+    none_of_three (is_named entries side uid) (list_any (is_source_of side uid) steps) false
+    (named_above entries side uid (omega (arith, over, left))) (sources_above steps side uid (omega (arith, over, right))) refl
+
+pub planned_bounds : (entries : List Entry) (steps : List Step) (h : Highest) → h.far ≡ max (highest_named Far entries) (highest_source Far steps)
+    → h.near ≡ max (highest_named Near entries) (highest_source Near steps) → BoundsCopies entries steps [] h
+planned_bounds entries steps h far near Far uid over = planned_above entries steps Far uid (omega (arith, far, over))
+planned_bounds entries steps h far near Near uid over = planned_above entries steps Near uid (omega (arith, near, over))
 
 -- ---- one step more
 
@@ -102,27 +123,40 @@ raised_above ((Near, n) ∷ cs) h Near uid o =
 raised_above ((Far, n) ∷ cs) h Near uid o = raised_above cs (record h { far = max h.far n }) Near uid o
 raised_above ((Near, n) ∷ cs) h Far uid o = raised_above cs (record h { near = max h.near n }) Far uid o
 
-raised_side : (entries : List Entry) (w : WrittenJournal) (l : Logged) (h : Highest) (side : Side) → BoundsSide entries w.journal side (on side h)
-    → (uid : ℕ) → on side (raised (next_copies w.journal.plan.steps (length w.journal.log) l) h) < uid
-    → is_taken entries w.journal.plan.steps (copies_of w.journal.plan.steps (w.journal.log ++ l ∷ [])) (side, uid) ≡ false
-raised_side entries w l h side bounds uid over =
-    let steps : List Step = w.journal.plan.steps in
-    let log : List Logged = w.journal.log in
-    let more : List Copy = next_copies steps (length log) l in
+pub copies_above : (entries : List Entry) (steps : List Step) (copies more : List Copy) (h : Highest) → BoundsCopies entries steps copies h
+    → BoundsCopies entries steps (copies ++ more) (raised more h)
+copies_above entries steps copies more h bounds side uid over =
     let test : Copy → Bool = λ c. is_side c.0 side && c.1 == uid in
     let u = raised_above more h side uid over in
-    let n = not_taken entries steps (copies_of steps log) side uid (bounds uid u.0) in
-    let copied : list_any test (copies_of steps (log ++ l ∷ [])) ≡ false =
-    ap (λ (cs : List Copy). list_any test cs) (copies_push steps log l) ∙ list_any-append test (copies_of steps log) more
-    ∙ ap (λ (b : Bool). b || list_any test more) n.copied ∙ u.1 in
-    none_of_three (is_named entries side uid) (list_any (is_source_of side uid) steps) (list_any test (copies_of steps (log ++ l ∷ []))) n.named n.source copied
+    let n = not_taken entries steps copies side uid (bounds side uid u.0) in
+    let copied : list_any test (copies ++ more) ≡ false =
+    list_any-append test copies more ∙ ap (λ (b : Bool). b || list_any test more) n.copied ∙ u.1 in
+    none_of_three (is_named entries side uid) (list_any (is_source_of side uid) steps) (list_any test (copies ++ more)) n.named n.source copied
+
+-- ---- of the first steps of a log
+
+pub no_copy_bounds : (entries : List Entry) (steps : List Step) (log : List Logged) (h : Highest) → BoundsCopies entries steps [] h
+    → BoundsCopies entries steps (copies_of steps (take 0 log)) h
+no_copy_bounds entries steps log h bounds = subst (λ (cs : List Copy). BoundsCopies entries steps cs h) (sym (no_copies steps)) bounds
+
+pub one_copy_bounds : (entries : List Entry) (steps : List Step) (log : List Logged) (i : ℕ) (s : Step) (l : Logged) (h raised_h : Highest)
+    → i < length steps → i < length log → s ≡ get_or steps i s → l ≡ get_or log i l → raised_h ≡ raised (copy_of s l) h
+    → BoundsCopies entries steps (copies_of steps (take i log)) h → BoundsCopies entries steps (copies_of steps (take (i + 1) log)) raised_h
+one_copy_bounds entries steps log i s l h raised_h a b is_s is_l is bounds =
+    let taken = copies_of steps (take i log) in
+    let more : copies_of steps (take (i + 1) log) ≡ taken ++ copy_of s l =
+    copies_more steps log i s l a b ∙ ap (λ (x : Step). taken ++ copy_of x (get_or log i l)) (sym is_s) ∙ ap (λ (x : Logged). taken ++ copy_of s x) (sym is_l) in
+    rw (more, is) (copies_above entries steps taken (copy_of s l) h bounds)
 
 pub raised_bounds : (entries : List Entry) (p : Pending) (w : WrittenJournal) (l : Logged) (h : Highest) → p ≡ Planned w → Bounds entries p h
     → Bounds entries (logged_more p l) (raised (next_copies w.journal.plan.steps (length w.journal.log) l) h)
 raised_bounds entries p w l h is bounds =
-    let R : Pending → Type 0 = λ q. Bounds entries (logged_more q l) (raised (next_copies w.journal.plan.steps (length w.journal.log) l) h) in
+    let steps : List Step = w.journal.plan.steps in
+    let more : List Copy = next_copies steps (length w.journal.log) l in
+    let R : Pending → Type 0 = λ q. Bounds entries (logged_more q l) (raised more h) in
     let here : Bounds entries (Planned w) h = subst (λ (q : Pending). Bounds entries q h) is bounds in
-    subst R (sym is) (λ side uid over. raised_side entries w l h side (here side) uid over)
+    subst R (sym is) (λ side uid over. subst (λ (cs : List Copy). is_taken entries steps cs (side, uid) ≡ false) (sym (copies_push steps w.journal.log l))
+    (copies_above entries steps (copies_of steps w.journal.log) more h here side uid over))
 
 pub mended_bounds : (entries : List Entry) (p : Pending) (h : Highest) → Bounds entries p h → Bounds entries (mended p) h
 mended_bounds entries Missing h b = b

@@ -6,6 +6,7 @@ pub mod BookLemmas
 pub mod CommitLemmas
 pub mod CommittedLists
 pub mod CommittedPairs
+pub mod CommittedPlaces
 pub mod CopiedUids
 pub mod EntryOrderLemmas
 pub mod EntryPairLemmas
@@ -16,4 +17,5 @@ pub mod HighestLemmas
 pub mod KnownBooks
 pub mod LogAgreement
 pub mod LoggedLemmas
+pub mod PlacedLemmas
 pub mod TurnLemmas

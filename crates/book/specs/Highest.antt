@@ -25,6 +25,11 @@ abbrev pub BoundsSide : List Entry → Journal → Side → ℕ → Type 0
 BoundsSide entries j side most =
     (uid : ℕ) → most < uid → is_taken entries j.plan.steps (copies_of j.plan.steps j.log) (side, uid) ≡ false
 
+-- no UID above these is taken, behind these copies
+abbrev pub BoundsCopies : List Entry → List Step → List Copy → Highest → Type 0
+BoundsCopies entries steps copies h =
+    (side : Side) (uid : ℕ) → on side h < uid → is_taken entries steps copies (side, uid) ≡ false
+
 abbrev pub Bounds : List Entry → Pending → Highest → Type 0
 Bounds entries Missing h = Unit {0}
 Bounds entries Useless h = Unit {0}

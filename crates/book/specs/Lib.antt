@@ -11,5 +11,6 @@ pub mod DiskShelves
 pub mod EntryOrders
 pub mod Highest
 pub mod MemShelves
+pub mod PlacedLists
 pub mod Shelves
 pub mod Standings

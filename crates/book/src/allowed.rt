@@ -32,7 +32,7 @@ impl<S: Shelf> Book<S> {
         if !has_text(plan) {
             return false;
         }
-        plan_agrees(self.state.entries.as_slice(), plan)
+        plan_agrees(&self.state.entries, plan)
     }
 
     /// Whether the step of this number, counted from 1, may be logged so: it is the first that is not logged, a new message

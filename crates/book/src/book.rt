@@ -77,7 +77,7 @@ fn read_pending(alloc: Global, text: &[u8], state: &SyncState) -> Result<Pending
     if written.journal.plan.run - 1 > state.run {
         return Err(BookFault::BadJournal(2));
     }
-    match disagreement(state.entries.as_slice(), &written.journal) {
+    match disagreement(&state.entries, &written.journal) {
         Some(line) => Err(BookFault::BadJournal(line)),
         None => Ok(Pending::Planned(written)),
     }

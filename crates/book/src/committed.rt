@@ -1,14 +1,15 @@
 //! The state that a finished journal makes of the one before.
 
-ghost use Rattle.std.specs.Prelude.{◌≡◌, ◌+◌, [], ◌∷◌, ◌++◌, All, AllPairs, IfOk, OnOk};
+ghost use Rattle.std.specs.Prelude.{◌≡◌, ◌+◌, [], ◌∷◌, ◌++◌, All, AllPairs, IfOk, OnOk, true, map};
 ghost use Rattle.std.specs.List.{list_any};
 ghost use Rattle.std.specs.List.Sorted.{IsPermutation};
 ghost use Rattle.book.specs.EntryOrders.{IsNotAfter};
 ghost use Rattle.sync_state.specs.StateText.{HasText, IsEntry};
-ghost use Rattle.sync_state.specs.JournalText.{HasJournal};
+ghost use Rattle.sync_state.specs.JournalText.{HasJournal, bottom, note_place, rises, step_place};
 ghost use Rattle.book.specs.Agreement.{Agrees, is_pair};
 ghost use Rattle.book.specs.Committed.{Commits, drops, recorded, says_gone, is_gone, entry_after, kept_entries, entry_of_copy, entries_of_copies};
 
+use crate::places::{note_at, step_at};
 use mailcore::flags::Flags;
 use mailcore::side::{Direction, Side};
 use mailcore::uid::Uid;
@@ -17,6 +18,7 @@ use rules::plan::{Note, Step};
 use rules::state::SyncState;
 use std::alloc::{AllocError, Global};
 use sync_state::journal::{Journal, Logged};
+use sync_state::place::Place;
 
 fn is_pair(entry: &Entry, far: Option<Uid>, near: Option<Uid>) -> bool
     ensures { result ≡ is_pair far near entry.now }
@@ -34,21 +36,39 @@ fn drops(entry: &Entry, note: &Note) -> bool
 }
 
 fn is_dropped(entry: &Entry, notes: &[Note]) -> bool
+    requires { rises bottom (map note_place notes.now) ≡ true }
     ensures { result ≡ list_any (drops entry.now) notes.now }
 {
-    notes.iter().any(|note| drops(entry, note))
+    let (far, near) = (entry.far, entry.near);
+    match note_at(notes, Place::of_note(&Note::Drop { far, near })) {
+        Some(note) => drops(entry, &note),
+        None => false,
+    }
 }
 
 /// The flags recorded from now on.
 fn recorded(entry: &Entry, notes: &[Note]) -> Flags
+    requires { rises bottom (map note_place notes.now) ≡ true }
     ensures { result ≡ recorded entry.now notes.now }
 {
-    for note in notes {
-        if let Note::Record { far, near, flags } = note
-            && is_pair(entry, Some(*far), Some(*near))
-        {
-            return *flags;
-        }
+    let flags = entry.flags;
+    let Some((far, near)) = entry.uids() else {
+        return flags;
+    };
+    match note_at(notes, Place::of_note(&Note::Record { far, near, flags })) {
+        Some(note) => recorded_by(entry, &note),
+        None => flags,
+    }
+}
+
+/// The flags that this note records of the entry, or those that were recorded.
+fn recorded_by(entry: &Entry, note: &Note) -> Flags
+    ensures { result ≡ recorded entry.now (note.now ∷ []) }
+{
+    if let Note::Record { far, near, flags } = note
+        && is_pair(entry, Some(*far), Some(*near))
+    {
+        return *flags;
     }
     entry.flags
 }
@@ -68,13 +88,26 @@ fn says_gone(direction: Direction, entry: &Entry, step: &Step) -> bool
 
 /// Whether the direction's source of this entry has vanished.
 fn is_gone(steps: &[Step], direction: Direction, entry: &Entry) -> bool
+    requires { rises bottom (map step_place steps.now) ≡ true }
     ensures { result ≡ is_gone steps.now direction entry.now }
 {
-    steps.iter().any(|step| says_gone(direction, entry, step))
+    let Some((far, near)) = entry.uids() else {
+        return false;
+    };
+    let gone = Step::Gone {
+        direction,
+        far,
+        near,
+    };
+    match step_at(steps, Place::of_step(&gone)) {
+        Some(step) => says_gone(direction, entry, &step),
+        None => false,
+    }
 }
 
 /// The entry as it is from now on.
 fn entry_after(journal: &Journal, entry: &Entry) -> Entry
+    requires { HasJournal journal.now }
     ensures { result ≡ entry_after journal.now entry.now }
 {
     let steps = journal.plan.steps.as_slice();
@@ -94,6 +127,7 @@ fn entry_after(journal: &Journal, entry: &Entry) -> Entry
 
 /// Adds an entry of the state before as it is from now on, if it is not dropped and a side is left.
 fn push_kept(list: &mut Vec<Entry>, journal: &Journal, entry: &Entry) -> Result<(), AllocError>
+    requires { HasJournal journal.now }
     ensures { OnOk result (list.new.items ≡ list.old.items ++ kept_entries journal.now (entry.now ∷ [])) }
 {
     if is_dropped(entry, journal.plan.notes.as_slice()) {
@@ -111,6 +145,7 @@ fn push_all_kept(
     journal: &Journal,
     entries: &[Entry],
 ) -> Result<(), AllocError>
+    requires { HasJournal journal.now }
     ensures { OnOk result (list.new.items ≡ list.old.items ++ kept_entries journal.now entries.now) }
 {
     for entry in entries {

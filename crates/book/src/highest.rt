@@ -1,7 +1,8 @@
 //! The highest UIDs that are taken, so that the UID of a new copy need not be sought: copies come with rising UIDs.
 
-ghost use Rattle.std.specs.Prelude.{◌≡◌, ◌∷◌, [], List, length};
-ghost use Rattle.book.specs.Highest.{Bounds, BoundsSide, copied_uid, highest_copied, highest_named, highest_source, on, next_copies, raised, source_uid};
+ghost use Rattle.std.specs.Prelude.{◌≡◌, ◌∷◌, [], List, length, max};
+ghost use Rattle.book.specs.Highest.{Bounds, BoundsCopies, BoundsSide, copied_uid, highest_copied, highest_named, highest_source, on};
+ghost use Rattle.book.specs.Highest.{next_copies, raised, source_uid};
 ghost use Rattle.book.specs.Agreement.{copy_of};
 ghost use Rattle.book.specs.BookLogs.{logged_more};
 
@@ -29,6 +30,16 @@ impl Highest {
                 near: highest_taken(entries, &written.journal, Side::Near),
             },
             Pending::Missing | Pending::Useless => Highest { far: 0, near: 0 },
+        }
+    }
+
+    /// The highest UIDs that are taken by these entries and by the sources of these steps, before one is logged.
+    pub(crate) fn planned(entries: &[Entry], steps: &[Step]) -> Highest
+        ensures { BoundsCopies entries.now steps.now [] result }
+    {
+        Highest {
+            far: highest_planned(entries, steps, Side::Far),
+            near: highest_planned(entries, steps, Side::Near),
         }
     }
 
@@ -63,7 +74,8 @@ impl Highest {
         self.with_copy(&steps[count], logged)
     }
 
-    fn with_copy(self, step: &Step, logged: Logged) -> Highest
+    /// What bounds the UIDs once this step is logged so.
+    pub(crate) fn with_copy(self, step: &Step, logged: Logged) -> Highest
         ensures { result ≡ raised (copy_of step.now logged) self }
     {
         match (step, logged) {
@@ -95,9 +107,14 @@ fn highest_taken(entries: &[Entry], journal: &Journal, side: Side) -> u32
     ensures { BoundsSide entries.now journal.now side result }
 {
     let steps = journal.plan.steps.as_slice();
-    highest_named(entries, side)
-        .max(highest_source(steps, side))
-        .max(highest_copied(steps, journal.log.as_slice(), side))
+    highest_planned(entries, steps, side).max(highest_copied(steps, journal.log.as_slice(), side))
+}
+
+/// The highest UID that is named on this side, or that a new message has there.
+fn highest_planned(entries: &[Entry], steps: &[Step], side: Side) -> u32
+    ensures { result ≡ max (highest_named side entries.now) (highest_source side steps.now) }
+{
+    highest_named(entries, side).max(highest_source(steps, side))
 }
 
 fn highest_named(entries: &[Entry], side: Side) -> u32

@@ -11,4 +11,5 @@ pub mod disk_shelf;
 mod highest;
 pub mod laws;
 pub mod mem_shelf;
+mod places;
 pub mod shelf;

@@ -11,7 +11,7 @@ pub mod journal_read;
 pub mod journal_text;
 pub mod laws;
 pub mod lines;
-mod place;
+pub mod place;
 pub mod state_text;
 mod words;
 

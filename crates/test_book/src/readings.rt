@@ -173,7 +173,7 @@ fn both(alloc: Global, state: &[u8], journal: &[u8]) -> Result<(SyncState, Journ
 /// The first line of a journal that does not agree with a state, if there is one.
 pub fn bad_line(alloc: Global, state: &[u8], journal: &[u8]) -> Result<Option<usize>, Failure> {
     let (state, journal) = both(alloc, state, journal)?;
-    Ok(disagreement(state.entries.as_slice(), &journal))
+    Ok(disagreement(&state.entries, &journal))
 }
 
 /// Whether a UID is taken on a side.

@@ -1,5 +1,4 @@
-use Rattle.std.proofs.Common.{◌≡◌, ◌∙◌, ◌+◌, List, Some, inr, sym, ap, rules, arith}
-use Rattle.rules.specs.declared.entry.Entry.{Entry}
+use Rattle.std.proofs.Common.{◌≡◌, ◌∙◌, ◌+◌, Some, inr, sym, rules, arith}
 use Rattle.book.specs.Agreement.{Agrees, disagreement}
 use Rattle.sync_state.specs.JournalReading.{IsWritten}
 use Rattle.book.specs.declared.book.Pending.TheVariants.{Planned}
@@ -12,7 +11,7 @@ returns-in-Some-disagreement-clause-refused c =
     let is : IsWritten written c.args.text.now = search rules in
     let next : written.journal.plan.run ≡ c.args.state.now.run + 1 = omega (arith, c.if-written-state.false, c.if-written-state-2.false) in
     let line : disagreement c.args.state.now.entries written.journal ≡ Some c.in-Some-disagreement.line =
-    ap (λ (e : List Entry). disagreement e written.journal) (sym c.as_slice.ensures.all) ∙ sym c.disagreement.ensures.first ∙ c.in-Some-disagreement.is in
+    sym c.disagreement.ensures.first ∙ c.in-Some-disagreement.is in
     inr (inr (record { written = written; is_next = record { written_is = is; next = next }; disagrees = line }))
 
 pub returns-in-None-clause-holds : goal.returns-in-None-clause-holds
@@ -21,7 +20,7 @@ returns-in-None-clause-holds c =
     let is : IsWritten written c.args.text.now = search rules in
     let next : written.journal.plan.run ≡ c.args.state.now.run + 1 = omega (arith, c.if-written-state.false, c.if-written-state-2.false) in
     let agrees : Agrees c.args.state.now.entries written.journal =
-    ap (λ (e : List Entry). disagreement e written.journal) (sym c.as_slice.ensures.all) ∙ sym c.disagreement.ensures.first ∙ c.in-None.is in
+    sym c.disagreement.ensures.first ∙ c.in-None.is in
     record { is_next = record { written_is = is; next = next }; agrees = agrees }
 
 pub returns-in-None-clause-fits : goal.returns-in-None-clause-fits
