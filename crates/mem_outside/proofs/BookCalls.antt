@@ -42,9 +42,12 @@ stuck copies may_tell does leaves s may same broken = record {
   };
 }
 
--- what a call of the book tells by its fault, where want of memory may be told as well
+-- what a call of the book tells by its fault, where want of memory may be told in the place of a stop
 either_told : (P : OutsideFault → Type 0) (e : BookFault) (c c' : Counts) (tells : OutsideFault) → BookFails e tells c c' → P (told e) → P fault.NoMemory → P tells
-either_told P e c c' tells f own lack = ⊎_elim (λ same. subst P (sym same) own) (λ same. subst P (sym same) lack) f.is_told
+either_told P Stopped c c' tells f own lack = ⊎_elim (λ same. subst P (sym same) own) (λ same. subst P (sym same) lack) f.is_told
+either_told P (BadState line) c c' tells f own lack = subst P (sym f.is_told) own
+either_told P (BadJournal line) c c' tells f own lack = subst P (sym f.is_told) own
+either_told P NoMemory c c' tells f own lack = subst P (sym f.is_told) own
 
 counted_so : (e : BookFault) (old new : Seen) → IsCounted (told e) old new
 counted_so Stopped old new = tt

@@ -13,10 +13,16 @@ told (book.BadState line) = outside.BadState line
 told (book.BadJournal line) = outside.BadJournal line
 told book.NoMemory = outside.NoMemory
 
--- A call of the book has this fault. It is told, or that it could not be counted, and from then on each call stops. A stop that is told is
--- counted once, and no other.
+-- Each fault is told as itself. In the place of a stop, want of memory may be told: that it could not be counted.
+abbrev pub TellsBookFault : BookFault → OutsideFault → Type 0
+TellsBookFault book.Stopped tells = (tells ≡ outside.Stopped) ⊎ (tells ≡ outside.NoMemory)
+TellsBookFault (book.BadState line) tells = tells ≡ outside.BadState line
+TellsBookFault (book.BadJournal line) tells = tells ≡ outside.BadJournal line
+TellsBookFault book.NoMemory tells = tells ≡ outside.NoMemory
+
+-- A call of the book has this fault. It is told, and from then on each call stops. A stop that is told is counted once, and no other.
 pub record BookFails (fault : BookFault) (tells : OutsideFault) (old new : Counts) : Type 0 where
-  pub is_told : (tells ≡ told fault) ⊎ (tells ≡ outside.NoMemory)
+  pub is_told : TellsBookFault fault tells
   pub now : new ≡ record old { is_broken = true; stops = old.stops + stops_told tells }
 
 -- a call of the book with this answer ends with this result
