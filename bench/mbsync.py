@@ -25,6 +25,7 @@ from maildir_side import MaildirSide
 
 ONE = b"Subject: one\r\n\r\nThe first.\r\n"
 TWO = b"Subject: two\r\n\r\nThe second.\r\n"
+NOBODY = 65534
 LONGEST = "x" * 200 + "/" + "x" * 54
 MARK = re.compile(rb"\AX-TUID: [A-Za-z0-9_-]{12}\r?\n")
 
@@ -56,6 +57,7 @@ class Scene:
     """A home folder with a configuration, a server with these messages, and mbsync between them."""
 
     program = None
+    user = None
 
     def __init__(self, *messages, patterns="* INBOX", create="None", password="p"):
         self.home = tempfile.mkdtemp(prefix="mbsync-")
@@ -84,7 +86,18 @@ class Scene:
         environment = {name: text for name, text in os.environ.items() if name != "HOME"}
         if home:
             environment["HOME"] = self.home
-        return {"args": [self.program, *words], "env": environment, "stdin": subprocess.DEVNULL, "cwd": self.home}
+        known = {"args": [self.program, *words], "env": environment, "stdin": subprocess.DEVNULL, "cwd": self.home}
+        if self.user is not None:
+            known.update(user=self.user, group=self.user, extra_groups=[])
+        return known
+
+    def leave_root(self):
+        """Makes the further runs those of a user who cannot read every file."""
+        if os.geteuid() == 0:
+            self.user = NOBODY
+            for folder, _, names in os.walk(self.home):
+                for path in (folder, *(os.path.join(folder, name) for name in names)):
+                    os.chown(path, NOBODY, NOBODY)
 
     def run(self, *words, home=True, out=subprocess.PIPE):
         """The status of a run, and what it prints: standard output, and behind it standard error."""
@@ -368,22 +381,38 @@ def messages_that_do_not_fit(tally):
         tally.same("and is passed over from then on", scene.run("c"), [0, "c:INBOX", "ran"])
 
 
+def a_message_that_cannot_be_read(tally):
+    with Scene(ONE) as scene:
+        scene.run("c")
+        scene.near().add("2.mine", b"Subject: mine\n\nHere.\n", frozenset())
+        os.chmod(scene.path("inbox/new/2.mine"), 0)
+        scene.leave_root()
+        got = scene.run("c")
+        file = scene.near().path_of(2)[0]
+        told = ["mbsync: c:INBOX: stopped", f"  {file} cannot be read: make it readable, and run again"]
+        tally.same("a message that cannot be read is named", got, [1, "c:INBOX", *told])
+        os.chmod(file, 0o600)
+        tally.same("it is pushed once it can be read", scene.run("c"), [0, "c:INBOX", "new push 2 -> 2", "ran"])
+
+
 def a_terminal(tally):
-    wipe = b"\r\x1b[K"
+    wipe, keep, back = b"\r\x1b[K", b"\x1b7", b"\x1b8\x1b[K"
     with Scene(ONE, create="Near") as scene:
         scene.make_far("a")
         out = scene.path("out")
-        shown = b"".join(wipe + box + wipe for box in (b"all:INBOX", b"all:a"))
-        tally.same("a terminal shows each box and wipes it", scene.run_on_terminal("all", out=out), [0, shown])
+        steps = b"".join(back + b": %d of 1 steps" % logged for logged in (0, 1))
+        shown = wipe + b"all:INBOX" + keep + steps + wipe + wipe + b"all:a" + keep + wipe
+        tally.same("a terminal shows each box with its steps, and wipes it", scene.run_on_terminal("all", out=out), [0, shown])
         lines = [b"all:INBOX", b"new pull 1 -> 1", b"ran", b"all:a", b"ran"]
         tally.same("standard output is as ever", open(out, "rb").read().splitlines(), lines)
         os.remove(scene.path("inbox/.uidvalidity"))
         told = b"mbsync: c:INBOX: store fault near 4\r\n"
-        tally.same("a fault stands in a line of its own", scene.run_on_terminal("c", out=out), [1, wipe + b"c:INBOX" + wipe + told])
+        tally.same("a fault stands in a line of its own", scene.run_on_terminal("c", out=out), [1, wipe + b"c:INBOX" + keep + wipe + told])
 
 
 SCENES = [first_pull, changes_both_ways, gone, only_what_is_asked, several_boxes, absent_boxes, the_walk, the_lock, usage,
-          what_does_not_open, bad_configurations, states_of_others, messages_that_do_not_fit, a_terminal]
+          what_does_not_open, bad_configurations, states_of_others, messages_that_do_not_fit,
+          a_message_that_cannot_be_read, a_terminal]
 
 
 def main():

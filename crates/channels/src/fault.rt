@@ -18,6 +18,8 @@ pub(crate) enum BoxFault {
     Locked,
     /// The server said no to a step: its number, counted from 1, and the step, if it could be read again.
     Refused(usize, Option<Step>),
+    /// The run was stopped at the near message of this path, which could not be read.
+    Unread(String),
     /// Another fault of the run, or of a call before it.
     Run(RunFault),
 }

@@ -98,6 +98,7 @@ impl fmt::Display for BoxFaultText<'_> {
             }
             BoxFault::Locked => f.write_str("locked"),
             BoxFault::Refused(number, _) => write!(f, "refused step {number}"),
+            BoxFault::Unread(_) => write!(f, "{}", FaultText(RunFault::Stopped)),
             BoxFault::Run(fault) => write!(f, "{}", FaultText(*fault)),
         }
     }
@@ -124,6 +125,12 @@ fn advise<E: Write>(err: &mut E, fault: &BoxFault) -> io::Result<()> {
                 err,
                 "  step {number} is {}: the server does not take it",
                 StepLine(step)
+            )
+        }
+        BoxFault::Unread(path) => {
+            writeln!(
+                err,
+                "  {path} cannot be read: make it readable, and run again"
             )
         }
         BoxFault::Run(RunFault::BadState(_)) => {

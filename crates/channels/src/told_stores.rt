@@ -15,6 +15,7 @@ use mailcore::mailbox_name::MailboxName;
 use mailcore::side::Side;
 use rand_core::Rng;
 use rules::options::Options;
+use runner::fault::RunFault;
 use runner::pass::Pass;
 use std::alloc::Global;
 use std::io;
@@ -140,8 +141,25 @@ impl<S: Stores, O: Write, E: Write> ToldStores<'_, S, O, E> {
         self.stores.make(side, place)
     }
 
-    /// Makes one run over a mailbox.
+    /// Makes one run over a mailbox. Where it was stopped at a message that could not be read, the fault names it.
     pub(crate) fn settle<R: Rng>(
+        &mut self,
+        alloc: Global,
+        place: ChannelBox<'_>,
+        options: &Options,
+        rng: &mut R,
+    ) -> Result<Pass, BoxFault>
+        requires going { self.old.write_failed ≡ false }
+        ensures { self.new ≡ record self.old { stores = self.new.stores } }
+    {
+        match self.settle_open(alloc, place, options, rng) {
+            Err(BoxFault::Run(RunFault::Stopped)) => Err(self.stopped()),
+            answer => answer,
+        }
+    }
+
+    /// Opens a mailbox, and makes one run over it.
+    fn settle_open<R: Rng>(
         &mut self,
         alloc: Global,
         place: ChannelBox<'_>,
@@ -154,6 +172,17 @@ impl<S: Stores, O: Write, E: Write> ToldStores<'_, S, O, E> {
         match self.stores.outside(place) {
             Ok(outside) => settle_lent(alloc, outside, options, rng),
             Err(fault) => Err(BoxFault::from(fault)),
+        }
+    }
+
+    /// Why a run was stopped.
+    fn stopped(&mut self) -> BoxFault
+        requires going { self.old.write_failed ≡ false }
+        ensures { self.new ≡ record self.old { stores = self.new.stores } }
+    {
+        match self.stores.unread() {
+            Some(path) => BoxFault::Unread(path),
+            None => BoxFault::Run(RunFault::Stopped),
         }
     }
 }

@@ -44,7 +44,8 @@ fn start_of<R: Files + Env + Clock + AllocGlobal>(
 /// configuration is that of the command line, or else `.mbsyncrc` in HOME. It gives the exit status: 1 also where a file cannot be read
 /// or the configuration is a bad one, which `err` is told (docs/MBSYNC.md, "Faults").
 ///
-/// Where there is a terminal, a line of it shows which mailbox is at work; it is wiped before anything is written to `out` or `err`.
+/// Where there is a terminal, a line of it shows which mailbox is at work, and how many steps of its plan are logged; it is wiped before
+/// anything is written to `out` or `err`.
 pub fn run_mail<
     R: Net + Files<File = File> + Env + Clock + AllocGlobal + Clone + Drop,
     T: Write + Copy,
@@ -77,7 +78,8 @@ fn run_start<
         seed,
         fresh,
     } = start;
-    let mut stores = ShownStores::new(MailStores::new(rt, home, fresh), screen);
+    let stores = MailStores::new(rt, home, fresh, screen.steps());
+    let mut stores = ShownStores::new(stores, screen);
     let mut rng = generator(seed);
     let mut out = Wiping::new(screen, out);
     let mut err = Wiping::new(screen, err);

@@ -1,15 +1,22 @@
-//! The line on a terminal that tells which mailbox is at work.
+//! The line on a terminal that tells which mailbox is at work, and how far its run is.
 
 use std::cell::Cell;
 use std::io;
 use std::io::Write;
 use stores::channel_box::ChannelBox;
+use watched::progress::Progress;
 
 /// Takes the cursor to the first column, and clears the line from there on (ECMA-48, CR and EL).
 const WIPE: &str = "\r\x1b[K";
 
-/// How many characters of a name are shown: two of them and a colon fit into a line of 80 columns.
-const NAME_MAX: usize = 39;
+/// Keeps where the cursor is (DECSC).
+const KEEP: &str = "\x1b7";
+
+/// Takes the cursor back there, and clears the line from there on (DECRC, and EL of ECMA-48).
+const BACK: &str = "\x1b8\x1b[K";
+
+/// How many characters of a name are shown: two of them, and how many of 999999 steps are logged, fit into a line of 80 columns.
+const NAME_MAX: usize = 27;
 
 /// A line on a terminal, if there is one, which is overwritten. That it cannot be written is no fault.
 #[derive(Drop)]
@@ -32,8 +39,15 @@ impl<T: Write + Copy> Screen<T> {
         if let Some(mut terminal) = self.terminal {
             let channel = shortened(place.of.channel.name.as_str());
             let far = shortened(place.far.as_str());
-            let _ = write!(terminal, "{WIPE}{channel}:{far}");
+            let _ = write!(terminal, "{WIPE}{channel}:{far}{KEEP}");
             self.is_shown.set(true);
+        }
+    }
+
+    /// Who is told how far the run over the mailbox is that is shown.
+    pub(crate) fn steps(&self) -> Steps<T> {
+        Steps {
+            terminal: self.terminal,
         }
     }
 
@@ -43,6 +57,25 @@ impl<T: Write + Copy> Screen<T> {
             if self.is_shown.replace(false) {
                 let _ = terminal.write_all(WIPE.as_bytes());
             }
+        }
+    }
+}
+
+/// The end of the line: how far the run over the mailbox is that is shown. It is written only while nothing is told: a run tells nothing
+/// before it has ended.
+#[derive(Clone, Copy)]
+pub(crate) struct Steps<T: Write + Copy> {
+    terminal: Option<T>,
+}
+
+impl<T: Write + Copy> Progress for Steps<T> {
+    /// Shows behind the name of the mailbox how many steps are logged. Where there is nothing to do, the name stands alone.
+    fn tell(&self, logged: usize, steps: usize) {
+        if steps == 0 {
+            return;
+        }
+        if let Some(mut terminal) = self.terminal {
+            let _ = write!(terminal, "{BACK}: {logged} of {steps} steps");
         }
     }
 }

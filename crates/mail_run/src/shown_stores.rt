@@ -44,4 +44,8 @@ impl<S: Stores + Drop, T: Write + Copy> Stores for ShownStores<'_, S, T> {
         self.screen.show(place);
         self.stores.outside(place)
     }
+
+    fn unread(&mut self) -> Option<String> {
+        self.stores.unread()
+    }
 }

@@ -2,7 +2,7 @@
 
 use crate::account::account_of;
 use crate::server::{create, link_to, log_in, names_at};
-use crate::told::{list_fault, lock_fault, make_fault, unlisted, unreached};
+use crate::told::{list_fault, lock_fault, make_fault, path_text, unlisted, unreached};
 use book::disk_shelf::DiskShelf;
 use book::shelf::Shelf;
 use book_part::book_part::BookPart;
@@ -24,23 +24,33 @@ use near_places::refusal::Refusal;
 use std::fs::File;
 use std::net::Net;
 use std::num::NonZeroU32;
+use std::rc::Rc;
 use std::rt::Files;
 use stores::channel_box::ChannelBox;
 use stores::fault::{ListFault, StoreFault};
 use stores::stores::{BoxLists, Stores};
+use watched::progress::Progress;
+use watched::unread::Unread;
+use watched::watched_folder::WatchedFolder;
+use watched::watched_outside::WatchedOutside;
 
 /// Both sides of a mailbox, and its book, which lies in the folder of the near side.
-type RealBox<R> = Both<TcpLink<R>, DiskFolder<R>, DiskShelf<R>>;
+type BothSides<R> = Both<TcpLink<R>, WatchedFolder<R>, DiskShelf<R>>;
+
+/// The same, of which it is told how far a run over it is.
+type RealBox<R, P> = WatchedOutside<BothSides<R>, P>;
 
 /// A mailbox that is open. Its lock is dropped last.
 #[derive(Drop)]
-struct OpenBox<R: Net + Files + AllocGlobal + Clone + Drop>
+struct OpenBox<R: Net + Files + AllocGlobal + Clone + Drop, P>
 where
     TcpLink<R>: Link,
-    DiskFolder<R>: Folder,
+    WatchedFolder<R>: Folder,
     DiskShelf<R>: Shelf,
 {
-    outside: RealBox<R>,
+    outside: RealBox<R, P>,
+    folder: String,
+    unread: Rc<Unread>,
     _lock: Lock,
 }
 
@@ -49,36 +59,46 @@ where
 /// One mailbox at a time is open, and no connection stands beside another: a store that is listed and a mailbox that is made or lent
 /// close the one before.
 #[derive(Drop)]
-pub struct MailStores<R: Net + Files<File = File> + AllocGlobal + Clone + Drop>
+pub struct MailStores<R: Net + Files<File = File> + AllocGlobal + Clone + Drop, P>
 where
     TcpLink<R>: Link,
-    DiskFolder<R>: Folder,
+    WatchedFolder<R>: Folder,
     DiskShelf<R>: Shelf,
 {
     rt: R,
     home: Home,
     fresh: NonZeroU32,
-    open: Option<OpenBox<R>>,
+    progress: P,
+    open: Option<OpenBox<R, P>>,
 }
 
-impl<R: Net + Files<File = File> + AllocGlobal + Clone + Drop> MailStores<R> {
-    /// The stores of a user with this home folder. Near mailboxes that have no UIDVALIDITY yet get this one.
-    pub fn new(rt: R, home: Home, fresh: NonZeroU32) -> Self {
+impl<R: Net + Files<File = File> + AllocGlobal + Clone + Drop, P: Progress + Copy> MailStores<
+    R,
+    P,
+> {
+    /// The stores of a user with this home folder. Near mailboxes that have no UIDVALIDITY yet get this one. It is told how far the run
+    /// over a mailbox is.
+    pub fn new(rt: R, home: Home, fresh: NonZeroU32, progress: P) -> Self {
         MailStores {
             rt,
             home,
             fresh,
+            progress,
             open: None,
         }
     }
 
     /// Takes the lock of a mailbox, and opens both sides.
-    fn open_box(&self, place: ChannelBox<'_>) -> Result<OpenBox<R>, LockFault> {
+    fn open_box(&self, place: ChannelBox<'_>) -> Result<OpenBox<R, P>, LockFault> {
         let folder = self.folder_of(place)?;
         let lock = Lock::take(&self.rt, folder.as_str())?;
-        match self.real_box(place, folder.as_str()) {
-            Ok(outside) => Ok(OpenBox {
-                outside,
+        let alloc = self.rt.alloc();
+        let unread = Rc::new(alloc, Unread::new(alloc))?;
+        match self.both_sides(place, folder.as_str(), unread.clone()?) {
+            Ok(both) => Ok(OpenBox {
+                outside: WatchedOutside::new(both, self.progress),
+                folder,
+                unread,
                 _lock: lock,
             }),
             Err(refusal) => Err(LockFault::Refused(refusal)),
@@ -92,10 +112,15 @@ impl<R: Net + Files<File = File> + AllocGlobal + Clone + Drop> MailStores<R> {
     }
 
     /// Both sides of a mailbox, over a link that is not connected yet, and a folder that is not read yet.
-    fn real_box(&self, place: ChannelBox<'_>, folder: &str) -> Result<RealBox<R>, Refusal> {
+    fn both_sides(
+        &self,
+        place: ChannelBox<'_>,
+        folder: &str,
+        unread: Rc<Unread>,
+    ) -> Result<BothSides<R>, Refusal> {
         let alloc = self.rt.alloc();
         let far = self.far_part(place)?;
-        let near = DiskFolder::new(self.rt.clone()?, folder)?;
+        let near = WatchedFolder::new(DiskFolder::new(self.rt.clone()?, folder)?, unread);
         let near = NearPart::new(alloc, near, self.fresh);
         let book = DiskShelf::new(self.rt.clone()?, folder)?;
         let book = BookPart::new(alloc, book);
@@ -135,7 +160,8 @@ impl<R: Net + Files<File = File> + AllocGlobal + Clone + Drop> MailStores<R> {
     }
 }
 
-impl<R: Net + Files<File = File> + AllocGlobal + Clone + Drop> BoxLists for MailStores<R> {
+impl<R: Net + Files<File = File> + AllocGlobal + Clone + Drop, P: Progress + Copy> BoxLists
+    for MailStores<R, P> {
     fn far_boxes(&mut self, store: &ImapStore) -> Result<Vec<MailboxName>, ListFault> {
         self.open = None;
         match names_at(&self.rt, store) {
@@ -149,8 +175,9 @@ impl<R: Net + Files<File = File> + AllocGlobal + Clone + Drop> BoxLists for Mail
     }
 }
 
-impl<R: Net + Files<File = File> + AllocGlobal + Clone + Drop> Stores for MailStores<R> {
-    type Outside = RealBox<R>;
+impl<R: Net + Files<File = File> + AllocGlobal + Clone + Drop, P: Progress + Copy> Stores
+    for MailStores<R, P> {
+    type Outside = RealBox<R, P>;
 
     fn make(&mut self, side: Side, place: ChannelBox<'_>) -> Result<(), StoreFault> {
         self.open = None;
@@ -164,5 +191,11 @@ impl<R: Net + Files<File = File> + AllocGlobal + Clone + Drop> Stores for MailSt
         self.open = None;
         let open = self.open_box(place).map_err(lock_fault)?;
         Ok(&mut self.open.insert(open).outside)
+    }
+
+    fn unread(&mut self) -> Option<String> {
+        let open = self.open.as_ref()?;
+        let file = open.unread.take()?;
+        path_text(self.rt.alloc(), open.folder.as_str(), &file).ok()
     }
 }

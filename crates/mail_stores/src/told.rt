@@ -1,14 +1,16 @@
-//! How the faults of places and servers are told of stores.
+//! How the faults of places and servers are told of stores, and which message could not be read.
 
 use crate::server::ServerFault;
 use config::config::ImapStore;
 use imap_link::fault::FarFault;
 use mailcore::side::Side;
+use maildir::folder::{FileName, Place};
 use near_places::lock::LockFault;
 use near_places::refusal::Refusal;
 use runner::fault::RunFault;
 use std::alloc::{AllocError, Global};
 use stores::fault::{ListFault, StoreFault};
+use texts::escape::push_escaped;
 
 /// A near store that is not listed.
 pub(crate) fn list_fault(refusal: Refusal) -> ListFault {
@@ -67,4 +69,19 @@ pub(crate) fn make_fault(fault: FarFault) -> StoreFault {
         FarFault::NoMemory => RunFault::NoMemory,
     };
     StoreFault::Box(fault)
+}
+
+/// The path of a message in this folder. In its name a byte that is no plain character stands as a backslash and two digits.
+pub(crate) fn path_text(
+    alloc: Global,
+    folder: &str,
+    file: &FileName,
+) -> Result<String, AllocError> {
+    let part = match file.place {
+        Place::New => "new",
+        Place::Cur => "cur",
+    };
+    let mut path = format!(in alloc; "{folder}/{part}/")?;
+    push_escaped(&mut path, file.name.as_slice())?;
+    Ok(path)
 }

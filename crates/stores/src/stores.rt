@@ -32,4 +32,7 @@ pub trait Stores: BoxLists {
     /// Opens both sides of a mailbox, takes its lock, and lends them as one outside. The lock is held until the next call of `outside`, or
     /// until the stores are dropped.
     fn outside(&mut self, place: ChannelBox<'_>) -> Result<&mut Self::Outside, StoreFault>;
+
+    /// The path of the near message that could not be read since the last mailbox was opened, if there is one. It is told once.
+    fn unread(&mut self) -> Option<String>;
 }

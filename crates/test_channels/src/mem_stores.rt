@@ -26,6 +26,8 @@ pub struct TestBox {
     pub name: String,
     /// Both sides and the shelf.
     pub outside: MemOutside,
+    /// The path of a message in it that cannot be read, if there is one.
+    pub unread: Option<String>,
 }
 
 /// Stores in memory, and what they were asked.
@@ -51,6 +53,8 @@ pub struct MemStores {
     pub asked: String,
     /// How many mailboxes were lent.
     pub lent: usize,
+    /// The place among `boxes` of the one that was lent last.
+    pub open: Option<usize>,
 }
 
 /// Whether a name stands among these.
@@ -166,13 +170,19 @@ impl Stores for MemStores {
     }
 
     fn outside(&mut self, place: ChannelBox<'_>) -> Result<&mut MemOutside, StoreFault> {
+        self.open = None;
         self.lend(place.of.far_store.name.as_str(), place.far.as_str())?;
-        match self.place_of(place.far.as_str()) {
+        self.open = self.place_of(place.far.as_str());
+        match self.open {
             Some(at) => match self.boxes.get_mut(at) {
                 Some(one) => Ok(&mut one.outside),
                 None => Err(StoreFault::Box(RunFault::Stopped)),
             },
             None => Err(StoreFault::Box(RunFault::Stopped)),
         }
+    }
+
+    fn unread(&mut self) -> Option<String> {
+        self.boxes.get_mut(self.open?)?.unread.take()
     }
 }

@@ -189,7 +189,7 @@ fn break_stream(
 /// Adds the mailboxes that the case wants to see.
 fn show(alloc: Global, record: &mut String, case: &str, stores: MemStores) -> Result<(), Failure> {
     for one in stores.boxes {
-        let TestBox { name, outside } = one;
+        let TestBox { name, outside, .. } = one;
         if case.lines().any(|line| is_show(line, name.as_str())) {
             write_box(alloc, record, name.as_str(), outside)?;
         }

@@ -36,6 +36,7 @@ pub fn stage_of(alloc: Global, case: &str) -> Result<MemStores, Failure> {
         unmade: Vec::new(alloc),
         asked: String::new(alloc),
         lent: 0,
+        open: None,
     };
     match set(alloc, &mut stores, case) {
         Ok(()) => Ok(stores),
@@ -82,8 +83,19 @@ fn add_box(alloc: Global, stores: &mut MemStores, case: &str, name: &str) -> Res
     stores.boxes.push(TestBox {
         name: String::from_str(alloc, name)?,
         outside,
+        unread: unread_of(alloc, case, name)?,
     })?;
     Ok(())
+}
+
+/// The path of the message that cannot be read, if the case gives a mailbox one.
+fn unread_of(alloc: Global, case: &str, name: &str) -> Result<Option<String>, AllocError> {
+    for line in case.lines() {
+        if let Some(path) = line_of(line, "unread", name) {
+            return Ok(Some(String::from_str(alloc, path)?));
+        }
+    }
+    Ok(None)
 }
 
 /// What stands behind a word and the name in a line.

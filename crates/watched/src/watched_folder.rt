@@ -1,32 +1,37 @@
-//! A folder of which it is known which message could not be read.
+//! A folder on a disk, of which it is known which message could not be read.
 
 ghost use Rattle.std.specs.Prelude.{◌≡◌};
 
 use crate::unread::Unread;
 use device::DeviceFault;
+use maildir::disk_folder::DiskFolder;
 use maildir::folder::{FileName, Folder, Location, Origin, Source};
 use std::rc::Rc;
+use std::rt::Files;
 
-/// A folder that passes each call on, and notes the file of a message whose reading stopped, until it is opened again.
+/// A folder on a disk that passes each call on, and notes the file of a message whose reading stopped, until it is opened again.
 #[derive(Drop)]
-pub struct WatchedFolder<F: Folder> {
-    folder: F,
+pub struct WatchedFolder<R: Files + AllocGlobal + Clone + Drop> {
+    folder: DiskFolder<R>,
     unread: Rc<Unread>,
 }
 
-impl<F: Folder> WatchedFolder<F> {
+impl<R: Files + AllocGlobal + Clone + Drop> WatchedFolder<R> {
     /// This folder, which notes there what could not be read.
-    pub fn new(folder: F, unread: Rc<Unread>) -> Self
+    pub fn new(folder: DiskFolder<R>, unread: Rc<Unread>) -> Self
         ensures { result.folder ≡ folder }
     {
         WatchedFolder { folder, unread }
     }
 }
 
-impl<F: Folder> Folder for WatchedFolder<F> {
-    ghost is_honest = { F.is_honest };
+impl<R: Files + AllocGlobal + Clone + Drop> Folder for WatchedFolder<R> {
+    ghost use Rattle.std.specs.Prelude.{false};
+    ghost use Rattle.maildir.specs.DiskFolders.{seen_on_disk};
 
-    ghost seen = { λ watched. F.seen watched.folder };
+    ghost is_honest = { false };
+
+    ghost seen = { λ watched. seen_on_disk watched.folder };
 
     fn names(&mut self) -> Result<Option<Vec<FileName>>, DeviceFault> {
         self.folder.names()

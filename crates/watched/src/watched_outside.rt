@@ -17,7 +17,7 @@ use sync_state::journal::Journal;
 
 /// An outside that passes each call on. Where a plan is read or begun, or one more step of it is logged, it tells how many are.
 #[derive(Drop)]
-pub struct WatchedOutside<O: Outside, P: Progress> {
+pub struct WatchedOutside<O, P> {
     outside: O,
     progress: P,
 }

@@ -1,5 +1,5 @@
 use Rattle.channels.specs.Openings.{first_on}
-use Rattle.channels.proofs.told_stores.ToldStores.settle.Given as goal
+use Rattle.channels.proofs.told_stores.ToldStores.settle_open.Given as goal
 
 -- what follows from an opening is not handed up: nothing is known of what the stores lend
 abbrev pub ghost-settle_lent : goal.ghost-settle_lent
