@@ -231,8 +231,8 @@ module _ (survey : Survey) (fresh : ℕ) (s : Stored) (surveys : Surveys survey 
       (extends.waiting ∙ ap (map name_of_file) (sym (first.waiting ∙ none_left)))
       (ap (meta_in fresh) first.meta ∙ raised_is_read survey.meta (length survey.waiting.items) fits room ∙ ap Some (sym extends.meta))
       (ap is_some first.meta ∙ sym extends.has_meta)
-      (marks_after (numbered_near (length survey.waiting.items) (near_of fresh s)) (near_of fresh now) survey.marks.items new.marks.items (admitted_some (length survey.waiting.items) (omega arith)) extends.marks
-      (marks_numbered (length survey.waiting.items) (near_of fresh s) survey.marks.items surveys.marks)))
+      (marks_after (numbered_near (length survey.waiting.items) (near_of fresh s)) (near_of fresh now) survey.marks new.marks (admitted_some (length survey.waiting.items) (omega arith)) extends.marks
+      (marks_numbered (length survey.waiting.items) (near_of fresh s) survey.marks surveys.marks)))
     where
       now : Stored
       now = admitted_all (take (length survey.waiting.items) survey.waiting.items) survey.meta.next begun

@@ -92,8 +92,8 @@ module _ (survey : Survey) (fresh : ℕ) (s : Stored) (surveys : Surveys survey 
         (extends.entries ∙ ap (λ (es : List Entry). es ++ entry_at survey.meta.next (copy_at survey flags) ∷ []) surveys.entries ∙ sym is_added.entries)
         (extends.waiting ∙ surveys.waiting ∙ ap (map name_of_file) (sym same_wait))
         (raised_is_read survey.meta 1 fits room ∙ ap Some (sym extends.meta)) (sym extends.has_meta)
-        (marks_after (delivered bytes flags (near_of fresh s)) (near_of fresh (appended survey.meta bytes flags s)) survey.marks.items new.marks.items appended_near extends.marks
-        (marks_delivered bytes flags (near_of fresh s) survey.marks.items surveys.marks))
+        (marks_after (delivered bytes flags (near_of fresh s)) (near_of fresh (appended survey.meta bytes flags s)) survey.marks new.marks appended_near extends.marks
+        (marks_delivered bytes flags (near_of fresh s) survey.marks surveys.marks))
 
     -- a fault leaves the mailbox as it was, or with the message, or with its UID set aside
     pub append_stopped : (s' : Stored) → (s' ≡ s) ⊎ ((s' ≡ appended survey.meta bytes flags s) ⊎ AppendsPart survey.meta bytes s s')

@@ -178,7 +178,7 @@ module _ (survey : Survey) (fresh : ℕ) (s : Stored) (surveys : Surveys survey 
   -- the survey after the removal
   pub surveys_removed : (new : Survey) (s' : Stored) → s' ≡ removed_file (file_of entry) s
       → new.entries.items ≡ remove survey.entries.items i
-      → new.waiting.items ≡ survey.waiting.items → new.meta ≡ survey.meta → new.has_meta ≡ survey.has_meta → new.marks.items ≡ survey.marks.items → Surveys new fresh s'
+      → new.waiting.items ≡ survey.waiting.items → new.meta ≡ survey.meta → new.has_meta ≡ survey.has_meta → new.marks ≡ survey.marks → Surveys new fresh s'
   surveys_removed new s' now items waiting meta has_meta marks =
       let after : Stored = without_uids (entry.uid ∷ []) s in
       let is : s' ≡ after = now ∙ removal_is_expunge in
@@ -199,8 +199,8 @@ module _ (survey : Survey) (fresh : ℕ) (s : Stored) (surveys : Surveys survey 
         waiting = waiting ∙ surveys.waiting ∙ ap (map name_of_file) (sym (waiting-without (entry.uid ∷ []) s.files));
         meta = surveys.meta ∙ ap Some (sym meta);
         has_meta = surveys.has_meta ∙ sym has_meta;
-        marks = marks_after (on_store (expunged (entry.uid ∷ [])) (near_of fresh s)) (near_of fresh after) survey.marks.items new.marks.items (near-expunged (entry.uid ∷ []) fresh s) marks
-            (marks_expunged (entry.uid ∷ []) (near_of fresh s).store survey.marks.items surveys.marks);
+        marks = marks_after (on_store (expunged (entry.uid ∷ [])) (near_of fresh s)) (near_of fresh after) survey.marks new.marks (near-expunged (entry.uid ∷ []) fresh s) marks
+            (marks_expunged (entry.uid ∷ []) (near_of fresh s).store survey.marks surveys.marks);
       })
 
 -- ---- nothing is removed

@@ -339,7 +339,7 @@ module _ (survey : Survey) (fresh : ℕ) (s : Stored) (surveys : Surveys survey 
   -- the survey after the rename
   pub surveys_renamed : (flags : ℕ) → flags < 2 ^ FLAGS → (new : Survey) (s' : Stored) → s' ≡ set_name (file_of entry) (name_flagged entry.name flags) s
       → new.entries.items ≡ set survey.entries.items i (entry_under entry (name_flagged entry.name flags))
-      → new.waiting.items ≡ survey.waiting.items → new.meta ≡ survey.meta → new.has_meta ≡ survey.has_meta → new.marks.items ≡ survey.marks.items → Surveys new fresh s'
+      → new.waiting.items ≡ survey.waiting.items → new.meta ≡ survey.meta → new.has_meta ≡ survey.has_meta → new.marks ≡ survey.marks → Surveys new fresh s'
   surveys_renamed flags are_flags new s' now items waiting meta has_meta marks =
       let change : ℕ → ℕ = λ n. flags in
       let after : Stored = flagged_files change entry.uid s in
@@ -362,8 +362,8 @@ module _ (survey : Survey) (fresh : ℕ) (s : Stored) (surveys : Surveys survey 
         waiting = waiting ∙ surveys.waiting ∙ ap (map name_of_file) (sym (waiting-flagged change entry.uid s.files));
         meta = surveys.meta ∙ ap Some (sym meta);
         has_meta = surveys.has_meta ∙ sym has_meta;
-        marks = marks_after (on_store (store_flagged change entry.uid) (near_of fresh s)) (near_of fresh after) survey.marks.items new.marks.items (near-flagged change entry.uid (λ n. are_flags) fresh s) marks
-            (marks_flagged change entry.uid (near_of fresh s).store survey.marks.items surveys.marks);
+        marks = marks_after (on_store (store_flagged change entry.uid) (near_of fresh s)) (near_of fresh after) survey.marks new.marks (near-flagged change entry.uid (λ n. are_flags) fresh s) marks
+            (marks_flagged change entry.uid (near_of fresh s).store survey.marks surveys.marks);
       })
     where
       rise_mapped : (change : ℕ → ℕ) → AllPairs (λ a b. a.uid < b.uid) (map (with_file change entry.uid) survey.entries.items)

@@ -1,7 +1,8 @@
 -- Marks that are known stay known: no operation on a mailbox changes the bytes of a message, and a new message has a UID
 -- of its own.
-use Rattle.std.proofs.Common.{◌≡◌, ℕ, ◌+◌, ◌<◌, ◌≤◌, Bool, true, false, not, cond, eqb, List, [], ◌∷◌, ◌++◌, length, get_or, take, map, All, sym, ap, subst, ◌∙◌, arith}
+use Rattle.std.proofs.Common.{◌≡◌, ℕ, ◌+◌, ◌<◌, ◌≤◌, Bool, true, false, not, cond, eqb, List, [], ◌∷◌, ◌++◌, length, get_or, take, map, All, Option, inl, inr, sym, ap, subst, ◌∙◌, arith}
 use Rattle.std.specs.List.{list_any}
+use Rattle.std.proofs.lemmas.Bool.{cases_lt}
 use Rattle.std.proofs.lemmas.List.Elements.{All-nil, All-cons, All-append, All-filter, All-map, All-weaker}
 use Rattle.std.proofs.lemmas.List.{get_or-map, get_or_default, length-map}
 use Rattle.mailcore.specs.declared.mailbox.Message.{Message}
@@ -9,9 +10,11 @@ use Rattle.mailcore.specs.Content.{mark_of}
 use Rattle.mailcore.specs.Operations.{with_flags, flagged, expunged}
 use Rattle.mailcore.specs.Stores.{Store, Waiting, numbered}
 use Rattle.near_box.specs.declared.known_mark.KnownMark.{KnownMark}
+use Rattle.near_box.specs.declared.known_mark.KnownMarks.{KnownMarks}
+use Rattle.near_box.specs.declared.passed_marks.PassedMarks.{PassedMarks}
 use Rattle.near_box.specs.declared.survey.Entry.{Entry}
 use Rattle.near_box.specs.Entries.{AreRising, message_at}
-use Rattle.near_box.specs.KnownMarks.{AreMarksAmong, AreMarksOf, AreMarksOfFile, IsMarkAmong, mark_at}
+use Rattle.near_box.specs.KnownMarks.{AreMarksAmong, AreMarksOf, AreMarksOfFile, ArePassed, BearsOther, IsMarkAmong, mark_at}
 use Rattle.near_box.specs.Mailboxes.{Near, numbered_near, delivered}
 use Rattle.maildir.specs.Folders.{Stored}
 use Rattle.near_box.proofs.KeptLemmas.{one_place}
@@ -29,8 +32,8 @@ keeps_flagged change uid k m bears = by_test (eqb m.uid uid)
     by_test true = bears
     by_test false = bears
 
-pub marks_flagged : (change : ℕ → ℕ) (uid : ℕ) (s : Store) (known : List KnownMark) → AreMarksOf s known → AreMarksOf (flagged change uid s) known
-marks_flagged change uid s known are =
+each_flagged : (change : ℕ → ℕ) (uid : ℕ) (s : Store) (known : List KnownMark) → AreMarksAmong s.next s.messages known → AreMarksAmong s.next (flagged change uid s).messages known
+each_flagged change uid s known are =
     All-weaker (IsMarkAmong s.next s.messages) (IsMarkAmong s.next (flagged change uid s).messages)
     (λ k is. record {
       below = is.below;
@@ -38,21 +41,61 @@ marks_flagged change uid s known are =
           (All-weaker (Bears k) (λ m. Bears k (with_flags change uid m)) (keeps_flagged change uid k) s.messages is.marks);
     }) known are
 
+others_flagged : (change : ℕ → ℕ) (uid : ℕ) (p : PassedMarks) (mark : List ℕ) (m : Message) → BearsOther p mark m → BearsOther p mark (with_flags change uid m)
+others_flagged change uid p mark m bears = by_test (eqb m.uid uid)
+  where
+    by_test : (b : Bool) → BearsOther p mark (cond b (record m { flags = change m.flags }) m)
+    by_test true = bears
+    by_test false = bears
+
+passed_flagged : (change : ℕ → ℕ) (uid : ℕ) (s : Store) (p : PassedMarks) → ArePassed s.next s.messages p → ArePassed s.next (flagged change uid s).messages p
+passed_flagged change uid s p is = record {
+  below = is.below;
+  marks = λ mark other. All-map (BearsOther p mark) (with_flags change uid) s.messages
+      (All-weaker (BearsOther p mark) (λ m. BearsOther p mark (with_flags change uid m)) (others_flagged change uid p mark) s.messages (is.marks mark other));
+}
+
+pub marks_flagged : (change : ℕ → ℕ) (uid : ℕ) (s : Store) (known : KnownMarks) → AreMarksOf s known → AreMarksOf (flagged change uid s) known
+marks_flagged change uid s known are = record {
+  each = each_flagged change uid s known.by_uid.items are.each;
+  passed = passed_flagged change uid s known.passed are.passed;
+}
+
 -- ---- messages are removed
 
-pub marks_expunged : (uids : List ℕ) (s : Store) (known : List KnownMark) → AreMarksOf s known → AreMarksOf (expunged uids s) known
-marks_expunged uids s known are =
+each_expunged : (uids : List ℕ) (s : Store) (known : List KnownMark) → AreMarksAmong s.next s.messages known → AreMarksAmong s.next (expunged uids s).messages known
+each_expunged uids s known are =
     let stays : Message → Bool = λ m. not (list_any (λ uid. eqb m.uid uid) uids) in
     All-weaker (IsMarkAmong s.next s.messages) (IsMarkAmong s.next (expunged uids s).messages)
     (λ k is. record { below = is.below; marks = All-filter stays (Bears k) s.messages is.marks }) known are
+
+passed_expunged : (uids : List ℕ) (s : Store) (p : PassedMarks) → ArePassed s.next s.messages p → ArePassed s.next (expunged uids s).messages p
+passed_expunged uids s p is =
+    let stays : Message → Bool = λ m. not (list_any (λ uid. eqb m.uid uid) uids) in
+    record {
+      below = is.below;
+      marks = λ mark other. All-filter stays (BearsOther p mark) s.messages (is.marks mark other);
+    }
+
+pub marks_expunged : (uids : List ℕ) (s : Store) (known : KnownMarks) → AreMarksOf s known → AreMarksOf (expunged uids s) known
+marks_expunged uids s known are = record {
+  each = each_expunged uids s known.by_uid.items are.each;
+  passed = passed_expunged uids s known.passed are.passed;
+}
 
 -- ---- messages are added
 
 bears_later : (k : KnownMark) (next uid : ℕ) (flags : ℕ) (bytes : List ℕ) → k.uid < next → next ≤ uid → Bears k (record { uid = uid; flags = flags; bytes = bytes })
 bears_later k next uid flags bytes below above same = absurd (omega (arith, below, above, same))
 
-pub marks_delivered : (bytes : List ℕ) (flags : ℕ) (n : Near) (known : List KnownMark) → AreMarksOf n.store known → AreMarksOf (delivered bytes flags n).store known
-marks_delivered bytes flags n known are =
+other_later : (p : PassedMarks) (mark : List ℕ) (next uid : ℕ) (flags : ℕ) (bytes : List ℕ) → (p.from < p.below → p.below ≤ next) → next ≤ uid
+    → BearsOther p mark (record { uid = uid; flags = flags; bytes = bytes })
+other_later p mark next uid flags bytes within above up under =
+    absurd (let below : p.below ≤ next = within (omega (arith, up, under)) in omega (arith, below, above, under))
+
+each_delivered : (bytes : List ℕ) (flags : ℕ) (n : Near) (known : List KnownMark) → AreMarksAmong n.store.next n.store.messages known
+    → AreMarksAmong (delivered bytes flags n).store.next (delivered bytes flags n).store.messages known
+each_delivered bytes flags n known are =
     let s : Store = n.store in
     let m : Message = record { uid = s.next; flags = flags; bytes = bytes } in
     All-weaker (IsMarkAmong s.next s.messages) (IsMarkAmong (s.next + 1) (s.messages ++ m ∷ []))
@@ -62,14 +105,32 @@ marks_delivered bytes flags n known are =
           (All-cons (Bears k) m [] (bears_later k s.next s.next flags bytes is.below (omega arith)) (All-nil (Bears k)));
     }) known are
 
+passed_delivered : (bytes : List ℕ) (flags : ℕ) (n : Near) (p : PassedMarks) → ArePassed n.store.next n.store.messages p
+    → ArePassed (delivered bytes flags n).store.next (delivered bytes flags n).store.messages p
+passed_delivered bytes flags n p is =
+    let s : Store = n.store in
+    let m : Message = record { uid = s.next; flags = flags; bytes = bytes } in
+    record {
+      below = λ some. let below : p.below ≤ s.next = is.below some in omega (arith, below);
+      marks = λ mark other. All-append (BearsOther p mark) s.messages (m ∷ []) (is.marks mark other)
+          (All-cons (BearsOther p mark) m [] (other_later p mark s.next s.next flags bytes is.below (omega arith)) (All-nil (BearsOther p mark)));
+    }
+
+pub marks_delivered : (bytes : List ℕ) (flags : ℕ) (n : Near) (known : KnownMarks) → AreMarksOf n.store known → AreMarksOf (delivered bytes flags n).store known
+marks_delivered bytes flags n known are = record {
+  each = each_delivered bytes flags n known.by_uid.items are.each;
+  passed = passed_delivered bytes flags n known.passed are.passed;
+}
+
 bears_numbered : (k : KnownMark) (next uid : ℕ) (files : List Waiting) → k.uid < next → next ≤ uid → All (Bears k) (numbered uid files)
 bears_numbered k next uid [] below above = All-nil (Bears k)
 bears_numbered k next uid (file ∷ files) below above =
     All-cons (Bears k) (record { uid = uid; flags = file.flags; bytes = file.bytes }) (numbered (uid + 1) files)
     (bears_later k next uid file.flags file.bytes below above) (bears_numbered k next (uid + 1) files below (omega (arith, above)))
 
-pub marks_numbered : (count : ℕ) (n : Near) (known : List KnownMark) → AreMarksOf n.store known → AreMarksOf (numbered_near count n).store known
-marks_numbered count n known are =
+each_numbered : (count : ℕ) (n : Near) (known : List KnownMark) → AreMarksAmong n.store.next n.store.messages known
+    → AreMarksAmong (numbered_near count n).store.next (numbered_near count n).store.messages known
+each_numbered count n known are =
     let s : Store = n.store in
     All-weaker (IsMarkAmong s.next s.messages) (IsMarkAmong (s.next + length n.waiting) (s.messages ++ numbered s.next (take count n.waiting)))
     (λ k is. record {
@@ -78,11 +139,33 @@ marks_numbered count n known are =
           (bears_numbered k s.next s.next (take count n.waiting) is.below (omega arith));
     }) known are
 
+others_numbered : (p : PassedMarks) (mark : List ℕ) (next uid : ℕ) (files : List Waiting) → (p.from < p.below → p.below ≤ next) → next ≤ uid → All (BearsOther p mark) (numbered uid files)
+others_numbered p mark next uid [] within above = All-nil (BearsOther p mark)
+others_numbered p mark next uid (file ∷ files) within above =
+    All-cons (BearsOther p mark) (record { uid = uid; flags = file.flags; bytes = file.bytes }) (numbered (uid + 1) files)
+    (other_later p mark next uid file.flags file.bytes within above) (others_numbered p mark next (uid + 1) files within (omega (arith, above)))
+
+passed_numbered : (count : ℕ) (n : Near) (p : PassedMarks) → ArePassed n.store.next n.store.messages p
+    → ArePassed (numbered_near count n).store.next (numbered_near count n).store.messages p
+passed_numbered count n p is =
+    let s : Store = n.store in
+    record {
+      below = λ some. let below : p.below ≤ s.next = is.below some in omega (arith, below);
+      marks = λ mark other. All-append (BearsOther p mark) s.messages (numbered s.next (take count n.waiting)) (is.marks mark other)
+          (others_numbered p mark s.next s.next (take count n.waiting) is.below (omega arith));
+    }
+
+pub marks_numbered : (count : ℕ) (n : Near) (known : KnownMarks) → AreMarksOf n.store known → AreMarksOf (numbered_near count n).store known
+marks_numbered count n known are = record {
+  each = each_numbered count n known.by_uid.items are.each;
+  passed = passed_numbered count n known.passed are.passed;
+}
+
 -- ---- the same known of a mailbox that is said in another way
 
-pub marks_after : (n n' : Near) (known now : List KnownMark) → n' ≡ n → now ≡ known → AreMarksOf n.store known → AreMarksOf n'.store now
+pub marks_after : (n n' : Near) (known now : KnownMarks) → n' ≡ n → now ≡ known → AreMarksOf n.store known → AreMarksOf n'.store now
 marks_after n n' known now same kept are =
-    subst (λ (l : List KnownMark). AreMarksOf n'.store l) (sym kept) (subst (λ (m : Near). AreMarksOf m.store known) (sym same) are)
+    subst (λ (l : KnownMarks). AreMarksOf n'.store l) (sym kept) (subst (λ (m : Near). AreMarksOf m.store known) (sym same) are)
 
 -- ---- marks of files that are read
 
@@ -104,3 +187,18 @@ mark_of_file s es i entry next below is rising within = record {
       let here : i ≡ j = one_place (λ e. e.uid) es rising i j d below there (ap (λ (e : Entry). e.uid) (get_or_default es i d entry below ∙ sym is) ∙ sym same) in
       ap (λ (e : Entry). mark_of (message_at s e).bytes) (ap (λ (k : ℕ). get_or es k d) (sym here) ∙ get_or_default es i d entry below ∙ sym is));
 }
+
+-- an entry is the one message between those before it and itself
+pub only_entry : (s : Stored) (es : List Entry) (k : ℕ) (entry : Entry) (below : ℕ) (mark : Option (List ℕ)) → k < length es → entry ≡ get_or es k entry → AreRising es
+    → ((j : ℕ) (d : Entry) → j < k → (get_or es j d).uid < below) → mark ≡ mark_of (message_at s entry).bytes
+    → All (λ m. below ≤ m.uid → m.uid ≤ entry.uid → mark_of m.bytes ≡ mark) (map (message_at s) es)
+only_entry s es k entry below mark here is rising before same =
+    All-map (λ m. below ≤ m.uid → m.uid ≤ entry.uid → mark_of m.bytes ≡ mark) (message_at s) es (λ j d there up under.
+    let own : get_or es k d ≡ entry = get_or_default es k d entry here ∙ sym is in
+    elim (cases_lt j k) [
+      | inl less ↦ absurd (let low = before j d less in omega (arith, low, up))
+      | inr least ↦ elim (cases_lt k j) [
+        | inl more ↦ absurd (let above = rising k j d more there in let uid : (get_or es k d).uid ≡ entry.uid = ap (λ (e : Entry). e.uid) own in omega (arith, above, uid, under))
+        | inr most ↦ ap (λ (e : Entry). mark_of (message_at s e).bytes) (ap (λ (n : ℕ). get_or es n d) (let at : j ≡ k = omega (arith, least, most) in at) ∙ own) ∙ sym same
+      ]
+    ])

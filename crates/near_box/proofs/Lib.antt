@@ -13,9 +13,11 @@ pub mod NewNameLemmas
 pub mod NewUidLemmas
 pub mod OpenLemmas
 pub mod OrderLemmas
+pub mod PassedLemmas
 pub mod PutLemmas
 pub mod RangeLemmas
 pub mod ReadLemmas
+pub mod SearchLemmas
 pub mod SortingLemmas
 pub mod SurveyLemmas
 pub mod SurveyedLemmas

@@ -21,8 +21,8 @@ use Rattle.maildir.specs.FlaggedNames.{flags_by_name}
 use Rattle.near_box.specs.Mailboxes.{message_of, messages_in, by_uid, near_of, first_meta}
 use Rattle.mailcore.specs.Operations.{Shows, ShowsAbove, bytes_among, bytes_of, item_above, marked_among, marked_from}
 use Rattle.near_box.specs.Surveys.{Surveys, entry_of}
-use Rattle.near_box.specs.declared.known_mark.KnownMark.{KnownMark}
-use Rattle.near_box.specs.KnownMarks.{AreMarksAmong, AreMarksOf}
+use Rattle.near_box.specs.declared.known_mark.KnownMarks.{KnownMarks}
+use Rattle.near_box.specs.KnownMarks.{AreKnown, AreMarksOf}
 use Rattle.near_box.specs.Entries.{message_at, item_at, AreThere, AreRising}
 use Rattle.near_box.specs.Sorting.{sorted}
 use Rattle.maildir.proofs.FileLemmas.{at_itself, at_true}
@@ -140,25 +140,25 @@ near_shown from survey now fresh s t es items surveys same is unchanged shown =
       ap (λ (v : Survey). v.meta.next) same ∙ sym (near_next survey fresh s surveys),
     )
 
-pub near_marked : (survey now : Survey) (fresh : ℕ) (s t : Stored) (es : List Entry) (mark : List ℕ) (from : ℕ) (found : Option ℕ) (before after : List KnownMark) → Surveys survey fresh s → now ≡ survey → es ≡ now.entries.items → before ≡ now.marks.items → t ≡ s
-    → (AreThere es t → (next : ℕ) → AreRising es → All (λ e. e.uid < next) es → AreMarksAmong next (map (message_at t) es) before
-    → (found ≡ marked_among mark from (map (message_at t) es)) × AreMarksAmong next (map (message_at t) es) after)
+pub near_marked : (survey now : Survey) (fresh : ℕ) (s t : Stored) (es : List Entry) (mark : List ℕ) (from : ℕ) (found : Option ℕ) (before after : KnownMarks) → Surveys survey fresh s → now ≡ survey → es ≡ now.entries.items → before ≡ now.marks → t ≡ s
+    → (AreThere es t → (next : ℕ) → AreRising es → All (λ e. e.uid < next) es → AreKnown next (map (message_at t) es) before
+    → (found ≡ marked_among mark from (map (message_at t) es)) × AreKnown next (map (message_at t) es) after)
     → (found ≡ marked_from mark from (near_of fresh s).store) × AreMarksOf (near_of fresh s).store after
 near_marked survey now fresh s t es mark from found before after surveys same is known unchanged says =
     let hand = at_hand survey now fresh s t es surveys same is unchanged in
     let next : ℕ = (near_of fresh s).store.next in
     let entries : es ≡ survey.entries.items = is ∙ ap (λ (v : Survey). v.entries.items) same in
-    let marks : before ≡ survey.marks.items = known ∙ ap (λ (v : Survey). v.marks.items) same in
+    let marks : before ≡ survey.marks = known ∙ ap (λ (v : Survey). v.marks) same in
     let below = subst (λ (l : List Entry). All (λ e. e.uid < next) l) (sym entries) (subst (λ (n : ℕ). All (λ e. e.uid < n) survey.entries.items) (sym (near_next survey fresh s surveys)) surveys.below) in
-    let are = subst (λ (l : List KnownMark). AreMarksAmong next (map (message_at t) es) l) (sym marks) (subst (λ (ms : List Message). AreMarksAmong next ms survey.marks.items) (sym hand.messages) surveys.marks) in
+    let are = subst (λ (k : KnownMarks). AreKnown next (map (message_at t) es) k) (sym marks) (subst (λ (ms : List Message). AreKnown next ms survey.marks) (sym hand.messages) surveys.marks) in
     let told = says hand.there next hand.rising below are in (
       told.0 ∙ ap (λ (l : List Message). marked_among mark from l) hand.messages,
-      subst (λ (ms : List Message). AreMarksAmong next ms after) hand.messages told.1,
+      subst (λ (ms : List Message). AreKnown next ms after) hand.messages told.1,
     )
 
 -- the survey that knows more marks
 pub surveys_marked : (survey new : Survey) (fresh : ℕ) (s t : Stored) → Surveys survey fresh s → t ≡ s → new.entries.items ≡ survey.entries.items → new.waiting.items ≡ survey.waiting.items
-    → new.meta ≡ survey.meta → new.has_meta ≡ survey.has_meta → AreMarksOf (near_of fresh s).store new.marks.items → Surveys new fresh t
+    → new.meta ≡ survey.meta → new.has_meta ≡ survey.has_meta → AreMarksOf (near_of fresh s).store new.marks → Surveys new fresh t
 surveys_marked survey new fresh s t surveys unchanged entries waiting meta has_meta marks =
     subst (λ (u : Stored). Surveys new fresh u) (sym unchanged) (record {
       is_there = surveys.is_there;

@@ -173,7 +173,7 @@ holds_from_survey survey fresh s surveys = record {
 
 pub survey_from_holds : (survey : Survey) (fresh : ℕ) (s : Stored) → Holds s.files survey.meta.next → s.is_there ≡ true → survey.entries.items ≡ entries_in s.files
     → survey.waiting.items ≡ map name_of_file (waiting_files s.files) → meta_in fresh s.meta ≡ Some survey.meta → is_some s.meta ≡ survey.has_meta
-    → AreMarksOf (near_of fresh s).store survey.marks.items → Surveys survey fresh s
+    → AreMarksOf (near_of fresh s).store survey.marks → Surveys survey fresh s
 survey_from_holds survey fresh s holds is_there entries waiting meta has_meta marks = record {
   is_there = is_there;
   apart = holds.apart;

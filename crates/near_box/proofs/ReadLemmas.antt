@@ -135,11 +135,6 @@ marked_here mark from s es i entry below is up holds = sym (marked_first mark fr
 pub marked_nowhere : (mark : List ℕ) (from : ℕ) (s : Stored) (es : List Entry) (i : ℕ) → length es ≤ i → None ≡ marked_among mark from (map (message_at s) (drop i es))
 marked_nowhere mark from s es i past = sym (ap (λ (l : List Entry). marked_among mark from (map (message_at s) l)) (drop_all i es past))
 
--- what is read of a message says whether it has the mark
-pub mark_there : (mark : List ℕ) (s t : Stored) (entry : Entry) (is_it : Bool) → t ≡ s
-    → is_it ≡ is_mark (mark_of (message_at t entry).bytes) mark → is_it ≡ is_mark (mark_of (message_at s entry).bytes) mark
-mark_there mark s t entry is_it same read = read ∙ ap (λ (u : Stored). is_mark (mark_of (message_at u entry).bytes) mark) same
-
 pub and_right : (a b : Bool) → b ≡ false → (a && b) ≡ false
 and_right true b e = e
 and_right false b e = refl

@@ -20,7 +20,7 @@ use Rattle.maildir.specs.declared.meta.Meta.{Meta}
 use Rattle.near_box.specs.declared.survey.Entry.{Entry}
 use Rattle.near_box.specs.declared.survey.Survey.{Survey}
 use Rattle.maildir.specs.Folders.{Stored, AreApart, Lists, name_of_file}
-use Rattle.near_box.specs.Mailboxes.{AreDistinct, messages_in, meta_in, HasMeta, IsMailbox, name_cmp, place_cmp, waiting_files, is_before as is_file_before, near_of}
+use Rattle.near_box.specs.Mailboxes.{AreDistinct, messages_in, meta_in, HasMeta, IsMailbox, name_cmp, place_cmp, waiting_files, is_before as is_file_before}
 use Rattle.maildir.specs.Names.{is_waiting}
 use Rattle.near_box.specs.Sorting.{put, sorted}
 use Rattle.near_box.specs.SurveyParts.{named_entry, waits, file_cmp, is_before}
@@ -29,9 +29,8 @@ use Rattle.near_box.proofs.OpenLemmas.{same_uids, entries_apart, messages_apart,
 use Rattle.near_box.proofs.OrderLemmas.{names_total, names_in_order}
 use Rattle.near_box.proofs.SortingLemmas.{pairs_permuted, sorted_permuted, sorted_permutes}
 use Rattle.near_box.proofs.SurveyLemmas.{passing_in_any_order}
-use Rattle.std.proofs.lemmas.List.Elements.{All-nil}
-use Rattle.near_box.specs.declared.known_mark.KnownMark.{KnownMark}
-use Rattle.near_box.specs.KnownMarks.{AreMarksOf, IsMarkAmong}
+use Rattle.mailcore.specs.declared.mailbox.Message.{Message}
+use Rattle.near_box.specs.KnownMarks.{AreKnown}
 
 -- ---- messages
 
@@ -162,7 +161,7 @@ pub surveyed : (survey : Survey) (fresh : ℕ) (s : Stored) (names : List FileNa
     → IsPermutation (filter_map named_entry names) survey.entries.items → AllPairs (λ a b. a.uid < b.uid) survey.entries.items
     → IsPermutation (filter waits names) survey.waiting.items → IsSortedBy is_before survey.waiting.items
     → meta_in fresh s.meta ≡ Some survey.meta → All (λ e. e.uid < survey.meta.next) survey.entries.items → survey.has_meta ≡ is_some s.meta
-    → survey.marks.items ≡ [] → Surveys survey fresh s
+    → ((next : ℕ) (messages : List Message) → AreKnown next messages survey.marks) → Surveys survey fresh s
 surveyed survey fresh s names lists entries rising waiting in_order meta below has_meta none_known = record {
   is_there = lists.0;
   apart = lists.2;
@@ -174,7 +173,7 @@ surveyed survey fresh s names lists entries rising waiting in_order meta below h
   waiting = waiting_found s.files names survey.waiting.items lists.2 lists.1 waiting in_order;
   meta = meta;
   has_meta = sym has_meta;
-  marks = subst (λ (l : List KnownMark). AreMarksOf (near_of fresh s).store l) (sym none_known) (All-nil (IsMarkAmong (near_of fresh s).store.next (near_of fresh s).store.messages));
+  marks = none_known _ _;
 }
 
 pub told_two : (s : Stored) (names : List FileName) (entries : List Entry) → Lists (Some names) s → IsPermutation (filter_map named_entry names) entries → IsSortedByKey (λ entry. entry.uid) nat_cmp entries

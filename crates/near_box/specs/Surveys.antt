@@ -32,7 +32,7 @@ pub record Surveys (survey : Survey) (fresh : ℕ) (s : Stored) : Type 0 where
   pub waiting : survey.waiting.items ≡ map name_of_file (waiting_files s.files)
   pub meta : meta_in fresh s.meta ≡ Some survey.meta
   pub has_meta : is_some s.meta ≡ survey.has_meta
-  pub marks : AreMarksOf (near_of fresh s).store survey.marks.items
+  pub marks : AreMarksOf (near_of fresh s).store survey.marks
 
 -- ---- what it remembers more once UIDs are given
 
@@ -51,4 +51,4 @@ pub record Extends (more : List Entry) (wait : List FileName) (says : Meta) (old
   pub waiting : new.waiting.items ≡ wait
   pub meta : new.meta ≡ says
   pub has_meta : new.has_meta ≡ true
-  pub marks : new.marks.items ≡ old.marks.items
+  pub marks : new.marks ≡ old.marks

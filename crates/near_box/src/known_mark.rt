@@ -4,11 +4,12 @@ ghost use Rattle.std.specs.Prelude.{◌≡◌, ◌≢◌, ◌<◌, ◌≤◌, Li
 ghost use Rattle.std.specs.List.{HoldsAt};
 ghost use Rattle.std.specs.List.Sorted.{IsSearchInRange};
 ghost use Rattle.mailcore.specs.declared.mailbox.Message.{Message};
-ghost use Rattle.near_box.specs.KnownMarks.{AreMarksAmong, IsMarkAmong};
+ghost use Rattle.near_box.specs.KnownMarks.{AreKnown, AreMarksAmong, IsMarkAmong};
 
+use crate::passed_marks::PassedMarks;
 use mailcore::tuid::Tuid;
 use mailcore::uid::Uid;
-use std::alloc::AllocError;
+use std::alloc::{AllocError, Global};
 
 /// What the file of a message told of its mark.
 #[derive(Clone, Copy, Debug)]
@@ -17,6 +18,27 @@ pub struct KnownMark {
     pub uid: Uid,
     /// Its mark, or none where it bears none.
     pub mark: Option<Tuid>,
+}
+
+/// What is known of the marks of messages, whose bytes never change.
+#[derive(Debug, Drop)]
+pub struct KnownMarks {
+    /// The marks of the messages that were read for them, in the order of their UIDs.
+    pub by_uid: Vec<KnownMark>,
+    /// The messages that a search went past.
+    pub passed: PassedMarks,
+}
+
+impl KnownMarks {
+    /// Nothing is known.
+    pub fn new(alloc: Global) -> Self
+        ensures { (next : ℕ) (messages : List Message) → AreKnown next messages result }
+    {
+        KnownMarks {
+            by_uid: Vec::new(alloc),
+            passed: PassedMarks::new(alloc),
+        }
+    }
 }
 
 /// Where the mark of the message with this UID is kept, or where it is to be kept.

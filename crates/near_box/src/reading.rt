@@ -7,11 +7,11 @@ ghost use Rattle.mailcore.specs.Content.{mark_of};
 ghost use Rattle.mailcore.specs.Operations.{bytes_among, is_mark, marked_among};
 ghost use Rattle.maildir.specs.Folders.{text_of};
 ghost use Rattle.near_box.specs.Entries.{AreRising, AreThere, IsThere, message_at, item_at};
-ghost use Rattle.near_box.specs.KnownMarks.{AreMarksAmong, AreMarksOfFile, IsMarkAmong, mark_at};
+ghost use Rattle.near_box.specs.KnownMarks.{AreKnown, AreMarksAmong, AreMarksOfFile, IsMarkAmong, mark_at};
 ghost use Rattle.mailcore.specs.declared.mailbox.Message.{Message};
 ghost use Rattle.near_box.specs.NearCalls.{Reads};
 
-use crate::known_mark::{KnownMark, keep_mark, place_of_mark};
+use crate::known_mark::{KnownMark, KnownMarks, keep_mark, place_of_mark};
 use crate::near_calls::{flags_of, location, place_of};
 use crate::read_fault::ReadFault;
 use crate::survey::Entry;
@@ -115,7 +115,7 @@ fn push_item(items: &mut Items, item: Item) -> Result<(), ReadFault>
 pub fn find_mark<F: Folder>(
     folder: &mut F,
     entries: &[Entry],
-    known: &mut Vec<KnownMark>,
+    known: &mut KnownMarks,
     mark: Tuid,
     from: u32,
 ) -> Result<Option<Uid>, ReadFault>
@@ -123,38 +123,22 @@ pub fn find_mark<F: Folder>(
     ensures keeps { F.is_honest ≡ true → (F.seen folder.new).stored ≡ (F.seen folder.old).stored }
     ensures found { F.is_honest ≡ true → AreThere entries.now (F.seen folder.old).stored → (next : ℕ) → AreRising entries.now
         → All (λ e. e.uid < next) entries.now
-        → AreMarksAmong next (map (message_at (F.seen folder.old).stored) entries.now) known.old.items
+        → AreKnown next (map (message_at (F.seen folder.old).stored) entries.now) known.old
         → IfOk result (λ found. (found ≡ marked_among mark from (map (message_at (F.seen folder.old).stored) entries.now))
-        × AreMarksAmong next (map (message_at (F.seen folder.old).stored) entries.now) known.new.items) }
+        × AreKnown next (map (message_at (F.seen folder.old).stored) entries.now) known.new) }
     ensures there { F.is_honest ≡ true → AreThere entries.now (F.seen folder.old).stored → result ≢ Err ReadFault.Gone }
 {
-    for entry in entries {
-        if entry.uid.get() >= from && has_mark(folder, entry, known, mark)? {
+    known.passed.begin(mark, from);
+    let below = known.passed.below;
+    let first = entries.partition_point(|entry| entry.uid.get() < below);
+    for entry in &entries[first..] {
+        let found = known_mark(folder, entry, &mut known.by_uid)?;
+        known.passed.pass(entry.uid, found)?;
+        if found == Some(mark) {
             return Ok(Some(entry.uid));
         }
     }
     Ok(None)
-}
-
-/// Whether a message has the mark.
-fn has_mark<F: Folder>(
-    folder: &mut F,
-    entry: &Entry,
-    known: &mut Vec<KnownMark>,
-    mark: Tuid,
-) -> Result<bool, ReadFault>
-    ensures reads { Reads (F.seen folder.old) (F.seen folder.new) result }
-    ensures keeps { F.is_honest ≡ true → (F.seen folder.new).stored ≡ (F.seen folder.old).stored }
-    ensures mark { F.is_honest ≡ true → IsThere (F.seen folder.old).stored entry.now
-        → AreMarksOfFile (F.seen folder.old).stored entry.now known.old.items
-        → IfOk result (λ is. is ≡ is_mark (mark_of (message_at (F.seen folder.old).stored entry.now).bytes) mark) }
-    ensures known { F.is_honest ≡ true → IsThere (F.seen folder.old).stored entry.now → (next : ℕ) → (messages : List Message)
-        → IsMarkAmong next messages (mark_at (F.seen folder.old).stored entry.now) → AreMarksAmong next messages known.old.items
-        → OnOk result (AreMarksAmong next messages known.new.items) }
-    ensures there { F.is_honest ≡ true → IsThere (F.seen folder.old).stored entry.now → result ≢ Err ReadFault.Gone }
-{
-    let found = known_mark(folder, entry, known)?;
-    Ok(found == Some(mark))
 }
 
 /// The mark of a message, which is read unless it is known.

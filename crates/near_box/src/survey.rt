@@ -12,7 +12,7 @@ ghost use Rattle.maildir.specs.Names.{name_of};
 ghost use Rattle.near_box.specs.NearCalls.{Looks};
 ghost use Rattle.near_box.specs.SurveyParts.{IsKind, IsOwnFault, SurveyTells, file_cmp, is_before, named_entry, waits};
 
-use crate::known_mark::KnownMark;
+use crate::known_mark::KnownMarks;
 use crate::near_fault::NearFault;
 use mailcore::octets::Octets;
 use mailcore::uid::Uid;
@@ -45,8 +45,8 @@ pub struct Survey {
     pub meta: Meta,
     /// Whether there is a meta file.
     pub has_meta: bool,
-    /// The marks of the messages that were read for them, in the order of their UIDs.
-    pub marks: Vec<KnownMark>,
+    /// What is known of the marks of the messages.
+    pub marks: KnownMarks,
 }
 
 /// What stands in a folder, whose validity is `fresh` where it has no meta file. It reads and changes nothing.
@@ -98,7 +98,7 @@ fn survey_from(
         waiting,
         meta,
         has_meta,
-        marks: Vec::new(alloc),
+        marks: KnownMarks::new(alloc),
     })
 }
 

@@ -1,76 +1,70 @@
-use Rattle.std.proofs.Common.{leb, map, rules, arith, sym, subst, ◌∙◌}
-use Rattle.mailcore.specs.Content.{mark_of}
+use Rattle.std.proofs.Common.{rules, arith, ◌+◌, ltb, map}
+use Rattle.std.proofs.lemmas.List.Sorted.{IsPartitionPoint-from_clause, IsPartitionedBy-ltb}
+use Rattle.near_box.specs.declared.survey.Entry.{Entry}
 use Rattle.near_box.specs.Entries.{message_at}
-use Rattle.mailcore.specs.Operations.{is_mark}
-use Rattle.maildir.specs.Folders.{Stored}
-use Rattle.near_box.specs.KnownMarks.{AreMarksOfFile, IsMarkAmong, mark_at}
-use Rattle.near_box.proofs.KnownMarkLemmas.{known_of_file, mark_of_file}
-use Rattle.near_box.proofs.ReadLemmas.{entry_there, marked_here, marked_nowhere, marked_passed, mark_there, and_left, and_right, above_test}
-use Rattle.near_box.proofs.reading.find_mark.Goals.{else-get-from-via-then-get-from+in_ok-has_mark+else-branch, else-get-from-via-else-get-from}
+use Rattle.near_box.proofs.SearchLemmas.{end_of_rest, entry_of_rest, next_known, place_of_rest, search_begins, search_ends, search_finds, search_goes_on}
 use Rattle.near_box.proofs.reading.find_mark.Goals as goal
+
+pub loop-entry-init : goal.loop-entry-init
+loop-entry-init g c = record {
+  keeps = search rules;
+  stops = search rules;
+  whole = search rules;
+  within = search rules;
+  at = λ honest there next rising within are.
+      let s = (g.F.Folder.seen c.args.folder.now).stored in
+      let es = c.args.entries.now in
+      let first = c.partition_point-first.result in
+      let below = c.begin.new.self.below in
+      search_begins s es c.args.mark c.args.from next first (first + 0) c.args.known.now c.begin.new.self (omega arith) c.partition_point-first.ensures.bound rising are
+      (c.begin.ensures.passed next (map (message_at s) es) are.passed) c.begin.ensures.reaches.1 (c.begin.ensures.other next (map (message_at s) es) are.passed)
+      (λ order. IsPartitionPoint-from_clause (λ (e : Entry). ltb e.uid below) _ _ c.partition_point-first.ensures.partitioned (IsPartitionedBy-ltb (λ (e : Entry). e.uid) _ below order) (λ a r q k. search rules));
+}
 
 pub loop-entry-preserved : goal.loop-entry-preserved
 loop-entry-preserved g c = record {
   keeps = search rules;
   stops = search rules;
   whole = search rules;
-  known = λ honest there next rising within are.
+  within = search rules;
+  at = λ honest there next rising within are.
       let s = (g.F.Folder.seen c.args.folder.now).stored in
       let t = (g.F.Folder.seen c.loop-entry.folder).stored in
       let es = c.args.entries.now in
+      let first = c.partition_point-first.result in
       let i = c.loop-entry.entry-index in
       let entry = c.entry-item.result in
-      let so_far = c.loop-entry.invariant.known honest there next rising within are in
-      let same = c.loop-entry.invariant.keeps honest in
-      let here = entry_there s t es i entry (omega arith) c.entry-item.is there same in
-      let own = mark_of_file s es i entry next (omega arith) c.entry-item.is rising within in
-      elim c.else-get-from.branch [
-        | else-get-from-via-then-get-from+in_ok-has_mark+else-branch w ↦
-            rw (w.known-is) (w.in_ok-has_mark.ensures.known honest here next (map (message_at s) es) (subst (λ (u : Stored). IsMarkAmong next (map (message_at s) es) (mark_at u entry)) (sym same) own) so_far)
-        | else-get-from-via-else-get-from w ↦ rw (w.known-is) so_far
-      ];
-  none_before = λ honest there next rising within are.
-      let s = (g.F.Folder.seen c.args.folder.now).stored in
-      let t = (g.F.Folder.seen c.loop-entry.folder).stored in
-      let es = c.args.entries.now in
-      let i = c.loop-entry.entry-index in
-      let entry = c.entry-item.result in
-      let mark = c.args.mark in
-      let passed = marked_passed mark c.args.from s es i entry (omega arith) c.entry-item.is in
-      let so_far = c.loop-entry.invariant.none_before honest there next rising within are in
-      let known = c.loop-entry.invariant.known honest there next rising within are in
-      let same = c.loop-entry.invariant.keeps honest in
-      let here = entry_there s t es i entry (omega arith) c.entry-item.is there same in
-      elim c.else-get-from.branch [
-        | else-get-from-via-then-get-from+in_ok-has_mark+else-branch w ↦
-            (let other = mark_there mark s t entry _ same (w.in_ok-has_mark.ensures.mark honest here (subst (λ (u : Stored). AreMarksOfFile u entry c.loop-entry.known.items) (sym same) (known_of_file s es i entry next c.loop-entry.known.items (omega arith) c.entry-item.is known))) in
-            passed (and_right (leb c.args.from entry.uid) (is_mark (mark_of (message_at s entry).bytes) mark) (sym other ∙ w.if-branch.false)) ∙ so_far)
-        | else-get-from-via-else-get-from w ↦
-            passed (and_left (leb c.args.from entry.uid) (is_mark (mark_of (message_at s entry).bytes) mark) (above_test c.args.from entry.uid (omega arith))) ∙ so_far
-      ];
+      let at = c.loop-entry.invariant.at honest there next rising within are in
+      let here = place_of_rest es first i c.loop-entry-test.true in
+      let is = entry_of_rest es first i entry c.entry-item.is in
+      let known = next_known s t es c.args.mark c.args.from next (first + i) c.loop-entry.known (record { by_uid = c.known_mark.new.known; passed = c.pass.new.self }) entry c.in_ok-found.found at here is rising there within
+      (c.loop-entry.invariant.keeps honest) (c.in_ok-found.ensures.mark honest) (c.in_ok-found.ensures.known honest) c.in_ok-pass.ensures.passed in
+      search_goes_on s es c.args.mark c.args.from next (first + i) _ c.loop-entry.known _ entry c.in_ok-found.found at (omega arith) here is rising known.0 (search rules) known.1 c.in_ok-pass.ensures.range.1;
 }
 
-pub returns-then-branch-clause-found : goal.returns-then-branch-clause-found
-returns-then-branch-clause-found g c = λ honest there next rising within are.
+pub returns-then-eq-clause-found : goal.returns-then-eq-clause-found
+returns-then-eq-clause-found g c = λ honest there next rising within are.
     let s = (g.F.Folder.seen c.args.folder.now).stored in
     let t = (g.F.Folder.seen c.loop-entry.folder).stored in
     let es = c.args.entries.now in
+    let first = c.partition_point-first.result in
     let i = c.loop-entry.entry-index in
     let entry = c.entry-item.result in
-    let known = c.loop-entry.invariant.known honest there next rising within are in
-    let same = c.loop-entry.invariant.keeps honest in
-    let here = entry_there s t es i entry (omega arith) c.entry-item.is there same in
-    let own = mark_of_file s es i entry next (omega arith) c.entry-item.is rising within in
-    let of_file = known_of_file s es i entry next c.loop-entry.known.items (omega arith) c.entry-item.is known in
-    let holds = mark_there c.args.mark s t entry _ same (c.in_ok-has_mark.ensures.mark honest here (subst (λ (u : Stored). AreMarksOfFile u entry c.loop-entry.known.items) (sym same) of_file)) in (
-      marked_here c.args.mark c.args.from s es i entry (omega arith) c.entry-item.is (omega arith) (sym holds ∙ c.if-branch.true)
-          ∙ c.loop-entry.invariant.none_before honest there next rising within are,
-      c.in_ok-has_mark.ensures.known honest here next (map (message_at s) es) (subst (λ (u : Stored). IsMarkAmong next (map (message_at s) es) (mark_at u entry)) (sym same) own) known,
+    let at = c.loop-entry.invariant.at honest there next rising within are in
+    let here = place_of_rest es first i c.loop-entry-test.true in
+    let is = entry_of_rest es first i entry c.entry-item.is in
+    let known = next_known s t es c.args.mark c.args.from next (first + i) c.loop-entry.known (record { by_uid = c.known_mark.new.known; passed = c.pass.new.self }) entry c.in_ok-found.found at here is rising there within
+    (c.loop-entry.invariant.keeps honest) (c.in_ok-found.ensures.mark honest) (c.in_ok-found.ensures.known honest) c.in_ok-pass.ensures.passed in (
+      search_finds s es c.args.mark c.args.from next (first + i) c.loop-entry.known entry c.in_ok-found.found at here is known.0 (search rules),
+      known.1,
     )
 
 pub returns-clause-found : goal.returns-clause-found
-returns-clause-found g c = λ honest there next rising within are. (
-  marked_nowhere c.args.mark c.args.from (g.F.Folder.seen c.args.folder.now).stored c.args.entries.now c.loop-entry.entry-index (omega arith)
-      ∙ c.loop-entry.invariant.none_before honest there next rising within are,
-  c.loop-entry.invariant.known honest there next rising within are,
-)
+returns-clause-found g c = λ honest there next rising within are.
+    let s = (g.F.Folder.seen c.args.folder.now).stored in
+    let es = c.args.entries.now in
+    let first = c.partition_point-first.result in
+    let at = c.loop-entry.invariant.at honest there next rising within are in (
+      search_ends s es c.args.mark c.args.from next (first + c.loop-entry.entry-index) c.loop-entry.known at (end_of_rest es first c.loop-entry.entry-index c.loop-entry-test.false),
+      at.are_known,
+    )

@@ -28,4 +28,4 @@ returns-clause-tells c = λ s lists text.
     let found = subst (λ (l : List Entry). IsPermutation l c.sort.new.self.entries.items) c.in_ok-found.ensures.entries c.sort.ensures.entries in
     let waiting = subst (λ (l : List FileName). IsPermutation l c.sort.new.self.waiting.items) c.in_ok-found.ensures.waiting c.sort.ensures.waiting in
     surveyed _ _ s c.args.names.items lists found (subst (λ (l : List Entry). AllPairs (λ a b. a.uid < b.uid) l) c.deref.ensures.value c.if-not-rise.ensures) waiting c.in_ok-sort.ensures.in_order
-    (ap (meta_in (non_zero_u32_get c.args.fresh)) (sym text) ∙ sym c.meta_from.ensures.value ∙ c.in-Some.is) (search rules) (search rules) (search rules)
+    (ap (meta_in (non_zero_u32_get c.args.fresh)) (sym text) ∙ sym c.meta_from.ensures.value ∙ c.in-Some.is) (search rules) (search rules) c.new.ensures

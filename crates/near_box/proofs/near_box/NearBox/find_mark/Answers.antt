@@ -21,7 +21,7 @@ invariant_of-self-2-clause-surveys g c = λ ready honest.
     let now = c.begin.new.self in
     let s = (g.F.Folder.seen now.folder).stored in
     let surveys = c.in_ok-begin.ensures.surveys honest in
-    let marked = near_marked now.survey now.survey now.fresh s s c.deref.result.now c.args.mark c.args.from c.in-Ok.found now.survey.marks.items c.find_mark.new.known.items
+    let marked = near_marked now.survey now.survey now.fresh s s c.deref.result.now c.args.mark c.args.from c.in-Ok.found now.survey.marks c.find_mark.new.known
     surveys refl c.deref.ensures.value refl refl (c.in-Ok.ensures.found honest) in
     surveys_marked now.survey _ now.fresh s (g.F.Folder.seen c.find_mark.new.folder).stored surveys (c.in-Ok.ensures.keeps honest) refl refl refl refl marked.1
 
@@ -29,7 +29,7 @@ pub returns-clause-found : goal.returns-clause-found
 returns-clause-found g c = λ honest.
     let old = c.args.self.now in
     let now = c.begin.new.self in
-    let marked = near_marked old.survey now.survey old.fresh (g.F.Folder.seen old.folder).stored (g.F.Folder.seen now.folder).stored c.deref.result.now c.args.mark c.args.from c.in-Ok.found now.survey.marks.items c.find_mark.new.known.items
+    let marked = near_marked old.survey now.survey old.fresh (g.F.Folder.seen old.folder).stored (g.F.Folder.seen now.folder).stored c.deref.result.now c.args.mark c.args.from c.in-Ok.found now.survey.marks c.find_mark.new.known
     (old.surveys c.in_ok-begin.ensures.ready honest) c.in_ok-begin.ensures.same.0 c.deref.ensures.value refl (ap (λ f. (g.F.Folder.seen f).stored) c.in_ok-begin.ensures.folder)
     (c.in-Ok.ensures.found honest) in
     marked.0

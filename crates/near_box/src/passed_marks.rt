@@ -1,0 +1,65 @@
+//! The marks of messages that a search went past, so that a search for another mark goes on behind them.
+
+ghost use Rattle.std.specs.Prelude.{◌≡◌, ◌<◌, ◌≤◌, ◌+◌, false, List, ℕ, All, OnOk};
+ghost use Rattle.mailcore.specs.declared.mailbox.Message.{Message};
+ghost use Rattle.mailcore.specs.Content.{mark_of};
+ghost use Rattle.mailcore.specs.Operations.{is_mark};
+ghost use Rattle.near_box.specs.KnownMarks.{ArePassed};
+
+use mailcore::tuid::Tuid;
+use mailcore::uid::Uid;
+use std::alloc::{AllocError, Global};
+use std::collections::HashSet;
+
+/// The messages of a range of UIDs, by the marks that they bear.
+#[derive(Debug, Drop)]
+pub struct PassedMarks {
+    /// The first UID of the range.
+    pub from: u32,
+    /// The UID behind its last one.
+    pub below: u32,
+    /// The marks of its messages, and those of others that were passed.
+    pub marks: HashSet<Tuid>,
+}
+
+impl PassedMarks {
+    /// Those of no message.
+    pub fn new(alloc: Global) -> Self
+        ensures { (next : ℕ) (messages : List Message) → ArePassed next messages result }
+    {
+        PassedMarks {
+            from: 0,
+            below: 0,
+            marks: HashSet::new(alloc),
+        }
+    }
+
+    /// Begins a search for a mark from a UID on, which goes on behind the range: that stays where the search may pass it, and is
+    /// else an empty one at the UID.
+    pub fn begin(&mut self, mark: Tuid, from: u32)
+        ensures reaches { (self.new.from ≤ from) × (from ≤ self.new.below) }
+        ensures passed { (next : ℕ) (messages : List Message) → ArePassed next messages self.old → ArePassed next messages self.new }
+        ensures other { (next : ℕ) (messages : List Message) → ArePassed next messages self.old
+            → All (λ m. from ≤ m.uid → m.uid < self.new.below → is_mark (mark_of m.bytes) mark ≡ false) messages }
+    {
+        let reaches = self.from <= from && from <= self.below;
+        if !reaches || self.marks.contains(&mark) {
+            self.from = from;
+            self.below = from;
+        }
+    }
+
+    /// The search went past the message with this UID, which bears this mark, or none, and is the first one behind the range.
+    pub fn pass(&mut self, uid: Uid, mark: Option<Tuid>) -> Result<(), AllocError>
+        ensures range { OnOk result ((self.new.from ≡ self.old.from) × (self.new.below ≡ uid + 1)) }
+        ensures passed { (next : ℕ) (messages : List Message) → uid < next → ArePassed next messages self.old
+            → All (λ m. self.old.below ≤ m.uid → m.uid ≤ uid → mark_of m.bytes ≡ mark) messages
+            → OnOk result (ArePassed next messages self.new) }
+    {
+        if let Some(mark) = mark {
+            self.marks.insert(mark)?;
+        }
+        self.below = uid.get() + 1;
+        Ok(())
+    }
+}
