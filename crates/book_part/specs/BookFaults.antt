@@ -14,7 +14,3 @@ told book.NoMemory = outside.NoMemory
 abbrev pub told_by : {T : Type 0} → Result T BookFault → Result T OutsideFault
 told_by (Ok answer) = Ok answer
 told_by (Err fault) = Err (told fault)
-
-abbrev pub is_fault : {T E : Type 0} → Result T E → Bool
-is_fault (Ok answer) = false
-is_fault (Err fault) = true

@@ -38,13 +38,6 @@ entries_rise es pairs i j d order within = elim (cases_lt i j) [
 -- ---- places
 
 -- what fails in front is passed over
-pub find_behind : {X : Type 0} (test : X → Bool) (xs : List X) (k : ℕ) → k ≤ length xs → AllWithin (λ x. test x ≡ false) xs 0 k → find test xs ≡ find test (drop k xs)
-find_behind test xs zero within fail = refl
-find_behind test [] (suc k) within fail = refl
-find_behind test (x ∷ xs) (suc k) within fail =
-    let first : test x ≡ false = fail 0 x (omega arith) (omega arith) in
-    rw first (find_behind test xs k (omega arith) (λ j d a b. fail (suc j) d (omega arith) (omega arith)))
-
 pub filter_behind : {X : Type 0} (test : X → Bool) (xs : List X) (k : ℕ) → k ≤ length xs → AllWithin (λ x. test x ≡ false) xs 0 k → filter test xs ≡ filter test (drop k xs)
 filter_behind test xs zero within fail = refl
 filter_behind test [] (suc k) within fail = refl
