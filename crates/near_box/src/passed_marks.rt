@@ -18,7 +18,7 @@ pub struct PassedMarks {
     pub from: u32,
     /// The UID behind its last one.
     pub below: u32,
-    /// The marks of its messages, and those of others that were passed.
+    /// The marks of its messages, also of those that are gone by now.
     pub marks: HashSet<Tuid>,
 }
 
@@ -46,6 +46,7 @@ impl PassedMarks {
         if !reaches || self.marks.contains(&mark) {
             self.from = from;
             self.below = from;
+            self.marks.clear();
         }
     }
 
