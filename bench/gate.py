@@ -1,13 +1,17 @@
 #!/usr/bin/env python3
 """Runs the gate on a clean clone of HEAD and prints what it cost, crate by crate, as the table of docs/GATE.md.
 
-usage: bench/gate.py [LOG]
+usage: bench/gate.py [--kept] [LOG]
 
-The gate is `rt ci`. What it prints goes to LOG (gate.log in the folder for temporary files where none is given). Minutes
-are processor minutes, asked of the system twice a second while the checks run: a check's last half second may be missing,
-and what no check used (compilers, linkers, the programs) is told in the line `all else`. Run it with nothing beside it.
+The gate is `rt ci`, and here it proves all anew: what earlier runs on this machine kept is not taken, unless `--kept` asks
+for it; the table then has what was left to do. What the gate prints goes to LOG (gate.log in the folder for temporary files
+where none is given). Minutes are processor minutes, asked of the system twice a second while the checks run: a check's last
+half second may be missing, and what no check used (compilers, linkers, the programs) is told in the line `all else`. Run it
+with nothing beside it. Control-C ends it, and prints what it cost so far.
 """
+import argparse
 import collections
+import contextlib
 import os
 import resource
 import subprocess
@@ -76,15 +80,18 @@ def sample(gate, checks):
             continue
 
 
-def run_gate(clone, log):
+def run_gate(clone, log, flags):
     """The exit status, the minutes on the clock and of the processors, and the checks."""
     before = resource.getrusage(resource.RUSAGE_CHILDREN)
     began, checks = time.monotonic(), {}
     with open(log, "wb") as out:
-        gate = subprocess.Popen(["rt", "ci"], cwd=clone, stdout=out, stderr=subprocess.STDOUT)
-        while gate.poll() is None:
-            sample(str(gate.pid), checks)
-            time.sleep(0.5)
+        gate = subprocess.Popen(["rt", "ci", *flags], cwd=clone, stdout=out, stderr=subprocess.STDOUT)
+        with contextlib.suppress(KeyboardInterrupt):
+            while gate.poll() is None:
+                sample(str(gate.pid), checks)
+                time.sleep(0.5)
+        # Control-C ended rt too, which may still have files to put back.
+        gate.wait()
     after = resource.getrusage(resource.RUSAGE_CHILDREN)
     used = after.ru_utime + after.ru_stime - before.ru_utime - before.ru_stime
     return gate.returncode, (time.monotonic() - began) / 60, used / 60, checks.values()
@@ -109,11 +116,15 @@ def print_table(clone, used, checks):
 
 
 def main():
-    log = os.path.abspath(sys.argv[1]) if len(sys.argv) > 1 else os.path.join(tempfile.gettempdir(), "gate.log")
+    parser = argparse.ArgumentParser(description=__doc__, formatter_class=argparse.RawDescriptionHelpFormatter)
+    parser.add_argument("--kept", action="store_true")
+    parser.add_argument("log", nargs="?", metavar="LOG", default=os.path.join(tempfile.gettempdir(), "gate.log"))
+    given = parser.parse_args()
+    log = os.path.abspath(given.log)
     with tempfile.TemporaryDirectory(prefix="gate-") as room:
         clone = f"{room}/clone"
         subprocess.run(["git", "clone", "-q", TOP, clone], check=True)
-        status, clock, used, checks = run_gate(clone, log)
+        status, clock, used, checks = run_gate(clone, log, [] if given.kept else ["--anew"])
         print_table(clone, used, checks)
     with open(log, encoding="utf-8", errors="replace") as text:
         last = text.read().rstrip().rpartition("\n")[2]

@@ -5,8 +5,8 @@ ghost use Rattle.channels.specs.Founds.{absent_in};
 ghost use Rattle.choosing.specs.Boxes.{Tells, boxes_among};
 
 use crate::told_stores::ToldStores;
+use box_patterns::patterns::Patterns;
 use choosing::boxes::{boxes_among, stands_in};
-use config::patterns::Patterns;
 use mailcore::mailbox_name::MailboxName;
 use rules::options::Sides;
 use std::alloc::{AllocError, Global};

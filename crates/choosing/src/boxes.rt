@@ -4,7 +4,7 @@ ghost use Rattle.std.specs.Prelude.{◌≡◌, ◌≤◌, Bool, List, ℕ, lengt
 ghost use Rattle.std.specs.List.{filter, insert};
 ghost use Rattle.choosing.specs.Boxes.{Rises, Tells, boxes_among, place_from, put_name, put_names, stands_in};
 
-use config::patterns::{Patterns, matches};
+use box_patterns::patterns::{Patterns, matches};
 use mailcore::mailbox_name::MailboxName;
 use std::alloc::{AllocError, Global};
 use std::cmp::Ordering;

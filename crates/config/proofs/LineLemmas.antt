@@ -3,7 +3,7 @@ use Rattle.std.proofs.Common.{◌≡◌, ◌≢◌, ℕ, ◌+◌, ◌<◌, Bool,
 use Rattle.std.specs.Prelude.{All, max}
 use Rattle.std.proofs.lemmas.Bool.{ne_eqb}
 use Rattle.std.proofs.lemmas.List.Elements.{All-head, All-tail}
-use Rattle.config.specs.Faults.{line_count}
+use Rattle.config.specs.Lines.{line_count}
 
 in_line : (b : ℕ) (bs : List ℕ) → b ≢ 10 → line_count (b ∷ bs) ≡ max 1 (line_count bs)
 in_line b bs other = ap (λ (t : Bool). cond t (line_count bs + 1) (max 1 (line_count bs))) (ne_eqb b 10 other)

@@ -2,15 +2,15 @@
 use Rattle.std.proofs.Common.{◌≡◌, ℕ, Bool, true, false, List, [], ◌∷◌, refl, ap, subst, sym, ◌∙◌, map}
 use Rattle.std.specs.Prelude.{nat_eq, ◌||◌, ◌&&◌, not, Option, Some, None, Result, IfSome, if◌then◌else◌}
 use Rattle.std.specs.List.{list_all, list_any}
-use Rattle.config.specs.declared.keyword.Place.{Place}
-use Rattle.config.specs.declared.fault.FaultKind.{FaultKind}
-use Rattle.config.specs.declared.keyword.Keyword.{Keyword}
+use Rattle.config_words.specs.declared.keyword.Place.{Place}
+use Rattle.config_words.specs.declared.fault.FaultKind.{FaultKind}
+use Rattle.config_words.specs.declared.keyword.Keyword.{Keyword}
 use Rattle.config.specs.Drafts.{IsMet, IsMisplaced, IsTaken, given}
-use Rattle.config.specs.Keywords.{opened_by, section_of}
-use Rattle.config.specs.Places.{is_section, opened, section_named}
-use Rattle.config.specs.Settings.{is_argument, name_given}
+use Rattle.config_words.specs.Keywords.{opened_by, section_of}
+use Rattle.config_words.specs.Places.{is_section, opened, section_named}
+use Rattle.config_words.specs.Settings.{is_argument, name_given}
 use Rattle.config.specs.Standing.{Standing, begins_again, begun, is_again, name_of, named, standing_at}
-use Rattle.config.specs.Words.{arguments_of, is_plain}
+use Rattle.config_words.specs.Words.{arguments_of, is_plain}
 
 pub any_map : {A : Type 0} (f : A → List ℕ) (p : List ℕ → Bool) (xs : List A) → list_any (λ x. p (f x)) xs ≡ list_any p (map f xs)
 any_map f p [] = refl

@@ -8,11 +8,12 @@ use Rattle.std.proofs.lemmas.List.Sums.{fold-append}
 use Rattle.std.proofs.Math.Seq.{drop-cons}
 use Rattle.std.proofs.lemmas.Bool.Decides.{nat_tests}
 use Rattle.std.proofs.lemmas.List.Elements.{All-head, All-tail, All-push, All-nil, All-cons, Contains-append_left, Contains-push}
-use Rattle.config.specs.declared.fault.ConfigFault.{ConfigFault}
-use Rattle.config.specs.declared.fault.FaultKind.{FaultKind}
-use Rattle.config.specs.declared.fault.FaultKind.TheVariants.{DefinedTwice, NoMemory}
-use Rattle.config.specs.Faults.{number_of}
-use Rattle.config.specs.Outlines.{IsToldBy, IsToldOf, Tells, earlier, precedes}
+use Rattle.config_words.specs.declared.fault.ConfigFault.{ConfigFault}
+use Rattle.config_words.specs.declared.fault.FaultKind.{FaultKind}
+use Rattle.config_words.specs.declared.fault.FaultKind.TheVariants.{DefinedTwice, NoMemory}
+use Rattle.config_words.specs.Faults.{number_of}
+use Rattle.config_words.specs.Faults.{precedes}
+use Rattle.config.specs.Outlines.{IsToldBy, IsToldOf, Tells, earlier}
 use Rattle.config.specs.Standing.{lines_of, no_lines, outlined, put_before}
 
 -- ---- lines

@@ -3,15 +3,15 @@ use Rattle.std.proofs.Common.{◌≡◌, ℕ, ◌+◌, Bool, true, false, List, 
 use Rattle.std.specs.Prelude.{Option, Some, None, Result, Ok, Err, OnOk, MatchResult, fold, if◌then◌else◌}
 use Rattle.std.specs.declared.alloc.AllocError.{AllocError}
 use Rattle.config.specs.declared.config.Config.{Config}
-use Rattle.config.specs.declared.fault.ConfigFault.{ConfigFault}
-use Rattle.config.specs.declared.fault.FaultKind.{FaultKind}
-use Rattle.config.specs.declared.fault.FaultKind.TheVariants.{UnknownKeyword, WrongArguments, BadText, OutsideSection, KeywordTwice, UnknownName, DefinedTwice, KeywordMissing, CellTwice, NoMemory}
+use Rattle.config_words.specs.declared.fault.ConfigFault.{ConfigFault}
+use Rattle.config_words.specs.declared.fault.FaultKind.{FaultKind}
+use Rattle.config_words.specs.declared.fault.FaultKind.TheVariants.{UnknownKeyword, WrongArguments, BadText, OutsideSection, KeywordTwice, UnknownName, DefinedTwice, KeywordMissing, CellTwice, NoMemory}
 use Rattle.config.specs.declared.reading.Reading.{Reading}
 use Rattle.config.specs.Drafts.{IsTaken, standing_of}
 use Rattle.config.specs.Outlines.{IsBehindWords, IsOutlined, IsToldOf, Tells, earlier}
-use Rattle.config.specs.Places.{closed}
+use Rattle.config_words.specs.Places.{closed}
 use Rattle.config.specs.Standing.{Outline, Standing, behind_line, behind_words, is_line_again, lines_again, lines_of, no_lines, outlined, standing_at, words_again}
-use Rattle.config.specs.Words.{is_blank, words_of}
+use Rattle.config_words.specs.Words.{is_blank, words_of}
 use Rattle.config.proofs.OutlineLemmas.{all_taken, one_left, outlined_more, tells_again, tells_other}
 
 -- ---- what a line's words leave

@@ -1,15 +1,15 @@
 -- A configuration while it is read, as clauses see it.
 use Rattle.std.specs.Prelude.{ℕ, ◌≡◌, Bool, true, false, not, ◌&&◌, List, map, string_bytes, Option, Some, None, Result, Ok, Err, if◌then◌else◌}
 use Rattle.config.specs.declared.draft.Draft.{Draft}
-use Rattle.config.specs.declared.keyword.Place.{Place}
-use Rattle.config.specs.declared.keyword.Place.TheVariants as place
-use Rattle.config.specs.declared.fault.FaultKind.{FaultKind}
-use Rattle.config.specs.declared.fault.FaultKind.TheVariants.{OutsideSection, KeywordTwice, DefinedTwice, NoMemory}
+use Rattle.config_words.specs.declared.keyword.Place.{Place}
+use Rattle.config_words.specs.declared.keyword.Place.TheVariants as place
+use Rattle.config_words.specs.declared.fault.FaultKind.{FaultKind}
+use Rattle.config_words.specs.declared.fault.FaultKind.TheVariants.{OutsideSection, KeywordTwice, DefinedTwice, NoMemory}
 use Rattle.config.specs.declared.section.Section.{Section}
 use Rattle.config.specs.declared.section.Section.TheVariants.{Start, Between, ImapStore, MaildirStore, Channel, Group}
-use Rattle.config.specs.Settings.{name_given}
+use Rattle.config_words.specs.Settings.{name_given}
 use Rattle.config.specs.Standing.{Standing, standing_at}
-use Rattle.config.specs.Words.{Split, arguments_of, is_plain}
+use Rattle.config_words.specs.Words.{Split, arguments_of, is_plain}
 
 abbrev pub place_of : Section → Place
 place_of Start = place.Start

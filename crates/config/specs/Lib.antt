@@ -1,14 +1,8 @@
-pub mod Patterns
-pub mod Matching
-pub mod Faults
-pub mod BoxNames
+pub use Rattle.config_words.specs.Places
+pub use Rattle.config_words.specs.Words
+pub mod Lines
 pub mod Readings
-pub mod Places
-pub mod Keywords
-pub mod Words
-pub mod Splitters
 pub mod Names
-pub mod Settings
 pub mod Standing
 pub mod Drafts
 pub mod Outlines

@@ -2,8 +2,8 @@
 use Rattle.std.specs.Prelude.{ℕ, ◌≡◌, nat_eq, Bool, true, false, List, [], ◌∷◌, ◌++◌, Result, Ok, Err}
 use Rattle.std.specs.List.{list_any}
 use Rattle.std.specs.Cmp.Lexicographic.{pointwise}
-use Rattle.config.specs.declared.fault.FaultKind.{FaultKind}
-use Rattle.config.specs.declared.fault.FaultKind.TheVariants.{DefinedTwice, NoMemory}
+use Rattle.config_words.specs.declared.fault.FaultKind.{FaultKind}
+use Rattle.config_words.specs.declared.fault.FaultKind.TheVariants.{DefinedTwice, NoMemory}
 
 abbrev pub is_taken : (name : List ℕ) (names : List (List ℕ)) → Bool
 is_taken name names = list_any (λ other. pointwise nat_eq other name) names

@@ -1,16 +1,12 @@
 -- What a reading has told so far of the names that are defined twice.
-use Rattle.std.specs.Prelude.{ℕ, ◌≡◌, ◌≢◌, ◌==◌, ◌<◌, ◌≤◌, ◌⊎◌, ◌&&◌, ◌||◌, nat_lt, nat_le, Bool, List, [], ◌∷◌, ◌++◌, All, Contains, Option, Some, None, if◌then◌else◌}
-use Rattle.config.specs.declared.fault.ConfigFault.{ConfigFault}
-use Rattle.config.specs.declared.fault.FaultKind.{FaultKind}
-use Rattle.config.specs.declared.fault.FaultKind.TheVariants.{DefinedTwice, NoMemory}
+use Rattle.std.specs.Prelude.{ℕ, ◌≡◌, ◌≢◌, ◌<◌, ◌≤◌, ◌⊎◌, List, [], ◌∷◌, ◌++◌, All, Contains, Option, Some, None, if◌then◌else◌}
+use Rattle.config_words.specs.declared.fault.ConfigFault.{ConfigFault}
+use Rattle.config_words.specs.declared.fault.FaultKind.{FaultKind}
+use Rattle.config_words.specs.declared.fault.FaultKind.TheVariants.{DefinedTwice, NoMemory}
 use Rattle.config.specs.declared.reading.Reading.{Reading}
 use Rattle.config.specs.Drafts.{standing_of}
-use Rattle.config.specs.Faults.{number_of}
+use Rattle.config_words.specs.Faults.{number_of, precedes}
 use Rattle.config.specs.Standing.{Outline, Standing, behind_words, words_again}
-
--- of two faults that of the lower line is told, and on one line the one with the lower number
-abbrev pub precedes : ConfigFault → ConfigFault → Bool
-precedes f g = nat_lt f.line g.line || f.line == g.line && nat_le (number_of f.kind) (number_of g.kind)
 
 abbrev pub earlier : Option ConfigFault → ConfigFault → ConfigFault
 earlier None fault = fault

@@ -1,7 +1,7 @@
 -- What is known of a configuration while it is read.
 use Rattle.std.specs.Prelude.{ℕ, ◌<◌, ◌≤◌, All, IfSome}
 use Rattle.config.specs.declared.reading.Reading.{Reading}
-use Rattle.config.specs.Faults.{IsUpTo}
+use Rattle.config.specs.Lines.{IsUpTo}
 
 -- a line from 1 to this one
 abbrev pub IsLine : (last line : ℕ) → Type 0

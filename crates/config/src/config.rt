@@ -2,7 +2,7 @@
 
 ghost use Rattle.std.specs.Prelude.{◌≡◌, []};
 
-use crate::patterns::Patterns;
+use box_patterns::patterns::Patterns;
 use mailcore::mailbox_name::MailboxName;
 use rules::options::{Cells, Sides};
 use std::alloc::Global;

@@ -2,18 +2,18 @@
 
 ghost use Rattle.std.specs.Prelude.{◌≡◌, IfOk, IfSome, OnOk, false, string_bytes};
 ghost use Rattle.config.specs.Drafts.{IsMet, IsMisplaced, IsTaken, given, standing_of};
-ghost use Rattle.config.specs.Keywords.{section_of};
-ghost use Rattle.config.specs.Places.{closed, is_section, opened};
-ghost use Rattle.config.specs.Settings.{name_said};
+ghost use Rattle.config_words.specs.Keywords.{section_of};
+ghost use Rattle.config_words.specs.Places.{closed, is_section, opened};
+ghost use Rattle.config_words.specs.Settings.{name_said};
 ghost use Rattle.config.specs.Standing.{before_all, begins_again, begun, is_again, named, standing_at};
 
 use crate::config::{Config, Group};
-use crate::fault::FaultKind;
-use crate::keyword::{Keyword, Place};
 use crate::names::claim;
 use crate::section::{Manner, Section};
-use crate::setting::{BoxPlace, Setting};
-use crate::words::{Arguments, is_plain};
+use config_words::fault::FaultKind;
+use config_words::keyword::{Keyword, Place};
+use config_words::setting::{BoxPlace, Setting};
+use config_words::words::{Arguments, is_plain};
 use std::alloc::{AllocError, Global};
 use std::mem;
 

@@ -1,7 +1,7 @@
 //! The lines of a text, one after another.
 
 ghost use Rattle.std.specs.Prelude.{◌≡◌, ◌+◌, ◌<◌, ◌≤◌, ◌^◌, ◌∷◌, [], length, IfNone, IfSome, OnSome};
-ghost use Rattle.config.specs.Faults.{line_count};
+ghost use Rattle.config.specs.Lines.{line_count};
 ghost use Rattle.config.specs.Standing.{lines_of};
 
 use texts::cut::cut;

@@ -3,7 +3,7 @@
 ghost use Rattle.std.specs.Prelude.{◌≡◌, map, string_bytes};
 ghost use Rattle.config.specs.Names.{IsClaimed, is_taken};
 
-use crate::fault::FaultKind;
+use config_words::fault::FaultKind;
 
 /// Adds a name to others. `DefinedTwice`: it is one of them. `NoMemory`. After either nothing was added.
 pub(crate) fn claim(names: &mut Vec<String>, name: String) -> Result<(), FaultKind>

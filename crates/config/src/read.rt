@@ -1,14 +1,14 @@
 //! How a configuration is read from its text (docs/FORMATS.md, "Configuration").
 
 ghost use Rattle.std.specs.Prelude.{◌≡◌, ◌≢◌, [], IfErr, MatchResult};
-ghost use Rattle.config.specs.Faults.{IsUpTo, line_count};
+ghost use Rattle.config.specs.Lines.{IsUpTo, line_count};
 ghost use Rattle.config.specs.Outlines.{IsToldOf};
 ghost use Rattle.config.specs.Standing.{lines_again};
 
 use crate::config::Config;
-use crate::fault::{ConfigFault, FaultKind};
 use crate::line::Lines;
 use crate::reading::Reading;
+use config_words::fault::{ConfigFault, FaultKind};
 use std::alloc::Global;
 
 /// The configuration that a text gives. The fault names the first faulty line and what is wrong with it, and of several

@@ -1,18 +1,18 @@
 //! The lines of a configuration, read one after another, and the first faulty one.
 
 ghost use Rattle.std.specs.Prelude.{◌≡◌, ◌<◌, ◌+◌, ℕ, List, [], All, IfErr, IfOk, IfSome, MatchResult, OnOk};
-ghost use Rattle.config.specs.Faults.{IsUpTo};
+ghost use Rattle.config.specs.Lines.{IsUpTo};
 ghost use Rattle.config.specs.Drafts.{standing_of};
 ghost use Rattle.config.specs.Outlines.{IsBehindWords, IsOutlined, IsToldOf, Tells, earlier};
-ghost use Rattle.config.specs.Places.{closed};
+ghost use Rattle.config_words.specs.Places.{closed};
 ghost use Rattle.config.specs.Readings.{IsLine, IsRead};
 ghost use Rattle.config.specs.Standing.{Outline, no_lines, outlined, standing_at};
 
 use crate::config::Config;
 use crate::draft::Draft;
-use crate::fault::{ConfigFault, FaultKind};
 use crate::line::Line;
-use crate::words::LineKind;
+use config_words::fault::{ConfigFault, FaultKind};
+use config_words::words::LineKind;
 use std::alloc::{AllocError, Global};
 
 /// A channel that a line adds to a group.

@@ -2,12 +2,12 @@
 
 ghost use Rattle.std.specs.Prelude.{◌≡◌, IsTrue};
 ghost use Rattle.config.specs.Drafts.{place_of};
-ghost use Rattle.config.specs.Settings.{name_said};
+ghost use Rattle.config_words.specs.Settings.{name_said};
 
 use crate::config::{Boxes, Channel, ImapStore, MaildirStore};
-use crate::keyword::Place;
-use crate::patterns::Patterns;
-use crate::setting::Setting;
+use box_patterns::patterns::Patterns;
+use config_words::keyword::Place;
+use config_words::setting::Setting;
 use mailcore::mailbox_name::MailboxName;
 use rules::options::{Cells, Directions, Sides};
 use std::alloc::{AllocError, Global};

@@ -1,6 +1,6 @@
 //! Why a run ends before the first channel.
 
-use config::fault::{ConfigFault, FaultKind};
+use config_words::fault::{ConfigFault, FaultKind};
 use std::alloc::{AllocError, AllocFailed, Global};
 use std::io;
 use std::io::ErrorKind;

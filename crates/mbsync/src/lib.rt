@@ -22,9 +22,9 @@ pub use rules::sync_words::{SyncFault, sync_ops};
 /// What a configuration file says.
 pub use config::config::{Boxes, Channel, Config, Group, ImapStore, MaildirStore};
 /// Why a text is no configuration, and at which line.
-pub use config::fault::{ConfigFault, FaultKind};
+pub use config_words::fault::{ConfigFault, FaultKind};
 /// Which mailboxes patterns choose.
-pub use config::patterns::{Pattern, Patterns, matches};
+pub use box_patterns::patterns::{Pattern, Patterns, matches};
 /// Reads a configuration.
 pub use config::read::read_config;
 /// Why the words of a command line ask for nothing.

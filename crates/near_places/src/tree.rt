@@ -2,7 +2,7 @@
 
 use crate::home::INBOX;
 use crate::refusal::Refusal;
-use config::box_name::is_box_name;
+use box_patterns::box_name::is_box_name;
 use device::disk::Disk;
 use std::alloc::AllocError;
 use std::io::ErrorKind;

@@ -19,7 +19,7 @@ use trial::attempts::settle_trial;
 use trial::folder::contents_of;
 use trial::report::Ending;
 use trial::shelf::state_in;
-use worlds::write::{WrittenMailbox, WrittenWorld, write_parts};
+use written_worlds::write::{WrittenMailbox, WrittenWorld, write_parts};
 
 /// Makes one run over an outside, and gives it back beside what the run came to.
 fn settle_all<O: Outside>(

@@ -1,6 +1,6 @@
 //! Why nothing is printed.
 
-use config::fault::ConfigFault;
+use config_words::fault::ConfigFault;
 use std::alloc::{AllocError, AllocFailed};
 use std::io;
 use std::io::ErrorKind;

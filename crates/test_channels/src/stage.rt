@@ -21,7 +21,7 @@ use worlds::line::Line;
 use worlds::read::read_world;
 use worlds::read_mailbox::read_bytes;
 use worlds::world::{Waiting, World};
-use worlds::write::{WrittenMailbox, WrittenWorld, write_parts};
+use written_worlds::write::{WrittenMailbox, WrittenWorld, write_parts};
 
 /// The stores of a case, before its run.
 pub fn stage_of(alloc: Global, case: &str) -> Result<MemStores, Failure> {

@@ -2,7 +2,7 @@
 
 use crate::failure::Failure;
 use config::config::{Boxes, Channel, Config, Group};
-use config::fault::{ConfigFault, FaultKind};
+use config_words::fault::{ConfigFault, FaultKind};
 use rules::options::{Cells, Sides};
 use std::alloc::AllocError;
 

@@ -2,7 +2,7 @@
 
 use crate::answer::push_read;
 use crate::failure::Failure;
-use config::patterns::{Pattern, Patterns, matches};
+use box_patterns::patterns::{Pattern, Patterns, matches};
 use config::read::read_config;
 use std::alloc::{AllocError, Global};
 use texts::escape::unescape;

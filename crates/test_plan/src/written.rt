@@ -4,7 +4,7 @@ use crate::failure::LineFault;
 use std::alloc::{AllocError, Global};
 use worlds::read::read_world;
 use worlds::world::{Waiting, World};
-use worlds::write::{write_from_far, write_world};
+use written_worlds::write::{write_from_far, write_world};
 
 /// What is written of a world.
 #[derive(Clone, Copy)]

@@ -19,7 +19,7 @@ use trial::attempts::settle_trial;
 use trial::report::Ending;
 use trial::shelf::{shelf_with, state_in};
 use worlds::world::{WaitingFile, World};
-use worlds::write::{WrittenMailbox, WrittenWorld, write_parts};
+use written_worlds::write::{WrittenMailbox, WrittenWorld, write_parts};
 
 /// A world in memory between two runs, and what a run may do.
 #[derive(Drop)]

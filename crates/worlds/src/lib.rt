@@ -1,4 +1,4 @@
-//! Worlds, the texts that hold two mailboxes and a state: how they are read and written, and how the lines of a plan are.
+//! Worlds, the texts that hold two mailboxes and a state: how they are read, and how the lines of a plan are written.
 #![tactic(auto)]
 
 pub mod fault;
@@ -11,4 +11,3 @@ mod read_state;
 pub mod trial_generator;
 pub mod words;
 pub mod world;
-pub mod write;

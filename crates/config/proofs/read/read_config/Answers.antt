@@ -1,5 +1,5 @@
 use Rattle.std.proofs.Common.{◌∙◌, ℕ, List, ap, arith, subst, sym}
-use Rattle.config.specs.Faults.{line_count}
+use Rattle.config.specs.Lines.{line_count}
 use Rattle.config.specs.Readings.{IsRead}
 use Rattle.config.specs.Standing.{lines_again}
 use Rattle.config.proofs.ReadingLemmas.{all_so_far, first_so_far, more_so_far, unless_memory}

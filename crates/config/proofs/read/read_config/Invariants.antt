@@ -1,5 +1,5 @@
 use Rattle.std.proofs.Common.{◌≡◌, ◌+◌, length}
-use Rattle.config.specs.Faults.{line_count}
+use Rattle.config.specs.Lines.{line_count}
 use Rattle.config.specs.Readings.{IsRead}
 use Rattle.config.proofs.ReadingLemmas.{IsSoFar}
 use Rattle.config.proofs.read.read_config.Given as goal

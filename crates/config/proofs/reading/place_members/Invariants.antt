@@ -1,6 +1,6 @@
 use Rattle.std.proofs.Common.{ℕ, List}
 use Rattle.std.specs.Prelude.{All, IfSome}
-use Rattle.config.specs.Faults.{IsUpTo}
+use Rattle.config.specs.Lines.{IsUpTo}
 use Rattle.config.specs.Outlines.{Tells}
 use Rattle.config.specs.Readings.{IsLine}
 use Rattle.config.proofs.reading.place_members.Given as goal

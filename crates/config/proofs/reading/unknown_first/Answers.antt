@@ -1,7 +1,7 @@
 use Rattle.std.proofs.Common.{subst, sym}
 use Rattle.std.specs.Prelude.{Some}
-use Rattle.config.specs.declared.fault.ConfigFault.{ConfigFault}
-use Rattle.config.specs.declared.fault.FaultKind.TheVariants.{UnknownName}
+use Rattle.config_words.specs.declared.fault.ConfigFault.{ConfigFault}
+use Rattle.config_words.specs.declared.fault.FaultKind.TheVariants.{UnknownName}
 use Rattle.config.specs.Outlines.{Tells}
 use Rattle.config.proofs.OutlineLemmas.{tells_other}
 use Rattle.config.proofs.reading.unknown_first.Goals as goal

@@ -1,9 +1,9 @@
 use Rattle.std.specs.Prelude.{Option}
 use Rattle.std.proofs.Common.{◌≡◌, subst}
-use Rattle.config.specs.declared.keyword.Place.{Place}
+use Rattle.config_words.specs.declared.keyword.Place.{Place}
 use Rattle.config.specs.Drafts.{IsTaken, place_of, standing_of}
-use Rattle.config.specs.Keywords.{opened_by, section_of}
-use Rattle.config.specs.Places.{is_section}
+use Rattle.config_words.specs.Keywords.{opened_by, section_of}
+use Rattle.config_words.specs.Places.{is_section}
 use Rattle.config.specs.Standing.{begins_again, begun}
 use Rattle.config.proofs.NameLemmas.{misplaced_so, opens_same, placed}
 use Rattle.config.proofs.draft.Draft.read.Goals as goal

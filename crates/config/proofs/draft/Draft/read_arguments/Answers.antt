@@ -1,10 +1,10 @@
 use Rattle.std.proofs.Common.{◌≡◌, ◌∙◌, ℕ, List, false, ap, map, refl, subst, sym, Global}
 use Rattle.std.specs.Prelude.{Option, None, String, string_bytes}
 use Rattle.config.specs.Drafts.{given, standing_of}
-use Rattle.config.specs.Keywords.{section_of}
-use Rattle.config.specs.Settings.{name_given}
+use Rattle.config_words.specs.Keywords.{section_of}
+use Rattle.config_words.specs.Settings.{name_given}
 use Rattle.config.specs.Standing.{is_again, named}
-use Rattle.config.specs.Words.{arguments_of}
+use Rattle.config_words.specs.Words.{arguments_of}
 use Rattle.config.proofs.NameLemmas.{nothing_said}
 use Rattle.config.proofs.draft.Draft.read_arguments.Goals as goal
 

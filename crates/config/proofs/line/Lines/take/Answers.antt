@@ -1,6 +1,6 @@
 use Rattle.std.proofs.Common.{◌≡◌, ◌+◌, ◌<◌, ◌++◌, ◌∷◌, ℕ, List, length, ◌∙◌, ap, arith}
 use Rattle.std.proofs.lemmas.Grind.{common_steps}
-use Rattle.config.specs.Faults.{line_count}
+use Rattle.config.specs.Lines.{line_count}
 use Rattle.config.specs.Standing.{lines_of}
 use Rattle.config.proofs.LineLemmas.{line_cut, one_line}
 use Rattle.config.proofs.OutlineLemmas.{first_line, only_line}

@@ -1,6 +1,6 @@
 use Rattle.std.proofs.Common.{subst}
 use Rattle.std.specs.Prelude.{Option}
-use Rattle.config.specs.declared.fault.ConfigFault.{ConfigFault}
+use Rattle.config_words.specs.declared.fault.ConfigFault.{ConfigFault}
 use Rattle.config.specs.Outlines.{Tells}
 use Rattle.config.proofs.reading.Reading.finish.Goals as goal
 

@@ -1,0 +1,3 @@
+pub mod MatchingLemmas
+pub mod MatchedLemmas
+pub mod ChosenLemmas

@@ -1,0 +1,3 @@
+pub mod Patterns
+pub mod Matching
+pub mod BoxNames

@@ -1,6 +1,0 @@
-use Rattle.std.proofs.Common.{◌≡◌, ℕ, ◌+◌, length, drop}
-use Rattle.config.specs.Matching.{IsRow}
-use Rattle.config.proofs.matching.fill_row.Given as goal
-
-abbrev pub invariant-loop-done : goal.invariant-loop-done
-invariant-loop-done l = (j : ℕ) → j + l.done ≡ length l.name → IsRow l.pattern (drop j l.name) l.row

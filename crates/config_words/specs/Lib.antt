@@ -1,0 +1,6 @@
+pub mod Faults
+pub mod Keywords
+pub mod Places
+pub mod Words
+pub mod Splitters
+pub mod Settings

@@ -1,0 +1,274 @@
+//! What the lines of a configuration say: a keyword with arguments that it takes.
+
+ghost use Rattle.std.specs.Prelude.{◌≡◌, ◌==◌, not, IfErr, IsTrue, map, option_and_then, string_bytes};
+ghost use Rattle.std.specs.List.{list_all};
+ghost use Rattle.config_words.specs.Keywords.{section_of};
+ghost use Rattle.config_words.specs.Settings.{IsRefusal, SaysName, SaysNoName, SaysOne, heading, is_argument, name_among, name_said};
+ghost use Rattle.config_words.specs.declared.keyword.Place.TheVariants.{Group as in_group};
+
+use crate::fault::FaultKind;
+use crate::keyword::Keyword;
+use box_patterns::box_name::is_box_name;
+use box_patterns::patterns::Pattern;
+use mailcore::mailbox_name::MailboxName;
+use rules::options::{Cells, Sides};
+use rules::sync_words::{SyncFault, sync_ops};
+use std::alloc::{AllocError, Global};
+use texts::number::read_u32;
+
+/// The greatest number of bytes of an argument.
+const ARGUMENT_MAX: usize = 1024;
+
+/// A mailbox of a store, as a channel says it.
+#[derive(Debug, Drop)]
+pub struct BoxPlace {
+    /// The name of the store.
+    pub store: String,
+    /// The mailbox, if one is named.
+    pub mailbox: Option<MailboxName>,
+}
+
+/// What a line says.
+#[derive(Debug, Drop)]
+pub enum Setting {
+    /// A section of this name begins.
+    Section(String),
+    /// A group of this name begins, with these channels.
+    Group(String, Vec<String>),
+    Host(String),
+    Port(u16),
+    User(String),
+    Pass(String),
+    Path(String),
+    Inbox(String),
+    Far(BoxPlace),
+    Near(BoxPlace),
+    Patterns(Vec<Pattern>),
+    /// The cells that are chosen, or none where one is asserted twice.
+    Sync(Option<Cells>),
+    Create(Sides),
+    Expunge(Sides),
+    Channels(Vec<String>),
+    /// What could not be said otherwise: `SyncState *`, `SubFolders Verbatim`.
+    Nothing,
+}
+
+impl Setting {
+    /// What this keyword says with these arguments. `WrongArguments`: it does not take them. `NoMemory`.
+    pub fn read(alloc: Global, keyword: Keyword, arguments: &[String]) -> Result<Self, FaultKind>
+        ensures { SaysName (heading keyword (map string_bytes arguments.now)) result }
+    {
+        if are_arguments(arguments) {
+            read_plainly(alloc, keyword, arguments)
+        } else {
+            Err(FaultKind::WrongArguments)
+        }
+    }
+
+    /// Whether it names a mailbox.
+    pub fn names_a_box(&self) -> bool
+        ensures { IsTrue result → name_said self.now ≡ None }
+    {
+        match self {
+            Setting::Far(place) | Setting::Near(place) => place.mailbox.is_some(),
+            _ => false,
+        }
+    }
+}
+
+/// What this keyword says with arguments of which each is one.
+fn read_plainly(alloc: Global, keyword: Keyword, arguments: &[String]) -> Result<Setting, FaultKind>
+    ensures { SaysName (option_and_then (λ p. name_among p (map string_bytes arguments.now)) (section_of keyword)) result }
+{
+    match keyword {
+        Keyword::Group => read_group(alloc, arguments),
+        Keyword::Channels => Ok(Setting::Channels(some_copies(alloc, arguments)?)),
+        Keyword::Patterns => Ok(Setting::Patterns(read_patterns(alloc, arguments)?)),
+        Keyword::Sync => Ok(Setting::Sync(read_cells(alloc, arguments)?)),
+        _ => match arguments {
+            [argument] => read_one(alloc, keyword, argument),
+            _ => Err(FaultKind::WrongArguments),
+        },
+    }
+}
+
+fn are_arguments(arguments: &[String]) -> bool
+    ensures { result ≡ list_all is_argument (map string_bytes arguments.now) }
+{
+    arguments.iter().all(|argument| is_argument(argument))
+}
+
+fn is_argument(argument: &str) -> bool
+    ensures { result ≡ is_argument argument.now }
+{
+    argument.len() <= ARGUMENT_MAX && has_no_tab(argument.as_bytes())
+}
+
+fn has_no_tab(text: &[u8]) -> bool
+    ensures { result ≡ list_all (λ b. not (b == 9)) text.now }
+{
+    text.iter().all(|byte| *byte != b'\t')
+}
+
+/// What a keyword says that takes one argument.
+fn read_one(alloc: Global, keyword: Keyword, argument: &str) -> Result<Setting, FaultKind>
+    ensures { SaysOne keyword argument.now result }
+{
+    match keyword {
+        Keyword::Port => Ok(Setting::Port(read_port(argument)?)),
+        Keyword::Path => Ok(Setting::Path(read_path(alloc, argument)?)),
+        Keyword::Far => Ok(Setting::Far(read_place(alloc, argument)?)),
+        Keyword::Near => Ok(Setting::Near(read_place(alloc, argument)?)),
+        Keyword::Create => Ok(Setting::Create(read_sides(argument)?)),
+        Keyword::Expunge => Ok(Setting::Expunge(read_sides(argument)?)),
+        Keyword::SyncState => read_word(argument, "*"),
+        Keyword::SubFolders => read_word(argument, "Verbatim"),
+        _ => read_text(keyword, String::from_str(alloc, argument)?),
+    }
+}
+
+/// What a keyword says that takes any text.
+fn read_text(keyword: Keyword, text: String) -> Result<Setting, FaultKind>
+    ensures { SaysOne keyword (string_bytes text) result }
+{
+    match keyword {
+        Keyword::ImapStore | Keyword::MaildirStore | Keyword::Channel => Ok(Setting::Section(text)),
+        Keyword::Host => Ok(Setting::Host(text)),
+        Keyword::User => Ok(Setting::User(text)),
+        Keyword::Pass => Ok(Setting::Pass(text)),
+        Keyword::Inbox => Ok(Setting::Inbox(text)),
+        _ => Err(FaultKind::WrongArguments),
+    }
+}
+
+/// The one word that a keyword takes.
+fn read_word(argument: &str, word: &str) -> Result<Setting, FaultKind>
+    ensures { SaysNoName result }
+{
+    if argument == word {
+        Ok(Setting::Nothing)
+    } else {
+        Err(FaultKind::WrongArguments)
+    }
+}
+
+fn read_port(argument: &str) -> Result<u16, FaultKind>
+    ensures { IfErr result IsRefusal }
+{
+    match read_u32(argument.as_bytes(), 65535) {
+        None | Some(0) => Err(FaultKind::WrongArguments),
+        Some(port) => u16::try_from(port).map_err(|_| FaultKind::WrongArguments),
+    }
+}
+
+fn read_path(alloc: Global, argument: &str) -> Result<String, FaultKind>
+    ensures { IfErr result IsRefusal }
+{
+    if argument.ends_with("/") {
+        Ok(String::from_str(alloc, argument)?)
+    } else {
+        Err(FaultKind::WrongArguments)
+    }
+}
+
+/// A mailbox of a store, from `:STORE:BOX`.
+fn read_place(alloc: Global, argument: &str) -> Result<BoxPlace, FaultKind>
+    ensures { IfErr result IsRefusal }
+{
+    let Some((store, mailbox)) = split_place(argument) else {
+        return Err(FaultKind::WrongArguments);
+    };
+    let mailbox = read_box(alloc, mailbox)?;
+    let store = String::from_str(alloc, store)?;
+    Ok(BoxPlace { store, mailbox })
+}
+
+fn split_place(argument: &str) -> Option<(&str, &str)> {
+    argument.strip_prefix(":")?.split_once(":")
+}
+
+/// The mailbox of this name, or none for an empty name.
+fn read_box(alloc: Global, name: &str) -> Result<Option<MailboxName>, FaultKind>
+    ensures { IfErr result IsRefusal }
+{
+    if name.is_empty() {
+        Ok(None)
+    } else if is_box_name(name.as_bytes()) {
+        Ok(Some(MailboxName::from_string(String::from_str(alloc, name)?)))
+    } else {
+        Err(FaultKind::WrongArguments)
+    }
+}
+
+fn read_sides(argument: &str) -> Result<Sides, FaultKind>
+    ensures { IfErr result IsRefusal }
+{
+    let (far, near) = match argument {
+        "None" => (false, false),
+        "Far" => (true, false),
+        "Near" => (false, true),
+        "Both" => (true, true),
+        _ => return Err(FaultKind::WrongArguments),
+    };
+    Ok(Sides { far, near })
+}
+
+/// The name of a group and its channels.
+fn read_group(alloc: Global, arguments: &[String]) -> Result<Setting, FaultKind>
+    ensures { SaysName (name_among in_group (map string_bytes arguments.now)) result }
+{
+    let [name, channels @ ..] = arguments else {
+        return Err(FaultKind::WrongArguments);
+    };
+    let channels = copies(alloc, channels)?;
+    let name = name.clone()?;
+    Ok(Setting::Group(name, channels))
+}
+
+/// One name or more.
+fn some_copies(alloc: Global, names: &[String]) -> Result<Vec<String>, FaultKind>
+    ensures { IfErr result IsRefusal }
+{
+    if names.is_empty() {
+        return Err(FaultKind::WrongArguments);
+    }
+    Ok(copies(alloc, names)?)
+}
+
+fn copies(alloc: Global, names: &[String]) -> Result<Vec<String>, AllocError> {
+    let mut list = Vec::with_capacity(alloc, names.len())?;
+    for name in names {
+        list.push(name.clone()?)?;
+    }
+    Ok(list)
+}
+
+/// One pattern or more.
+fn read_patterns(alloc: Global, words: &[String]) -> Result<Vec<Pattern>, FaultKind>
+    ensures { IfErr result IsRefusal }
+{
+    if words.is_empty() {
+        return Err(FaultKind::WrongArguments);
+    }
+    let mut patterns = Vec::with_capacity(alloc, words.len())?;
+    for word in words {
+        let pattern = Pattern::from_string(word.clone()?).ok_or(FaultKind::WrongArguments)?;
+        patterns.push(pattern)?;
+    }
+    Ok(patterns)
+}
+
+/// The cells that Sync words choose, or none where one is asserted twice.
+fn read_cells(alloc: Global, arguments: &[String]) -> Result<Option<Cells>, FaultKind>
+    ensures { IfErr result IsRefusal }
+{
+    let words = arguments
+        .iter()
+        .map(|argument| argument.as_bytes())
+        .collect::<Vec<_>>(alloc)?;
+    match sync_ops(&words) {
+        Ok(cells) => Ok(Some(cells)),
+        Err(SyncFault::CellTwice) => Ok(None),
+        Err(SyncFault::BadWord) => Err(FaultKind::WrongArguments),
+    }
+}

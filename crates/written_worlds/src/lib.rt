@@ -1,0 +1,4 @@
+//! How the texts of worlds are written.
+#![tactic(auto)]
+
+pub mod write;

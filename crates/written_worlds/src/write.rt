@@ -1,0 +1,151 @@
+//! How the text of a world is written (docs/FORMATS.md, "World").
+
+use mailcore::flags::Flags;
+use mailcore::mailbox::{Mailbox, Message};
+use mailcore::octets::Octets;
+use mailcore::side::Side;
+use rules::options::{Cells, Options, Sides};
+use rules::state::SyncState;
+use std::alloc::AllocError;
+use texts::escape::push_escaped;
+use worlds::plan_lines::{FlagsWord, side_word};
+use worlds::world::{WaitingFile, World};
+
+/// Adds the text of a world.
+pub fn write_world(text: &mut String, world: &World) -> Result<(), AllocError> {
+    write_options(text, &world.options)?;
+    write_from_far(text, world)
+}
+
+/// Adds the text of a world from its line `far` on.
+pub fn write_from_far(text: &mut String, world: &World) -> Result<(), AllocError> {
+    let parts = WrittenWorld {
+        far: WrittenMailbox::of(&world.far),
+        near: WrittenMailbox::of(&world.near),
+        waiting: &world.waiting,
+        state: &world.state,
+    };
+    write_parts(text, &parts)
+}
+
+/// A mailbox as it is written: its numbers, and its messages in the order of their UIDs.
+#[derive(Clone, Copy, Debug)]
+pub struct WrittenMailbox<'a> {
+    /// Its UIDVALIDITY.
+    pub validity: u32,
+    /// Its UIDNEXT.
+    pub next: u32,
+    /// Its messages.
+    pub messages: &'a [Message],
+}
+
+impl<'a> WrittenMailbox<'a> {
+    /// This mailbox.
+    pub fn of(mailbox: &'a Mailbox) -> Self {
+        WrittenMailbox {
+            validity: mailbox.validity,
+            next: mailbox.next,
+            messages: mailbox.messages.as_slice(),
+        }
+    }
+}
+
+/// A world without what the run may do, wherever its parts stand.
+#[derive(Clone, Copy, Debug)]
+pub struct WrittenWorld<'a> {
+    /// The far mailbox.
+    pub far: WrittenMailbox<'a>,
+    /// The near mailbox.
+    pub near: WrittenMailbox<'a>,
+    /// The near files that wait for a UID, in the order of their names.
+    pub waiting: &'a [WaitingFile],
+    /// What the last run recorded.
+    pub state: &'a SyncState,
+}
+
+/// Adds the lines of a world from its line `far` on.
+pub fn write_parts(text: &mut String, parts: &WrittenWorld<'_>) -> Result<(), AllocError> {
+    write_mailbox(text, Side::Far, &parts.far)?;
+    write_mailbox(text, Side::Near, &parts.near)?;
+    for file in parts.waiting {
+        write!(text, "w {} ", FlagsWord(file.flags))?;
+        write_bytes(text, &file.bytes)?;
+    }
+    write_state(text, parts.state)?;
+    text.push_str("end\n")
+}
+
+fn write_options(text: &mut String, options: &Options) -> Result<(), AllocError> {
+    text.push_str("sync")?;
+    write_cells(text, &options.cells)?;
+    let expunge = match (options.expunge.far, options.expunge.near) {
+        (false, false) => "None",
+        (true, false) => "Far",
+        (false, true) => "Near",
+        (true, true) => "Both",
+    };
+    writeln!(text, "\nexpunge {expunge}")
+}
+
+/// Adds a compound word for each cell that is on, or `None`.
+fn write_cells(text: &mut String, cells: &Cells) -> Result<(), AllocError> {
+    let words = [
+        (cells.new.pull, " PullNew"),
+        (cells.gone.pull, " PullGone"),
+        (cells.flags.pull, " PullFlags"),
+        (cells.new.push, " PushNew"),
+        (cells.gone.push, " PushGone"),
+        (cells.flags.push, " PushFlags"),
+    ];
+    if words.iter().all(|(on, _)| !on) {
+        return text.push_str(" None");
+    }
+    for (on, word) in words {
+        if on {
+            text.push_str(word)?;
+        }
+    }
+    Ok(())
+}
+
+fn write_mailbox(
+    text: &mut String,
+    side: Side,
+    mailbox: &WrittenMailbox<'_>,
+) -> Result<(), AllocError> {
+    let letter = match side {
+        Side::Far => 'f',
+        Side::Near => 'n',
+    };
+    writeln!(
+        text,
+        "{} {} {}",
+        side_word(side),
+        mailbox.validity,
+        mailbox.next
+    )?;
+    for message in mailbox.messages {
+        let uid = message.uid.get();
+        write!(text, "{letter} {uid} {} ", FlagsWord(message.flags))?;
+        write_bytes(text, &message.bytes)?;
+    }
+    Ok(())
+}
+
+/// Adds the quoted text of bytes and ends the line.
+fn write_bytes(text: &mut String, bytes: &Octets) -> Result<(), AllocError> {
+    text.push('"')?;
+    push_escaped(text, bytes.as_slice())?;
+    text.push_str("\"\n")
+}
+
+fn write_state(text: &mut String, state: &SyncState) -> Result<(), AllocError> {
+    let (run, far, near) = (state.run, state.far_validity, state.near_validity);
+    let (pulled, pushed) = (state.max_pulled, state.max_pushed);
+    writeln!(text, "state {run} {far} {near} {pulled} {pushed}")?;
+    for entry in state.entries.as_slice() {
+        let (far, near) = (entry.number(Side::Far), entry.number(Side::Near));
+        writeln!(text, "e {far} {near} {}", FlagsWord(entry.flags))?;
+    }
+    Ok(())
+}
