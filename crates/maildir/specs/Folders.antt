@@ -94,6 +94,11 @@ abbrev pub is_there : Origin → Stored → Bool
 is_there Tmp s = is_some s.copy
 is_there (Delivered file) s = list_any (is_at file.place file.name.now) s.files
 
+-- a file that is there was removed
+pub record Removes (file : Location) (old new : Stored) : Type 0 where
+  pub was_there : is_there (Delivered file) old ≡ true
+  pub now : new ≡ removed file old
+
 -- a file under its new name, and any other as it was; a file that had the new name before goes
 abbrev pub moved : (from to : FileName) → File → File
 moved from to file =

@@ -68,7 +68,7 @@ pub enum Origin<'a> {
 /// stored.
 pub trait Folder {
     ghost use Rattle.device.specs.Calls.{Seen, Call, Read, Rest, Nothing, Reopens};
-    ghost use Rattle.maildir.specs.Folders.{Stored, Lists, Begins, Renames, bytes_of, with_copy, with_meta, removed, listed, text_of};
+    ghost use Rattle.maildir.specs.Folders.{Stored, Lists, Begins, Removes, Renames, bytes_of, with_copy, with_meta, listed, text_of};
 
     /// Whether the folder gives back what was written, and nobody else writes to it.
     ghost is_honest: { Bool };
@@ -92,9 +92,9 @@ pub trait Folder {
     fn rename(&mut self, from: Origin<'_>, to: Location<'_>) -> Result<(), DeviceFault>
         ensures { Call is_honest (Renames from.entry to.entry) Nothing (seen self.old) (seen self.new) result };
 
-    /// Removes a file.
+    /// Removes a file. One that is not there is none that was removed, so the call stops.
     fn remove(&mut self, file: Location<'_>) -> Result<(), DeviceFault>
-        ensures { Call is_honest (λ s s'. s' ≡ removed file.entry s) Nothing (seen self.old) (seen self.new) result };
+        ensures { Call is_honest (Removes file.entry) Nothing (seen self.old) (seen self.new) result };
 
     /// Puts this text in place of the meta file's.
     fn replace_meta(&mut self, text: &[u8]) -> Result<(), DeviceFault>

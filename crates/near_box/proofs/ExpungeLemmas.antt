@@ -13,11 +13,12 @@ use Rattle.std.proofs.lemmas.List.MinMax.{IsStrictWeakOrder-by_number}
 use Rattle.mailcore.specs.declared.mailbox.Message.{Message}
 use Rattle.maildir.specs.declared.folder.File.{File}
 use Rattle.maildir.specs.declared.folder.FileName.{FileName}
+use Rattle.maildir.specs.declared.folder.Location.{Location}
 use Rattle.maildir.specs.declared.meta.Meta.{Meta}
 use Rattle.near_box.specs.declared.near_fault.NearFault.{NearFault}
 use Rattle.near_box.specs.declared.survey.Entry.{Entry}
 use Rattle.near_box.specs.declared.survey.Survey.{Survey}
-use Rattle.maildir.specs.Folders.{Stored, is_left, name_of_file, removed_file}
+use Rattle.maildir.specs.Folders.{Removes, Stored, is_left, name_at, name_of_file, removed_file}
 use Rattle.maildir.specs.Names.{uid_in, is_waiting, is_one_of}
 use Rattle.maildir.specs.FlaggedNames.{flags_by_name}
 use Rattle.near_box.specs.NearEffects.{file_of, without_uids, RemovesSome, Does}
@@ -146,10 +147,10 @@ module _ (survey : Survey) (fresh : ℕ) (s : Stored) (surveys : Surveys survey 
       done ∙ ap (λ (f : FileName). removed_file f s) at ∙ removal_is_expunge ∙ ap (λ (u : ℕ). without_uids (u ∷ []) s) own
 
   -- the same of a call that may have stopped
-  pub does_removal : (uid : ℕ) (file : FileName) → entry.uid ≡ uid → file ≡ file_of entry → (s' : Stored)
-      → (s' ≡ s) ⊎ ((s' ≡ removed_file file s) ⊎ ⊥) → (s' ≡ s) ⊎ ((s' ≡ without_uids (uid ∷ []) s) ⊎ ⊥)
+  pub does_removal : (uid : ℕ) (file : Location) → entry.uid ≡ uid → name_at file ≡ file_of entry → (s' : Stored)
+      → (s' ≡ s) ⊎ (Removes file s s' ⊎ ⊥) → (s' ≡ s) ⊎ ((s' ≡ without_uids (uid ∷ []) s) ⊎ ⊥)
   does_removal uid file own at s' (inl same) = inl same
-  does_removal uid file own at s' (inr (inl done)) = inr (inl (done_removal uid file own at s' done))
+  does_removal uid file own at s' (inr (inl done)) = inr (inl (done_removal uid (name_at file) own at s' done.now))
   does_removal uid file own at s' (inr (inr never)) = absurd never
 
   abbrev stays_entry : Entry → Bool
