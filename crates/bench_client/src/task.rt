@@ -12,7 +12,7 @@ use mailcore::uid::Uid;
 use std::alloc::{AllocError, Global};
 
 /// What is asked of a far mailbox.
-#[derive(Clone, Copy, Debug, PartialEq, Eq)]
+#[derive(Clone, Copy, PartialEq, Eq)]
 pub enum Task {
     /// That it lists so many messages.
     List(u32),

@@ -23,7 +23,7 @@ use std::process::ExitCode;
 const COPY: &[u8] = b"Subject: a copy\n\ntext\n";
 
 /// What is asked of a folder.
-#[derive(Clone, Copy, Debug)]
+#[derive(Clone, Copy)]
 enum Task {
     /// How many messages stand in it, of which those above this UID are asked whether they are fit.
     Count(u32),

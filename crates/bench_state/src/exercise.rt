@@ -13,7 +13,7 @@ const JOURNAL: &[u8] = b"journal ";
 
 /// What a book says: the number of the last run, how many entries it left, and how many steps of a pending plan are logged
 /// and planned.
-#[derive(Clone, Copy, Debug, PartialEq, Eq)]
+#[derive(Clone, Copy, PartialEq, Eq)]
 struct Held {
     run: u64,
     entries: usize,
@@ -48,7 +48,7 @@ fn held_by(book: &Book<MemShelf>) -> Held {
 }
 
 /// A call of a book.
-#[derive(Clone, Copy, Debug)]
+#[derive(Clone, Copy)]
 enum Call<'a> {
     Mend,
     Discard,
@@ -106,27 +106,31 @@ fn file_of(alloc: Global, text: &[u8]) -> Result<Option<Vec<u8>>, AllocError> {
     }
 }
 
-/// Makes a call. A book that finds no memory is opened again, and has to say what it said before, or what it says after.
+/// Makes a call.
 fn make_call(
     alloc: Global,
     mut book: Book<MemShelf>,
     call: Call<'_>,
 ) -> Result<Book<MemShelf>, Failure> {
     let before = held_by(&book);
-    let Err(failure) = perform(alloc, &mut book, call) else {
-        return Ok(book);
-    };
-    let mut shelf = book.into_shelf();
+    match perform(alloc, &mut book, call) {
+        Ok(()) => Ok(book),
+        Err(failure) => Err(reopened(alloc, book.into_shelf(), call, before, failure)),
+    }
+}
+
+/// Opens a book again that found no memory: it has to say what it said before the call, or what it says after it.
+fn reopened(
+    alloc: Global,
+    mut shelf: MemShelf,
+    call: Call<'_>,
+    before: Held,
+    failure: Failure,
+) -> Failure {
     shelf.reopen();
     match open(alloc, shelf) {
-        Ok(book) => {
-            if is_left_by(call, before, held_by(&book)) {
-                Err(failure)
-            } else {
-                Err(Failure::Lost)
-            }
-        }
-        Err(_) => Err(Failure::Lost),
+        Ok(book) if is_left_by(call, before, held_by(&book)) => failure,
+        _ => Failure::Lost,
     }
 }
 

@@ -7,7 +7,7 @@ use std::fmt;
 use sync_state::fault::BookFault;
 
 /// What a call of a book answers.
-#[derive(Clone, Copy, Debug, PartialEq, Eq)]
+#[derive(Clone, Copy, PartialEq, Eq)]
 pub enum Answer {
     /// It did what it says.
     Done,
@@ -47,7 +47,7 @@ impl fmt::Display for Answer {
 
 /// What a book says: the number of the last run, how many entries it left, and how many steps of the pending plan are logged,
 /// of how many, if one is pending.
-#[derive(Clone, Copy, Debug, PartialEq, Eq)]
+#[derive(Clone, Copy, PartialEq, Eq)]
 pub struct Held {
     run: u64,
     entries: usize,

@@ -11,7 +11,7 @@ use std::alloc::Global;
 use sync_state::journal::Logged;
 
 /// A call of a book that is open. Steps are numbered from 1.
-#[derive(Clone, Copy, Debug, PartialEq, Eq)]
+#[derive(Clone, Copy)]
 pub enum Call {
     /// `discard`.
     Discard,

@@ -15,7 +15,7 @@ use std::alloc::Global;
 use texts::escape::unescape;
 
 /// A line of a script.
-#[derive(Debug, Drop)]
+#[derive(Drop)]
 pub enum Command {
     /// An empty line, or one that begins with `#`.
     Comment,

@@ -20,7 +20,7 @@ pub struct Desk<S: Shelf + Drop> {
 }
 
 /// What a new book says, or why there is none.
-#[derive(Clone, Copy, Debug, PartialEq, Eq)]
+#[derive(Clone, Copy, PartialEq, Eq)]
 pub enum Opened {
     /// What the book says.
     Held(Held),
@@ -38,7 +38,7 @@ impl fmt::Display for Opened {
 }
 
 /// A call of a shelf.
-#[derive(Debug, Drop)]
+#[derive(Drop)]
 pub enum ShelfUse {
     /// `read`.
     Read(File),
@@ -51,7 +51,7 @@ pub enum ShelfUse {
 }
 
 /// What is done with a shelf or the book on it.
-#[derive(Debug, Drop)]
+#[derive(Drop)]
 pub enum DeskCommand {
     /// `shelf read FILE`, `shelf append FILE "BYTES"`, `shelf replace FILE "BYTES"`, `shelf remove FILE`: a call of the shelf.
     Use(ShelfUse),
@@ -68,7 +68,7 @@ pub enum DeskCommand {
 }
 
 /// What a call of a shelf answers.
-#[derive(Debug, Drop)]
+#[derive(Drop)]
 enum ShelfAnswer {
     /// The bytes that were read, or none where the file is missing.
     Bytes(Option<Vec<u8>>),

@@ -8,7 +8,7 @@ use std::alloc::{AllocError, Global};
 use texts::escape::push_escaped;
 
 /// The bytes of both files, where they are there.
-#[derive(Debug, PartialEq, Eq, Drop)]
+#[derive(PartialEq, Eq, Drop)]
 pub struct Files {
     /// The state's.
     pub state: Option<Vec<u8>>,

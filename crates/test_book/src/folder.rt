@@ -10,7 +10,7 @@ use std::{fs, io};
 pub const PATH: &str = "shelf";
 
 /// A name in the folder.
-#[derive(Clone, Copy, Debug, PartialEq, Eq)]
+#[derive(Clone, Copy)]
 pub enum Name {
     /// That of a file of the shelf.
     Kept(File),
@@ -19,7 +19,7 @@ pub enum Name {
 }
 
 /// What a script does to the folder.
-#[derive(Clone, Copy, Debug, PartialEq, Eq)]
+#[derive(Clone, Copy)]
 pub enum FolderChange {
     /// A folder is made in the place of a file.
     Block(Name),

@@ -8,7 +8,7 @@ use sync_state::journal_lines::{read_note, read_step};
 use texts::number::{read_number, read_u32};
 
 /// The lines of a plan that were read: `run RUN`, `far VALIDITY HIGHEST NEXT`, `near ..`, and steps and notes.
-#[derive(Debug, Drop)]
+#[derive(Drop)]
 pub struct Draft {
     run: Option<u64>,
     far: Option<PlanSide>,

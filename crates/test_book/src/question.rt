@@ -13,7 +13,7 @@ use std::alloc::Global;
 use sync_state::has_text::has_text;
 
 /// A question.
-#[derive(Clone, Copy, Debug, PartialEq, Eq)]
+#[derive(Clone, Copy)]
 pub enum Question {
     /// `read state` or `read journal`: what is read of the file.
     Read(File),

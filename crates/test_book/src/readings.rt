@@ -16,7 +16,7 @@ use sync_state::journal_text::{read_journal, write_journal, write_plan};
 use sync_state::state_text::{read_state_text, write_state_text};
 
 /// What is read of a text.
-#[derive(Clone, Copy, Debug, PartialEq, Eq)]
+#[derive(Clone, Copy, PartialEq, Eq)]
 pub enum Reading {
     /// A state, with this run and so many entries.
     State {

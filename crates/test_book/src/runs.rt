@@ -4,7 +4,7 @@ use crate::failure::Failure;
 use std::fmt;
 
 /// What was answered at a place.
-#[derive(Clone, Copy, Debug)]
+#[derive(Clone, Copy)]
 pub struct At<P, A> {
     /// Where.
     pub place: P,

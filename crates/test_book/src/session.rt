@@ -15,7 +15,7 @@ use std::mem;
 use texts::escape::unescape;
 
 /// Lines that stand between a command and `.`.
-#[derive(Debug, Drop)]
+#[derive(Drop)]
 enum Block {
     /// Those of a file.
     Text(File, Vec<u8>),

@@ -36,7 +36,7 @@ struct Unbroken {
 }
 
 /// What the files are, seen from the call.
-#[derive(Clone, Copy, Debug, PartialEq, Eq)]
+#[derive(Clone, Copy, PartialEq, Eq)]
 enum Left {
     /// As before it.
     Before,
@@ -51,7 +51,7 @@ enum Left {
 }
 
 /// What a call with a stop answers, and what is left.
-#[derive(Clone, Copy, Debug, PartialEq, Eq)]
+#[derive(Clone, Copy, PartialEq, Eq)]
 struct Outcome {
     /// Whether a call of the shelf stopped.
     is_stopped: bool,
@@ -94,7 +94,7 @@ impl fmt::Display for Outcome {
 }
 
 /// Where a call stops, as it is printed.
-#[derive(Clone, Copy, Debug)]
+#[derive(Clone, Copy)]
 struct Place(Moment);
 
 impl fmt::Display for Place {

@@ -1,7 +1,7 @@
 //! The lines of a case.
 
 /// A line of a case: its word, and what stands behind it.
-#[derive(Clone, Copy, Debug)]
+#[derive(Clone, Copy)]
 pub struct CaseLine<'a> {
     /// The word.
     pub word: &'a str,

@@ -97,7 +97,7 @@ fn write_lines(alloc: Global, record: &mut String, word: &str, text: &[u8]) -> R
 }
 
 /// A stream that can fail.
-#[derive(Clone, Copy, Debug, PartialEq, Eq)]
+#[derive(Clone, Copy, PartialEq, Eq)]
 enum Stream {
     Out,
     Err,

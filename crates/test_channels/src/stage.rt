@@ -129,6 +129,13 @@ fn world_text(alloc: Global, case: &str, name: &str) -> Result<String, AllocErro
 
 fn schedule_of(alloc: Global, case: &str, name: &str) -> Result<Schedule, AllocError> {
     let mut schedule = Schedule::new(alloc);
+    match set_schedule(&mut schedule, case, name) {
+        Ok(()) => Ok(schedule),
+        Err(AllocError) => Err(AllocError),
+    }
+}
+
+fn set_schedule(schedule: &mut Schedule, case: &str, name: &str) -> Result<(), AllocError> {
     for line in case.lines() {
         if let Some(text) = line_of(line, "stop", name) {
             schedule.stop(text)?;
@@ -137,7 +144,7 @@ fn schedule_of(alloc: Global, case: &str, name: &str) -> Result<Schedule, AllocE
             schedule.refuse(text)?;
         }
     }
-    Ok(schedule)
+    Ok(())
 }
 
 /// The outside of a mailbox.

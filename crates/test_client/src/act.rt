@@ -5,7 +5,7 @@ use client_calls::failure::Failure;
 use std::alloc::{AllocError, Global};
 
 /// What the server says behind what it waits for.
-#[derive(Clone, Debug, Drop)]
+#[derive(Clone, Drop)]
 pub struct Turn {
     /// What it waits for.
     pub awaited: Vec<u8>,

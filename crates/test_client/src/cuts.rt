@@ -7,7 +7,7 @@ use std::alloc::Global;
 use std::fmt;
 
 /// What an end of the bytes does to a session.
-#[derive(Clone, Copy, Debug, PartialEq, Eq)]
+#[derive(Clone, Copy, PartialEq, Eq)]
 enum Effect {
     /// None: each call answers as without it.
     None,
@@ -19,7 +19,7 @@ enum Effect {
 }
 
 /// The effect where so many bytes are said.
-#[derive(Clone, Copy, Debug)]
+#[derive(Clone, Copy)]
 struct Cut {
     room: usize,
     effect: Effect,

@@ -10,7 +10,7 @@ use std::alloc::Global;
 use std::cell::RefCell;
 
 /// What came of a call.
-#[derive(Debug, Drop)]
+#[derive(Drop)]
 pub struct Outcome {
     /// What it answers.
     pub answer: Answer,
@@ -23,7 +23,7 @@ pub struct Outcome {
 }
 
 /// What came of calls.
-#[derive(Debug, Drop)]
+#[derive(Drop)]
 pub struct Played {
     /// Of each.
     pub outcomes: Vec<Outcome>,

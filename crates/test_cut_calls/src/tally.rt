@@ -4,7 +4,7 @@ use std::alloc::AllocError;
 use std::fmt;
 
 /// What is not as it must be.
-#[derive(Clone, Copy, Debug, PartialEq, Eq)]
+#[derive(Clone, Copy)]
 pub enum Wrong {
     /// The call is cut, and does not answer `Stopped`.
     Answer,
@@ -17,7 +17,7 @@ pub enum Wrong {
 }
 
 /// What came of the cuts of a call in one direction.
-#[derive(Clone, Copy, Debug)]
+#[derive(Clone, Copy)]
 pub struct Tally {
     with_effect: usize,
     without: usize,

@@ -4,7 +4,7 @@ use book::mem_shelf::ShelfCall;
 use mem_outside::box_condition::BoxCall;
 
 /// A call that a script can stop.
-#[derive(Clone, Copy, Debug, PartialEq, Eq)]
+#[derive(Clone, Copy, PartialEq, Eq)]
 pub enum Call {
     /// Of a mailbox.
     Box(BoxCall),

@@ -16,7 +16,7 @@ use worlds::words::split_word;
 use worlds::world::{Waiting, World};
 
 /// A case: a world, and what becomes of it.
-#[derive(Debug, Drop)]
+#[derive(Drop)]
 pub struct Case {
     /// The world before the first run.
     pub world: World,
@@ -25,7 +25,7 @@ pub struct Case {
 }
 
 /// With which stops a run is made again.
-#[derive(Clone, Copy, Debug, PartialEq, Eq)]
+#[derive(Clone, Copy, PartialEq, Eq)]
 pub enum Sweep {
     /// It is not.
     None,
@@ -36,7 +36,7 @@ pub enum Sweep {
 }
 
 /// What is done with a world.
-#[derive(Debug, Drop)]
+#[derive(Drop)]
 pub struct Course {
     /// How many attempts the first run has.
     pub tries: u32,

@@ -1,13 +1,14 @@
 //! A run that is made again with a stop at each of its calls: it has to leave what the unbroken run leaves, but for the marks.
 
 use crate::call::{CALLS, Call};
-use crate::case::read_case;
+use crate::case::{Case, Course, read_case};
 use crate::failure::Failure;
 use crate::stage::Stage;
 use book::mem_shelf::ShelfCall;
 use device::schedule::{Moment, Stop};
 use std::alloc::{AllocError, Global};
 use std::fmt;
+use trial::report::Ending;
 use worlds::line::Lines;
 
 /// How many calls of one name are stopped at most, and how many bytes of one append are written.
@@ -97,16 +98,32 @@ impl<'a> Sweeping<'a> {
 
     /// Makes the run with these stops. Whether it met them.
     fn run(&mut self, first: Option<Stop<Call>>, second: Stop<Call>) -> Result<bool, Failure> {
-        let mut case = read_case(self.alloc, &mut Lines::new(self.text.as_bytes()))?;
-        let mut stops = 1;
-        if let Some(first) = first {
-            case.course.stop(first)?;
-            stops = 2;
-        }
-        case.course.stop(second)?;
+        let case = self.stopped(first, second)?;
+        let tries = if first.is_some() { 3 } else { 2 };
         let stage = Stage::new(self.alloc, case.world, case.course)?;
-        let (stage, ending) = stage.run(self.alloc, stops + 1);
-        if ending.stops != stops as usize {
+        let (stage, ending) = stage.run(self.alloc, tries);
+        self.judge(first, second, &stage, &ending)
+    }
+
+    /// The case with these stops.
+    fn stopped(&self, first: Option<Stop<Call>>, second: Stop<Call>) -> Result<Case, Failure> {
+        let mut case = read_case(self.alloc, &mut Lines::new(self.text.as_bytes()))?;
+        match stop(&mut case.course, first, second) {
+            Ok(()) => Ok(case),
+            Err(AllocError) => Err(Failure::NoMemory),
+        }
+    }
+
+    /// Whether a run met its stops. If it came to something else than the unbroken one, that is told.
+    fn judge(
+        &mut self,
+        first: Option<Stop<Call>>,
+        second: Stop<Call>,
+        stage: &Stage,
+        ending: &Ending,
+    ) -> Result<bool, Failure> {
+        let stops = if first.is_some() { 2 } else { 1 };
+        if ending.stops != stops {
             return Ok(false);
         }
         self.runs = self.runs.saturating_add(1);
@@ -130,6 +147,18 @@ impl<'a> Sweeping<'a> {
         writeln!(self.record, "{}", StopLine(second))?;
         self.record.push_str(left)
     }
+}
+
+/// Adds these stops to a course.
+fn stop(
+    course: &mut Course,
+    first: Option<Stop<Call>>,
+    second: Stop<Call>,
+) -> Result<(), AllocError> {
+    if let Some(first) = first {
+        course.stop(first)?;
+    }
+    course.stop(second)
 }
 
 fn is_of_one_call(first: Option<Stop<Call>>, second: Stop<Call>) -> bool {

@@ -7,7 +7,7 @@ use std::alloc::Global;
 use std::fmt;
 
 /// An answer of a reader.
-#[derive(Clone, Copy, Debug, PartialEq, Eq)]
+#[derive(Clone, Copy)]
 pub enum Answer {
     /// So many bytes are a whole line.
     Whole(usize),

@@ -5,7 +5,7 @@ use texts::escape::unescape;
 use texts::fault::EscapeFault;
 
 /// Which of the readers an example is for.
-#[derive(Clone, Copy, Debug, PartialEq, Eq)]
+#[derive(Clone, Copy)]
 pub enum Reader {
     /// That of commands.
     Commands,
@@ -14,7 +14,7 @@ pub enum Reader {
 }
 
 /// An example for a reader.
-#[derive(Debug, Drop)]
+#[derive(Drop)]
 pub struct Example {
     /// The reader.
     pub reader: Reader,
