@@ -47,7 +47,7 @@ struct Session<'a> {
 pub fn play(rt: &HostRuntime, script: &[u8]) -> Result<String, Failure> {
     let mut session = Session::new(rt);
     session.play_lines(script)?;
-    Ok(session.into_record())
+    Ok(mem::replace(&mut session.record, String::new(rt.alloc())))
 }
 
 impl<'a> Session<'a> {
@@ -61,10 +61,6 @@ impl<'a> Session<'a> {
             schedule: Vec::new(rt.alloc()),
             kept: Kept::Nothing,
         }
-    }
-
-    fn into_record(self) -> String {
-        self.record
     }
 
     fn play_lines(&mut self, script: &[u8]) -> Result<(), Failure> {
@@ -96,17 +92,29 @@ impl<'a> Session<'a> {
     /// Adds a line to a block, or ends it.
     fn add_to(&mut self, block: Block, line: &str) -> Result<(), Failure> {
         match block {
-            Block::Plan(draft) if line == "." => self.plan = Some(draft.finish()?),
-            Block::Plan(mut draft) => {
-                draft.read_line(line)?;
-                self.block = Some(Block::Plan(draft));
-            }
-            Block::Text(file, text) if line == "." => self.files.put(file, Some(text)),
-            Block::Text(file, mut text) if line == ". torn" => {
+            Block::Plan(draft) => self.add_to_plan(draft, line),
+            Block::Text(file, text) => self.add_to_text(file, text, line),
+        }
+    }
+
+    fn add_to_plan(&mut self, mut draft: Draft, line: &str) -> Result<(), Failure> {
+        if line == "." {
+            self.plan = Some(draft.finish()?);
+            return Ok(());
+        }
+        draft.read_line(line)?;
+        self.block = Some(Block::Plan(draft));
+        Ok(())
+    }
+
+    fn add_to_text(&mut self, file: File, mut text: Vec<u8>, line: &str) -> Result<(), Failure> {
+        match line {
+            "." => self.files.put(file, Some(text)),
+            ". torn" => {
                 text.pop().ok_or(Failure::Script)?;
                 self.files.put(file, Some(text));
             }
-            Block::Text(file, mut text) => {
+            _ => {
                 let bytes = unescape(self.rt.alloc(), line.as_bytes())?;
                 text.extend_from_slice(&bytes)?;
                 text.push(b'\n')?;

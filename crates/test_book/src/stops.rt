@@ -133,11 +133,7 @@ pub fn push_stops(
         (ShelfCall::Replace, "replace"),
         (ShelfCall::Remove, "remove"),
     ] {
-        for number in 1..=CALLS {
-            let what = format!(in alloc; "{word} {number}")?;
-            let outcomes = trial.outcomes(&unbroken, call, number)?;
-            push_runs(record, what.as_str(), &outcomes)?;
-        }
+        trial.push_stops_of(record, &unbroken, call, word)?;
     }
     Ok(())
 }
@@ -180,6 +176,22 @@ impl<'a> Trial<'a> {
         };
         desk.close()?;
         Ok((answer, later))
+    }
+
+    /// Adds what is left of the call with a stop at each call of the shelf that has this word.
+    fn push_stops_of(
+        &self,
+        record: &mut String,
+        unbroken: &Unbroken,
+        call: ShelfCall,
+        word: &str,
+    ) -> Result<(), Failure> {
+        for number in 1..=CALLS {
+            let what = format!(in self.alloc; "{word} {number}")?;
+            let outcomes = self.outcomes(unbroken, call, number)?;
+            push_runs(record, what.as_str(), &outcomes)?;
+        }
+        Ok(())
     }
 
     /// What is left for each moment of this call of the shelf.

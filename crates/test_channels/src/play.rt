@@ -12,6 +12,7 @@ use mailcore::side::Direction;
 use request::request::{Chosen, Request};
 use rules::sync_words::{Kind, SyncWord};
 use std::alloc::{AllocError, Global};
+use std::mem;
 use worlds::trial_generator::TrialGenerator;
 
 /// What a run left.
@@ -42,13 +43,12 @@ pub fn play(
         config: config_of(alloc, configured)?,
         request: request_of(alloc, case)?,
     };
-    let played = run(alloc, &reading, case, usize::MAX, usize::MAX)?;
+    let mut played = run(alloc, &reading, case, usize::MAX, usize::MAX)?;
     write_played(alloc, record, &played)?;
     if case.lines().any(|line| line == "each break") {
         break_each(alloc, record, &reading, case, &played)?;
     }
-    let Played { stores, .. } = played;
-    show(alloc, record, case, stores)
+    show(alloc, record, case, &mut played.stores.boxes)
 }
 
 /// Makes the run over streams that fail behind so many bytes.
@@ -186,12 +186,16 @@ fn break_stream(
     Ok(others)
 }
 
-/// Adds the mailboxes that the case wants to see.
-fn show(alloc: Global, record: &mut String, case: &str, stores: MemStores) -> Result<(), Failure> {
-    for one in stores.boxes {
-        let TestBox { name, outside, .. } = one;
-        if case.lines().any(|line| is_show(line, name.as_str())) {
-            write_box(alloc, record, name.as_str(), outside)?;
+/// Adds the mailboxes that the case wants to see. None is left.
+fn show(
+    alloc: Global,
+    record: &mut String,
+    case: &str,
+    boxes: &mut Vec<TestBox>,
+) -> Result<(), Failure> {
+    for one in mem::replace(boxes, Vec::new(alloc)) {
+        if case.lines().any(|line| is_show(line, one.name.as_str())) {
+            write_box(alloc, record, one)?;
         }
     }
     Ok(())

@@ -1,14 +1,12 @@
 //! The stores of a case.
 
-ghost use Rattle.std.specs.Prelude.{◌≡◌, false};
-ghost use Rattle.mem_outside.specs.MemOutsides.{seen_of};
-
 use crate::call::Schedule;
 use crate::case::first_word;
 use crate::failure::Failure;
 use crate::mem_stores::{MemStores, StoreNames, TestBox};
-use book::mem_shelf::MemShelf;
+use book::mem_shelf::{MemShelf, ShelfCall};
 use book::shelf::{File, Shelf};
+use device::schedule::Stop;
 use mailcore::mailbox::Mailbox;
 use mem_outside::box_condition::BoxCondition;
 use mem_outside::boxes::Boxes;
@@ -76,16 +74,13 @@ fn names_of(alloc: Global, text: &str) -> Result<StoreNames, AllocError> {
 
 /// Adds a mailbox, with the world, the texts and the stops that the case gives it.
 fn add_box(alloc: Global, stores: &mut MemStores, case: &str, name: &str) -> Result<(), Failure> {
-    let text = world_text(alloc, case, name)?;
-    let world = read_world(alloc, text.as_bytes(), Waiting::Kept)?;
-    let schedule = schedule_of(alloc, case, name)?;
-    let outside = outside_of(alloc, world, schedule, case, name)?;
-    stores.boxes.push(TestBox {
+    // The outside comes last: nothing that can fail stands behind it.
+    let made = TestBox {
         name: String::from_str(alloc, name)?,
-        outside,
         unread: unread_of(alloc, case, name)?,
-    })?;
-    Ok(())
+        outside: outside_of(alloc, case, name)?,
+    };
+    Ok(stores.boxes.push(made)?)
 }
 
 /// The path of the message that cannot be read, if the case gives a mailbox one.
@@ -148,35 +143,62 @@ fn set_schedule(schedule: &mut Schedule, case: &str, name: &str) -> Result<(), A
 }
 
 /// The outside of a mailbox.
-fn outside_of(
+fn outside_of(alloc: Global, case: &str, name: &str) -> Result<MemOutside, Failure> {
+    let Schedule {
+        stops,
+        refusals,
+        shelf,
+    } = schedule_of(alloc, case, name)?;
+    let condition = BoxCondition::new(alloc, stops, refusals);
+    let (boxes, mut shelf) = boxes_and_shelf(alloc, shelf, case, name)?;
+    shelf.reopen();
+    Ok(MemOutside::new(alloc, shelf, boxes, condition))
+}
+
+/// Both sides of a mailbox, and the shelf, which stops as this schedule says.
+fn boxes_and_shelf(
     alloc: Global,
-    world: World,
-    schedule: Schedule,
+    schedule: Vec<Stop<ShelfCall>>,
     case: &str,
     name: &str,
-) -> Result<MemOutside, Failure> {
+) -> Result<(Boxes, MemShelf), Failure> {
     let World {
         options: _,
         far,
         near,
         waiting: _,
         state,
-    } = world;
-    let Schedule {
-        stops,
-        refusals,
-        shelf,
-    } = schedule;
-    let mut shelf = shelf_with(alloc, &state, None, shelf)?;
-    put_texts(alloc, &mut shelf, case, name)?;
-    let boxes = Boxes {
-        far: box_of(far).ok_or(Failure::Case)?,
-        near: box_of(near).ok_or(Failure::Case)?,
+    } = world_of(alloc, case, name)?;
+    let shelf = shelf_of(alloc, &state, schedule, case, name)?;
+    Ok((boxes_of(alloc, far, near)?, shelf))
+}
+
+fn world_of(alloc: Global, case: &str, name: &str) -> Result<World, Failure> {
+    let text = world_text(alloc, case, name)?;
+    Ok(read_world(alloc, text.as_bytes(), Waiting::Kept)?)
+}
+
+fn boxes_of(alloc: Global, far: Mailbox, near: Mailbox) -> Result<Boxes, Failure> {
+    let far = box_of(far).ok_or(Failure::Case)?;
+    let near = box_of(near).ok_or(Failure::Case)?;
+    Ok(Boxes {
+        far,
+        near,
         waiting: Vec::new(alloc),
-    };
-    let condition = BoxCondition::new(alloc, stops, refusals);
-    shelf.reopen();
-    Ok(MemOutside::new(alloc, shelf, boxes, condition))
+    })
+}
+
+/// The shelf with this state, or with the texts that the case gives the mailbox.
+fn shelf_of(
+    alloc: Global,
+    state: &SyncState,
+    schedule: Vec<Stop<ShelfCall>>,
+    case: &str,
+    name: &str,
+) -> Result<MemShelf, Failure> {
+    let mut shelf = shelf_with(alloc, state, None, schedule)?;
+    put_texts(alloc, &mut shelf, case, name)?;
+    Ok(shelf)
 }
 
 /// Puts the texts of the state and of the journal that the case gives a mailbox.
@@ -210,18 +232,19 @@ fn box_of(mailbox: Mailbox) -> Option<MemBox> {
 }
 
 /// Adds a mailbox's world, from its line `far` on, with the name before each line.
-pub fn write_box(
-    alloc: Global,
-    text: &mut String,
-    name: &str,
-    outside: MemOutside,
-) -> Result<(), Failure> {
-    let mut lines = String::new(alloc);
-    write_world(alloc, &mut lines, &outside.into_parts())?;
+pub fn write_box(alloc: Global, text: &mut String, shown: TestBox) -> Result<(), Failure> {
+    let TestBox { name, outside, .. } = shown;
+    let lines = lines_of(alloc, &outside.into_parts())?;
     for line in lines.lines() {
         writeln!(text, "{name}: {line}")?;
     }
     Ok(())
+}
+
+fn lines_of(alloc: Global, parts: &Parts) -> Result<String, Failure> {
+    let mut lines = String::new(alloc);
+    write_world(alloc, &mut lines, parts)?;
+    Ok(lines)
 }
 
 fn write_world(alloc: Global, text: &mut String, parts: &Parts) -> Result<(), Failure> {

@@ -2,7 +2,7 @@
 
 use device::DeviceFault;
 use near_box::NearFault;
-use std::alloc::{AllocError, AllocFailed};
+use std::alloc::{AllocError, AllocFailed, Global};
 use std::io;
 use std::io::ErrorKind;
 use texts::fault::EscapeFault;
@@ -108,10 +108,10 @@ impl From<DeviceFault> for LineFault {
     }
 }
 
-/// A fault of the mailbox as an answer, unless memory ran out.
-pub fn as_answer(fault: NearFault) -> Result<NearFault, LineFault> {
+/// The text of a fault of the mailbox, unless memory ran out.
+pub fn text_of(alloc: Global, fault: NearFault) -> Result<String, LineFault> {
     match fault {
         NearFault::NoMemory => Err(LineFault::NoMemory),
-        other => Ok(other),
+        other => Ok(format!(in alloc; "{other}")?),
     }
 }

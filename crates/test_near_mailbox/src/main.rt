@@ -52,16 +52,21 @@ use std::process::ExitCode;
 
 /// The record of a script: its lines with their answers.
 fn played(rt: &HostRuntime, script: &[u8]) -> Result<String, Failure> {
+    let mut record = Record::new(rt)?;
+    play_lines(&mut record, script)?;
+    Ok(record.take_told())
+}
+
+fn play_lines(record: &mut Record, script: &[u8]) -> Result<(), Failure> {
     let Ok(script) = str::from_utf8(script) else {
         return Err(Failure::Line(1));
     };
-    let mut record = Record::new(rt)?;
     for (place, line) in script.split_terminator('\n').enumerate() {
         if let Err(fault) = record.play(line) {
             return Err(fault.at(place));
         }
     }
-    Ok(record.into_told())
+    Ok(())
 }
 
 fn play_input(rt: &HostRuntime) -> Result<(), Failure> {

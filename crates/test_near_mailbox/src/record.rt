@@ -11,6 +11,7 @@ use maildir::folder::Folder;
 use maildir::mem_folder::MemFolder;
 use maildir::name::{Name, read_name, write_name};
 use std::alloc::{AllocError, Global};
+use std::mem;
 use texts::escape::push_escaped;
 
 /// The lines that were played, with their answers, and the folder that stands there.
@@ -39,9 +40,9 @@ impl Record {
         })
     }
 
-    /// The lines so far, with their answers.
-    pub fn into_told(self) -> String {
-        self.told
+    /// Takes the lines so far, with their answers.
+    pub fn take_told(&mut self) -> String {
+        mem::replace(&mut self.told, String::new(self.rt.alloc()))
     }
 
     /// Plays a line.

@@ -1,6 +1,6 @@
 //! The mailbox of a case, and what it answers.
 
-use crate::failure::{LineFault, as_answer};
+use crate::failure::{LineFault, text_of};
 use crate::ground::{Change, Ground, push_files, sorted_files};
 use crate::noted_folder::NotedFolder;
 use crate::operation::Operation;
@@ -78,8 +78,7 @@ impl<F: Folder + Drop, G: Ground<F> + Drop> Session<F, G> {
             }
             Err((fault, folder)) => {
                 self.folder = Some(folder);
-                let fault = as_answer(fault)?;
-                Ok(format!(in self.alloc; "{fault}")?)
+                text_of(self.alloc, fault)
             }
         }
     }
@@ -99,10 +98,7 @@ impl<F: Folder + Drop, G: Ground<F> + Drop> Session<F, G> {
         self.folder = Some(folder);
         match answer {
             Ok(()) => Ok(String::from_str(self.alloc, "ok")?),
-            Err(fault) => {
-                let fault = as_answer(NearFault::from(fault))?;
-                Ok(format!(in self.alloc; "{fault}")?)
-            }
+            Err(fault) => text_of(self.alloc, NearFault::from(fault)),
         }
     }
 
@@ -118,16 +114,19 @@ impl<F: Folder + Drop, G: Ground<F> + Drop> Session<F, G> {
         };
         match operation.answer(self.alloc, near) {
             Ok(answer) => Ok(answer),
-            Err(fault) => {
-                let fault = as_answer(fault)?;
-                Ok(format!(in self.alloc; "{fault}")?)
-            }
+            Err(fault) => text_of(self.alloc, fault),
         }
     }
 
     /// What stands in the folder, and which calls were made of it since the mailbox was opened. The mailbox is closed.
     pub fn show(&mut self) -> Result<(String, String), LineFault> {
         let folder = self.closed()?;
+        let shown = self.shown(&folder);
+        self.folder = Some(folder);
+        shown
+    }
+
+    fn shown(&self, folder: &NotedFolder<F>) -> Result<(String, String), LineFault> {
         let mut files = String::from_str(self.alloc, "files:")?;
         push_files(&mut files, &sorted_files(&self.ground, folder.inner())?)?;
         let mut calls = String::from_str(self.alloc, "calls:")?;
@@ -137,7 +136,6 @@ impl<F: Folder + Drop, G: Ground<F> + Drop> Session<F, G> {
         }
         let stops = self.ground.stops(folder.inner());
         write!(calls, "; stops: {stops}")?;
-        self.folder = Some(folder);
         Ok((files, calls))
     }
 }

@@ -1,6 +1,6 @@
 //! An operation that is stopped at each of its calls in turn.
 
-use crate::failure::{LineFault, as_answer};
+use crate::failure::{LineFault, text_of};
 use crate::ground::{Ground, push_changes, sorted_files};
 use crate::noted_folder::NotedFolder;
 use crate::operation::Operation;
@@ -97,12 +97,8 @@ impl Trial {
         told: &mut String,
     ) -> Result<(), LineFault> {
         let folder = NotedFolder::new(alloc, ground.folder(Some(stop))?);
-        let (folder, answer) = self.perform(alloc, folder, self.operation.as_ref())?;
-        told.push_str("  ")?;
-        push_stop(told, stop)?;
-        let stops = ground.stops(folder.inner());
-        write!(told, ": {answer}; stops: {stops}\n   ")?;
-        let mut folder = folder;
+        let (mut folder, answer) = self.perform(alloc, folder, self.operation.as_ref())?;
+        push_first(told, stop, &answer, ground.stops(folder.inner()))?;
         folder.reopen();
         let folder = self.push_state(alloc, ground, folder, told)?;
         let (folder, answer) = self.perform(alloc, folder, self.operation.as_ref())?;
@@ -119,45 +115,74 @@ impl Trial {
         folder: NotedFolder<F>,
         told: &mut String,
     ) -> Result<NotedFolder<F>, LineFault> {
-        let start = ground.folder(None)?;
-        let before = sorted_files(ground, &start)?;
-        let now = sorted_files(ground, folder.inner())?;
-        if now == before {
-            told.push_str(" as before")?;
-        }
-        push_changes(told, &before, &now)?;
+        push_difference(ground, folder.inner(), told)?;
         let (folder, listing) = self.perform(alloc, folder, Some(&Operation::List))?;
         writeln!(told, "; lists {listing}")?;
         Ok(folder)
     }
 
-    /// What an operation answers on a new mailbox, or the opening alone. Behind a fault each operation has to stop.
+    /// What an operation answers on a new mailbox, or the opening alone.
     fn perform<F: Folder + Drop>(
         &self,
         alloc: Global,
         folder: NotedFolder<F>,
         operation: Option<&Operation>,
     ) -> Result<(NotedFolder<F>, String), LineFault> {
-        let near = match opened(alloc, folder, self.fresh) {
-            Ok(near) => near,
+        match opened(alloc, folder, self.fresh) {
+            Ok(mut near) => {
+                let answer = answer_of(alloc, &mut near, operation)?;
+                Ok((near.into_folder(), answer))
+            }
             Err((fault, folder)) => {
-                let fault = as_answer(fault)?;
-                return Ok((folder, format!(in alloc; "{fault}")?));
+                let answer = text_of(alloc, fault)?;
+                Ok((folder, answer))
             }
-        };
-        let Some(operation) = operation else {
-            return Ok((near.into_folder(), String::from_str(alloc, "ok")?));
-        };
-        let mut near = near;
-        let answer = match operation.answer(alloc, &mut near) {
-            Ok(answer) => answer,
-            Err(fault) => {
-                let fault = as_answer(fault)?;
-                let behind = behind_fault(alloc, &mut near)?;
-                format!(in alloc; "{fault}, {behind}")?
-            }
-        };
-        Ok((near.into_folder(), answer))
+        }
+    }
+}
+
+/// Adds where a call stops, what was answered, and how many calls have stopped.
+fn push_first(
+    told: &mut String,
+    stop: Stop<FolderCall>,
+    answer: &str,
+    stops: usize,
+) -> Result<(), AllocError> {
+    told.push_str("  ")?;
+    push_stop(told, stop)?;
+    write!(told, ": {answer}; stops: {stops}\n   ")
+}
+
+/// Adds what stands in a folder otherwise than at first.
+fn push_difference<F: Folder + Drop, G: Ground<F>>(
+    ground: &G,
+    folder: &F,
+    told: &mut String,
+) -> Result<(), LineFault> {
+    let before = sorted_files(ground, &ground.folder(None)?)?;
+    let now = sorted_files(ground, folder)?;
+    if now == before {
+        told.push_str(" as before")?;
+    }
+    Ok(push_changes(told, &before, &now)?)
+}
+
+/// What an operation answers. Behind a fault each operation has to stop.
+fn answer_of<F: Folder>(
+    alloc: Global,
+    near: &mut NearBox<NotedFolder<F>>,
+    operation: Option<&Operation>,
+) -> Result<String, LineFault> {
+    let Some(operation) = operation else {
+        return Ok(String::from_str(alloc, "ok")?);
+    };
+    match operation.answer(alloc, near) {
+        Ok(answer) => Ok(answer),
+        Err(fault) => {
+            let fault = text_of(alloc, fault)?;
+            let behind = behind_fault(alloc, near)?;
+            Ok(format!(in alloc; "{fault}, {behind}")?)
+        }
     }
 }
 
