@@ -58,7 +58,9 @@ def run(program, text, shim, number):
     os.dup2(writer, 198, inheritable=True)
     os.close(writer)
     env = {"LD_PRELOAD": shim, "REFUSED_ALLOCATION": str(number)}
-    done = subprocess.run([program], input=text, capture_output=True, env=env, pass_fds=[198], timeout=120)
+    # A run that is refused memory may leave files: they go with the folder of the shim.
+    at = os.path.dirname(shim)
+    done = subprocess.run([program], input=text, capture_output=True, env=env, cwd=at, pass_fds=[198], timeout=120)
     os.close(198)
     met = os.read(reader, 1)
     os.close(reader)

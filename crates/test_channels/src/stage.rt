@@ -14,6 +14,7 @@ use mem_outside::mem_box::MemBox;
 use mem_outside::mem_outside::{MemOutside, Parts};
 use rules::state::SyncState;
 use std::alloc::{AllocError, Global};
+use sync_state::fault::BookFault;
 use trial::shelf::{shelf_with, state_in};
 use worlds::line::Line;
 use worlds::read::read_world;
@@ -250,7 +251,9 @@ fn lines_of(alloc: Global, parts: &Parts) -> Result<String, Failure> {
 fn write_world(alloc: Global, text: &mut String, parts: &Parts) -> Result<(), Failure> {
     let state = match state_in(alloc, &parts.shelf) {
         Ok(state) => state,
-        Err(_) => SyncState::none(alloc),
+        // A text that is no state is written as none.
+        Err(BookFault::BadState(_)) => SyncState::none(alloc),
+        Err(fault) => return Err(Failure::from(fault)),
     };
     let world = WrittenWorld {
         far: shown(&parts.boxes.far),
