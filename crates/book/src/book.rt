@@ -18,7 +18,7 @@ use sync_state::journal_text::{read_journal, write_journal};
 use sync_state::state_text::read_state_text;
 
 /// What stands in the journal's file.
-#[derive(Debug, Drop)]
+#[derive(Drop)]
 pub enum Pending {
     /// There is no journal.
     Missing,
@@ -99,7 +99,7 @@ fn read_files<S: Shelf>(alloc: Global, shelf: &mut S) -> Result<(SyncState, Pend
 }
 
 /// Why a book was not opened, and the shelf.
-#[derive(Debug, Drop)]
+#[derive(Drop)]
 pub struct OpenFault<S> {
     /// The shelf, whose files are as before.
     pub shelf: S,
@@ -110,7 +110,7 @@ pub struct OpenFault<S> {
 /// The state of the last run and the journal of the next one.
 ///
 /// After `Stopped` and `NoMemory` each call answers `Stopped`: the shelf is to be reopened, and a new book opened.
-#[derive(Debug, Drop)]
+#[derive(Drop)]
 pub struct Book<S: Shelf> {
     pub(crate) alloc: Global,
     pub(crate) shelf: S,

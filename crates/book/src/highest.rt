@@ -13,7 +13,7 @@ use rules::plan::Step;
 use sync_state::journal::{Journal, Logged};
 
 /// A bound of the UIDs that are taken on each side while a plan is pending.
-#[derive(Clone, Copy, Debug)]
+#[derive(Clone, Copy)]
 pub(crate) struct Highest {
     far: u32,
     near: u32,

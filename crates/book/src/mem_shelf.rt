@@ -9,7 +9,7 @@ use device::schedule::{Moment, Scheduled, Stop};
 use std::alloc::{AllocError, Global};
 
 /// A call of a shelf that a schedule can stop. Of `append` alone there are parts.
-#[derive(Clone, Copy, Debug, PartialEq, Eq)]
+#[derive(Clone, Copy, PartialEq, Eq)]
 pub enum ShelfCall {
     /// `read`.
     Read,
@@ -22,7 +22,7 @@ pub enum ShelfCall {
 }
 
 /// Two files in memory.
-#[derive(Debug, Drop)]
+#[derive(Drop)]
 pub struct MemShelf {
     alloc: Global,
     state: Option<Vec<u8>>,

@@ -5,7 +5,7 @@ ghost use Rattle.std.specs.Prelude.{◌≡◌, None, Some, Bool, false};
 use device::DeviceFault;
 
 /// A file of a shelf.
-#[derive(Clone, Copy, Debug, PartialEq, Eq)]
+#[derive(Clone, Copy, PartialEq, Eq)]
 pub enum File {
     /// The state of the last run.
     State,

@@ -12,7 +12,7 @@ use std::marker::Model;
 const INBOX: &[u8] = b"INBOX";
 
 /// A word of Patterns: a pattern, or `!` and a pattern. Clauses see it as its bytes.
-#[derive(Debug, Drop)]
+#[derive(Drop)]
 pub struct Pattern {
     text: String,
 }
@@ -49,7 +49,7 @@ impl Pattern {
 }
 
 /// The words of a channel's Patterns, which clauses see as a list.
-#[derive(Debug, Drop)]
+#[derive(Drop)]
 pub struct Patterns {
     words: Vec<Pattern>,
 }

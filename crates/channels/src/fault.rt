@@ -6,7 +6,7 @@ use runner::fault::RunFault;
 use stores::fault::StoreFault;
 
 /// Why a mailbox was not synchronised.
-#[derive(Debug, Drop)]
+#[derive(Drop)]
 pub(crate) enum BoxFault {
     /// It is absent on this side, and the channel's Create does not cover the side.
     Absent(Side),

@@ -4,7 +4,7 @@ use imap_link::fault::FarFault;
 use std::fmt;
 
 /// What a call answers.
-#[derive(Debug, PartialEq, Eq, Drop)]
+#[derive(PartialEq, Eq, Drop)]
 pub enum Answer {
     /// The client has no session or no mailbox for it.
     NotMade,

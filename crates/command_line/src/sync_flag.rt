@@ -7,7 +7,7 @@ use mailcore::side::Direction;
 use rules::sync_words::{Kind, SyncWord};
 
 /// A flag that is a Sync word.
-#[derive(Clone, Copy, Debug, PartialEq, Eq)]
+#[derive(Clone, Copy, PartialEq, Eq)]
 pub(crate) enum SyncFlag {
     /// `--pull`.
     Pull,

@@ -9,7 +9,7 @@ use std::alloc::Global;
 
 /// What a configuration file says. Names are unlike among the IMAP stores, among the Maildir stores, and among the
 /// channels and groups.
-#[derive(Debug, Drop)]
+#[derive(Drop)]
 pub struct Config {
     /// The IMAP stores, in the order of the file.
     pub imap_stores: Vec<ImapStore>,
@@ -39,7 +39,7 @@ impl Config {
 }
 
 /// Where the far mailboxes of channels are: an account on an IMAP server.
-#[derive(Debug, Drop)]
+#[derive(Drop)]
 pub struct ImapStore {
     /// The name that channels say.
     pub name: String,
@@ -54,7 +54,7 @@ pub struct ImapStore {
 }
 
 /// Where the near mailboxes of channels are: folders of a disk.
-#[derive(Debug, Drop)]
+#[derive(Drop)]
 pub struct MaildirStore {
     /// The name that channels say.
     pub name: String,
@@ -65,7 +65,7 @@ pub struct MaildirStore {
 }
 
 /// Far and near mailboxes that are synchronised, and how.
-#[derive(Debug, Drop)]
+#[derive(Drop)]
 pub struct Channel {
     /// The name that the command line and groups say.
     pub name: String,
@@ -84,7 +84,7 @@ pub struct Channel {
 }
 
 /// The mailboxes of a channel.
-#[derive(Debug, Drop)]
+#[derive(Drop)]
 pub enum Boxes {
     /// One on each side, whose names may differ.
     Pair {
@@ -98,7 +98,7 @@ pub enum Boxes {
 }
 
 /// Channels under one name.
-#[derive(Debug, Drop)]
+#[derive(Drop)]
 pub struct Group {
     /// The name that the command line says.
     pub name: String,

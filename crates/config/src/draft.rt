@@ -19,7 +19,7 @@ use std::mem;
 
 /// What the lines so far say. A faulty line is taken as far as it can be, so that what stands behind it is read in the
 /// section that was meant.
-#[derive(Debug, Drop)]
+#[derive(Drop)]
 pub(crate) struct Draft {
     alloc: Global,
     /// The sections that have ended.

@@ -7,7 +7,7 @@ ghost use Rattle.config.specs.Standing.{lines_of};
 use texts::cut::cut;
 
 /// A line of a text.
-#[derive(Clone, Copy, Debug)]
+#[derive(Clone, Copy)]
 pub(crate) struct Line<'a> {
     /// Its number, from 1.
     pub number: usize,
@@ -16,7 +16,7 @@ pub(crate) struct Line<'a> {
 }
 
 /// The lines of a text that are not taken yet.
-#[derive(Debug, Drop)]
+#[derive(Drop)]
 pub(crate) struct Lines<'a> {
     /// How many lines are taken.
     pub taken: usize,

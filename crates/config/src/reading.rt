@@ -16,7 +16,7 @@ use config_words::words::LineKind;
 use std::alloc::{AllocError, Global};
 
 /// A channel that a line adds to a group.
-#[derive(Debug, Drop)]
+#[derive(Drop)]
 pub(crate) struct Member {
     /// The place of the group.
     pub group: usize,
@@ -27,7 +27,7 @@ pub(crate) struct Member {
 }
 
 /// What is known of the lines so far.
-#[derive(Debug, Drop)]
+#[derive(Drop)]
 pub(crate) struct Reading {
     /// What they say.
     pub draft: Draft,

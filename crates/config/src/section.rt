@@ -16,7 +16,7 @@ use std::alloc::{AllocError, Global};
 const PORT: u16 = 143;
 
 /// The section that is open, with what its lines have said so far.
-#[derive(Debug, Drop)]
+#[derive(Drop)]
 pub(crate) enum Section {
     /// None, and none was.
     Start,
@@ -72,7 +72,7 @@ impl Section {
 }
 
 /// An IMAP store without its name.
-#[derive(Debug, Drop)]
+#[derive(Drop)]
 pub(crate) struct ImapDraft {
     host: Option<String>,
     port: u16,
@@ -114,7 +114,7 @@ impl ImapDraft {
 }
 
 /// A Maildir store without its name.
-#[derive(Debug, Drop)]
+#[derive(Drop)]
 pub(crate) struct MaildirDraft {
     path: Option<String>,
     inbox: Option<String>,
@@ -152,7 +152,7 @@ impl MaildirDraft {
 }
 
 /// How mailboxes are synchronised, as far as lines say it.
-#[derive(Clone, Copy, Debug)]
+#[derive(Clone, Copy)]
 pub(crate) struct Manner {
     cells: Option<Cells>,
     create: Option<Sides>,
@@ -199,7 +199,7 @@ const NEITHER: Sides = Sides {
 };
 
 /// A channel without its name.
-#[derive(Debug, Drop)]
+#[derive(Drop)]
 pub(crate) struct ChannelDraft {
     /// The place of the far store.
     pub far: Option<usize>,

@@ -5,7 +5,7 @@ ghost use Rattle.config_words.specs.Keywords.{opened_by, section_of};
 ghost use Rattle.config_words.specs.Places.{is_section, section_named};
 
 /// What the first word of a line is.
-#[derive(Clone, Copy, Debug, PartialEq, Eq)]
+#[derive(Clone, Copy, PartialEq, Eq)]
 pub enum Keyword {
     ImapStore,
     MaildirStore,
@@ -29,7 +29,7 @@ pub enum Keyword {
 }
 
 /// Where a line stands.
-#[derive(Clone, Copy, Debug, PartialEq, Eq)]
+#[derive(Clone, Copy, PartialEq, Eq)]
 pub enum Place {
     /// Before any section.
     Start,

@@ -20,7 +20,7 @@ use texts::number::read_u32;
 const ARGUMENT_MAX: usize = 1024;
 
 /// A mailbox of a store, as a channel says it.
-#[derive(Debug, Drop)]
+#[derive(Drop)]
 pub struct BoxPlace {
     /// The name of the store.
     pub store: String,
@@ -29,7 +29,7 @@ pub struct BoxPlace {
 }
 
 /// What a line says.
-#[derive(Debug, Drop)]
+#[derive(Drop)]
 pub enum Setting {
     /// A section of this name begins.
     Section(String),

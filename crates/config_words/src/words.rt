@@ -8,7 +8,7 @@ ghost use Rattle.config_words.specs.Words.{no_split, split_end, split_on, split_
 use std::alloc::{AllocError, Global};
 
 /// What a line is.
-#[derive(Clone, Copy, Debug)]
+#[derive(Clone, Copy)]
 pub enum LineKind<'a> {
     /// Spaces and tabs alone: it ends a section.
     Empty,
@@ -67,7 +67,7 @@ pub fn is_plain(text: &[u8]) -> bool
 }
 
 /// The arguments of a keyword.
-#[derive(Debug, Drop)]
+#[derive(Drop)]
 pub struct Arguments {
     /// Their texts, without quotes.
     pub list: Vec<String>,
@@ -91,7 +91,7 @@ impl Arguments {
 }
 
 /// Where a reader of arguments stands.
-#[derive(Debug, Drop)]
+#[derive(Drop)]
 struct Splitter {
     alloc: Global,
     list: Vec<String>,

@@ -9,7 +9,7 @@ use std::alloc::Global;
 use std::marker::Model;
 
 /// Whether a device goes on, and how many of its calls have stopped.
-#[derive(Debug, Drop)]
+#[derive(Drop)]
 pub struct Condition {
     is_broken: bool,
     stops: StopCount,

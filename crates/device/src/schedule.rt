@@ -9,7 +9,7 @@ use std::alloc::Global;
 use std::marker::Model;
 
 /// Where a call stops.
-#[derive(Clone, Copy, Debug, PartialEq, Eq)]
+#[derive(Clone, Copy, PartialEq, Eq)]
 pub enum Moment {
     /// Without its effect.
     Before,
@@ -20,7 +20,7 @@ pub enum Moment {
 }
 
 /// A stop of a schedule. `C` names the calls of a device.
-#[derive(Clone, Copy, Debug, PartialEq, Eq)]
+#[derive(Clone, Copy, PartialEq, Eq)]
 pub struct Stop<C> {
     /// Which call stops.
     pub call: C,
@@ -32,7 +32,7 @@ pub struct Stop<C> {
 
 /// How the calls of a device in memory stop: its condition, and the stops that are still to come. Each stop meets one call; of
 /// two for one call the first acts.
-#[derive(Debug, Drop)]
+#[derive(Drop)]
 pub struct Scheduled<C> {
     condition: Condition,
     /// Each with the number of calls that are still to be made until it is met, itself included; 0 once it was.

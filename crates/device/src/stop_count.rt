@@ -6,7 +6,7 @@ use std::alloc::{AllocError, Global};
 use std::marker::Model;
 
 /// How many calls of a device have stopped. No number is the greatest: a stop that is counted takes memory.
-#[derive(Debug, Drop)]
+#[derive(Drop)]
 pub struct StopCount {
     /// An element for each stop.
     stops: Vec<u8>,

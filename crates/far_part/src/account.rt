@@ -4,7 +4,7 @@ ghost use Rattle.imap_client.specs.Requests.{IsWord};
 ghost use Rattle.std.proofs.Props.{props};
 
 /// The name of a far mailbox, and the user who logs in for it: words of at most 1024 bytes that can be quoted.
-#[derive(Debug, Drop)]
+#[derive(Drop)]
 pub struct Account {
     pub(crate) user: Vec<u8>,
     pub(crate) password: Vec<u8>,

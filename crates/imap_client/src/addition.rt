@@ -15,7 +15,7 @@ use wire_tokens::number::write_number;
 use wire_tokens::tag::Tag;
 
 /// A message that is to be added.
-#[derive(Clone, Copy, Debug)]
+#[derive(Clone, Copy)]
 pub(crate) struct Addition<'a> {
     /// The name of its mailbox.
     pub(crate) name: &'a [u8],

@@ -18,7 +18,7 @@ use wire_tokens::number::NonZero;
 use wire_tokens::uid_set::{SetEnd, SetItem, UidSet};
 
 /// What a call sends.
-#[derive(Clone, Copy, Debug)]
+#[derive(Clone, Copy)]
 pub(crate) enum Call<'a> {
     /// What the server can do.
     Capability,

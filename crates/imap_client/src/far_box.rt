@@ -48,7 +48,7 @@ pub struct FarBox<L: Link> {
 }
 
 /// What is known of a mailbox that was selected.
-#[derive(Debug, Drop)]
+#[derive(Drop)]
 pub(crate) struct Chosen {
     name: Vec<u8>,
     validity: u32,

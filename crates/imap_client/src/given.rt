@@ -10,7 +10,7 @@ use mailcore::uid::Uid;
 use wire_tokens::number::NonZero;
 
 /// The validity and the UID of a message, as a server told them.
-#[derive(Debug, Drop)]
+#[derive(Drop)]
 pub(crate) struct Given {
     /// The UIDVALIDITY of its mailbox.
     pub(crate) validity: u32,

@@ -9,7 +9,7 @@ use imap_replies::word::NoticeKind;
 use mailcore::flags::{Flag, Flags};
 
 /// What was said of a mailbox so far.
-#[derive(Clone, Copy, Debug, PartialEq, Eq)]
+#[derive(Clone, Copy, PartialEq, Eq)]
 pub(crate) struct Opening {
     /// Its UIDNEXT.
     pub(crate) next: Option<u32>,

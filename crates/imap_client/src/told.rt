@@ -11,7 +11,7 @@ use std::alloc::Global;
 use std::collections::BTreeMap;
 
 /// What a FETCH reply tells of a message. Of two items of a kind the later counts.
-#[derive(Clone, Copy, Debug)]
+#[derive(Clone, Copy)]
 pub(crate) struct Told {
     /// Its UID.
     pub(crate) uid: Option<u32>,

@@ -13,7 +13,7 @@ use wire_tokens::tag::Tag;
 use wire_tokens::uid_set::UidSet;
 
 /// A command, with the tag by which its reply names it.
-#[derive(Debug, Drop)]
+#[derive(Drop)]
 pub struct Command {
     /// The tag.
     pub tag: Tag,
@@ -22,7 +22,7 @@ pub struct Command {
 }
 
 /// What a command asks for.
-#[derive(Debug, Drop)]
+#[derive(Drop)]
 pub enum Request {
     /// What the server can do.
     Capability,
@@ -73,7 +73,7 @@ impl Request {
 }
 
 /// Which items of messages are asked for.
-#[derive(Clone, Copy, Debug, PartialEq, Eq)]
+#[derive(Clone, Copy, PartialEq, Eq)]
 pub enum FetchItems {
     /// `(UID FLAGS RFC822.SIZE)`
     Listing,
@@ -97,7 +97,7 @@ impl FetchItems {
 }
 
 /// What is to be done with flags.
-#[derive(Clone, Copy, Debug, PartialEq, Eq)]
+#[derive(Clone, Copy, PartialEq, Eq)]
 pub enum StoreMode {
     /// `+FLAGS.SILENT`: they are set.
     Add,

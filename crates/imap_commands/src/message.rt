@@ -17,7 +17,7 @@ use wire_strings::octets::Octets;
 use wire_strings::string_writing::write_literal;
 
 /// The octets of a message: 1 to 16777238, none of them 0.
-#[derive(Debug, Drop)]
+#[derive(Drop)]
 pub struct Message {
     octets: Vec<u8>,
 }

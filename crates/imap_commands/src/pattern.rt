@@ -14,7 +14,7 @@ use wire_strings::quoted::read_quoted;
 use wire_strings::string_writing::write_quoted;
 
 /// A pattern for names of mailboxes: bytes from 32 to 255 except 127.
-#[derive(Debug, Drop)]
+#[derive(Drop)]
 pub struct Pattern {
     bytes: Vec<u8>,
 }

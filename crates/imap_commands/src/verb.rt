@@ -10,7 +10,7 @@ use wire_reader::keyword::{either, keyed};
 use wire_reader::stop::Stop;
 
 /// The word that a command begins with.
-#[derive(Clone, Copy, Debug, PartialEq, Eq)]
+#[derive(Clone, Copy, PartialEq, Eq)]
 pub enum Verb {
     /// CAPABILITY
     Capability,

@@ -13,7 +13,7 @@ use wire_reader::answer::Read;
 use wire_tokens::tag::Tag;
 
 /// What a reply is to who has sent a command.
-#[derive(Clone, Copy, Debug, PartialEq, Eq)]
+#[derive(Clone, Copy, PartialEq, Eq)]
 pub enum Kind {
     /// `* OK`, with which a server greets, and which may stand before the tagged reply.
     Hello,
@@ -30,7 +30,7 @@ pub enum Kind {
 }
 
 /// What stands at the front of bytes.
-#[derive(Clone, Copy, Debug, PartialEq, Eq)]
+#[derive(Clone, Copy, PartialEq, Eq)]
 pub enum Front {
     /// No whole reply.
     Begun,

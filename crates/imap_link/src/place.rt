@@ -12,7 +12,7 @@ use wire_tokens::tag::Tag;
 /// How far a reply has been looked at. A reply ends at a place of its scanner alone
 /// (`imap_replies::places::replies_end_at_places`), so it is read at these places, however small the pieces are in which
 /// it comes, and not once for each piece.
-#[derive(Clone, Copy, Debug)]
+#[derive(Clone, Copy)]
 pub(crate) struct Search {
     scanner: Scanner,
     scanned: usize,

@@ -20,7 +20,7 @@ use wire_tokens::tag::Tag;
 const PIECE: usize = 4096;
 
 /// What a sender waits for, at the front of the buffer behind replies that are passed over. The length counts them in.
-#[derive(Clone, Copy, Debug, PartialEq, Eq)]
+#[derive(Clone, Copy, PartialEq, Eq)]
 pub enum Told {
     /// The tagged reply to the command.
     Answer(usize, Status),
@@ -29,7 +29,7 @@ pub enum Told {
 }
 
 /// The replies to a command, at the front of the buffer.
-#[derive(Clone, Copy, Debug, PartialEq, Eq)]
+#[derive(Clone, Copy, PartialEq, Eq)]
 pub struct Answered {
     /// The number of their bytes.
     pub len: usize,

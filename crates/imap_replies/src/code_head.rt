@@ -12,7 +12,7 @@ use wire_reader::stop::Stop;
 use wire_tokens::atom::read_atom;
 
 /// What stands behind `[`.
-#[derive(Debug, Drop)]
+#[derive(Drop)]
 pub(crate) enum CodeHead<'a> {
     /// A word with a form of its own.
     Known(CodeWord),

@@ -13,7 +13,7 @@ use wire_tokens::atom::read_atom;
 use wire_tokens::number::NonZero;
 
 /// What stands behind `* ` and a number.
-#[derive(Debug, Drop)]
+#[derive(Drop)]
 pub(crate) enum Event<'a> {
     Exists,
     Expunge(NonZero),

@@ -22,7 +22,7 @@ use wire_tokens::flag_list::{FlagSet, read_flags};
 use wire_tokens::number::{NonZero, number, nz};
 
 /// An item of a FETCH reply.
-#[derive(Debug, Drop)]
+#[derive(Drop)]
 pub enum FetchItem<'a> {
     /// `UID`
     Uid(NonZero),
@@ -37,7 +37,7 @@ pub enum FetchItem<'a> {
 }
 
 /// The items of a FETCH reply, of which there is at least one.
-#[derive(Debug, Drop)]
+#[derive(Drop)]
 pub struct FetchList<'a> {
     items: Vec<FetchItem<'a>>,
 }

@@ -14,7 +14,7 @@ use wire_tokens::atom::{ATOM_MAX, is_atom_byte};
 use wire_tokens::number::number;
 
 /// What stands behind `* `.
-#[derive(Debug, Drop)]
+#[derive(Drop)]
 pub(crate) enum Head<'a> {
     /// A number.
     Number(u32),

@@ -11,7 +11,7 @@ use std::marker::Model;
 use wire_tokens::atom::Atom;
 
 /// An atom behind `* ` that is none of the words with a line of their own, and not digits alone; lent.
-#[derive(Debug, Drop)]
+#[derive(Drop)]
 pub struct OtherWord<'a> {
     text: &'a [u8],
 }
@@ -60,7 +60,7 @@ impl<'a> OtherWord<'a> {
 }
 
 /// An atom behind a number that is none of EXISTS, EXPUNGE and FETCH; lent.
-#[derive(Debug, Drop)]
+#[derive(Drop)]
 pub struct OtherEvent<'a> {
     text: &'a [u8],
 }
@@ -106,7 +106,7 @@ impl<'a> OtherEvent<'a> {
 }
 
 /// An atom behind `[` that is none of the codes with a form of their own; lent.
-#[derive(Debug, Drop)]
+#[derive(Drop)]
 pub struct OtherCode<'a> {
     text: &'a [u8],
 }

@@ -13,7 +13,7 @@ use wire_tokens::number::NonZero;
 use wire_tokens::tag::Tag;
 
 /// A reply: a line of a server, with the literals in it.
-#[derive(Debug, Drop)]
+#[derive(Drop)]
 pub enum Reply<'a> {
     /// `+ text`: the server waits for more of a command.
     Continue(LineText<'a>),

@@ -15,7 +15,7 @@ use wire_tokens::flag_list::{FlagSet, read_permanent_flags};
 use wire_tokens::number::{NonZero, nz};
 
 /// The text of a status reply.
-#[derive(Debug, Drop)]
+#[derive(Drop)]
 pub enum ResponseText<'a> {
     /// A text without a code.
     Plain(PlainText<'a>),
@@ -24,7 +24,7 @@ pub enum ResponseText<'a> {
 }
 
 /// A response code.
-#[derive(Debug, Drop)]
+#[derive(Drop)]
 pub enum Code<'a> {
     /// The next UID of the mailbox.
     UidNext(NonZero),

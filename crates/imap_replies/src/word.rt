@@ -4,7 +4,7 @@ ghost use Rattle.std.specs.Prelude.{◌≡◌};
 ghost use Rattle.imap_replies.specs.Words.{find_reply_word, find_event_word, find_code_word, find_listing_word};
 
 /// The word behind `* `.
-#[derive(Clone, Copy, Debug, PartialEq, Eq)]
+#[derive(Clone, Copy, PartialEq, Eq)]
 pub(crate) enum ReplyWord {
     Ok,
     No,
@@ -18,7 +18,7 @@ pub(crate) enum ReplyWord {
 }
 
 /// The word behind `* ` and a number.
-#[derive(Clone, Copy, Debug, PartialEq, Eq)]
+#[derive(Clone, Copy, PartialEq, Eq)]
 pub(crate) enum EventWord {
     Exists,
     Expunge,
@@ -26,7 +26,7 @@ pub(crate) enum EventWord {
 }
 
 /// The word of a response code.
-#[derive(Clone, Copy, Debug, PartialEq, Eq)]
+#[derive(Clone, Copy, PartialEq, Eq)]
 pub(crate) enum CodeWord {
     UidNext,
     UidValidity,
@@ -37,7 +37,7 @@ pub(crate) enum CodeWord {
 }
 
 /// The word of an item of a FETCH reply.
-#[derive(Clone, Copy, Debug, PartialEq, Eq)]
+#[derive(Clone, Copy, PartialEq, Eq)]
 pub(crate) enum ItemWord {
     Uid,
     Flags,
@@ -47,7 +47,7 @@ pub(crate) enum ItemWord {
 }
 
 /// How a command ended.
-#[derive(Clone, Copy, Debug, PartialEq, Eq)]
+#[derive(Clone, Copy, PartialEq, Eq)]
 pub enum Status {
     /// It was carried out.
     Ok,
@@ -58,7 +58,7 @@ pub enum Status {
 }
 
 /// The condition that an untagged line tells.
-#[derive(Clone, Copy, Debug, PartialEq, Eq)]
+#[derive(Clone, Copy, PartialEq, Eq)]
 pub enum NoticeKind {
     /// A notice.
     Ok,

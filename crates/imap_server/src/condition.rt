@@ -3,7 +3,7 @@
 use wire_strings::text::Text;
 
 /// What a connection may ask for.
-#[derive(Debug, Drop)]
+#[derive(Drop)]
 pub(crate) enum Condition {
     /// Nobody is logged in.
     NotAuthenticated,

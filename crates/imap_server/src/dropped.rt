@@ -3,7 +3,7 @@
 use crate::fault::LineFault;
 
 /// A line that is dropped up to its end.
-#[derive(Debug, Drop)]
+#[derive(Drop)]
 pub(crate) struct Dropped {
     /// What is wrong with it.
     pub(crate) fault: LineFault,

@@ -15,7 +15,7 @@ use wire_reader::stop::Stop;
 use wire_tokens::tag::{Tag, read_tag};
 
 /// Why a line is no command.
-#[derive(Debug, Drop)]
+#[derive(Drop)]
 pub(crate) enum LineFault {
     /// No command goes on with one of its bytes. The tag, where one and a space stand before that byte.
     Syntax(Option<Tag>),

@@ -16,7 +16,7 @@ use wire_strings::line_text::all_text;
 const WORD_MAX: usize = 1024;
 
 /// Why a server does nothing for a store.
-#[derive(Clone, Copy, Debug, PartialEq, Eq)]
+#[derive(Clone, Copy, PartialEq, Eq)]
 pub(crate) enum ServerFault {
     /// It does not let the user in: it says no to the user and the password.
     LoginRefused,

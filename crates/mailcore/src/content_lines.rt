@@ -9,7 +9,7 @@ use memchr::memchr;
 const MARK_FIELD: &[u8; 7] = b"X-TUID:";
 
 /// A line of a message: its text, without the CRs that stand directly before the LF.
-#[derive(Clone, Copy, Debug)]
+#[derive(Clone, Copy)]
 pub struct Line<'a> {
     pub text: &'a [u8],
     /// Whether an LF ends the line. Only a last line can be without.
@@ -46,7 +46,7 @@ fn without_last_crs(mut text: &[u8]) -> &[u8]
 }
 
 // The lines of a message.
-#[derive(Clone, Copy, Debug)]
+#[derive(Clone, Copy)]
 struct Lines<'a> {
     rest: &'a [u8],
 }
@@ -82,7 +82,7 @@ impl<'a> Iterator for Lines<'a> {
 
 /// An iterator over the lines of a message's content: all but the mark lines of its header. It
 /// takes no memory.
-#[derive(Clone, Copy, Debug)]
+#[derive(Clone, Copy)]
 pub struct ContentLines<'a> {
     lines: Lines<'a>,
     in_header: bool,

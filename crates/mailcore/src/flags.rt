@@ -7,7 +7,7 @@ ghost use Rattle.mailcore.specs.FlagNames.{place, letter, letters_of, imap_name,
 use std::marker::Model;
 
 /// A flag that is kept alike on both sides (RFC 9051, section 2.3.2).
-#[derive(Clone, Copy, Debug, PartialEq, Eq)]
+#[derive(Clone, Copy, PartialEq, Eq)]
 pub enum Flag {
     /// `\Draft`, letter D.
     Draft,
@@ -79,7 +79,7 @@ impl Flag {
 }
 
 /// A set of flags.
-#[derive(Clone, Copy, Debug, PartialEq, Eq)]
+#[derive(Clone, Copy, PartialEq, Eq)]
 pub struct Flags {
     bits: u32,
 }

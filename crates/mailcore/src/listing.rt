@@ -11,7 +11,7 @@ use std::alloc::Global;
 use std::marker::Model;
 
 /// A listed message.
-#[derive(Clone, Copy, Debug, PartialEq, Eq)]
+#[derive(Clone, Copy, PartialEq, Eq)]
 pub struct Item {
     /// Its UID.
     pub uid: Uid,
@@ -22,7 +22,7 @@ pub struct Item {
 }
 
 /// Listed messages, in the order of their UIDs.
-#[derive(Debug, Drop)]
+#[derive(Drop)]
 pub struct Items {
     list: Vec<Item>,
 }
@@ -100,7 +100,7 @@ fn is_above(items: &[Item], item: &Item) -> bool
 }
 
 /// What a mailbox lists.
-#[derive(Debug, Drop)]
+#[derive(Drop)]
 pub struct Listing {
     /// Its UIDVALIDITY, 1 to 4294967295.
     pub validity: u32,

@@ -16,7 +16,7 @@ use std::alloc::{AllocError, Global};
 use std::marker::Model;
 
 /// A stored message.
-#[derive(Debug, Drop)]
+#[derive(Drop)]
 pub struct Message {
     /// Its UID.
     pub uid: Uid,
@@ -27,7 +27,7 @@ pub struct Message {
 }
 
 /// Stored messages, in the order of their UIDs.
-#[derive(Debug, Drop)]
+#[derive(Drop)]
 pub struct Messages {
     list: Vec<Message>,
 }
@@ -106,7 +106,7 @@ fn is_above(messages: &[Message], uid: Uid) -> bool
 }
 
 /// A mailbox: each of its UIDs is below the next one that it gives (RFC 9051, section 2.3.1.1).
-#[derive(Debug, Drop)]
+#[derive(Drop)]
 pub struct Mailbox {
     /// Its name.
     pub name: MailboxName,

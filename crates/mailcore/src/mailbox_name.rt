@@ -7,7 +7,7 @@ use std::marker::Model;
 
 /// The name of a mailbox, which clauses see as its bytes. Names compare by bytes, but for INBOX, which IMAP
 /// compares without case (RFC 9051, section 5.1).
-#[derive(Debug, Drop)]
+#[derive(Drop)]
 pub struct MailboxName {
     text: String,
 }

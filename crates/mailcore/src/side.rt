@@ -35,7 +35,7 @@ impl Side {
 }
 
 /// A direction of propagation.
-#[derive(Clone, Copy, Debug, PartialEq, Eq)]
+#[derive(Clone, Copy, PartialEq, Eq)]
 pub enum Direction {
     /// From far to near.
     Pull,
@@ -66,7 +66,7 @@ impl Direction {
 }
 
 /// What ends the lines of a stored message.
-#[derive(Clone, Copy, Debug, PartialEq, Eq)]
+#[derive(Clone, Copy, PartialEq, Eq)]
 pub enum LineEnd {
     /// LF alone, as in a near store.
     Lf,

@@ -16,7 +16,7 @@ const TUID_BYTES: usize = 9;
 /// A mark: twelve characters of base64url (RFC 4648, section 5), which stand for nine bytes.
 ///
 /// A copy begins with the line `X-TUID: ` and its mark.
-#[derive(Clone, Copy, Debug, PartialEq, Eq, Hash)]
+#[derive(Clone, Copy, PartialEq, Eq, Hash)]
 pub struct Tuid {
     text: [u8; TUID_LENGTH],
 }

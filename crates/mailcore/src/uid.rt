@@ -8,7 +8,7 @@ use std::marker::Model;
 /// The unique identifier of a message in its mailbox, 1 to 4294967294 (RFC 9051, section 2.3.1.1).
 ///
 /// The greatest number of 32 bits is left out, so that there is a next UID above each.
-#[derive(Clone, Copy, Debug, PartialEq, Eq, PartialOrd, Ord)]
+#[derive(Clone, Copy, PartialEq, Eq, PartialOrd, Ord)]
 pub struct Uid {
     number: u32,
 }

@@ -6,7 +6,7 @@ use device::DeviceFault;
 use mailcore::octets::Octets;
 
 /// Where the file of a message stands.
-#[derive(Clone, Copy, Debug, PartialEq, Eq, PartialOrd, Ord)]
+#[derive(Clone, Copy, PartialEq, Eq, PartialOrd, Ord)]
 pub enum Place {
     /// The folder `new`.
     New,
@@ -15,7 +15,7 @@ pub enum Place {
 }
 
 /// A file of `new` or `cur` with its bytes.
-#[derive(Debug, Drop)]
+#[derive(Drop)]
 pub struct File {
     /// Where it stands.
     pub place: Place,
@@ -26,7 +26,7 @@ pub struct File {
 }
 
 /// The name of a file of `new` or `cur`.
-#[derive(Debug, Drop)]
+#[derive(Drop)]
 pub struct FileName {
     /// Where the file stands.
     pub place: Place,
@@ -35,7 +35,7 @@ pub struct FileName {
 }
 
 /// The same, borrowed.
-#[derive(Clone, Copy, Debug)]
+#[derive(Clone, Copy)]
 pub struct Location<'a> {
     /// Where the file stands.
     pub place: Place,
@@ -44,7 +44,7 @@ pub struct Location<'a> {
 }
 
 /// What can be read.
-#[derive(Clone, Copy, Debug)]
+#[derive(Clone, Copy)]
 pub enum Source<'a> {
     /// The meta file of the mailbox.
     Meta,
@@ -53,7 +53,7 @@ pub enum Source<'a> {
 }
 
 /// What can be renamed.
-#[derive(Clone, Copy, Debug)]
+#[derive(Clone, Copy)]
 pub enum Origin<'a> {
     /// The copy that `write_tmp` wrote.
     Tmp,

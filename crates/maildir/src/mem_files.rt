@@ -11,7 +11,7 @@ use crate::name_index::NameIndex;
 use std::alloc::{AllocError, Global};
 
 // The files in the order in which they came, with an index, so that a name is found without a walk.
-#[derive(Debug, Drop)]
+#[derive(Drop)]
 pub(crate) struct MemFiles {
     alloc: Global,
     pub(crate) files: Vec<File>,

@@ -12,7 +12,7 @@ use mailcore::octets::Octets;
 use std::alloc::{AllocError, Global};
 
 /// A call of a folder that a schedule can stop. Of `write_tmp` alone there are parts.
-#[derive(Clone, Copy, Debug, PartialEq, Eq)]
+#[derive(Clone, Copy, PartialEq, Eq)]
 pub enum FolderCall {
     /// `names`
     Names,
@@ -31,7 +31,7 @@ pub enum FolderCall {
 }
 
 /// A folder in memory.
-#[derive(Debug, Drop)]
+#[derive(Drop)]
 pub struct MemFolder {
     alloc: Global,
     is_there: bool,

@@ -7,7 +7,7 @@ use crate::number::{push_number, read_u32};
 use std::alloc::{AllocError, Global};
 
 /// The validity of a mailbox and the next UID that it gives.
-#[derive(Clone, Copy, Debug, PartialEq, Eq)]
+#[derive(Clone, Copy, PartialEq, Eq)]
 pub struct Meta {
     /// Its UIDVALIDITY, 1 to 4294967295.
     pub validity: u32,

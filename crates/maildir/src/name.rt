@@ -14,7 +14,7 @@ use std::alloc::{AllocError, Global};
 /// What the name of a file says: a base, then `,U=` and a UID or nothing, then `:2,` and letters or nothing.
 ///
 /// The base has at least one byte, no `/`, NUL or `:`, and does not begin with `.`.
-#[derive(Debug, Drop)]
+#[derive(Drop)]
 pub struct Name<'a> {
     /// What stands before the UID and the letters.
     pub base: &'a [u8],

@@ -14,7 +14,7 @@ use std::collections::HashMap;
 type Spots = HashMap<Vec<u8>, usize>;
 
 // For each place, its names with the index of the file in a list.
-#[derive(Debug, Drop)]
+#[derive(Drop)]
 pub(crate) struct NameIndex {
     pub(crate) fresh: Spots,
     pub(crate) current: Spots,

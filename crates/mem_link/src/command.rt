@@ -3,7 +3,7 @@
 use texts::number::read_u32;
 
 /// The name of a command at which a link can stop.
-#[derive(Clone, Copy, Debug, PartialEq, Eq)]
+#[derive(Clone, Copy, PartialEq, Eq)]
 pub enum CommandName {
     /// SELECT.
     Select,
@@ -18,7 +18,7 @@ pub enum CommandName {
 }
 
 /// The first, second, .. command of a name that is sent over a link.
-#[derive(Clone, Copy, Debug, PartialEq, Eq)]
+#[derive(Clone, Copy, PartialEq, Eq)]
 pub struct Nth {
     /// Its name.
     pub name: CommandName,
@@ -27,7 +27,7 @@ pub struct Nth {
 }
 
 /// How many commands of each name were sent.
-#[derive(Debug, Drop)]
+#[derive(Drop)]
 pub(crate) struct Counts {
     select: u64,
     fetch: u64,

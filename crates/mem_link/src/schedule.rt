@@ -9,7 +9,7 @@ use memchr::memrchr;
 /// Where a link stops. From there on nothing is sent or received, and each call answers `Stopped`, until `reconnect`.
 ///
 /// Commands and bytes are counted over the life of the link, across its connections.
-#[derive(Clone, Copy, Debug, PartialEq, Eq)]
+#[derive(Clone, Copy, PartialEq, Eq)]
 pub enum LinkStop {
     /// At this command, of which the server reads nothing.
     Before(Nth),
@@ -79,7 +79,7 @@ fn front_of_literal(append: u64, octets: usize, call: Sending) -> Option<usize> 
 
 /// The stops of a link, and what it counts for them. Where more than one meets a call, the one that lets the fewest bytes
 /// through acts.
-#[derive(Debug, Drop)]
+#[derive(Drop)]
 pub struct Schedule {
     stops: Vec<LinkStop>,
     sent: Sent,

@@ -3,7 +3,7 @@
 use crate::command::{CommandName, Counts, Nth, octets_asked};
 
 /// What a call of `send` carries.
-#[derive(Clone, Copy, Debug)]
+#[derive(Clone, Copy)]
 pub(crate) struct Sending {
     /// How many bytes were sent before.
     pub(crate) before: usize,
@@ -18,7 +18,7 @@ pub(crate) struct Sending {
 }
 
 /// Octets of the literal of an APPEND.
-#[derive(Clone, Copy, Debug)]
+#[derive(Clone, Copy)]
 pub(crate) struct Octets {
     /// Which APPEND it is.
     pub(crate) append: u64,
@@ -30,7 +30,7 @@ pub(crate) struct Octets {
 
 /// What was sent over a link: whole commands, and APPENDs in two calls or more, the first of which ends where the literal is
 /// asked for. What comes in other pieces is not taken for the command that it is.
-#[derive(Debug, Drop)]
+#[derive(Drop)]
 pub(crate) struct Sent {
     bytes: usize,
     counts: Counts,

@@ -6,7 +6,7 @@ use std::alloc::{AllocError, Global};
 use std::marker::Model;
 
 /// What a server has said on a connection and was not received: what is left of its greeting, and of its replies.
-#[derive(Debug, Drop)]
+#[derive(Drop)]
 pub(crate) struct Unread {
     greeting: &'static [u8],
     replies: Vec<u8>,

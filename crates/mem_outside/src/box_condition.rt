@@ -17,7 +17,7 @@ use sync_state::fault::BookFault;
 
 /// A call of a mailbox, as a schedule names it. There are no parts of these: one that is to stop in the midst stops before its
 /// effect.
-#[derive(Clone, Copy, Debug, PartialEq, Eq)]
+#[derive(Clone, Copy, PartialEq, Eq)]
 pub enum BoxCall {
     /// `open_box`.
     Open,
@@ -39,7 +39,7 @@ pub enum BoxCall {
 
 /// The condition of both mailboxes and the book: whether calls are answered, the stops and refusals of a mailbox to come, and how many
 /// calls have stopped, were refused, and have made a copy.
-#[derive(Debug, Drop)]
+#[derive(Drop)]
 pub struct BoxCondition {
     is_broken: bool,
     stopping: Scheduled<BoxCall>,

@@ -11,7 +11,7 @@ use mailcore::side::Side;
 use mailcore::uid::Uid;
 
 /// Both mailboxes.
-#[derive(Debug, Drop)]
+#[derive(Drop)]
 pub struct Boxes {
     /// The far mailbox.
     pub far: MemBox,

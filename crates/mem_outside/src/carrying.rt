@@ -20,7 +20,7 @@ use outside::outside::Carried;
 use std::alloc::Global;
 
 /// What a copy gets.
-#[derive(Clone, Copy, Debug, PartialEq, Eq)]
+#[derive(Clone, Copy, PartialEq, Eq)]
 pub(crate) struct CopyAs {
     /// Its mark.
     pub mark: Tuid,

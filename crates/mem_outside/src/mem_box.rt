@@ -18,7 +18,7 @@ use mailcore::uid::Uid;
 use std::alloc::Global;
 
 /// A mailbox of a side. Its UIDs rise and are below the next one.
-#[derive(Debug, Drop)]
+#[derive(Drop)]
 pub struct MemBox {
     pub(crate) validity: u32,
     pub(crate) next: u32,
@@ -130,7 +130,7 @@ impl MemBox {
 }
 
 /// Memory ran out while a mailbox was listed. UIDs that do not rise would be told so too: no clause says that they do.
-#[derive(Clone, Copy, Debug, PartialEq, Eq)]
+#[derive(Clone, Copy, PartialEq, Eq)]
 pub(crate) struct Unlisted;
 
 /// Sets these flags of a message, if it is there.

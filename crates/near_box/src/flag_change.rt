@@ -6,7 +6,7 @@ ghost use Rattle.near_box.specs.FlagChanges.{changed_flags};
 use mailcore::flags::Flags;
 
 /// What becomes of the flags of a message.
-#[derive(Clone, Copy, Debug)]
+#[derive(Clone, Copy)]
 pub enum FlagChange {
     /// These are set.
     Add(Flags),

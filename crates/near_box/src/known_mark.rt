@@ -12,7 +12,7 @@ use mailcore::uid::Uid;
 use std::alloc::{AllocError, Global};
 
 /// What the file of a message told of its mark.
-#[derive(Clone, Copy, Debug)]
+#[derive(Clone, Copy)]
 pub struct KnownMark {
     /// The UID of the message.
     pub uid: Uid,
@@ -21,7 +21,7 @@ pub struct KnownMark {
 }
 
 /// What is known of the marks of messages, whose bytes never change.
-#[derive(Debug, Drop)]
+#[derive(Drop)]
 pub struct KnownMarks {
     /// The marks of the messages that were read for them, in the order of their UIDs.
     pub by_uid: Vec<KnownMark>,

@@ -12,7 +12,7 @@ use std::alloc::{AllocError, Global};
 use std::collections::HashSet;
 
 /// The messages of a range of UIDs, by the marks that they bear.
-#[derive(Debug, Drop)]
+#[derive(Drop)]
 pub struct PassedMarks {
     /// The first UID of the range.
     pub from: u32,

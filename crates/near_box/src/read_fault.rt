@@ -4,7 +4,7 @@ use device::DeviceFault;
 use std::alloc::{AllocError, AllocFailed};
 
 /// Why a part of a call that reads files of messages has no answer.
-#[derive(Clone, Copy, Debug, PartialEq, Eq)]
+#[derive(Clone, Copy, PartialEq, Eq)]
 pub enum ReadFault {
     /// A file that stood in the folder is not there: another program has renamed or removed it.
     Gone,

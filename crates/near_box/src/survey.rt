@@ -24,7 +24,7 @@ use std::cmp::Ordering;
 use std::num::NonZeroU32;
 
 /// A message of the mailbox: its UID, and where its file stands.
-#[derive(Debug, Drop)]
+#[derive(Drop)]
 pub struct Entry {
     /// Its UID.
     pub uid: Uid,
@@ -35,7 +35,7 @@ pub struct Entry {
 }
 
 /// What stands in a folder.
-#[derive(Debug, Drop)]
+#[derive(Drop)]
 pub struct Survey {
     /// Its messages, in the order of their UIDs.
     pub entries: Vec<Entry>,

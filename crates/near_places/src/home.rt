@@ -13,7 +13,7 @@ use std::marker::Model;
 pub(crate) const INBOX: &str = "INBOX";
 
 /// The home folder, if it is known. Clauses see it as the bytes of its path.
-#[derive(Debug, Drop)]
+#[derive(Drop)]
 pub struct Home {
     path: Option<String>,
 }

@@ -14,7 +14,7 @@ use rules::state::SyncState;
 use sync_state::journal::Journal;
 
 /// What became of a message that was to be copied.
-#[derive(Clone, Copy, Debug, PartialEq, Eq)]
+#[derive(Clone, Copy, PartialEq, Eq)]
 pub enum Carried {
     /// It is not there.
     Absent,

@@ -11,7 +11,7 @@ use mailcore::tuid::Tuid;
 use std::alloc::{AllocError, Global};
 
 /// What is to be written of a message that is to be copied.
-#[derive(Debug, Drop)]
+#[derive(Drop)]
 pub enum Draft {
     /// The message is not there.
     Absent,

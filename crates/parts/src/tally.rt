@@ -12,7 +12,7 @@ use std::marker::Model;
 
 /// Whether calls of an outside are answered, and how many of them have stopped, were refused, had another fault of a box, and
 /// have made a copy. No number is the greatest: what is counted takes memory.
-#[derive(Debug, Drop)]
+#[derive(Drop)]
 pub struct Tally {
     is_broken: bool,
     stops: StopCount,

@@ -5,7 +5,7 @@ use std::fmt;
 use worlds::plan_lines::side_word;
 
 /// Why a run was not finished, as a text without an end of line.
-#[derive(Clone, Copy, Debug, PartialEq, Eq)]
+#[derive(Clone, Copy, PartialEq, Eq)]
 pub struct FaultText(pub RunFault);
 
 impl fmt::Display for FaultText {

@@ -6,7 +6,7 @@ use std::fmt;
 use worlds::plan_lines::{StepLine, direction_word};
 
 /// A step that was performed, as a line without its end.
-#[derive(Clone, Copy, Debug)]
+#[derive(Clone, Copy)]
 pub struct PerformedLine<'a>(pub &'a Performed);
 
 impl fmt::Display for PerformedLine<'_> {

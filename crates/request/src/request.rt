@@ -3,7 +3,7 @@
 use rules::sync_words::SyncWord;
 
 /// What the command line asks for.
-#[derive(Debug, Drop)]
+#[derive(Drop)]
 pub struct Request {
     /// The configuration file, if one is named (`-c FILE`).
     pub file: Option<String>,
@@ -18,7 +18,7 @@ pub struct Request {
 }
 
 /// Which channels a command line names.
-#[derive(Debug, Drop)]
+#[derive(Drop)]
 pub enum Chosen {
     /// All, in the order of the file (`-a`).
     All,

@@ -15,7 +15,7 @@ use std::marker::Model;
 
 /// A pair of messages that an earlier run made, with the flags that both had then. A side with no UID has vanished,
 /// and never have both.
-#[derive(Clone, Copy, Debug, PartialEq, Eq)]
+#[derive(Clone, Copy, PartialEq, Eq)]
 pub struct Entry {
     /// The far message.
     pub far: Option<Uid>,
@@ -63,7 +63,7 @@ impl Entry {
 }
 
 /// A full entry whose two messages are listed.
-#[derive(Clone, Copy, Debug, PartialEq, Eq)]
+#[derive(Clone, Copy, PartialEq, Eq)]
 pub struct ListedPair {
     /// The far message.
     pub far: Uid,
@@ -78,7 +78,7 @@ pub struct ListedPair {
 }
 
 /// Entries in order: rising by far and then near UID, and a UID stands in one entry of its side at most.
-#[derive(Debug, Drop)]
+#[derive(Drop)]
 pub struct Entries {
     list: Vec<Entry>,
     // The near UIDs of the list, so that `push` need not go over it. There are none behind `from_vec`, which takes no memory.

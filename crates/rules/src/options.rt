@@ -6,7 +6,7 @@ ghost use Rattle.rules.specs.Options.{covers, goes};
 use mailcore::side::{Direction, Side};
 
 /// A choice of directions.
-#[derive(Clone, Copy, Debug, PartialEq, Eq)]
+#[derive(Clone, Copy, PartialEq, Eq)]
 pub struct Directions {
     /// From far to near.
     pub pull: bool,
@@ -27,7 +27,7 @@ impl Directions {
 }
 
 /// A choice of sides.
-#[derive(Clone, Copy, Debug, PartialEq, Eq)]
+#[derive(Clone, Copy, PartialEq, Eq)]
 pub struct Sides {
     /// The far side.
     pub far: bool,
@@ -48,7 +48,7 @@ impl Sides {
 }
 
 /// The six cells of Sync: a type of propagation in a direction.
-#[derive(Clone, Copy, Debug, PartialEq, Eq)]
+#[derive(Clone, Copy, PartialEq, Eq)]
 pub struct Cells {
     /// New messages are copied.
     pub new: Directions,
@@ -59,7 +59,7 @@ pub struct Cells {
 }
 
 /// What a run may do.
-#[derive(Clone, Copy, Debug, PartialEq, Eq)]
+#[derive(Clone, Copy, PartialEq, Eq)]
 pub struct Options {
     /// What is propagated.
     pub cells: Cells,

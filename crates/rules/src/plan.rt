@@ -9,7 +9,7 @@ use mailcore::uid::Uid;
 use std::marker::Model;
 
 /// What is done to a mailbox.
-#[derive(Clone, Copy, Debug, PartialEq, Eq)]
+#[derive(Clone, Copy, PartialEq, Eq)]
 pub enum Step {
     /// A message is copied to the direction's target.
     New {
@@ -54,7 +54,7 @@ pub enum Step {
 }
 
 /// What is done to the state.
-#[derive(Clone, Copy, Debug, PartialEq, Eq)]
+#[derive(Clone, Copy, PartialEq, Eq)]
 pub enum Note {
     /// A full entry gets other recorded flags.
     Record {
@@ -75,7 +75,7 @@ pub enum Note {
 }
 
 /// The steps of a plan, which clauses see as a list.
-#[derive(Debug, Drop)]
+#[derive(Drop)]
 pub struct Steps {
     list: Vec<Step>,
 }
@@ -113,7 +113,7 @@ impl Steps {
 }
 
 /// The notes of a plan, which clauses see as a list.
-#[derive(Debug, Drop)]
+#[derive(Drop)]
 pub struct Notes {
     list: Vec<Note>,
 }
@@ -151,7 +151,7 @@ impl Notes {
 }
 
 /// What a plan says of one side.
-#[derive(Clone, Copy, Debug, PartialEq, Eq)]
+#[derive(Clone, Copy, PartialEq, Eq)]
 pub struct PlanSide {
     /// The mailbox's UIDVALIDITY.
     pub validity: u32,
@@ -162,7 +162,7 @@ pub struct PlanSide {
 }
 
 /// What a run is to do, in order.
-#[derive(Debug, Drop)]
+#[derive(Drop)]
 pub struct Plan {
     /// The number of the run.
     pub run: u64,

@@ -6,7 +6,7 @@ use crate::entry::Entries;
 use std::alloc::Global;
 
 /// What the last run recorded.
-#[derive(Debug, Drop)]
+#[derive(Drop)]
 pub struct SyncState {
     /// The number of the last run, 0 if there was none.
     pub run: u64,

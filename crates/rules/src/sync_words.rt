@@ -22,7 +22,7 @@ pub enum SyncFault {
 }
 
 /// A type of propagation.
-#[derive(Clone, Copy, Debug, PartialEq, Eq)]
+#[derive(Clone, Copy, PartialEq, Eq)]
 pub enum Kind {
     /// New messages.
     New,
@@ -43,7 +43,7 @@ const CELLS: [(Direction, Kind); 6] = [
 ];
 
 /// A word of Sync.
-#[derive(Clone, Copy, Debug, PartialEq, Eq)]
+#[derive(Clone, Copy, PartialEq, Eq)]
 pub enum SyncWord {
     /// No cell.
     Nothing,

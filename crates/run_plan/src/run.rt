@@ -21,7 +21,7 @@ use worlds::trial_generator::TrialGenerator;
 use worlds::world::{Waiting, World};
 
 /// Whether a program is given arguments.
-#[derive(Clone, Copy, Debug, PartialEq, Eq)]
+#[derive(Clone, Copy, PartialEq, Eq)]
 pub enum Arguments {
     /// None.
     Absent,

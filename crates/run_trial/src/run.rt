@@ -17,7 +17,7 @@ use trial::read::read_trial;
 use trial::trial::Trial;
 
 /// What a program is asked for by its arguments.
-#[derive(Clone, Copy, Debug, PartialEq, Eq)]
+#[derive(Clone, Copy, PartialEq, Eq)]
 pub enum Request {
     /// A trial whose far mailbox is reached in memory: there are no arguments.
     Memory,

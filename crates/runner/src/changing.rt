@@ -17,7 +17,7 @@ use mailcore::uid::Uid;
 use outside::outside::Outside;
 
 /// Flags of a pair that go from one side to the other.
-#[derive(Clone, Copy, Debug, PartialEq, Eq)]
+#[derive(Clone, Copy, PartialEq, Eq)]
 pub(crate) struct FlagStep {
     /// To the side whose message changes.
     pub direction: Direction,

@@ -163,7 +163,7 @@ fn list_near<O: Outside>(outside: &mut O, far: &Listing) -> Result<Listing, RunF
 }
 
 /// What both mailboxes list.
-#[derive(Debug, Drop)]
+#[derive(Drop)]
 pub(crate) struct Listings {
     /// The far one.
     pub far: Listing,

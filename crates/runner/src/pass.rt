@@ -5,7 +5,7 @@ use mailcore::side::Side;
 use mailcore::uid::Uid;
 
 /// What became of a run in one pass.
-#[derive(Debug, Drop)]
+#[derive(Drop)]
 pub enum Pass {
     /// It was made before.
     Already,
@@ -16,7 +16,7 @@ pub enum Pass {
 }
 
 /// What became of a run in all its attempts.
-#[derive(Debug, Drop)]
+#[derive(Drop)]
 pub struct Settled {
     /// How many attempts met a stop.
     pub stops: u32,

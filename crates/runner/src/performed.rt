@@ -4,7 +4,7 @@ use mailcore::uid::Uid;
 use rules::plan::Step;
 
 /// What became of a step.
-#[derive(Clone, Copy, Debug, PartialEq, Eq)]
+#[derive(Clone, Copy, PartialEq, Eq)]
 pub enum StepResult {
     /// A copy was made, and has this UID.
     Made(Uid),
@@ -17,7 +17,7 @@ pub enum StepResult {
 }
 
 /// A step that was performed.
-#[derive(Clone, Copy, Debug, PartialEq, Eq)]
+#[derive(Clone, Copy, PartialEq, Eq)]
 pub struct Performed {
     /// The step.
     pub step: Step,

@@ -17,7 +17,7 @@ use std::io::{ErrorKind, Read, Write};
 const PIECE_BYTES: usize = 4096;
 
 /// What becomes of a connection behind a piece.
-#[derive(Clone, Copy, Debug, PartialEq, Eq)]
+#[derive(Clone, Copy, PartialEq, Eq)]
 pub(crate) enum Turn {
     /// More may come.
     GoesOn,

@@ -8,7 +8,7 @@ use std::alloc::AllocError;
 use std::marker::Model;
 
 /// How a step is logged.
-#[derive(Clone, Copy, Debug, PartialEq, Eq)]
+#[derive(Clone, Copy, PartialEq, Eq)]
 pub enum Logged {
     /// A new message was copied, and the copy has this UID.
     Copied(Uid),
@@ -19,7 +19,7 @@ pub enum Logged {
 }
 
 /// How the first steps of a plan are logged, which clauses see as a list.
-#[derive(Debug, Drop)]
+#[derive(Drop)]
 pub struct Log {
     list: Vec<Logged>,
 }
@@ -66,7 +66,7 @@ impl Log {
 }
 
 /// A plan that was written, and how its first steps are logged.
-#[derive(Debug, Drop)]
+#[derive(Drop)]
 pub struct Journal {
     /// The plan.
     pub plan: Plan,
@@ -75,7 +75,7 @@ pub struct Journal {
 }
 
 /// A journal as it stands in its file.
-#[derive(Debug, Drop)]
+#[derive(Drop)]
 pub struct WrittenJournal {
     /// What its whole lines say.
     pub journal: Journal,

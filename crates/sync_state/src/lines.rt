@@ -7,7 +7,7 @@ use std::alloc::AllocError;
 use texts::cut::cut;
 
 /// The whole lines of a text that are not taken yet.
-#[derive(Debug, Drop)]
+#[derive(Drop)]
 pub struct Lines<'a> {
     /// How many lines are taken.
     pub taken: usize,

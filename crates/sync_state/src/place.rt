@@ -8,7 +8,7 @@ use mailcore::side::{Direction, Side};
 use rules::plan::{Note, Step};
 
 /// The kinds of steps and notes, in the order of a plan.
-#[derive(Clone, Copy, Debug, PartialEq, Eq, PartialOrd, Ord)]
+#[derive(Clone, Copy, PartialEq, Eq, PartialOrd, Ord)]
 enum Kind {
     NewPull,
     NewPush,
@@ -23,7 +23,7 @@ enum Kind {
 }
 
 /// The kind of a step or a note, and the UIDs by which those of its kind rise.
-#[derive(Clone, Copy, Debug)]
+#[derive(Clone, Copy)]
 pub struct Place {
     kind: Kind,
     first: u32,

@@ -18,7 +18,7 @@ use texts::number::{push_number, read_number, read_u32};
 const LAST_UID: u32 = u32::MAX - 1;
 
 /// A UIDVALIDITY or UIDNEXT, 1 to 4294967295.
-#[derive(Clone, Copy, Debug)]
+#[derive(Clone, Copy)]
 pub struct Positive(pub u32);
 
 impl Fields for Positive {
@@ -49,7 +49,7 @@ impl Word for Positive {
 }
 
 /// The highest UID that was taken over, 0 to 4294967294.
-#[derive(Clone, Copy, Debug)]
+#[derive(Clone, Copy)]
 pub struct Highest(pub u32);
 
 impl Fields for Highest {
@@ -78,7 +78,7 @@ impl Word for Highest {
 }
 
 /// The number of a run that was made, from 1 on.
-#[derive(Clone, Copy, Debug)]
+#[derive(Clone, Copy)]
 pub struct Run(pub u64);
 
 impl Fields for Run {
@@ -103,7 +103,7 @@ impl Fields for Run {
 }
 
 /// A number of 64 bits.
-#[derive(Clone, Copy, Debug)]
+#[derive(Clone, Copy)]
 pub struct Number(pub u64);
 
 impl Fields for Number {
@@ -313,7 +313,7 @@ impl Word for Side {
 }
 
 /// Flags that are set: `+` and their letters, of which there is one at least.
-#[derive(Clone, Copy, Debug)]
+#[derive(Clone, Copy)]
 pub struct Plus(pub Flags);
 
 impl Fields for Plus {
@@ -342,7 +342,7 @@ impl Word for Plus {
 }
 
 /// Flags that are cleared: `-` and their letters, of which there is one at least.
-#[derive(Clone, Copy, Debug)]
+#[derive(Clone, Copy)]
 pub struct Minus(pub Flags);
 
 impl Fields for Minus {

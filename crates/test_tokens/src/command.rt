@@ -2,7 +2,7 @@
 
 use crate::record::Record;
 use crate::sets::push_set;
-use imap_wire::{Command, Request, write_command};
+use imap_wire::{Command, FetchItems, Request, StoreMode, write_command};
 use std::alloc::AllocError;
 
 /// Adds what a command is and how it is written.
@@ -35,13 +35,28 @@ fn push_request(record: &mut Record, request: &Request) -> Result<(), AllocError
         }
         Request::Fetch(set, items) => {
             push_set(record, ", FETCH of ", set)?;
-            write!(record.text, ", {items:?}")
+            record.text.push_str(items_word(*items))
         }
         Request::Store(set, mode, flags) => {
             push_set(record, ", STORE of ", set)?;
-            write!(record.text, ", {mode:?}")?;
+            record.text.push_str(mode_word(*mode))?;
             record.push_flags(" flags ", *flags)
         }
         Request::Expunge(set) => push_set(record, ", EXPUNGE of ", set),
+    }
+}
+
+fn items_word(items: FetchItems) -> &'static str {
+    match items {
+        FetchItems::Listing => ", Listing",
+        FetchItems::Body => ", Body",
+        FetchItems::Head => ", Head",
+    }
+}
+
+fn mode_word(mode: StoreMode) -> &'static str {
+    match mode {
+        StoreMode::Add => ", Add",
+        StoreMode::Remove => ", Remove",
     }
 }

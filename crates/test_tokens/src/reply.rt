@@ -4,7 +4,7 @@ use crate::flags::push_attributes;
 use crate::record::Record;
 use crate::response::push_response;
 use crate::strings::{push_astring, push_nstring};
-use imap_wire::{FetchItem, LineText, Names, Reply, write_reply};
+use imap_wire::{FetchItem, LineText, Names, NoticeKind, Reply, Status, write_reply};
 use std::alloc::AllocError;
 
 /// Adds what a reply is and how it is written.
@@ -22,11 +22,11 @@ fn push_parts(record: &mut Record, reply: &Reply<'_>) -> Result<(), AllocError> 
         Reply::Continue(text) => record.push_bytes("continue, text ", text.bytes()),
         Reply::Tagged(tag, status, text) => {
             record.push_bytes("tag ", tag.text())?;
-            write!(record.text, ", {status:?}, ")?;
+            record.text.push_str(status_words(*status))?;
             push_response(record, text)
         }
         Reply::Notice(kind, text) => {
-            write!(record.text, "notice {kind:?}, ")?;
+            record.text.push_str(notice_words(*kind))?;
             push_response(record, text)
         }
         Reply::Capability(names) => push_names(record, "CAPABILITY of ", names),
@@ -87,5 +87,23 @@ fn push_rest(record: &mut Record, text: &Option<LineText<'_>>) -> Result<(), All
     match text {
         Some(text) => record.push_bytes(", text ", text.bytes()),
         None => Ok(()),
+    }
+}
+
+fn status_words(status: Status) -> &'static str {
+    match status {
+        Status::Ok => ", Ok, ",
+        Status::No => ", No, ",
+        Status::Bad => ", Bad, ",
+    }
+}
+
+fn notice_words(kind: NoticeKind) -> &'static str {
+    match kind {
+        NoticeKind::Ok => "notice Ok, ",
+        NoticeKind::No => "notice No, ",
+        NoticeKind::Bad => "notice Bad, ",
+        NoticeKind::Bye => "notice Bye, ",
+        NoticeKind::Preauth => "notice Preauth, ",
     }
 }

@@ -82,7 +82,7 @@ fn waiting_name(alloc: Global, place: usize, flags: Flags) -> Result<Vec<u8>, Al
 }
 
 /// What stands in a folder.
-#[derive(Debug, Drop)]
+#[derive(Drop)]
 pub struct Contents {
     /// The messages, in the order of their UIDs.
     pub messages: Vec<Message>,

@@ -10,7 +10,7 @@ use runner::performed::Performed;
 use std::alloc::{AllocError, Global};
 
 /// What a trial came to.
-#[derive(Debug, Drop)]
+#[derive(Drop)]
 pub struct Ending {
     /// What the run answered, or why it was not finished.
     pub settled: Result<Settled, RunFault>,

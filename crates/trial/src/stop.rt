@@ -8,7 +8,7 @@ use std::alloc::{AllocError, Global};
 use worlds::words::split_word;
 
 /// A command of IMAP that a trial can stop (RFC 9051, sections 6.3 and 6.4). Of the UID commands the name behind `UID` is told.
-#[derive(Clone, Copy, Debug, PartialEq, Eq)]
+#[derive(Clone, Copy, PartialEq, Eq)]
 pub enum Command {
     /// SELECT.
     Select,
@@ -23,7 +23,7 @@ pub enum Command {
 }
 
 /// Where an APPEND breaks off.
-#[derive(Clone, Copy, Debug, PartialEq, Eq)]
+#[derive(Clone, Copy, PartialEq, Eq)]
 pub enum Cut {
     /// So many bytes of its tagged reply arrive.
     Reply(usize),
@@ -32,7 +32,7 @@ pub enum Cut {
 }
 
 /// A stop of the far mailbox's connection.
-#[derive(Clone, Copy, Debug, PartialEq, Eq)]
+#[derive(Clone, Copy, PartialEq, Eq)]
 pub enum LinkStop {
     /// Of a command: the server does not see it, or does it and no byte of its replies comes back.
     Command(Stop<Command>),
@@ -41,7 +41,7 @@ pub enum LinkStop {
 }
 
 /// A stop of one device.
-#[derive(Clone, Copy, Debug, PartialEq, Eq)]
+#[derive(Clone, Copy, PartialEq, Eq)]
 pub enum DeviceStop {
     /// Of the near mailbox's folder.
     Folder(Stop<FolderCall>),
@@ -63,7 +63,7 @@ impl LinkStop {
 
 /// The stops of a trial by devices, each in the order of the lines: of two for one call the first acts. A connection has one
 /// for a command at most.
-#[derive(Debug, Drop)]
+#[derive(Drop)]
 pub struct Stops {
     /// Those of the near mailbox's folder.
     pub folder: Vec<Stop<FolderCall>>,
@@ -101,7 +101,7 @@ impl Stops {
 }
 
 /// Which call stops, by its word, and where.
-#[derive(Clone, Copy, Debug)]
+#[derive(Clone, Copy)]
 pub struct Halt<'a> {
     /// The name of the call.
     pub call: &'a [u8],

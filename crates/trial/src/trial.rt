@@ -6,7 +6,7 @@ use crate::stop::Stops;
 use worlds::world::World;
 
 /// A trial, as a text gives it (docs/FORMATS.md, "Trial").
-#[derive(Debug, Drop)]
+#[derive(Drop)]
 pub struct Trial {
     /// The world before the run.
     pub world: World,
@@ -15,7 +15,7 @@ pub struct Trial {
 }
 
 /// What a trial says beside its world.
-#[derive(Debug, Drop)]
+#[derive(Drop)]
 pub struct Course {
     /// How many attempts the run has, at least 1. 4294967295 stands for greater numbers too.
     pub tries: u32,

@@ -8,7 +8,7 @@ use crate::stop::{Kind, ReadError, Stop};
 use thiserror::Error;
 
 /// What the bytes so far are.
-#[derive(Debug, Drop)]
+#[derive(Drop)]
 pub enum Read<T> {
     /// The first so many bytes are a spelling of the value.
     Whole(T, usize),

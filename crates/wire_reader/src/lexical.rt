@@ -4,7 +4,7 @@ ghost use Rattle.std.specs.Prelude.{◌≡◌};
 ghost use Rattle.wire_reader.specs.Lexical.{next, is_in};
 
 /// Where a byte stands in a line, as far as literals go.
-#[derive(Clone, Copy, Debug, PartialEq, Eq)]
+#[derive(Clone, Copy, PartialEq, Eq)]
 pub enum Phase {
     /// In no literal and no length of one.
     Plain,

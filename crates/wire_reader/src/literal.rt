@@ -11,7 +11,7 @@ use crate::side::Side;
 use crate::stop::{Kind, Stop};
 
 /// What a byte does to the length so far: a number, and whether `+` stands behind it.
-#[derive(Clone, Copy, Debug, PartialEq, Eq)]
+#[derive(Clone, Copy, PartialEq, Eq)]
 pub enum LengthStep {
     /// The length goes on.
     On((u32, bool)),

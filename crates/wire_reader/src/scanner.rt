@@ -14,7 +14,7 @@ use memchr::memchr;
 /// A reader of whole lines that waits for more of a line need not be called at each byte that comes. What it answers
 /// changes at some bytes alone, its places: a LF outside the octets of literals (also the one behind `{n}`, where the
 /// sender may wait, or a text may end); a NUL among those octets; and the 65537th byte outside them.
-#[derive(Clone, Copy, Debug, PartialEq, Eq)]
+#[derive(Clone, Copy, PartialEq, Eq)]
 pub struct Scanner {
     phase: Phase,
     outside: u32,

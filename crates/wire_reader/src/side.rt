@@ -1,7 +1,7 @@
 //! The two directions of a connection.
 
 /// Whose lines are read.
-#[derive(Clone, Copy, Debug, PartialEq, Eq)]
+#[derive(Clone, Copy, PartialEq, Eq)]
 pub enum Side {
     /// A client's commands: a literal may be `{n+}`, and behind `{n}` the client waits.
     Commands,

@@ -15,7 +15,7 @@ use wire_reader::stop::Stop;
 use wire_tokens::atom::{Atom, read_atom};
 
 /// An atom or a string, lent.
-#[derive(Debug, Drop)]
+#[derive(Drop)]
 pub enum AString<'a> {
     /// An atom.
     Atom(Atom<'a>),

@@ -14,7 +14,7 @@ use std::marker::Model;
 use wire_reader::stop::{Kind, Stop};
 
 /// The text of a response code, lent: bytes 32 to 255 except 127 and `]`.
-#[derive(Debug, Drop)]
+#[derive(Drop)]
 pub struct CodeText<'a> {
     text: &'a [u8],
 }

@@ -17,7 +17,7 @@ use wire_reader::punctuation::byte;
 use wire_reader::stop::{Kind, Stop};
 
 /// The character between the parts of mailbox names: a byte 32 to 255 except 127.
-#[derive(Debug, Drop, PartialEq, Eq)]
+#[derive(Drop, PartialEq, Eq)]
 pub struct Delimiter {
     byte: u8,
 }

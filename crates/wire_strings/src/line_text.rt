@@ -15,7 +15,7 @@ use wire_reader::punctuation::byte;
 use wire_reader::stop::{Kind, Stop};
 
 /// The text that ends a line, lent: bytes 32 to 255 except 127.
-#[derive(Debug, Drop)]
+#[derive(Drop)]
 pub struct LineText<'a> {
     text: &'a [u8],
 }

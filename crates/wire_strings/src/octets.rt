@@ -16,7 +16,7 @@ use wire_reader::stop::Stop;
 pub const OCTETS_MAX: usize = 16777238;
 
 /// The octets of a literal, lent: at most 16777238, none of them 0.
-#[derive(Debug, Drop)]
+#[derive(Drop)]
 pub struct Octets<'a> {
     bytes: &'a [u8],
 }

@@ -12,7 +12,7 @@ use std::marker::Model;
 use wire_reader::stop::{Kind, Stop};
 
 /// The text that ends a line, lent, where it does not begin with `[`: bytes 32 to 255 except 127.
-#[derive(Debug, Drop)]
+#[derive(Drop)]
 pub struct PlainText<'a> {
     text: &'a [u8],
 }

@@ -14,7 +14,7 @@ use wire_reader::punctuation::byte;
 use wire_reader::stop::{Kind, Stop};
 
 /// What stands between the quotes of a quoted string, lent: `"` and `\` still stand behind a `\` there.
-#[derive(Debug, Drop)]
+#[derive(Drop)]
 pub struct Quoted<'a> {
     raw: &'a [u8],
 }

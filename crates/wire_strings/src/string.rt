@@ -15,7 +15,7 @@ use wire_reader::side::Side;
 use wire_reader::stop::Stop;
 
 /// A string, lent.
-#[derive(Debug, Drop)]
+#[derive(Drop)]
 pub enum WireString<'a> {
     /// A quoted string.
     Quoted(Quoted<'a>),

@@ -18,7 +18,7 @@ use wire_reader::stop::ReadError;
 
 /// Bytes for which a quoted string or a literal stands: all of them are 32 to 255 except 127, or they are at most
 /// 16777238 and none is 0.
-#[derive(Debug, Drop)]
+#[derive(Drop)]
 pub struct Text {
     bytes: Vec<u8>,
 }

@@ -15,7 +15,7 @@ use wire_reader::stop::{Kind, Stop};
 pub const ATOM_MAX: usize = 255;
 
 /// An atom: 1 to 255 bytes of 33 to 126 except `( ) { % * " \ ]`, lent.
-#[derive(Debug, Drop)]
+#[derive(Drop)]
 pub struct Atom<'a> {
     text: &'a [u8],
 }

@@ -14,7 +14,7 @@ use wire_reader::punctuation::byte;
 use wire_reader::stop::Stop;
 
 /// The flags of a mailbox in a LIST reply, lent; clauses see the list of their names.
-#[derive(Debug, Drop)]
+#[derive(Drop)]
 pub struct Attributes<'a> {
     text: &'a [u8],
 }
@@ -77,7 +77,7 @@ fn append_bracketed(text: &[u8], out: &mut Vec<u8>) -> Result<(), AllocError>
 ///
 /// It is no `Copy` type, so that `?` may pass it on beside the bytes that are left: the check has no rule for that where
 /// a `Copy` type has a model, as `Flags`.
-#[derive(Debug, Drop, PartialEq, Eq)]
+#[derive(Drop, PartialEq, Eq)]
 pub struct FlagSet {
     flags: Flags,
 }

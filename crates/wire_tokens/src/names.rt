@@ -12,7 +12,7 @@ use std::marker::Model;
 use wire_reader::stop::Stop;
 
 /// One or more atoms, lent; clauses see the list of them.
-#[derive(Debug, Drop)]
+#[derive(Drop)]
 pub struct Names<'a> {
     text: &'a [u8],
 }
@@ -62,7 +62,7 @@ impl<'a> Names<'a> {
 }
 
 /// The same, owned; clauses see the list of the atoms.
-#[derive(Debug, Drop)]
+#[derive(Drop)]
 pub struct NameList {
     text: Vec<u8>,
 }

@@ -15,7 +15,7 @@ use wire_reader::stop::{Kind, Stop};
 /// A number from 1 to 4294967295.
 ///
 /// It is not `Copy`: the prover has no rule for `?` on a result that holds a `Copy` type with a model beside a slice.
-#[derive(Debug, Drop, PartialEq, Eq, PartialOrd, Ord)]
+#[derive(Drop, PartialEq, Eq, PartialOrd, Ord)]
 pub struct NonZero {
     number: u32,
 }

@@ -10,7 +10,7 @@ use wire_reader::punctuation::separator;
 use wire_reader::stop::{Kind, Stop};
 
 /// What the names of a list are.
-#[derive(Clone, Copy, Debug, PartialEq, Eq)]
+#[derive(Clone, Copy, PartialEq, Eq)]
 pub enum NameKind {
     /// Atoms.
     Atom,

@@ -16,7 +16,7 @@ pub const TAG_MAX: usize = 32;
 
 /// A tag: 1 to 32 letters of ASCII or digits. It is no `Copy` type, so that `?` may pass it on beside
 /// the bytes that are left.
-#[derive(Debug, Drop, PartialEq, Eq)]
+#[derive(Drop, PartialEq, Eq)]
 pub struct Tag {
     // with zeros behind the tag
     bytes: [u8; TAG_MAX],

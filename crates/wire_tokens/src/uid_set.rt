@@ -16,7 +16,7 @@ use wire_reader::punctuation::{byte, separator};
 use wire_reader::stop::{Kind, ReadError, Stop};
 
 /// One end of a range, or a UID alone.
-#[derive(Debug, Drop, PartialEq, Eq)]
+#[derive(Drop, PartialEq, Eq)]
 pub enum SetEnd {
     /// This number.
     Number(NonZero),
@@ -25,7 +25,7 @@ pub enum SetEnd {
 }
 
 /// A part of a set.
-#[derive(Debug, Drop, PartialEq, Eq)]
+#[derive(Drop, PartialEq, Eq)]
 pub enum SetItem {
     /// One UID.
     One(SetEnd),
@@ -34,7 +34,7 @@ pub enum SetItem {
 }
 
 /// A set of UIDs: one or more items.
-#[derive(Debug, Drop)]
+#[derive(Drop)]
 pub struct UidSet {
     items: Vec<SetItem>,
 }

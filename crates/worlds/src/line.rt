@@ -7,7 +7,7 @@ use mailcore::fault::PushFault;
 use texts::cut::cut;
 
 /// What is left to read of a whole line.
-#[derive(Clone, Copy, Debug)]
+#[derive(Clone, Copy)]
 pub struct Line<'a> {
     /// The number of the line, from 1.
     pub number: usize,
@@ -39,7 +39,7 @@ impl Line<'_> {
 }
 
 /// The lines of a text that are not taken yet.
-#[derive(Debug, Drop)]
+#[derive(Drop)]
 pub struct Lines<'a> {
     /// How many lines are taken.
     pub taken: usize,

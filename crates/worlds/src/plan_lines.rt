@@ -30,7 +30,7 @@ pub fn side_word(side: Side) -> &'static str
 }
 
 /// A step as a line without its end.
-#[derive(Clone, Copy, Debug)]
+#[derive(Clone, Copy)]
 pub struct StepLine<'a>(pub &'a Step);
 
 impl fmt::Display for StepLine<'_> {
@@ -72,7 +72,7 @@ impl fmt::Display for StepLine<'_> {
 }
 
 /// A note as a line without its end.
-#[derive(Clone, Copy, Debug)]
+#[derive(Clone, Copy)]
 pub struct NoteLine<'a>(pub &'a Note);
 
 impl fmt::Display for NoteLine<'_> {
@@ -92,7 +92,7 @@ impl fmt::Display for NoteLine<'_> {
 }
 
 /// A message that cannot be copied, as a line without its end.
-#[derive(Clone, Copy, Debug)]
+#[derive(Clone, Copy)]
 pub struct UnfitLine(pub Side, pub Uid);
 
 impl fmt::Display for UnfitLine {
@@ -104,7 +104,7 @@ impl fmt::Display for UnfitLine {
 }
 
 /// Flags as a word: their letters, or `-` for none.
-#[derive(Clone, Copy, Debug)]
+#[derive(Clone, Copy)]
 pub struct FlagsWord(pub Flags);
 
 impl fmt::Display for FlagsWord {

@@ -8,7 +8,7 @@ use rand_core::{Rng, utils};
 use std::marker::Model;
 
 /// A generator whose k-th word of 64 bits, k from 1, is k modulo 2^64. Clauses see it as the last word that it gave.
-#[derive(Debug, Drop)]
+#[derive(Drop)]
 pub struct TrialGenerator {
     last: u64,
 }

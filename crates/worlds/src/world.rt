@@ -7,7 +7,7 @@ use rules::options::Options;
 use rules::state::SyncState;
 
 /// A near file that has no UID yet.
-#[derive(Debug, Drop)]
+#[derive(Drop)]
 pub struct WaitingFile {
     /// Its flags.
     pub flags: Flags,
@@ -16,7 +16,7 @@ pub struct WaitingFile {
 }
 
 /// What becomes of the near files that wait for a UID.
-#[derive(Clone, Copy, Debug, PartialEq, Eq)]
+#[derive(Clone, Copy, PartialEq, Eq)]
 pub enum Waiting {
     /// They stay waiting.
     Kept,
@@ -25,7 +25,7 @@ pub enum Waiting {
 }
 
 /// What is known before a run, as a text gives it (docs/FORMATS.md, "World").
-#[derive(Debug, Drop)]
+#[derive(Drop)]
 pub struct World {
     /// What the run may do.
     pub options: Options,

@@ -29,7 +29,7 @@ pub fn write_from_far(text: &mut String, world: &World) -> Result<(), AllocError
 }
 
 /// A mailbox as it is written: its numbers, and its messages in the order of their UIDs.
-#[derive(Clone, Copy, Debug)]
+#[derive(Clone, Copy)]
 pub struct WrittenMailbox<'a> {
     /// Its UIDVALIDITY.
     pub validity: u32,
@@ -51,7 +51,7 @@ impl<'a> WrittenMailbox<'a> {
 }
 
 /// A world without what the run may do, wherever its parts stand.
-#[derive(Clone, Copy, Debug)]
+#[derive(Clone, Copy)]
 pub struct WrittenWorld<'a> {
     /// The far mailbox.
     pub far: WrittenMailbox<'a>,
