@@ -1,0 +1,14 @@
+//! Scripts of tests: what a line says, what is answered, and the transcript, in which each line of the script stands with its
+//! answers behind it.
+//!
+//! A program of tests reads its standard input with [`program::play_input`]. There a line `script NAME` says which library plays the
+//! lines behind it. Each answer stands on a line of its own, behind two spaces.
+#![tactic(auto)]
+
+pub mod failure;
+pub mod mail;
+pub mod play;
+pub mod program;
+pub mod script;
+pub mod told;
+pub mod words;
