@@ -1,13 +1,17 @@
 #!/usr/bin/env python3
 """Runs the gate on a clean clone of HEAD and prints what it cost, crate by crate, as the table of docs/GATE.md.
 
-usage: bench/gate.py [--kept] [LOG]
+usage: bench/gate.py [--kept] [--compare OLD] [LOG]
 
 The gate is `rt ci`, and here it proves all anew: what earlier runs on this machine kept is not taken, unless `--kept` asks
 for it; the table then has what was left to do. What the gate prints goes to LOG (gate.log in the folder for temporary files
 where none is given). Minutes are processor minutes, asked of the system twice a second while the checks run: a check's last
 half second may be missing, and what no check used (compilers, linkers, the programs) is told in the line `all else`. Run it
 with nothing beside it. Control-C ends it, and prints what it cost so far.
+
+With `--compare OLD`, a file with such a table (docs/GATE.md, say), the crates that grew or shrank are told behind the table, and
+the sums. Processors differ by the hour: a crate counts only where it changed by more than a quarter, once the minutes of the crates
+that both tables have are set to one sum, and by more than half a minute.
 """
 import argparse
 import collections
@@ -102,7 +106,28 @@ def in_order(clone):
         return [line.split(":")[0].split()[0] for line in text if line.strip() and not line.startswith("#")]
 
 
+def table_in(path):
+    """The minutes of each crate, by the last column of the table in this file."""
+    with open(path, encoding="utf-8") as text:
+        rows = [[it.strip() for it in line.strip().strip("|").split("|")] for line in text if line.startswith("| `")]
+    return {row[0].strip("`"): float(row[-1]) for row in rows}
+
+
+def print_changes(old, new):
+    """The crates that grew or shrank, those that went and those that came, and the sums. Minutes are those of the new table's processors."""
+    both = [it for it in old if it in new]
+    speed = sum(new[it] for it in both) / (sum(old[it] for it in both) or 1)
+    print(f"\nthe crates of both tables took {sum(new[it] for it in both):.1f} minutes, {speed:.2f} of what the old table says")
+    for crate in sorted({*old, *new}, key=lambda it: old.get(it, 0) * speed - new.get(it, 0)):
+        before, after = old.get(crate, 0) * speed, new.get(crate, 0)
+        if abs(after - before) > max(0.5, before / 4 if crate in both else 0):
+            what = "came" if crate not in old else "went" if crate not in new else "grew" if after > before else "shrank"
+            print(f"{crate} {what}: {before:.1f} to {after:.1f}")
+    print(f"together: {sum(old.values()) * speed:.1f} to {sum(new.values()):.1f}")
+
+
 def print_table(clone, used, checks):
+    """Prints the table, and gives the minutes of each crate."""
     minutes = collections.Counter()
     for check in checks:
         minutes[check.crate, check.kind] += check.seconds / 60
@@ -113,11 +138,13 @@ def print_table(clone, used, checks):
     sums = [sum(it for (_, kind), it in minutes.items() if kind == wanted) for wanted in KINDS]
     print(f"| all else | | | | {max(used - sum(sums), 0):.1f} |")
     print("| together | " + " | ".join(f"{part:.1f}" for part in sums) + f" | {used:.1f} |")
+    return {crate: sum(minutes[crate, kind] for kind in KINDS) for crate in in_order(clone)}
 
 
 def main():
     parser = argparse.ArgumentParser(description=__doc__, formatter_class=argparse.RawDescriptionHelpFormatter)
     parser.add_argument("--kept", action="store_true")
+    parser.add_argument("--compare", metavar="OLD", type=table_in)
     parser.add_argument("log", nargs="?", metavar="LOG", default=os.path.join(tempfile.gettempdir(), "gate.log"))
     given = parser.parse_args()
     log = os.path.abspath(given.log)
@@ -125,7 +152,9 @@ def main():
         clone = f"{room}/clone"
         subprocess.run(["git", "clone", "-q", TOP, clone], check=True)
         status, clock, used, checks = run_gate(clone, log, [] if given.kept else ["--anew"])
-        print_table(clone, used, checks)
+        new = print_table(clone, used, checks)
+    if given.compare:
+        print_changes(given.compare, new)
     with open(log, encoding="utf-8", errors="replace") as text:
         last = text.read().rstrip().rpartition("\n")[2]
     print(f"\n{last}: {clock:.1f} minutes on {len(os.sched_getaffinity(0))} cores, {used:.1f} processor minutes")
