@@ -23,12 +23,12 @@ use Rattle.imap_link.specs.declared.fault.FarFault.{FarFault}
 use Rattle.imap_link.specs.declared.fault.FarFault.TheVariants as faults
 use Rattle.imap_link.specs.Outcomes.{Outcome}
 use Rattle.imap_link.specs.Exchanges.{Replied}
-use Rattle.imap_client.specs.declared.given.Given.{Given}
+use Rattle.imap_answers.specs.declared.given.Given.{Given}
 use Rattle.imap_client.specs.Tags.{tag_text}
 use Rattle.imap_client.specs.Exchanged.{command_at, Exchanged}
 use Rattle.imap_client.specs.Saying.{final_status, HeardOf}
 use Rattle.imap_client.specs.States.{State, EndsSo}
-use Rattle.imap_client.specs.Given.{given_more, given_in, uid_told}
+use Rattle.imap_answers.specs.Given.{given_more, given_in, uid_told}
 use Rattle.imap_client.specs.Boxes.{selected_name, is_next, IsSelected}
 use Rattle.imap_client.specs.Appending.{AddsUnder, AddsSome, Adds, IsTold, NoUidLeft, next_known}
 use Rattle.imap_client.proofs.Answered.{final_last, did_step, said_of}

@@ -24,7 +24,7 @@ use Rattle.imap_client.specs.Tags.{tag_text}
 use Rattle.imap_client.specs.Exchanged.{command_at, Exchanged}
 use Rattle.imap_client.specs.Saying.{HeardOf}
 use Rattle.imap_client.specs.Logins.{Remains}
-use Rattle.imap_client.specs.Readings.{ReadsAs, Tells}
+use Rattle.imap_answers.specs.Readings.{ReadsAs, Tells}
 use Rattle.imap_client.proofs.Answered.{Sure, answered}
 
 -- ---- nothing is left out
@@ -91,16 +91,6 @@ module _ (n : ℕ) (old : Server) (m : FarMailbox) (is : selected old ≡ Some m
       fetch_by heard new result (answered (command_at n (requests.Fetch set what)) old (fetched (named_in m.store set) what 1 m.store.messages) (done (tag_text n)) old fetch_sure refl result heard new h)
 
 -- ---- what is read of it
-
--- where a part cannot be read, the whole cannot
-pub reads_on : (T U X Y : Type 0) (view : T → X) (see : U → Y) (x : Option X) (y : Option Y) → (x ≡ None → y ≡ None) → (f : FarFault) → ReadsAs {T = T} view (Err f) x → ReadsAs {T = U} see (Err f) y
-reads_on T U X Y view see x y so faults.Stopped h = absurd h
-reads_on T U X Y view see x y so faults.Refused h = absurd h
-reads_on T U X Y view see x y so faults.Protocol h = so h
-reads_on T U X Y view see x y so faults.TooLong h = absurd h
-reads_on T U X Y view see x y so faults.NoRev2 h = absurd h
-reads_on T U X Y view see x y so faults.ReadOnly h = absurd h
-reads_on T U X Y view see x y so faults.NoMemory h = tt
 
 same_some : {X : Type 0} (a b : X) → (let x : Option X = Some a in x) ≡ Some b → a ≡ b
 same_some a b e = cc

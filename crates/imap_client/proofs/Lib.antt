@@ -4,7 +4,6 @@ pub mod Completing
 pub mod InTwo
 pub mod Adding
 pub mod Offering
-pub mod Left
 pub mod Still
 pub mod Exchanging
 pub mod Asking
@@ -16,7 +15,6 @@ pub mod Creating
 pub mod Sweeping
 pub mod Flagging
 pub mod Fetched
-pub mod Listed
 pub mod Numbered
 pub mod Rows
 pub mod Marks

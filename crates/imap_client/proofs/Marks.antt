@@ -20,8 +20,8 @@ use Rattle.imap_session.specs.NamedMessages.{named_in}
 use Rattle.imap_session.specs.Answering.{done}
 use Rattle.imap_session.specs.MessageCommands.{shown, fetched}
 use Rattle.imap_client.specs.Calls.{from_on}
-use Rattle.imap_client.specs.Listings.{is_uid}
-use Rattle.imap_client.specs.Markings.{lesser, least_more, least_marked, uid_found}
+use Rattle.imap_answers.specs.Listings.{is_uid}
+use Rattle.imap_answers.specs.Markings.{lesser, least_more, least_marked, uid_found}
 use Rattle.imap_client.proofs.Fetched.{replies_for}
 use Rattle.imap_client.proofs.Numbered.{Rise, Names, store_rises, names_from}
 use Rattle.imap_client.proofs.Rows.{uid_is}

@@ -23,7 +23,7 @@ use Rattle.imap_client.specs.Exchanged.{command_at, Exchanged}
 use Rattle.imap_client.specs.Saying.{HeardOf}
 use Rattle.imap_client.specs.Logins.{Remains}
 use Rattle.imap_client.specs.States.{State, Asked, EndsSo}
-use Rattle.imap_client.specs.MailboxNames.{within_limits, name_told, with_name, names_more, names_in, names_of, TellsNames}
+use Rattle.imap_answers.specs.MailboxNames.{within_limits, name_told, with_name, names_more, names_in, names_of, TellsNames}
 use Rattle.imap_client.proofs.Answered.{Sure, answered}
 
 -- ---- what was said
@@ -70,23 +70,6 @@ names_told tag bytes old names h told =
     told h.replies h.spelled ∙ leaves_names [] h.replies (told_first old ++ done tag ∷ []) h.left_out ∙ listed_names tag [] (names_matched (42 ∷ []) old.mailboxes)
 
 -- ---- the limits
-
-below : (b : ℕ) → is_name_byte b ≡ true → b < 128
-below b h = grind (arith, nat_tests)
-
-all_below : (name : List ℕ) → list_all is_name_byte name ≡ true → (i : ℕ) → slice_index name i < 128
-all_below [] h i = omega arith
-all_below (b ∷ bs) h zero = below b ((and_parts (is_name_byte b) (list_all is_name_byte bs) h).0)
-all_below (b ∷ bs) h (suc i) = all_below bs ((and_parts (is_name_byte b) (list_all is_name_byte bs) h).1) i
-
-name_bytes : (name : List ℕ) → is_name name ≡ true → list_all is_name_byte name ≡ true
-name_bytes name h =
-    let front = (and_parts (nat_le (length name) 255 && list_all is_name_byte name) (list_all is_part (slice_split (λ b. b == 47) name)) h).0 in
-    (and_parts (nat_le (length name) 255) (list_all is_name_byte name) front).1
-
-pub name_is_ascii : (name : List ℕ) → is_name name ≡ true → IsAscii name
-name_is_ascii name h =
-    all_below name (name_bytes name h)
 
 by_limit : (b : Bool) (names : List (List ℕ)) (x : List ℕ) → is_name x ≡ b → list_all is_name names ≡ true → list_all is_name (with_name names (if b then Some x else None)) ≡ true
 by_limit true names x e h = list_all-append is_name names (x ∷ []) ∙ and_from (list_all is_name names) (list_all is_name (x ∷ [])) h (and_from (is_name x) true e refl)

@@ -19,10 +19,10 @@ use Rattle.imap_session.specs.Mailboxes.{FarMailbox}
 use Rattle.imap_session.specs.NamedMessages.{named_in}
 use Rattle.imap_session.specs.Answering.{done}
 use Rattle.imap_session.specs.MessageCommands.{shown, fetched}
-use Rattle.imap_client.specs.declared.told.Told.{Told}
+use Rattle.imap_answers.specs.declared.told.Told.{Told}
 use Rattle.imap_client.specs.Calls.{from_on}
-use Rattle.imap_client.specs.Fetching.{rows_more, rows_of}
-use Rattle.imap_client.specs.Listings.{is_uid, joined, items_told}
+use Rattle.imap_answers.specs.Fetching.{rows_more, rows_of}
+use Rattle.imap_answers.specs.Listings.{is_uid, joined, items_told}
 use Rattle.imap_client.proofs.Fetched.{replies_for}
 use Rattle.imap_client.proofs.Numbered.{Rise, Names, store_rises, names_from}
 

@@ -16,13 +16,13 @@ use Rattle.imap_session.specs.Heard.{AreReplies, LeavesOut, WithoutUid}
 use Rattle.imap_link.specs.declared.fault.FarFault.{FarFault}
 use Rattle.imap_link.specs.declared.fault.FarFault.TheVariants as faults
 use Rattle.imap_link.specs.Outcomes.{Outcome, Never}
-use Rattle.imap_client.specs.declared.opening.Opening.{Opening}
+use Rattle.imap_answers.specs.declared.opening.Opening.{Opening}
 use Rattle.imap_client.specs.Tags.{tag_text}
 use Rattle.imap_client.specs.Exchanged.{command_at, Exchanged}
 use Rattle.imap_client.specs.Saying.{HeardOf}
-use Rattle.imap_client.specs.Openings.{nothing_told, opening_more, opening_of}
+use Rattle.imap_answers.specs.Openings.{nothing_told, opening_more, opening_of}
 use Rattle.imap_client.specs.Boxes.{selected_name, is_next, IsSelected, Selects, NoMailbox, Chooses}
-use Rattle.imap_client.specs.Spoken.{Speaks}
+use Rattle.imap_answers.specs.Spoken.{Speaks}
 use Rattle.imap_link.specs.Buffers.{IsAnswerText}
 use Rattle.imap_replies.specs.declared.word.Status.{Status}
 use Rattle.imap_replies.specs.declared.word.Status.TheVariants as statuses

@@ -13,7 +13,7 @@ use Rattle.imap_session.specs.Servers.{Server, selected}
 use Rattle.imap_link.specs.declared.fault.FarFault.{FarFault}
 use Rattle.imap_link.specs.declared.fault.FarFault.TheVariants as faults
 use Rattle.imap_client.specs.Boxes.{IsSelected}
-use Rattle.imap_client.specs.Listings.{next_above, ListsFrom}
+use Rattle.imap_answers.specs.Listings.{next_above, ListsFrom}
 use Rattle.imap_client.specs.States.{State, EndsSo}
 use Rattle.imap_client.proofs.Changed.{there_of}
 

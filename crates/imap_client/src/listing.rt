@@ -11,67 +11,22 @@ ghost use Rattle.mailcore.specs.Listed.{item_of};
 ghost use Rattle.mailcore.specs.Operations.{Shows};
 ghost use Rattle.mailcore.specs.Ranges.{AreInRange};
 ghost use Rattle.mailcore.specs.Stores.{IsStore};
-ghost use Rattle.imap_client.specs.Fetching.{rows_of};
-ghost use Rattle.imap_client.specs.Listings.{item_told, items_told, next_above, ListsFrom};
+ghost use Rattle.imap_answers.specs.Fetching.{rows_of};
+ghost use Rattle.imap_answers.specs.Listings.{items_told, ListsFrom};
 ghost use Rattle.imap_client.specs.Logins.{Remains};
-ghost use Rattle.imap_client.specs.Readings.{ReadsAs, IsReadFault, Tells};
-ghost use Rattle.imap_client.specs.Spoken.{Speaks};
+ghost use Rattle.imap_answers.specs.Readings.{ReadsAs, IsReadFault, Tells};
+ghost use Rattle.imap_answers.specs.Spoken.{Speaks};
 ghost use Rattle.imap_client.specs.States.{EndsSo};
 
 use crate::call::Call;
 use crate::far_box::FarBox;
-use crate::reading::read_replies;
 use crate::session::Session;
-use crate::told::{Told, rows_of};
+use imap_answers::items::{items_of, next_above};
+use imap_answers::reading::read_replies;
+use imap_answers::told::rows_of;
 use imap_link::fault::FarFault;
 use imap_link::link::Link;
-use mailcore::content::MESSAGE_MAX;
-use mailcore::listing::{Item, Items, Listing};
-use mailcore::uid::Uid;
-use std::alloc::Global;
-use std::collections::BTreeMap;
-
-/// The messages that these rows list.
-///
-/// `Protocol`: a message was told without its flags or its size, or under 4294967295. `NoMemory`.
-fn items_of(alloc: Global, rows: &BTreeMap<u32, Told>) -> Result<Items, FarFault>
-    ensures told { ReadsAs (λ items. items) result (items_told rows.now.entries) }
-{
-    let mut items = Vec::with_capacity(alloc, rows.len())?;
-    for (uid, told) in rows {
-        match item_told(*uid, told) {
-            Some(item) => items.push(item)?,
-            None => return Err(FarFault::Protocol),
-        }
-    }
-    Ok(Items::from_vec(items))
-}
-
-/// The message of this UID as it is listed, or none where its flags or its size were not told.
-fn item_told(uid: u32, told: &Told) -> Option<Item>
-    ensures { result ≡ item_told uid told.now.flags told.now.size }
-{
-    let uid = Uid::new(uid)?;
-    let flags = told.flags?;
-    let size = told.size?;
-    Some(Item {
-        uid,
-        flags,
-        fit: size as usize <= MESSAGE_MAX,
-    })
-}
-
-/// The least number that is at least `known` and above the UIDs of these messages.
-fn next_above(known: u32, items: &[Item]) -> u32
-    ensures next { result ≡ next_above known items.now }
-    ensures least { known ≤ result }
-{
-    let mut next = known;
-    for item in items {
-        next = next.max(item.uid.get() + 1);
-    }
-    next
-}
+use mailcore::listing::{Items, Listing};
 
 impl<L: Link> Session<L> {
     ghost use Rattle.imap_client.specs.Sessions.{state_of, server_of};

@@ -8,12 +8,12 @@ ghost use Rattle.imap_session.specs.Servers.{is_before_login, is_logged_in};
 ghost use Rattle.imap_link.specs.Outcomes.{Outcome, Never};
 ghost use Rattle.imap_client.specs.Logins.{tells_rev2, Authenticates, Rejects, Remains};
 ghost use Rattle.imap_client.specs.Requests.{IsWord};
-ghost use Rattle.imap_client.specs.Spoken.{Speaks};
+ghost use Rattle.imap_answers.specs.Spoken.{Speaks};
 ghost use Rattle.imap_client.specs.States.{EndsSo};
 
 use crate::call::Call;
-use crate::reading::read_replies;
 use crate::session::Session;
+use imap_answers::reading::read_replies;
 use imap_link::fault::FarFault;
 use imap_link::link::Link;
 use imap_replies::reply::Reply;

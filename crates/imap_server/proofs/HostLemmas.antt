@@ -14,7 +14,7 @@ use Rattle.session_laws.specs.Short.{is_short, AreNamed}
 use Rattle.session_laws.proofs.ShortReplies.{short_fits}
 use Rattle.imap_session.specs.Serving.{Feeds, FeedsSome}
 use Rattle.imap_server.specs.declared.unread.Unread.{Unread}
-use Rattle.imap_server.specs.Boxes.{IsServed, AreServed}
+use Rattle.imap_messages.specs.Boxes.{IsServed, AreServed}
 use Rattle.imap_server.specs.Unreads.{kept_of, end_of}
 use Rattle.imap_server.specs.Taking.{Took, Host, Fed, Lost}
 use Rattle.imap_server.specs.Writing.{AreWritten}

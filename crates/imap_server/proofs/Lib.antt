@@ -5,7 +5,6 @@ pub mod ListedLemmas
 pub mod FetchLemmas
 pub mod ReachLemmas
 pub mod AppendLemmas
-pub mod StoreLemmas
 pub mod ExpungeLemmas
 pub mod MatchingLemmas
 pub mod OrderLemmas

@@ -1,10 +1,8 @@
-pub mod Boxes
+pub use Rattle.imap_messages.specs.Boxes
 pub mod Places
 pub mod Services
 pub mod Writing
 pub mod Selection
-pub mod Naming
-pub mod Changing
 pub mod Matching
 pub mod Dropping
 pub mod Unreads

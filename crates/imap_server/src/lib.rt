@@ -12,7 +12,6 @@ mod list_command;
 mod mailbox_commands;
 mod matching;
 mod message_commands;
-mod naming;
 mod reading;
 pub mod served;
 pub mod server;

@@ -3,7 +3,7 @@
 ghost use Rattle.std.specs.Prelude.{◌≡◌, true, map, All, OnOk, IfOk};
 ghost use Rattle.imap_session.specs.Answering.{listed};
 ghost use Rattle.imap_session.specs.MailboxCommands.{is_name, names_matched};
-ghost use Rattle.imap_server.specs.Boxes.{all_of};
+ghost use Rattle.imap_messages.specs.Boxes.{all_of};
 ghost use Rattle.imap_server.specs.Writing.{Wrote};
 
 use crate::mailbox_commands::say_listed;

@@ -4,7 +4,7 @@ ghost use Rattle.std.specs.Prelude.{◌≡◌, ◌<◌, ◌≤◌, ◌==◌, ◌
 ghost use Rattle.std.specs.List.{list_all, slice_split};
 ghost use Rattle.imap_session.specs.Answering.{listed};
 ghost use Rattle.imap_session.specs.MailboxCommands.{SIX, is_name_byte, is_part, is_name, next_validity, empty_mailbox, closes, opening};
-ghost use Rattle.imap_server.specs.Boxes.{far_of, all_of, IsServed};
+ghost use Rattle.imap_messages.specs.Boxes.{far_of, all_of, IsServed};
 ghost use Rattle.imap_server.specs.Services.{condition_of};
 ghost use Rattle.imap_server.specs.Writing.{Wrote};
 

@@ -1,28 +1,24 @@
 //! UID FETCH, UID STORE and UID EXPUNGE (RFC 9051, sections 6.4.5, 6.4.6 and 6.4.9).
 
-ghost use Rattle.std.specs.Prelude.{◌≡◌, ◌<◌, ◌∷◌, [], length, take, map, filter, IfOk, OnOk};
-ghost use Rattle.mailcore.specs.Listed.{AreRising};
+ghost use Rattle.std.specs.Prelude.{◌≡◌, ◌<◌, ◌∷◌, [], length, take, IfOk, OnOk};
 ghost use Rattle.wire_strings.specs.Literals.{IsLiteral};
 ghost use Rattle.imap_replies.specs.declared.reply.Reply.TheVariants as replies;
-ghost use Rattle.wire_tokens.specs.Sets.{names};
-ghost use Rattle.imap_session.specs.NamedMessages.{greatest, named_in, stored, swept};
+ghost use Rattle.imap_session.specs.NamedMessages.{named_in};
 ghost use Rattle.imap_session.specs.MessageCommands.{shown, fetched, removed};
-ghost use Rattle.imap_server.specs.Boxes.{store_of, far_of, IsServed};
-ghost use Rattle.imap_server.specs.Changing.{new_flags, given, stays};
-ghost use Rattle.imap_server.specs.Naming.{Going};
+ghost use Rattle.imap_messages.specs.Boxes.{store_of, far_of, IsServed};
 ghost use Rattle.imap_server.specs.Writing.{Wrote};
 
 use crate::mailbox_commands::number;
-use crate::naming::{greatest, is_named, reach};
 use crate::service::Service;
 use crate::writing::{say, say_done, say_out_of_place};
 use imap_commands::command::{FetchItems, StoreMode};
+use imap_messages::changing::{expunge, goes, store};
+use imap_messages::naming::{greatest, is_named, reach};
 use imap_replies::fetch::{FetchItem, FetchList};
 use imap_replies::reply::Reply;
-use mailcore::flags::{Flag, Flags};
-use mailcore::mailbox::{Mailbox, Message, Messages};
+use mailcore::flags::Flags;
+use mailcore::mailbox::{Mailbox, Message};
 use std::alloc::{AllocError, Global};
-use std::mem;
 use wire_strings::octets::Octets;
 use wire_strings::string::WireString;
 use wire_tokens::flag_list::FlagSet;
@@ -212,43 +208,6 @@ fn head(bytes: &[u8]) -> &[u8]
     }
 }
 
-/// Changes the flags of those messages that the set names.
-fn store(alloc: Global, mailbox: &mut Mailbox, set: &UidSet, mode: StoreMode, flags: Flags)
-    requires { IsServed (far_of mailbox.old) }
-    ensures store { far_of mailbox.new ≡ record (far_of mailbox.old) { store = stored mode flags set.now (store_of mailbox.old) } }
-    ensures served { IsServed (far_of mailbox.new) }
-{
-    let messages = mem::replace(&mut mailbox.messages, Messages::new(alloc));
-    let mut list = messages.into_vec();
-    give_flags(&mut list, set, mode, flags);
-    mailbox.messages = Messages::from_vec(list);
-}
-
-/// Changes the flags of those of all messages of a mailbox, in the order of their UIDs, that the set names.
-fn give_flags(list: &mut [Message], set: &UidSet, mode: StoreMode, flags: Flags)
-    requires { AreRising list.old }
-    ensures { list.new ≡ map (given (names (greatest list.old) set.now) mode flags) list.old }
-{
-    let top = greatest(list);
-    let (start, end) = reach(list, set, top);
-    for index in start..end {
-        let message = &mut list[index];
-        if is_named(set, top, message.uid) {
-            message.flags = new_flags(mode, message.flags, flags);
-        }
-    }
-}
-
-/// The flags with these set, or taken away.
-fn new_flags(mode: StoreMode, old: Flags, flags: Flags) -> Flags
-    ensures { result ≡ new_flags mode flags old }
-{
-    match mode {
-        StoreMode::Add => old.union(flags),
-        StoreMode::Remove => old.minus(flags),
-    }
-}
-
 /// Tells which messages go: those that the set names and that are marked as deleted.
 fn say_removed(mailbox: &Mailbox, set: &UidSet, out: &mut Vec<u8>) -> Result<(), AllocError>
     requires { IsServed (far_of mailbox.now) }
@@ -274,31 +233,4 @@ fn say_expunged(place: u32, out: &mut Vec<u8>) -> Result<(), AllocError>
 {
     say(&Reply::Expunge(number(place)), out)?;
     Ok(())
-}
-
-/// Removes the messages that go.
-fn expunge(alloc: Global, mailbox: &mut Mailbox, set: &UidSet)
-    requires { IsServed (far_of mailbox.old) }
-    ensures store { far_of mailbox.new ≡ record (far_of mailbox.old) { store = swept set.now (store_of mailbox.old) } }
-    ensures served { IsServed (far_of mailbox.new) }
-{
-    let messages = mem::replace(&mut mailbox.messages, Messages::new(alloc));
-    let mut list = messages.into_vec();
-    keep_staying(&mut list, set);
-    mailbox.messages = Messages::from_vec(list);
-}
-
-/// Leaves those of all messages of a mailbox that stay.
-fn keep_staying(list: &mut Vec<Message>, set: &UidSet)
-    ensures { list.new.items ≡ filter (stays (names (greatest list.old.items) set.now)) list.old.items }
-{
-    let top = greatest(list);
-    list.retain(|message| !goes(set, top, message));
-}
-
-/// Whether the set names the message and it is marked as deleted, where this is the greatest UID.
-fn goes(set: &UidSet, top: u32, message: &Message) -> bool
-    ensures { Going set.now top message.now result }
-{
-    message.flags.has(Flag::Deleted) && is_named(set, top, message.uid)
 }

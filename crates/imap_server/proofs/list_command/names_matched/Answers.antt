@@ -4,7 +4,7 @@ use Rattle.mailcore.specs.declared.mailbox.Mailbox.{Mailbox}
 use Rattle.imap_session.specs.Mailboxes.{FarMailbox}
 use Rattle.imap_session.specs.NameOrder.{in_order}
 use Rattle.imap_session.specs.Patterns.{matches}
-use Rattle.imap_server.specs.Boxes.{all_of}
+use Rattle.imap_messages.specs.Boxes.{all_of}
 use Rattle.imap_server.proofs.OrderLemmas.{sorted_is}
 use Rattle.imap_server.proofs.list_command.names_matched.Goals as goal
 

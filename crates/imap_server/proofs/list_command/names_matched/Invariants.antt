@@ -1,6 +1,6 @@
 use Rattle.std.proofs.Common.{◌≡◌, map, filter, take}
 use Rattle.imap_session.specs.Patterns.{matches}
-use Rattle.imap_server.specs.Boxes.{all_of}
+use Rattle.imap_messages.specs.Boxes.{all_of}
 use Rattle.imap_server.proofs.list_command.names_matched.Given as goal
 
 abbrev pub invariant-loop-mailbox : goal.invariant-loop-mailbox

@@ -3,7 +3,7 @@ use Rattle.imap_replies.specs.declared.word.Status.TheVariants as statuses
 use Rattle.imap_replies.specs.declared.response.ResponseText.{ResponseText}
 use Rattle.imap_replies.specs.declared.reply.Reply.TheVariants.{Tagged}
 use Rattle.imap_session.specs.Answering.{listed}
-use Rattle.imap_server.specs.Boxes.{far_of}
+use Rattle.imap_messages.specs.Boxes.{far_of}
 use Rattle.imap_server.specs.Writing.{Wrote}
 use Rattle.imap_server.proofs.CommandLemmas.{opening_wrote}
 use Rattle.imap_server.proofs.mailbox_commands.say_opening.Goals as goal

@@ -3,7 +3,7 @@ use Rattle.std.proofs.lemmas.List.{take_more, length-take-le}
 use Rattle.mailcore.specs.declared.mailbox.Message.{Message}
 use Rattle.wire_tokens.specs.Sets.{names}
 use Rattle.imap_session.specs.NamedMessages.{greatest, named_in, goes}
-use Rattle.imap_server.specs.Boxes.{store_of}
+use Rattle.imap_messages.specs.Boxes.{store_of}
 use Rattle.imap_server.proofs.CommandLemmas.{count_fits}
 use Rattle.imap_server.proofs.ExpungeLemmas.{left_at_most, left_going, left_staying, wrote_going, wrote_staying}
 use Rattle.imap_server.proofs.message_commands.say_removed.Goals as goal

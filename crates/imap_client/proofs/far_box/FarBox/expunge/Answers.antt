@@ -2,7 +2,7 @@ use Rattle.std.proofs.Common.{ℕ, sym, ◌∙◌, subst, refl}
 use Rattle.imap_client.specs.Calls.{each_one}
 use Rattle.imap_client.specs.States.{EndsSo}
 use Rattle.imap_client.proofs.Changed.{state_of_parts, goes_on, sweep_keeps}
-use Rattle.imap_client.proofs.Left.{none_rest, some_rest}
+use Rattle.imap_answers.proofs.Left.{none_rest, some_rest}
 use Rattle.imap_client.proofs.Sweeping.{rests, none_sent, one_sent}
 use Rattle.imap_client.proofs.far_box.FarBox.expunge.Goals as goal
 

@@ -6,9 +6,9 @@ use Rattle.mailcore.specs.declared.side.Side.TheVariants.{Far}
 use Rattle.mailcore.specs.Listed.{item_of}
 use Rattle.imap_link.specs.declared.fault.FarFault.{FarFault}
 use Rattle.imap_link.specs.Outcomes.{Outcome, Never}
-use Rattle.imap_client.specs.Listings.{next_above, ListsFrom}
+use Rattle.imap_answers.specs.Listings.{next_above, ListsFrom}
 use Rattle.imap_client.specs.Logins.{Remains}
-use Rattle.imap_client.specs.Readings.{Tells}
+use Rattle.imap_answers.specs.Readings.{Tells}
 use Rattle.imap_client.proofs.Changed.{state_of_parts, outcome_err}
 use Rattle.imap_client.proofs.Staying.{stays, lists_so, shows_so}
 use Rattle.imap_client.proofs.far_box.FarBox.list.Goals as goal

@@ -5,9 +5,9 @@ use Rattle.std.proofs.lemmas.Result.{err_from_is_err_and}
 use Rattle.mailcore.specs.Operations.{bytes_of}
 use Rattle.imap_link.specs.declared.fault.FarFault.{FarFault}
 use Rattle.imap_link.specs.Outcomes.{Outcome, Never}
-use Rattle.imap_client.specs.Bodies.{text_of}
+use Rattle.imap_answers.specs.Bodies.{text_of}
 use Rattle.imap_client.specs.Logins.{Remains}
-use Rattle.imap_client.specs.Readings.{Tells}
+use Rattle.imap_answers.specs.Readings.{Tells}
 use Rattle.imap_client.proofs.Changed.{state_of_parts, outcome_err}
 use Rattle.imap_client.proofs.Staying.{stays}
 use Rattle.imap_client.proofs.far_box.FarBox.load.Goals as goal

@@ -12,11 +12,11 @@ use Rattle.std.proofs.Common.{Option}
 use Rattle.std.specs.Prelude.{Vec}
 use Rattle.std.specs.Global.{Global}
 use Rattle.mailcore.specs.Operations.{bytes_of}
-use Rattle.imap_client.specs.Bodies.{text_of, body_told}
+use Rattle.imap_answers.specs.Bodies.{text_of, body_told}
 use Rattle.imap_client.specs.Boxes.{one_uid}
 use Rattle.imap_client.proofs.BodyTold.{tells_body}
 use Rattle.imap_client.specs.Logins.{Remains}
-use Rattle.imap_client.specs.Readings.{Tells}
+use Rattle.imap_answers.specs.Readings.{Tells}
 use Rattle.imap_client.specs.Tags.{tag_text}
 use Rattle.imap_client.proofs.Changed.{outcome_err}
 use Rattle.imap_client.proofs.Fetched.{replies_for, fetch_exchanged, fetch_unchanged, reads_so, reads_err}

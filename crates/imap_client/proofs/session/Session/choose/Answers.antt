@@ -5,7 +5,7 @@ use Rattle.imap_session.specs.Servers.{is_logged_in}
 use Rattle.imap_link.specs.declared.fault.FarFault.{FarFault}
 use Rattle.imap_link.specs.Outcomes.{Outcome}
 use Rattle.imap_client.specs.declared.far_box.Chosen.{Chosen}
-use Rattle.imap_client.specs.declared.opening.Opening.{Opening}
+use Rattle.imap_answers.specs.declared.opening.Opening.{Opening}
 use Rattle.imap_client.specs.Tags.{tag_text}
 use Rattle.imap_client.specs.Boxes.{Selects, NoMailbox, Chooses}
 use Rattle.imap_client.specs.States.{EndsSo}

@@ -12,10 +12,10 @@ use Rattle.imap_session.specs.Servers.{selected}
 use Rattle.imap_link.specs.declared.fault.FarFault.{FarFault}
 use Rattle.imap_link.specs.Outcomes.{Outcome, Never}
 use Rattle.imap_client.specs.Calls.{from_on}
-use Rattle.imap_client.specs.Fetching.{rows_of}
-use Rattle.imap_client.specs.Listings.{items_told}
+use Rattle.imap_answers.specs.Fetching.{rows_of}
+use Rattle.imap_answers.specs.Listings.{items_told}
 use Rattle.imap_client.specs.Logins.{Remains}
-use Rattle.imap_client.specs.Readings.{Tells}
+use Rattle.imap_answers.specs.Readings.{Tells}
 use Rattle.imap_client.specs.Tags.{tag_text}
 use Rattle.imap_client.proofs.Changed.{outcome_err}
 use Rattle.imap_client.proofs.Fetched.{replies_for, fetch_exchanged, fetch_unchanged, reads_so, reads_err}

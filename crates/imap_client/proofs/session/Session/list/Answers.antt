@@ -4,7 +4,7 @@ use Rattle.imap_replies.specs.declared.word.Status.TheVariants as statuses
 use Rattle.imap_session.specs.Answering.{done}
 use Rattle.imap_session.specs.Servers.{is_logged_in}
 use Rattle.imap_client.specs.Tags.{tag_text}
-use Rattle.imap_client.specs.MailboxNames.{TellsNames}
+use Rattle.imap_answers.specs.MailboxNames.{TellsNames}
 use Rattle.imap_client.proofs.Changed.{state_of_parts}
 use Rattle.imap_client.proofs.Naming.{told_first, names_exchanged, names_told, not_answered, not_read, not_read_ends}
 use Rattle.imap_client.proofs.Selecting.{speaks_of}

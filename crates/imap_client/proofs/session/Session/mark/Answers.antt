@@ -11,10 +11,10 @@ use Rattle.imap_link.specs.Outcomes.{Outcome, Never}
 use Rattle.imap_client.specs.Calls.{from_on}
 use Rattle.std.proofs.Common.{Option}
 use Rattle.mailcore.specs.Operations.{marked_from}
-use Rattle.imap_client.specs.Markings.{least_marked, uid_found}
+use Rattle.imap_answers.specs.Markings.{least_marked, uid_found}
 use Rattle.imap_client.proofs.Marks.{finds_mark}
 use Rattle.imap_client.specs.Logins.{Remains}
-use Rattle.imap_client.specs.Readings.{Tells}
+use Rattle.imap_answers.specs.Readings.{Tells}
 use Rattle.imap_client.specs.Tags.{tag_text}
 use Rattle.imap_client.proofs.Changed.{outcome_err}
 use Rattle.imap_client.proofs.Fetched.{replies_for, fetch_exchanged, fetch_unchanged, reads_so, reads_err}

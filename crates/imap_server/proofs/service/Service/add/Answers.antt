@@ -4,7 +4,7 @@ use Rattle.mailcore.specs.declared.mailbox.Mailbox.{Mailbox}
 use Rattle.mailcore.specs.Operations.{added}
 use Rattle.wire_strings.specs.Literals.{IsLiteral}
 use Rattle.imap_session.specs.Servers.{Server}
-use Rattle.imap_server.specs.Boxes.{far_of, store_of, IsServed}
+use Rattle.imap_messages.specs.Boxes.{far_of, store_of, IsServed}
 use Rattle.imap_server.proofs.PlaceLemmas.{far_length, far_there, served_there}
 use Rattle.imap_server.proofs.AppendLemmas.{served_added, served_after, view_after}
 use Rattle.imap_server.proofs.service.Service.add.Goals as goal

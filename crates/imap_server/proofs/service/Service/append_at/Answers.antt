@@ -1,6 +1,6 @@
 use Rattle.std.proofs.Common.{◌<◌, ◌^◌, ◌+◌, sym, ap, arith}
 use Rattle.imap_session.specs.Servers.{Server}
-use Rattle.imap_server.specs.Boxes.{far_of}
+use Rattle.imap_messages.specs.Boxes.{far_of}
 use Rattle.imap_server.specs.Services.{condition_of}
 use Rattle.imap_server.proofs.AppendLemmas.{append_at_ok}
 use Rattle.imap_server.proofs.service.Service.append_at.Goals as goal

@@ -1,5 +1,5 @@
 use Rattle.std.proofs.Common.{◌∙◌}
-use Rattle.imap_server.specs.Boxes.{far_of}
+use Rattle.imap_messages.specs.Boxes.{far_of}
 use Rattle.imap_server.proofs.FetchLemmas.{fetch_answered}
 use Rattle.imap_server.proofs.service.Service.fetch.Goals as goal
 

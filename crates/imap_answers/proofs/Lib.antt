@@ -1,0 +1,4 @@
+pub mod Left
+pub mod Listed
+pub mod BodyTold
+pub mod NameLemmas

@@ -1,0 +1,45 @@
+-- The bytes of a message, as replies to UID FETCH tell them.
+use Rattle.std.specs.Prelude.{ℕ, Bool, false, ◌==◌, List, Option, None, Some, if◌then◌else◌, Vec}
+use Rattle.std.specs.List.{fold, list_any}
+use Rattle.std.specs.Option.{option_map}
+use Rattle.std.specs.Global.{Global}
+use Rattle.wire_strings.specs.declared.string.WireString.{WireString}
+use Rattle.wire_strings.specs.declared.string.WireString.TheVariants.{Quoted, Literal}
+use Rattle.imap_replies.specs.declared.fetch.FetchItem.{FetchItem}
+use Rattle.imap_replies.specs.declared.fetch.FetchItem.TheVariants as items
+use Rattle.imap_replies.specs.declared.reply.Reply.{Reply}
+use Rattle.imap_replies.specs.declared.reply.Reply.TheVariants.{Fetch}
+use Rattle.imap_answers.specs.Fetching.{told_of}
+
+-- the bytes of a body, or none where it is NIL or quoted with a backslash
+abbrev pub body_bytes : Option WireString → Option (List ℕ)
+body_bytes None = None
+body_bytes (Some (Literal bytes)) = Some bytes
+body_bytes (Some (Quoted raw)) = if list_any (λ b. b == 92) raw then None else Some raw
+
+-- What was told so far: nothing that the call can take, or the bytes, if any were told.
+abbrev pub body_more : Option (Option (List ℕ)) → FetchItem → Option (Option (List ℕ))
+body_more None item = None
+body_more (Some told) (items.Uid uid) = Some told
+body_more (Some told) (items.Flags flags) = Some told
+body_more (Some told) (items.Size size) = Some told
+body_more (Some told) (items.Body body) = option_map (λ bytes. Some bytes) (body_bytes body)
+body_more (Some told) (items.Head head) = Some told
+
+abbrev pub body_in : Option (Option (List ℕ)) → List FetchItem → Option (Option (List ℕ))
+body_in told list = fold body_more told list
+
+abbrev pub is_told : (uid : ℕ) → Option ℕ → Bool
+is_told uid None = false
+is_told uid (Some told) = told == uid
+
+-- with one reply more: one of another message is passed over
+abbrev pub bodies_more : (uid : ℕ) → Option (Option (List ℕ)) → Reply → Option (Option (List ℕ))
+bodies_more uid told (Fetch n list) = if is_told uid (told_of list).uid then body_in told list else told
+bodies_more uid told _ = told
+
+abbrev pub body_told : (uid : ℕ) → List Reply → Option (Option (List ℕ))
+body_told uid replies = fold (bodies_more uid) (Some None) replies
+
+abbrev pub text_of : Option (Vec ℕ Global) → Option (List ℕ)
+text_of found = option_map (λ v. v.items) found

@@ -1,0 +1,9 @@
+pub mod Spoken
+pub mod Readings
+pub mod Openings
+pub mod Fetching
+pub mod Listings
+pub mod Markings
+pub mod Bodies
+pub mod Given
+pub mod MailboxNames

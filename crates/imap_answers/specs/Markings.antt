@@ -1,0 +1,53 @@
+-- Where replies to UID FETCH show a mark.
+use Rattle.std.specs.Prelude.{ℕ, min, Bool, false, ◌&&◌, nat_le, List, Option, None, Some, if◌then◌else◌}
+use Rattle.std.specs.List.{fold, list_any}
+use Rattle.mailcore.specs.Content.{mark_of}
+use Rattle.mailcore.specs.Operations.{is_mark}
+use Rattle.wire_strings.specs.declared.string.WireString.{WireString}
+use Rattle.wire_strings.specs.declared.string.WireString.TheVariants.{Quoted, Literal}
+use Rattle.imap_replies.specs.declared.fetch.FetchItem.{FetchItem}
+use Rattle.imap_replies.specs.declared.fetch.FetchItem.TheVariants as items
+use Rattle.imap_replies.specs.declared.reply.Reply.{Reply}
+use Rattle.imap_replies.specs.declared.reply.Reply.TheVariants.{Fetch}
+use Rattle.imap_answers.specs.Fetching.{told_of}
+use Rattle.imap_answers.specs.Listings.{is_uid}
+
+-- the mark that the beginning of a message bears
+abbrev pub mark_told : Option WireString → Option (List ℕ)
+mark_told None = None
+mark_told (Some (Literal bytes)) = mark_of bytes
+mark_told (Some (Quoted raw)) = mark_of raw
+
+-- an item is the beginning of a message with this mark
+abbrev pub bears : (mark : List ℕ) → FetchItem → Bool
+bears mark (items.Uid uid) = false
+bears mark (items.Flags flags) = false
+bears mark (items.Size size) = false
+bears mark (items.Body body) = false
+bears mark (items.Head head) = is_mark (mark_told head) mark
+
+abbrev pub uid_marked : (mark : List ℕ) (from : ℕ) → Option ℕ → List FetchItem → Option ℕ
+uid_marked mark from None list = None
+uid_marked mark from (Some uid) list = if nat_le from uid && list_any (bears mark) list then Some uid else None
+
+-- the UID of a reply that shows the mark, if it is at least `from`
+abbrev pub marked_uid : (mark : List ℕ) (from : ℕ) → Reply → Option ℕ
+marked_uid mark from (Fetch n list) = uid_marked mark from (told_of list).uid list
+marked_uid mark from _ = None
+
+abbrev pub lesser : Option ℕ → Option ℕ → Option ℕ
+lesser None b = b
+lesser (Some a) None = Some a
+lesser (Some a) (Some b) = Some (min a b)
+
+abbrev pub least_more : (mark : List ℕ) (from : ℕ) → Option ℕ → Reply → Option ℕ
+least_more mark from least reply = lesser least (marked_uid mark from reply)
+
+-- the least such UID
+abbrev pub least_marked : (mark : List ℕ) (from : ℕ) → List Reply → Option ℕ
+least_marked mark from replies = fold (least_more mark from) None replies
+
+-- a number that was found is a UID
+abbrev pub uid_found : Option ℕ → Option (Option ℕ)
+uid_found None = Some None
+uid_found (Some n) = if is_uid n then Some (Some n) else None

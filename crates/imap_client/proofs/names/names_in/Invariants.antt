@@ -1,6 +1,0 @@
-use Rattle.std.proofs.Common.{◌≡◌, take}
-use Rattle.imap_client.specs.MailboxNames.{names_in}
-use Rattle.imap_client.proofs.names.names_in.Given as goal
-
-abbrev pub invariant-loop-reply : goal.invariant-loop-reply
-invariant-loop-reply l = l.names.items ≡ names_in (take l.reply-index l.replies)

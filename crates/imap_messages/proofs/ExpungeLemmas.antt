@@ -1,0 +1,90 @@
+-- UID EXPUNGE as one walk over the messages.
+use Rattle.std.proofs.Common.{◌≡◌, ◌<◌, ◌≤◌, ◌^◌, ℕ, zero, suc, ◌+◌, Bool, true, false, not, cond, ◌||◌, eqb, List, [], ◌∷◌, ◌++◌, length, map, filter, refl, sym, ◌∙◌, ap, subst, append-nil, append_assoc, Option, Some, arith, get_or, if◌then◌else◌}
+use Rattle.std.specs.Prelude.{All, slice_get}
+use Rattle.std.specs.List.{list_any}
+use Rattle.std.proofs.lemmas.List.Elements.{All-filter}
+use Rattle.std.proofs.lemmas.List.Kept.{AllPairs-filter}
+use Rattle.std.proofs.lemmas.Bool.Decides.{nat_tests}
+use Rattle.mailcore.specs.declared.mailbox.Message.{Message}
+use Rattle.mailcore.specs.FlagSet.{FLAGS}
+use Rattle.mailcore.specs.Listed.{AreRising}
+use Rattle.mailcore.specs.Stores.{Store}
+use Rattle.wire_strings.specs.Literals.{IsLiteral}
+use Rattle.wire_tokens.specs.declared.uid_set.SetItem.{SetItem}
+use Rattle.imap_session.specs.Mailboxes.{FarMailbox}
+use Rattle.imap_session.specs.NamedMessages.{goes, swept, named_in, uids_going}
+use Rattle.imap_messages.specs.Boxes.{IsServed}
+use Rattle.imap_messages.specs.Changing.{stays}
+
+-- ---- the UIDs of those that go name them alone, since UIDs rise
+
+abbrev among : List ℕ → ℕ → Bool
+among uids uid = list_any (λ u. eqb uid u) uids
+
+abbrev going : (Message → Bool) → List Message → List ℕ
+going go ms = map (λ m. m.uid) (filter go ms)
+
+none_later : (go : Message → Bool) (n : ℕ) (ms : List Message) → All (λ m. n < m.uid) ms → among (going go ms) n ≡ false
+none_later go n [] h = refl
+none_later go n (m ∷ ms) h =
+    by_test (go m) (none_later go n ms (λ k d within. h (suc k) d (omega arith)))
+  where
+    by_test : (b : Bool) → among (going go ms) n ≡ false → among (map (λ (x : Message). x.uid) (cond b (m ∷ filter go ms) (filter go ms))) n ≡ false
+    by_test true rest =
+        let less : n < m.uid = h 0 m (omega arith) in
+        let other : eqb n m.uid ≡ false = grind (arith, nat_tests) in
+        ap (λ (b : Bool). b || among (going go ms) n) other ∙ rest
+    by_test false rest = rest
+
+first_among : (go : Message → Bool) (b : Bool) (m : Message) (ms : List Message) → All (λ x. m.uid < x.uid) ms
+    → among (map (λ (x : Message). x.uid) (cond b (m ∷ filter go ms) (filter go ms))) m.uid ≡ b
+first_among go true m ms h =
+    let same : eqb m.uid m.uid ≡ true = grind (arith, nat_tests) in
+    ap (λ (b : Bool). b || among (going go ms) m.uid) same
+first_among go false m ms h = none_later go m.uid ms h
+
+later_among : (go : Message → Bool) (b : Bool) (m x : Message) (ms : List Message) → eqb x.uid m.uid ≡ false
+    → among (map (λ (y : Message). y.uid) (cond b (m ∷ filter go ms) (filter go ms))) x.uid ≡ among (going go ms) x.uid
+later_among go true m x ms h = ap (λ (b : Bool). b || among (going go ms) x.uid) h
+later_among go false m x ms h = refl
+
+each_among : (go : Message → Bool) (ms : List Message) → AreRising ms → (k : ℕ) (d : Message) → k < length ms → among (going go ms) (get_or ms k d).uid ≡ go (get_or ms k d)
+each_among go [] rising k d h = absurd (omega arith)
+each_among go (m ∷ ms) rising zero d h = first_among go (go m) m ms (λ k e within. rising 0 (suc k) e (omega arith) (omega arith))
+each_among go (m ∷ ms) rising (suc k) d h =
+    let less = rising 0 (suc k) d (omega arith) h in
+    let other : eqb (get_or ms k d).uid m.uid ≡ false = grind (arith, nat_tests) in
+    later_among go (go m) m (get_or ms k d) ms other ∙ each_among go ms (λ i j e less within. rising (suc i) (suc j) e (omega arith) (omega arith)) k d (omega arith)
+
+filter-as : (p q : Message → Bool) (ms : List Message) → All (λ m. p m ≡ q m) ms → filter p ms ≡ filter q ms
+filter-as p q [] h = refl
+filter-as p q (m ∷ ms) h =
+    let rest = filter-as p q ms (λ k d within. h (suc k) d (omega arith)) in
+    ap (λ (b : Bool). cond b (m ∷ filter p ms) (filter p ms)) (h 0 m (omega arith)) ∙ ap (λ (l : List Message). cond (q m) (m ∷ l) l) rest
+
+pub swept_is : (s : Store) (set : List SetItem) → AreRising s.messages → swept set s ≡ record s { messages = filter (stays (named_in s set)) s.messages }
+swept_is s set rising =
+    ap (λ (l : List Message). record s { messages = l })
+    (filter-as (λ m. not (list_any (λ uid. eqb m.uid uid) (uids_going set s))) (stays (named_in s set)) s.messages
+    (λ k d within. ap not (each_among (goes (named_in s set)) s.messages rising k d within)))
+
+-- ---- what stays is served
+
+pub stay_served : (m : FarMailbox) (p : Message → Bool) → IsServed m → IsServed (record m { store = record m.store { messages = filter p m.store.messages } })
+stay_served m p is = record {
+  name = is.name;
+  store = record {
+    rising = AllPairs-filter (λ (a : Message) (b : Message). a.uid < b.uid) p m.store.messages is.store.rising;
+    below = All-filter p (λ (x : Message). x.uid < m.store.next) m.store.messages is.store.below;
+  };
+  range = record {
+    validity = is.range.validity;
+    next = is.range.next;
+    messages = record {
+      uids = All-filter p (λ (x : Message). 0 < x.uid) m.store.messages is.range.messages.uids;
+      last = All-filter p (λ (x : Message). x.uid + 1 < 2 ^ 32) m.store.messages is.range.messages.last;
+      flags = All-filter p (λ (x : Message). x.flags < 2 ^ FLAGS) m.store.messages is.range.messages.flags;
+    };
+  };
+  bodies = All-filter p (λ (x : Message). IsLiteral x.bytes) m.store.messages is.bodies;
+}

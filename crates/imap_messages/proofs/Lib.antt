@@ -1,0 +1,4 @@
+pub mod NamingLemmas
+pub mod ReachLemmas
+pub mod StoreLemmas
+pub mod ExpungeLemmas
