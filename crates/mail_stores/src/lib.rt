@@ -3,5 +3,6 @@
 
 mod account;
 pub mod mail_stores;
+mod reach;
 mod server;
 mod told;

@@ -1,0 +1,111 @@
+//! How the mailboxes of a configuration are reached: servers over TCP, and folders of a disk.
+
+use crate::account::account_of;
+use crate::server::{create, link_to, log_in, names_at};
+use crate::told::{make_fault, unlisted, unreached};
+use book::disk_shelf::DiskShelf;
+use book_part::book_part::BookPart;
+use both::both::Both;
+use config::config::{ImapStore, MaildirStore};
+use device::DeviceFault;
+use far_part::far_part::FarPart;
+use imap_client::tcp_link::TcpLink;
+use mailcore::mailbox_name::MailboxName;
+use maildir::disk_folder::DiskFolder;
+use near_part::near_part::NearPart;
+use near_places::boxes::near_boxes;
+use near_places::home::Home;
+use near_places::lock::LockFault;
+use near_places::refusal::Refusal;
+use std::fs::File;
+use std::net::Net;
+use std::num::NonZeroU32;
+use std::rc::Rc;
+use std::rt::Files;
+use stores::channel_box::ChannelBox;
+use stores::fault::{ListFault, StoreFault};
+use watched::unread::Unread;
+use watched::watched_folder::WatchedFolder;
+
+/// Both sides of a mailbox, and its book, which lies in the folder of the near side.
+pub(crate) type BothSides<R> = Both<TcpLink<R>, WatchedFolder<R>, DiskShelf<R>>;
+
+/// Where the mailboxes of a user are. Nothing of them is open.
+#[derive(Drop)]
+pub(crate) struct Reach<R: Net + Files<File = File> + AllocGlobal + Clone + Drop> {
+    /// The system.
+    pub(crate) rt: R,
+    /// The home folder.
+    pub(crate) home: Home,
+    /// The UIDVALIDITY of near mailboxes that have none yet.
+    pub(crate) fresh: NonZeroU32,
+}
+
+impl<R: Net + Files<File = File> + AllocGlobal + Clone + Drop> Reach<R> {
+    /// The names of the mailboxes at the server of a store.
+    pub(crate) fn far_boxes(&self, store: &ImapStore) -> Result<Vec<MailboxName>, ListFault> {
+        match names_at(&self.rt, store) {
+            Ok(names) => Ok(names),
+            Err(fault) => Err(unlisted(self.rt.alloc(), store, fault)),
+        }
+    }
+
+    /// The names of the mailboxes in the folders of a store.
+    pub(crate) fn near_boxes(&self, store: &MaildirStore) -> Result<Vec<MailboxName>, Refusal> {
+        near_boxes(&self.rt, &self.home, store)
+    }
+
+    /// Makes a mailbox at the server of a store.
+    pub(crate) fn make_far(&self, store: &ImapStore, name: &MailboxName) -> Result<(), StoreFault> {
+        match log_in(&self.rt, store) {
+            Ok(session) => create(session, name).map_err(make_fault),
+            Err(fault) => Err(unreached(self.rt.alloc(), store, fault)),
+        }
+    }
+
+    /// Makes the folder of a near mailbox, with those above it.
+    pub(crate) fn make_near(&self, place: ChannelBox<'_>) -> Result<(), LockFault> {
+        let folder = self.folder_of(place)?;
+        let path = folder.as_str();
+        match DiskFolder::create(self.rt.clone()?, path) {
+            Ok(_) => Ok(()),
+            Err(DeviceFault::NoMemory) => Err(LockFault::Refused(Refusal::NoMemory)),
+            Err(DeviceFault::Stopped) => {
+                let refusal = Refusal::cannot_open(self.rt.alloc(), path);
+                Err(LockFault::Refused(refusal))
+            }
+        }
+    }
+
+    /// The folder of the near side of a mailbox.
+    pub(crate) fn folder_of(&self, place: ChannelBox<'_>) -> Result<String, LockFault> {
+        let alloc = self.rt.alloc();
+        Ok(self.home.folder_of(alloc, place.of.near_store, place.near)?)
+    }
+
+    /// Both sides of a mailbox, over a link that is not connected yet, and a folder that is not read yet. The file of a message that
+    /// cannot be read is noted in `unread`.
+    pub(crate) fn both_sides(
+        &self,
+        place: ChannelBox<'_>,
+        folder: &str,
+        unread: Rc<Unread>,
+    ) -> Result<BothSides<R>, Refusal> {
+        let alloc = self.rt.alloc();
+        let near = DiskFolder::new(self.rt.clone()?, folder)?;
+        let book = DiskShelf::new(self.rt.clone()?, folder)?;
+        let far = self.far_part(place)?;
+        let near = NearPart::new(alloc, WatchedFolder::new(near, unread), self.fresh);
+        Ok(Both::new(alloc, far, near, BookPart::new(alloc, book)))
+    }
+
+    /// The far side of a mailbox.
+    fn far_part(&self, place: ChannelBox<'_>) -> Result<FarPart<TcpLink<R>>, Refusal> {
+        let alloc = self.rt.alloc();
+        let link = link_to(&self.rt, place.of.far_store)?;
+        match account_of(alloc, place.of.far_store, place.far)? {
+            Some(account) => Ok(FarPart::new(alloc, account, link)),
+            None => Err(Refusal::cannot_open(alloc, place.of.far_store.name.as_str())),
+        }
+    }
+}
