@@ -1,5 +1,5 @@
 -- UID FETCH tells nothing of the messages before and behind those that a set names.
-use Rattle.std.proofs.Common.{◌≡◌, ◌≤◌, ℕ, suc, ◌+◌, Bool, false, List, [], ◌∷◌, ◌++◌, length, take, drop, sym, ◌∙◌, ap, subst, take-append-drop, arith, if◌then◌else◌}
+use Rattle.std.proofs.Common.{◌≡◌, ◌≤◌, ℕ, suc, ◌+◌, Bool, false, List, [], ◌∷◌, ◌++◌, length, take, drop, refl, sym, ◌∙◌, ap, subst, take-append-drop, arith, if◌then◌else◌}
 use Rattle.std.specs.Prelude.{All}
 use Rattle.mailcore.specs.declared.mailbox.Message.{Message}
 use Rattle.imap_commands.specs.declared.command.FetchItems.{FetchItems}
