@@ -11,7 +11,8 @@ outside UTF-8, at which the listing has to stop; one with a fifo under a name wi
 under the name of a message, which is listed, and stops the listing where it is read; and one without `tmp`, which is absent. Then
 1,000 messages are appended, and the calls that sync are counted: two a message, for the copy and for the meta file, and three at
 the end, for the names in `cur`, in `new` and in the folder. At the end 10,000 copies are sought by their marks, one after
-another, as a pull that was stopped seeks them: each file has to be opened once."""
+another, as a pull that was stopped seeks them: each file has to be opened once. tests_of_stores does it, by lines of a script of
+`near_mailbox` (crates/test_near_mailbox)."""
 import os
 import re
 import shutil
@@ -21,16 +22,10 @@ import tempfile
 import time
 
 from memory import peak
+from played import build, play, program, text_of
 
-TOP = os.path.dirname(os.path.dirname(os.path.abspath(__file__)))
-PROGRAM = os.path.join(TOP, "crates", "bench_maildir", "out", "bench_maildir")
+NAME = "tests_of_stores"
 SIZES = (10000, 100000)
-
-
-def build():
-    """Proves and builds the program, if it is not there yet or is older than its sources."""
-    launch = os.path.join(TOP, "bin", "launch")
-    subprocess.run([launch, "bench_maildir"], stdout=subprocess.DEVNULL, check=True)
 
 
 def make(folder, count, first_line=b"Subject: %d\n"):
@@ -45,63 +40,75 @@ def make(folder, count, first_line=b"Subject: %d\n"):
         file.write(b"1\n%d\n" % count)
 
 
-def answer(folder, *words):
-    """Status, output and told faults of a run on this folder."""
-    done = subprocess.run([PROGRAM, os.fsdecode(folder), *words], capture_output=True, check=False, timeout=600)
-    return done.returncode, done.stdout, done.stderr
+def script_of(folder, *asked):
+    """A script that opens the mailbox in a folder, and asks this of it."""
+    return ["case a folder", f"folder at {os.fsdecode(folder)}", "open 9", *asked]
 
 
-def expect(folder, wanted, *words):
-    found = answer(folder, *words)
-    if found != wanted:
+def answer(folder, *asked):
+    """What is answered where the mailbox is opened, or to the last line where it opens."""
+    answers, _ = play(NAME, "near_mailbox", script_of(folder, *asked))
+    return answers[2] + [it for told in answers[3:] for it in told]
+
+
+def expect(folder, wanted, *asked):
+    found = answer(folder, *asked)
+    if found[-1] != wanted:
         sys.exit(f"{os.fsdecode(folder)}: {found} in place of {wanted}")
 
 
 def check_bad_folders(top):
     strange = os.path.join(top, b"strange")
     make(strange, 2)
-    expect(strange, (0, b"2 messages\n", b""))
+    expect(strange, "2", "count")
     with open(os.path.join(strange, b"cur", b"caf\xe9:2,"), "wb"):
         pass
-    expect(strange, (1, b"", b"bench_maildir: stopped\n"))
+    expect(strange, "stopped")
     os.remove(os.path.join(strange, b"cur", b"caf\xe9:2,"))
     os.mkfifo(os.path.join(strange, b"cur", b"fifo:2,"))
-    expect(strange, (0, b"2 messages\n", b""))
+    expect(strange, "2", "count")
     os.rename(os.path.join(strange, b"cur", b"fifo:2,"), os.path.join(strange, b"cur", b"fifo,U=3:2,"))
     with open(os.path.join(strange, b".uidvalidity"), "wb") as file:
         file.write(b"1\n3\n")
-    expect(strange, (0, b"3 messages\n", b""), "above=3")
-    expect(strange, (1, b"", b"bench_maildir: stopped\n"))
+    expect(strange, "3", "count above 3")
+    expect(strange, "stopped", "count")
     os.rmdir(os.path.join(strange, b"tmp"))
-    expect(strange, (1, b"", b"bench_maildir: absent\n"))
+    expect(strange, "absent")
     print("a name outside UTF-8 stops the listing, a fifo is left alone or stops it, and a folder without tmp is absent")
 
 
 def run(folder, count):
     """The seconds of one run."""
     start = time.monotonic()
-    told = answer(folder)
+    told = answer(folder, "count")
     seconds = time.monotonic() - start
-    if told != (0, b"%d messages\n" % count, b""):
+    if told[-1] != str(count):
         sys.exit(f"{count} messages: {told}")
     return seconds
 
 
-def traced(*words):
-    """How many system calls a run makes, by their names, or none where strace is missing or may not be used."""
+def traced(folder, asked, *flags):
+    """What strace tells of such a run, or none where it is missing or may not be used."""
     if shutil.which("strace") is None:
         return None
     with tempfile.NamedTemporaryFile("r") as table:
-        done = subprocess.run(["strace", "-f", "-c", "-o", table.name, PROGRAM, *words], capture_output=True, check=False)
-        if done.returncode != 0:
-            return None
-        rows = re.findall(r"^ +[\d.]+ +[\d.]+ +\d+ +(\d+) +(?:\d+ +)?(\w+)$", table.read(), re.MULTILINE)
+        done = subprocess.run(["strace", "-f", *flags, "-o", table.name, program(NAME)],
+                              input=text_of("near_mailbox", script_of(folder, asked)), capture_output=True, check=False)
+        return table.read() if done.returncode == 0 else None
+
+
+def counted(folder, asked):
+    """How many system calls a run makes, by their names, or none where they cannot be counted."""
+    table = traced(folder, asked, "-c")
+    if table is None:
+        return None
+    rows = re.findall(r"^ +[\d.]+ +[\d.]+ +\d+ +(\d+) +(?:\d+ +)?(\w+)$", table, re.MULTILINE)
     return {name: int(number) for number, name in rows if name != "total"}
 
 
 def calls(folder, count):
     """How many system calls a message a run makes, by their names, or none where they cannot be counted."""
-    counts = traced(os.fsdecode(folder))
+    counts = counted(folder, "count")
     if counts is None:
         return None
     counts = {name: number / count for name, number in counts.items()}
@@ -114,7 +121,7 @@ def calls_at_rest(folder, count):
     empty = os.path.join(os.path.dirname(folder), b"empty")
     if not os.path.isdir(empty):
         make(empty, 0)
-    all_calls, start = traced(os.fsdecode(folder), f"above={count}"), traced(os.fsdecode(empty), "above=0")
+    all_calls, start = counted(folder, f"count above {count}"), counted(empty, "count")
     if all_calls is None or start is None:
         return "not counted, strace cannot be used"
     more = sum(all_calls.values()) - sum(start.values())
@@ -127,7 +134,10 @@ def measure(top, count):
     folder = os.path.join(top, b"%d" % count)
     make(folder, count)
     seconds = min(run(folder, count) for _ in range(3))
-    memory = peak([PROGRAM, os.fsdecode(folder)])
+    with tempfile.TemporaryFile() as source:
+        source.write(text_of("near_mailbox", script_of(folder, "count")))
+        source.seek(0)
+        memory = peak([program(NAME)], source)
     print("%7d messages  %7.3f s  %5.1f MB at most  %5.2f us and %4.0f bytes a message"
           % (count, seconds, memory / 1e6, seconds / count * 1e6, memory / count))
     print("        system calls a message: %s" % (calls(folder, count) or "not counted, strace cannot be used"))
@@ -139,20 +149,14 @@ def measure_syncs(top, count):
     """Appends so many messages to an empty folder."""
     folder = os.path.join(top, b"appended")
     make(folder, 0)
-    command = [PROGRAM, os.fsdecode(folder), f"append={count}"]
-    traced = None
-    with tempfile.NamedTemporaryFile("r") as trace:
-        if shutil.which("strace") is not None:
-            traced = subprocess.run(["strace", "-f", "-e", "trace=fsync", "-o", trace.name, *command],
-                                    capture_output=True, check=False)
-        if traced is None or traced.returncode != 0:
-            print("syncs are not counted, strace cannot be used")
-            return
-        syncs = trace.read().count("fsync(")
-    wanted = 2 * count + 3
+    table = traced(folder, f"append {count} copies", "-e", "trace=fsync")
+    if table is None:
+        print("syncs are not counted, strace cannot be used")
+        return
+    syncs, wanted = table.count("fsync("), 2 * count + 3
     print("%7d messages appended with %d syncs" % (count, syncs))
-    if traced.stdout != b"%d messages\n" % count or syncs != wanted:
-        sys.exit(f"{traced.stdout} with {syncs} syncs in place of {wanted}")
+    if answer(folder, "count")[-1] != str(count) or syncs != wanted:
+        sys.exit(f"{count} messages appended with {syncs} syncs in place of {wanted}")
 
 
 def measure_marks(top, count):
@@ -160,11 +164,11 @@ def measure_marks(top, count):
     folder = os.path.join(top, b"marked")
     make(folder, count, b"X-TUID: %012d\n")
     start = time.monotonic()
-    told = answer(folder, f"find={count}")
+    told = answer(folder, f"find {count} marks")
     seconds = time.monotonic() - start
-    if told != (0, b"%d messages\n" % count, b""):
+    if told[-1] != str(count):
         sys.exit(f"{count} marks: {told}")
-    counts = traced(os.fsdecode(folder), f"find={count}")
+    counts = counted(folder, f"find {count} marks")
     opened = "not counted, strace cannot be used" if counts is None else counts["openat"]
     print("%7d marks sought   %7.3f s  files opened: %s" % (count, seconds, opened))
     if counts is not None and opened > count + 20:
@@ -172,7 +176,7 @@ def measure_marks(top, count):
 
 
 def main():
-    build()
+    build(NAME)
     with tempfile.TemporaryDirectory() as top:
         top = os.fsencode(top)
         check_bad_folders(top)

@@ -3,18 +3,16 @@
 
 usage: bench/refused-allocations.py PROGRAM INPUT..
 
-PROGRAM is mbplan with worlds for INPUT, test_wire with bench/few-lines.txt, test_tokens with bench/few-tokens.txt,
-test_plan with bench/few-cases.txt, test_near_mailbox or test_book with the stdin of its crate, bench_maildir with an empty
-INPUT, as /dev/null, or bench_state with crates/bench_state/stdin, which also opens the files of a book that found no memory
-again and looks whether they still hold it. It is run on each INPUT, once without a refusal and then with the first
-allocation refused, with the second, and so on until a run meets no refusal. A run with a refusal has to give the unbroken
-run's output and status, or nothing on standard output, `NAME: no memory` on standard error and status 1. With test_server,
-also with the stdin of its crate or with bench/few-sessions.txt, a server may answer `no memory` itself: up to there the output
-has to be the unbroken run's, and from there on the server is closed until the next connection. With test_client and
-bench/few-client-calls.txt a call may answer `NoMemory`: up to there the session has to be the unbroken run's, from there on
-its calls are stopped or not made up to the next connection, and the other sessions are the unbroken run's. With mbtrial and
-trials, as bench/few-trials/*, the run may also go on otherwise, or tell a fault and print the world as it then stands, from which a
-further run has to come to the same end: `wanting_trials.py` says what is asked.
+PROGRAM is mbplan with worlds for INPUT, mbtrial with trials, or a program of tests (crates/tests_of_*) with a script of one library:
+those of bench/few-*.txt, or any part of the stdin of its crate from a line `script NAME` on. It is run on each INPUT, once without a
+refusal and then with the first allocation refused, with the second, and so on until a run meets no refusal. A run with a refusal has
+to give the unbroken run's output and status, or nothing on standard output, `NAME: no memory` on standard error and status 1. In a
+script of `server`, as bench/few-sessions.txt, a server may answer `no memory` itself: up to there the output has to be the unbroken
+run's, and from there on the server is closed until the next connection. In one of `client`, as bench/few-client-calls.txt, a call may
+answer `NoMemory`: up to there the case has to be the unbroken run's, from there on its calls are stopped or not made up to the next
+connection, and the other cases are the unbroken run's. With mbtrial and trials, as bench/few-trials/*, the run may also go on
+otherwise, or tell a fault and print the world as it then stands, from which a further run has to come to the same end:
+`wanting_trials.py` says what is asked.
 """
 import os
 import subprocess
@@ -44,12 +42,12 @@ void *malloc(size_t n) { return is_refused() ? NULL : __libc_malloc(n); }
 void *realloc(void *p, size_t n) { return is_refused() ? NULL : __libc_realloc(p, n); }
 """
 
-# Lines of test_server behind which there is a connection again, or another server.
+# Lines of a script of `server` behind which there is a connection again, or another server.
 TO_CONNECT = (b"case", b"connect", b"server", b"loopback", b"stream")
 
 
-# What stands in the script of test_client behind a call.
-TALK = (b"S: ", b"C: ", b"says ", b"sends ", b"breaks ", b"no connection")
+# What stands in a script of `client` before a call.
+TALK = (b"S: ", b"C: ", b"says ", b"sends ", b"breaks ", b"repeats ", b"unreachable")
 
 
 def run(program, text, shim, number):
@@ -67,10 +65,10 @@ def run(program, text, shim, number):
     return done.returncode, done.stdout, done.stderr, bool(met)
 
 
-def goes_on(program, whole, found):
-    """Whether a server of test_server tells want of memory, goes as before up to there, and is closed until it is connected."""
+def goes_on(whole, found):
+    """Whether a server of a script of `server` tells want of memory, goes as before up to there, and is closed until it is connected."""
     before, told, behind = found[1].partition(b"  no memory\n")
-    if os.path.basename(program) != "test_server" or found[0] != 0 or found[2] != b"" or not told:
+    if not whole[1].startswith(b"script server\n") or found[0] != 0 or found[2] != b"" or not told:
         return False
     lines = behind.split(b"\n")
     until = next((n for n, line in enumerate(lines) if line.startswith(TO_CONNECT)), len(lines))
@@ -79,7 +77,7 @@ def goes_on(program, whole, found):
 
 
 def answers_of(session):
-    """The calls of a session of test_client, each with its answer."""
+    """The calls of a case of the client, each with its answer."""
     calls = []
     for line in session.split(b"\n"):
         if not line.startswith((b"  ", *TALK)):
@@ -90,15 +88,15 @@ def answers_of(session):
 
 
 def is_stuck(call, answer):
-    """Whether a call of test_client is stopped or not made, or only hands its session on."""
+    """Whether a call of the client is stopped or not made, or only hands its session on."""
     return answer in (b"  Stopped", b"  not made") or call.startswith(b"into_")
 
 
-def goes_on_calling(program, whole, found):
-    """Whether a call of test_client tells want of memory, and only those behind it on its connection are stopped."""
-    if os.path.basename(program) != "test_client" or found[0] != 0 or found[2] != b"":
+def goes_on_calling(whole, found):
+    """Whether a call of a script of `client` tells want of memory, and only those behind it on its connection are stopped."""
+    if not whole[1].startswith(b"script client\n") or found[0] != 0 or found[2] != b"":
         return False
-    before, after = whole[1].split(b"\nsession "), found[1].split(b"\nsession ")
+    before, after = whole[1].split(b"\ncase "), found[1].split(b"\ncase ")
     changed = [place for place, session in enumerate(after) if session != before[place]]
     if len(before) != len(after) or len(changed) != 1:
         return False
@@ -133,7 +131,7 @@ def check(program, world, shim):
         if found == wanting:
             told += 1
             continue
-        if found[:3] == whole[:3] or goes_on(program, whole, found) or goes_on_calling(program, whole, found):
+        if found[:3] == whole[:3] or goes_on(whole, found) or goes_on_calling(whole, found):
             continue
         how = trial.how(found[0], found[1].decode(), found[2].decode()) if trial else None
         if how is None:

@@ -1,11 +1,11 @@
 #!/usr/bin/env python3
-"""Runs the built mbplan on each world of crates/test_plan's script, and compares what it prints.
+"""Runs the built mbplan on each world of the script of `plan` in crates/tests_of_words, and compares what it prints.
 
 usage: bench/rows.py [PROGRAM]
 
-PROGRAM is bin/mbplan if it is left out. The program test_plan runs the same worlds through the library; this is the way
+PROGRAM is bin/mbplan if it is left out. The program tests_of_words runs the same worlds through the library; this is the way
 through mbplan, its standard input and its exit status. The worlds are those of the script's lines `world`, `line`, `behind` and
-`grow`, and what has to come of them is what stands behind these lines in test_plan's expected output. It stops at the first
+`grow`, and what has to come of them is what stands behind these lines in its expected output. It stops at the first
 world whose output differs.
 """
 import os
@@ -14,12 +14,14 @@ import subprocess
 import sys
 
 TOP = os.path.dirname(os.path.dirname(os.path.abspath(__file__)))
-CRATE = os.path.join(TOP, "crates", "test_plan")
+CRATE = os.path.join(TOP, "crates", "tests_of_words")
 
 
 def lines_of(name):
+    """The lines behind `script plan`, up to those of the next library."""
     with open(os.path.join(CRATE, name), "rb") as file:
-        return file.read().split(b"\n")[:-1]
+        _, _, lines = (b"\n" + file.read()).partition(b"\nscript plan\n")
+    return lines.partition(b"\nscript ")[0].split(b"\n")
 
 
 def answered():
@@ -70,11 +72,11 @@ def rows():
     for line, answer in answered():
         if line == b"world":
             world, is_taken = b"", True
+        elif is_taken and line == b".":
+            is_taken = False
+            yield world, answer
         elif is_taken:
-            world += b"" if line == b"." else line + b"\n"
-            is_taken = line not in (b".", b"end")
-            if not is_taken:
-                yield world, answer
+            world += line + b"\n"
         else:
             run, world = changed(world, line)
             if run is not None:
@@ -87,7 +89,7 @@ def shown_text(name, text):
 
 
 def shown(ran):
-    """What a run gave, as test_plan shows it."""
+    """What a run gave, as the transcript shows it."""
     status = b"  status %d" % ran.returncode
     return shown_text(b"", ran.stdout) + shown_text(b"error: ", ran.stderr) + [status]
 

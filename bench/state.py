@@ -3,18 +3,19 @@
 
     bench/state.py
 
-A state of 10,000 entries and one of 100,000, a journal of 100,000 steps without a log and one whose steps are all logged,
-each read and written from memory; and the 10,000 steps of a journal on the disk logged by a call each. Logging syncs nothing, and
-the journal and its folder are synced once where it is opened: these calls are counted where strace can be used. The memory is the greatest that the program held, in a run of its own."""
+A state of 10,000 entries and one of 100,000, a journal of 100,000 steps without a log and one whose steps are all logged, each read
+and written again; and the 10,000 steps of a journal on the disk logged by a call each. Logging syncs nothing, and the journal and
+its folder are synced once where it is opened: these calls are counted where strace can be used. The memory is the greatest that the
+program held, in a run of its own. tests_of_stores does it, by lines of a script of `book` (crates/test_book)."""
 import os
 import shutil
 import subprocess
 import tempfile
 
 from memory import peak
+from played import build, play, program, text_of
 
-TOP = os.path.dirname(os.path.dirname(os.path.abspath(__file__)))
-PROGRAM = os.path.join(TOP, "crates", "bench_state", "out", "bench_state")
+NAME = "tests_of_stores"
 MARK = "abcdefghijklmnopqrstuvwxyzABCDEFGHIJKLMNOPQRSTUVWXYZ0123456789-_"
 
 
@@ -39,32 +40,41 @@ def journal(count, logged):
         yield "d %d %d\n" % (n, n)
 
 
-def run(arguments, source=subprocess.DEVNULL):
-    """What the program prints, and its times in seconds."""
-    ran = subprocess.run([PROGRAM, *arguments], stdin=source, capture_output=True, check=False)
-    if ran.returncode != 0:
-        raise SystemExit(ran.stderr.decode())
-    return ran.stdout.decode().strip(), [int(word) / 1e6 for word in ran.stderr.split()]
+def peak_of(lines, folder):
+    """The most memory that the program takes for these lines."""
+    with tempfile.TemporaryFile() as source:
+        source.write(text_of("book", lines))
+        source.seek(0)
+        here = os.getcwd()
+        os.chdir(folder)
+        try:
+            return peak([program(NAME)], source)
+        finally:
+            os.chdir(here)
 
 
 def measure_text(kind, lines):
-    with tempfile.TemporaryFile() as source:
-        source.writelines(line.encode() for line in lines)
-        size = source.tell()
-        source.seek(0)
-        told, (reading, writing) = run([kind], source)
-        source.seek(0)
-        memory = peak([PROGRAM, kind], source)
-    print("%-8s %-30s %9d bytes  read in %8.3f s  written in %6.3f s  %5.1f MB"
-          % (kind, told, size, reading, writing, memory / 1e6))
+    """How long a text takes to be read and written again."""
+    with tempfile.TemporaryDirectory() as folder:
+        with open(os.path.join(folder, "text"), "w", encoding="ascii") as file:
+            file.writelines(lines)
+            size = file.tell()
+        script = ["case a text", f"{kind} from text", "clock", f"read {kind}"]
+        answers, times = play(NAME, "book", script, folder)
+        memory = peak_of(script, folder)
+    print("%-8s %-46s %9d bytes  read and written in %8.3f s  %5.1f MB" % (kind, answers[-1][0], size, times[-1], memory / 1e6))
 
 
 def in_new_folder(act):
     """What is answered for a folder whose journal has 10,000 steps, of which none is logged."""
     with tempfile.TemporaryDirectory() as folder:
-        with open(os.path.join(folder, ".mbsyncstate.journal"), "w", encoding="ascii") as file:
+        with open(os.path.join(folder, "text"), "w", encoding="ascii") as file:
             file.writelines(journal(10000, 0))
         return act(folder)
+
+
+def script_of_steps():
+    return ["case steps", "journal from text", "shelf disk", "open", "clock", "log all"]
 
 
 def count_syncs(folder):
@@ -72,15 +82,15 @@ def count_syncs(folder):
     if shutil.which("strace") is None:
         return None
     with tempfile.NamedTemporaryFile("r") as trace:
-        traced = subprocess.run(["strace", "-f", "-e", "trace=fsync", "-o", trace.name, PROGRAM, "steps", folder],
-                                stdin=subprocess.DEVNULL, capture_output=True, check=False)
+        traced = subprocess.run(["strace", "-f", "-e", "trace=fsync", "-o", trace.name, program(NAME)], cwd=folder,
+                                input=text_of("book", script_of_steps()), capture_output=True, check=False)
         return trace.read().count("fsync(") if traced.returncode == 0 else None
 
 
 def measure_steps():
-    told, (logging,) = in_new_folder(lambda folder: run(["steps", folder]))
-    memory = in_new_folder(lambda folder: peak([PROGRAM, "steps", folder]))
-    print("%-8s %-30s logged in %8.3f s  %5.1f MB" % ("steps", told, logging, memory / 1e6))
+    answers, times = in_new_folder(lambda folder: play(NAME, "book", script_of_steps(), folder))
+    memory = in_new_folder(lambda folder: peak_of(script_of_steps(), folder))
+    print("%-8s %-46s logged in %8.3f s  %5.1f MB" % ("steps", answers[-1][0], times[-1], memory / 1e6))
     syncs = in_new_folder(count_syncs)
     if syncs is None:
         print("syncs are not counted, strace cannot be used")
@@ -90,15 +100,8 @@ def measure_steps():
         raise SystemExit(f"{syncs} syncs in place of 2")
 
 
-def build():
-    """Proves and builds the program, if it is not there yet or is older than its sources, and runs it on its example."""
-    launch = os.path.join(TOP, "bin", "launch")
-    with open(os.path.join(TOP, "crates", "bench_state", "stdin"), "rb") as example:
-        subprocess.run([launch, "bench_state"], stdin=example, stdout=subprocess.DEVNULL, check=True)
-
-
 def main():
-    build()
+    build(NAME)
     measure_text("state", state(10000))
     measure_text("state", state(100000))
     measure_text("journal", journal(100000, 0))

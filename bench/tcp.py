@@ -3,7 +3,7 @@
 
     bench/tcp.py
 
-test_client makes them, with the server's address as its argument: on a mailbox with 1,000 messages it lists, fetches, seeks marks,
+tests_of_runs makes them, by lines of a script of `client` (crates/test_client): on a mailbox with 1,000 messages it lists, fetches, seeks marks,
 appends, sets and clears flags and expunges, makes a second mailbox and adds to it, and connects anew in between. Each answer is
 compared with what this script works out. Then a connection of the script's own, without the client, reads both mailboxes, which
 have to hold what the calls leave; and at last the client meets a server that is gone."""
@@ -13,20 +13,16 @@ import sys
 import tempfile
 import time
 
-from trial_imapd import TOP, Server, build, world
+from played import build as build_program
+from played import play as play_lines
+from trial_imapd import Server, build, world
 
-PROGRAM = os.path.join(TOP, "crates", "test_client", "out", "test_client")
+NAME = "tests_of_runs"
 MESSAGES = 1000
 # The letters of flags as the client tells them, and their names in the order in which the server tells them.
 LETTERS = "DFPRST"
 NAMES = [("R", b"\\Answered"), ("T", b"\\Deleted"), ("D", b"\\Draft"), ("F", b"\\Flagged"), ("S", b"\\Seen"), ("P", b"$Forwarded")]
 SHOWN_MAX, BEGIN = 200, 60
-
-
-def build_client():
-    """Proves and builds the program, if it is not there yet or is older than its sources."""
-    launch = os.path.join(TOP, "bin", "launch")
-    subprocess.run([launch, "test_client"], stdin=subprocess.DEVNULL, stdout=subprocess.DEVNULL, check=True)
 
 
 def mark(n):
@@ -195,11 +191,9 @@ def calls(inbox, work):
 
 def play(server, lines):
     """What the client tells of these calls."""
-    text = "".join(line + "\n" for line in lines).encode()
-    done = subprocess.run([PROGRAM, f"127.0.0.1:{server.port}"], input=text, capture_output=True, timeout=600, check=False)
-    if done.returncode != 0 or done.stderr != b"":
-        sys.exit(f"status {done.returncode}: {done.stderr!r}")
-    return done.stdout.decode().splitlines()
+    first = ["case over TCP", f"over tcp 127.0.0.1:{server.port}"]
+    answers, _ = play_lines(NAME, "client", [*first, *lines])
+    return [it for line, told in zip(lines, answers[len(first):]) for it in [line, *(f"  {answer}" for answer in told)]]
 
 
 def compare(found, wanted):
@@ -241,7 +235,7 @@ def check_server(server, mailboxes):
 
 def main():
     build()
-    build_client()
+    build_program(NAME)
     inbox = Mailbox(b"INBOX", 1, [text_of(n) for n in range(1, MESSAGES + 1)])
     work = Mailbox(b"Work", 2, [])
     with tempfile.TemporaryDirectory() as folder:

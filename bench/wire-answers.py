@@ -1,8 +1,8 @@
 #!/usr/bin/env python3
 """What a reader of IMAP lines has to answer, decided slowly and apart from the program: every way to spell is tried.
 
-usage: bench/wire-answers.py examples   prints the examples, which are the standard input of crates/test_wire
-       bench/wire-answers.py answers    prints their answers, which are to be its standard output
+usage: bench/wire-answers.py examples   prints the examples, which stand behind `script wire` in crates/tests_of_words/stdin
+       bench/wire-answers.py answers    prints them with their answers, as they stand in crates/tests_of_words/stdout
 
 An example is a line: C (a command) or R (a reply), a space, and the bytes as a world has them (docs/FORMATS.md), without
 quotes around. Behind that line stand its answers: to the whole, to each of its beginnings, its places (a line feed outside
@@ -340,10 +340,8 @@ def main():
         print(side, shown(data))
         if sys.argv[1] == "examples":
             continue
-        if side.isupper():
-            print("\n".join(answers(side, data)))
-        else:
-            print(answer(side.upper(), data))
+        for told in answers(side, data) if side.isupper() else [answer(side.upper(), data)]:
+            print("  " + told)
 
 
 main()

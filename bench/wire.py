@@ -7,37 +7,29 @@ One input is FETCH replies with UID, FLAGS and RFC822.SIZE, 10,000 and ten times
 body of 16777216 bytes, and one of a tenth. Reading takes ten times as long for ten times the bytes.
 
 The same bytes are then read as they would come over a connection: pushed to a buffer, scanned once, and read at each place
-where the scanner stops; as one piece, and in pieces of 4096 bytes. Many pieces take about as long as one."""
-import os
-import subprocess
+where the scanner stops; as one piece, and in pieces of 4096 bytes. Many pieces take about as long as one. tests_of_words makes and
+reads them, by lines of a script of `wire` (crates/test_wire)."""
+import re
+import sys
 
-TOP = os.path.dirname(os.path.dirname(os.path.abspath(__file__)))
+from played import build, play
+
+PROGRAM = "tests_of_words"
 BODY = 16777216
+ONE_PIECE = 4294967295
 
 
-def listing(count):
-    flags = ["", "\\Seen", "\\Answered \\Seen", "\\Flagged $Forwarded keyword"]
-    return b"".join(b"* %d FETCH (UID %d FLAGS (%s) RFC822.SIZE %d)\r\n" % (n, 2 * n, flags[n % 4].encode(), 37 * n)
-                    for n in range(1, count + 1))
-
-
-def body(size):
-    octets = (b"a line of a message\r\n" * (size // 21 + 1))[:size]
-    return b"* 1 FETCH (UID 7 BODY[] {%d}\r\n" % size + octets + b")\r\n"
-
-
-def measure(name, data):
+def measure(name, made, replies):
     """The seconds of reading at once, as one piece and in many: the least of five runs each."""
-    best = None
+    lines = ["clock", made, "read all", f"feed in pieces of {ONE_PIECE}", "feed in pieces of 4096", "line feeds"]
+    best, answers = None, None
     for _ in range(5):
-        run = subprocess.run([os.path.join(TOP, "bin", "launch"), "bench_wire"], input=data,
-                             capture_output=True, check=True)
-        times = [int(word) / 1e6 for word in run.stderr.split()[-4:]]
-        best = [min(pair) for pair in zip(best, times)] if best else times
-    words = run.stdout.split()
-    replies, used = int(words[0]), int(words[2])
-    if {used, int(words[7]), int(words[12])} != {len(data)}:
-        raise SystemExit(f"{name}: not all of {len(data)} bytes were read: {run.stdout}")
+        answers, times = play(PROGRAM, "wire", lines)
+        best = [min(pair) for pair in zip(best, times[2:])] if best else times[2:]
+    told = {tuple(map(int, re.findall(r"\d+", answers[place][0])))[:2] for place in (2, 3, 4)}
+    if len(told) != 1 or min(told)[0] != replies:
+        sys.exit(f"{name}: not all was read: {answers}")
+    used = min(told)[1]
     reading, whole, pieces, scanning = best
     print("%-22s %7d replies %9d bytes  %8.4f s  %7.1f MB/s  %9.0f replies/s  line feeds alone %8.4f s"
           % (name, replies, used, reading, used / reading / 1e6, replies / reading, scanning))
@@ -47,9 +39,10 @@ def measure(name, data):
 
 
 def main():
-    few, many = measure("10,000 listings", listing(10000)), measure("100,000 listings", listing(100000))
+    build(PROGRAM)
+    few, many = measure("10,000 listings", "listings 10000", 10000), measure("100,000 listings", "listings 100000", 100000)
     print("ten times the listings take %.1f times as long" % (many / few))
-    small, large = measure("a body of 1.6 MB", body(BODY // 10)), measure("a body of 16 MB", body(BODY))
+    small, large = measure("a body of 1.6 MB", f"body {BODY // 10}", 1), measure("a body of 16 MB", f"body {BODY}", 1)
     print("ten times the body takes %.1f times as long" % (large / small))
 
 

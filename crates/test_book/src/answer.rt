@@ -1,89 +1,58 @@
 //! What a book and its calls answer.
 
-use crate::failure::Failure;
 use book::book::Book;
 use book::shelf::Shelf;
-use std::fmt;
 use sync_state::fault::BookFault;
+use test_scripts::failure::Failure;
+use test_scripts::told::Told;
 
 /// What a call of a book answers.
-#[derive(Clone, Copy, PartialEq, Eq)]
+#[derive(Clone, Copy)]
 pub enum Answer {
     /// It did what it says.
     Done,
-    /// Why it did not.
-    Fault(BookFault),
     /// It may not be called here, and was not.
     MayNot,
+    /// Why it did not.
+    Fault(BookFault),
 }
 
 impl Answer {
-    /// The answer that a call gave, unless it found no memory.
+    /// The answer that a call gave. `NoMemory`: it found no memory.
     pub fn of(given: Result<(), BookFault>) -> Result<Answer, Failure> {
         match given {
             Ok(()) => Ok(Answer::Done),
-            Err(fault) => Ok(Answer::Fault(told(fault)?)),
+            Err(BookFault::NoMemory) => Err(Failure::NoMemory),
+            Err(fault) => Ok(Answer::Fault(fault)),
         }
     }
-}
 
-/// The fault, unless it is that there is no memory.
-pub fn told(fault: BookFault) -> Result<BookFault, Failure> {
-    match fault {
-        BookFault::NoMemory => Err(Failure::NoMemory),
-        fault => Ok(fault),
-    }
-}
-
-impl fmt::Display for Answer {
-    fn fmt<W: fmt::Write>(&self, f: &mut fmt::Formatter<W>) -> fmt::Result {
+    /// Tells it.
+    pub fn tell(self, told: &mut Told) {
         match self {
-            Answer::Done => write!(f, "ok"),
-            Answer::Fault(fault) => write!(f, "{fault}"),
-            Answer::MayNot => write!(f, "may not be called"),
+            Answer::Done => told.text("ok"),
+            Answer::MayNot => told.text("may not be called"),
+            Answer::Fault(fault) => told.shown(&fault),
         }
     }
 }
 
-/// What a book says: the number of the last run, how many entries it left, and how many steps of the pending plan are logged,
-/// of how many, if one is pending.
-#[derive(Clone, Copy, PartialEq, Eq)]
-pub struct Held {
-    run: u64,
-    entries: usize,
-    steps: Option<(usize, usize)>,
-}
-
-impl Held {
-    /// What this book says.
-    pub fn by<S: Shelf>(book: &Book<S>) -> Held {
-        let state = book.state();
-        let steps = match book.pending() {
-            Some(journal) => Some((
-                journal.log.as_slice().len(),
-                journal.plan.steps.as_slice().len(),
-            )),
-            None => None,
-        };
-        Held {
-            run: state.run,
-            entries: state.entries.as_slice().len(),
-            steps,
+/// Tells what a book says: the number of the last run, how many entries it left, and how many steps of the pending plan are
+/// logged, of how many, if one is pending.
+pub fn tell_held<S: Shelf>(told: &mut Told, book: &Book<S>) {
+    let state = book.state();
+    told.text("run ");
+    told.number(state.run);
+    told.text(", ");
+    told.shown(&state.entries.as_slice().len());
+    told.text(" entries, ");
+    match book.pending() {
+        Some(journal) => {
+            told.shown(&journal.log.as_slice().len());
+            told.text(" of ");
+            told.shown(&journal.plan.steps.as_slice().len());
+            told.text(" steps logged");
         }
-    }
-}
-
-impl fmt::Display for Held {
-    fn fmt<W: fmt::Write>(&self, f: &mut fmt::Formatter<W>) -> fmt::Result {
-        let (run, entries) = (self.run, self.entries);
-        match self.steps {
-            Some((logged, steps)) => {
-                write!(
-                    f,
-                    "run {run}, {entries} entries, {logged} of {steps} steps logged"
-                )
-            }
-            None => write!(f, "run {run}, {entries} entries, no plan"),
-        }
+        None => told.text("no plan"),
     }
 }

@@ -1,78 +1,58 @@
 //! The folder in which a script keeps a shelf on a disk: `shelf`, where the program runs.
 
-use crate::files::Files;
+use book::mem_shelf::MemShelf;
 use book::shelf::File;
 use std::io::ErrorKind;
 use std::os::unix::fs::{PermissionsExt, symlink};
 use std::{fs, io};
+use test_scripts::words::Words;
 
 /// Its path.
 pub const PATH: &str = "shelf";
 
-/// A name in the folder.
-#[derive(Clone, Copy)]
-pub enum Name {
-    /// That of a file of the shelf.
-    Kept(File),
-    /// That under which a file is written before it takes the place of another.
-    Next,
-}
+/// The path of the state. The names of the files are those that docs/FORMATS.md gives them.
+pub const STATE: &str = "shelf/.mbsyncstate";
 
-/// What a script does to the folder.
-#[derive(Clone, Copy)]
-pub enum FolderChange {
-    /// A folder is made in the place of a file.
-    Block(Name),
-    /// It is taken away.
-    Free(Name),
-    /// The next file is a second name of this one.
-    Link(File),
-    /// The next file is a symlink to this one.
-    Symlink(File),
-    /// The folder is taken away with all that is in it.
-    Remove,
-}
+/// The path of the journal.
+pub const JOURNAL: &str = "shelf/.mbsyncstate.journal";
 
-impl FolderChange {
-    /// Does it.
-    pub fn make(self, rt: &HostRuntime) -> io::Result<()> {
-        match self {
-            FolderChange::Block(name) => fs::create_dir(rt, name.path()),
-            FolderChange::Free(name) => fs::remove_dir(rt, name.path()),
-            FolderChange::Link(file) => fs::hard_link(rt, path_of(file), Name::Next.path()),
-            FolderChange::Symlink(file) => symlink(rt, name_of(file), Name::Next.path()),
-            FolderChange::Remove => clear(rt),
+/// The path under which a file is written before it takes the place of another.
+const NEXT: &str = "shelf/.mbsyncstate.new";
+
+/// `state`, `journal` or `next`: the path of that file.
+fn read_path(line: &mut Words<'_>) -> &'static str {
+    match line.word() {
+        "state" => STATE,
+        "journal" => JOURNAL,
+        "next" => NEXT,
+        _ => {
+            line.refuse();
+            NEXT
         }
     }
 }
 
-impl Name {
-    fn path(self) -> &'static str {
-        match self {
-            Name::Kept(file) => path_of(file),
-            Name::Next => "shelf/.mbsyncstate.new",
+/// `at NAME`, `away NAME`, `link NAME`, `symlink NAME` or `removed`: does this to the folder.
+pub fn change(rt: &HostRuntime, line: &mut Words<'_>) -> io::Result<()> {
+    match line.word() {
+        "at" => fs::create_dir(rt, read_path(line)),
+        "away" => fs::remove_dir(rt, read_path(line)),
+        "link" => fs::hard_link(rt, read_path(line), NEXT),
+        "symlink" => {
+            let path = read_path(line);
+            symlink(rt, path.strip_prefix("shelf/").unwrap_or(path), NEXT)
         }
-    }
-}
-
-/// The name of a file, and its path. These are the names that docs/FORMATS.md gives them.
-fn name_of(file: File) -> &'static str {
-    match file {
-        File::State => ".mbsyncstate",
-        File::Journal => ".mbsyncstate.journal",
-    }
-}
-
-fn path_of(file: File) -> &'static str {
-    match file {
-        File::State => "shelf/.mbsyncstate",
-        File::Journal => "shelf/.mbsyncstate.journal",
+        "removed" => clear(rt),
+        _ => {
+            line.refuse();
+            Ok(())
+        }
     }
 }
 
 /// The permissions of a file.
-pub fn mode_of(rt: &HostRuntime, file: File) -> io::Result<u32> {
-    let found = fs::metadata(rt, path_of(file))?;
+pub fn mode_of(rt: &HostRuntime, line: &mut Words<'_>) -> io::Result<u32> {
+    let found = fs::metadata(rt, read_path(line))?;
     Ok(found.permissions().mode() & 0o777)
 }
 
@@ -85,20 +65,20 @@ pub fn clear(rt: &HostRuntime) -> io::Result<()> {
 }
 
 /// Makes the folder anew, with these files.
-pub fn fill(rt: &HostRuntime, files: &Files) -> io::Result<()> {
+pub fn fill(rt: &HostRuntime, files: &MemShelf) -> io::Result<()> {
     clear(rt)?;
     fs::create_dir(rt, PATH)?;
-    for file in [File::State, File::Journal] {
+    for (file, path) in [(File::State, STATE), (File::Journal, JOURNAL)] {
         if let Some(bytes) = files.bytes(file) {
-            fs::write(rt, path_of(file), bytes)?;
+            fs::write(rt, path, bytes)?;
         }
     }
     Ok(())
 }
 
-/// The bytes of a file, if it is there.
-pub fn read(rt: &HostRuntime, file: File) -> io::Result<Option<Vec<u8>>> {
-    match fs::read(rt, path_of(file)) {
+/// The bytes of the file at this path, if it is there.
+pub fn read(rt: &HostRuntime, path: &str) -> io::Result<Option<Vec<u8>>> {
+    match fs::read(rt, path) {
         Ok(bytes) => Ok(Some(bytes)),
         Err(error) if error.kind() == ErrorKind::NotFound => Ok(None),
         Err(error) => Err(error),

@@ -1,189 +1,173 @@
 //! How the texts of a state and a journal are read, and what is said of both.
 
-use crate::answer::told;
-use crate::failure::Failure;
-use crate::runs::{At, push_runs};
+use crate::runs::{Place, Runs};
 use book::agreement::{disagreement, is_taken};
 use book::shelf::File;
 use mailcore::side::Side;
 use mailcore::uid::Uid;
 use rules::state::SyncState;
 use std::alloc::Global;
-use std::fmt;
 use sync_state::fault::BookFault;
 use sync_state::journal::{Journal, WrittenJournal};
 use sync_state::journal_text::{read_journal, write_journal, write_plan};
 use sync_state::state_text::{read_state_text, write_state_text};
+use test_scripts::failure::Failure;
+use test_scripts::told::Told;
 
-/// What is read of a text.
-#[derive(Clone, Copy, PartialEq, Eq)]
-pub enum Reading {
-    /// A state, with this run and so many entries.
-    State {
-        run: u64,
-        entries: usize,
-        is_same: bool,
-    },
-    /// No plan.
-    NoPlan,
-    /// A journal: the run of its plan, so many steps, notes and logged steps.
-    Journal {
-        run: u64,
-        steps: usize,
-        notes: usize,
-        logged: usize,
-        is_torn: bool,
-        is_same: bool,
-    },
-    /// Why it is not read.
-    Fault(BookFault),
-}
-
-impl fmt::Display for Reading {
-    fn fmt<W: fmt::Write>(&self, f: &mut fmt::Formatter<W>) -> fmt::Result {
-        match *self {
-            Reading::State {
-                run,
-                entries,
-                is_same,
-            } => { write!(f, "run {run}, {entries} entries, {}", written(is_same)) }
-            Reading::NoPlan => write!(f, "no plan"),
-            Reading::Journal {
-                run,
-                steps,
-                notes,
-                logged,
-                is_torn,
-                is_same,
-            } => {
-                let end = if is_torn { "torn" } else { "whole" };
-                let written = written(is_same);
-                write!(
-                    f,
-                    "plan of run {run}, {steps} steps, {notes} notes, {logged} logged, {end}, {written}"
-                )
-            }
-            Reading::Fault(fault) => write!(f, "{fault}"),
-        }
-    }
-}
-
-/// Whether what was read is written as it was.
-fn written(is_same: bool) -> &'static str {
-    if is_same {
-        "written as it was"
-    } else {
-        "written otherwise"
-    }
-}
-
-/// What is read of the text of a file.
-pub fn reading_of(alloc: Global, file: File, text: &[u8]) -> Result<Reading, Failure> {
-    match file {
-        File::State => match state_of(alloc, text)? {
-            Ok(state) => reading_of_state(alloc, &state, text),
-            Err(fault) => Ok(Reading::Fault(fault)),
-        },
-        File::Journal => match journal_of(alloc, text)? {
-            Ok(Some(written)) => reading_of_journal(alloc, &written, text),
-            Ok(None) => Ok(Reading::NoPlan),
-            Err(fault) => Ok(Reading::Fault(fault)),
-        },
-    }
-}
-
-/// Adds what is read of each beginning of a text, the whole of it too.
-pub fn push_beginnings(
+/// Tells what is read of the text of a file.
+pub fn tell_reading(
     alloc: Global,
-    record: &mut String,
+    told: &mut Told,
     file: File,
     text: &[u8],
 ) -> Result<(), Failure> {
-    let mut answers = Vec::new(alloc);
-    for place in 0..=text.len() {
-        let answer = reading_of(alloc, file, &text[..place])?;
-        answers.push(At { place, answer })?;
+    match file {
+        File::State => match read_state_text(alloc, text) {
+            Ok(state) => tell_state(alloc, told, &state, text),
+            Err(fault) => tell_fault(told, fault),
+        },
+        File::Journal => match read_journal(alloc, text) {
+            Ok(Some(written)) => tell_journal(alloc, told, &written, text),
+            Ok(None) => {
+                told.text("no plan");
+                Ok(())
+            }
+            Err(fault) => tell_fault(told, fault),
+        },
     }
-    push_runs(record, "the first", &answers)
 }
 
-fn state_of(alloc: Global, text: &[u8]) -> Result<Result<SyncState, BookFault>, Failure> {
-    match read_state_text(alloc, text) {
-        Ok(state) => Ok(Ok(state)),
-        Err(fault) => Ok(Err(told(fault)?)),
-    }
-}
-
-fn journal_of(
+/// Tells what is read of each beginning of a text, the whole of it too.
+pub fn tell_beginnings(
     alloc: Global,
+    told: &mut Told,
+    file: File,
     text: &[u8],
-) -> Result<Result<Option<WrittenJournal>, BookFault>, Failure> {
-    match read_journal(alloc, text) {
-        Ok(read) => Ok(Ok(read)),
-        Err(fault) => Ok(Err(told(fault)?)),
+) -> Result<(), Failure> {
+    let mut runs = Runs::new(alloc, "the first");
+    for length in 0..=text.len() {
+        tell_reading(alloc, &mut runs.next, file, &text[..length])?;
+        runs.add(told, Place::Length(length));
+    }
+    runs.finish(told)
+}
+
+fn tell_fault(told: &mut Told, fault: BookFault) -> Result<(), Failure> {
+    told.shown(&fault);
+    match fault {
+        BookFault::NoMemory => Err(Failure::NoMemory),
+        _ => Ok(()),
     }
 }
 
-fn reading_of_state(alloc: Global, state: &SyncState, text: &[u8]) -> Result<Reading, Failure> {
-    let written = write_state_text(alloc, state)?;
-    Ok(Reading::State {
-        run: state.run,
-        entries: state.entries.as_slice().len(),
-        is_same: written.as_slice() == text,
-    })
+/// Tells the run of a state and how many entries it has.
+fn tell_state(
+    alloc: Global,
+    told: &mut Told,
+    state: &SyncState,
+    text: &[u8],
+) -> Result<(), Failure> {
+    let written = write_state_text(alloc, state).map_err(failure_of)?;
+    told.text("run ");
+    told.number(state.run);
+    told.text(", ");
+    told.shown(&state.entries.as_slice().len());
+    told.text(" entries, ");
+    tell_written(told, written.as_slice() == text);
+    Ok(())
 }
 
-fn reading_of_journal(
+/// Tells the run of a journal's plan and how many steps, notes and logged steps it has.
+fn tell_journal(
     alloc: Global,
+    told: &mut Told,
     written: &WrittenJournal,
     text: &[u8],
-) -> Result<Reading, Failure> {
+) -> Result<(), Failure> {
     let Journal { plan, log } = &written.journal;
-    Ok(Reading::Journal {
-        run: plan.run,
-        steps: plan.steps.as_slice().len(),
-        notes: plan.notes.as_slice().len(),
-        logged: log.as_slice().len(),
-        is_torn: written.is_torn,
-        is_same: is_written_as(alloc, written, text)?,
-    })
+    told.text("plan of run ");
+    told.number(plan.run);
+    told.text(", ");
+    told.shown(&plan.steps.as_slice().len());
+    told.text(" steps, ");
+    told.shown(&plan.notes.as_slice().len());
+    told.text(" notes, ");
+    told.shown(&log.as_slice().len());
+    told.text(" logged, ");
+    told.text(if written.is_torn { "torn, " } else { "whole, " });
+    tell_written(told, is_written_as(alloc, written, text)?);
+    Ok(())
+}
+
+/// Tells whether what was read is written as it was.
+fn tell_written(told: &mut Told, is_same: bool) {
+    told.text(if is_same {
+        "written as it was"
+    } else {
+        "written otherwise"
+    });
 }
 
 /// Whether the plan of a journal is written as the text begins, and all of the journal as the text up to its torn line.
 fn is_written_as(alloc: Global, written: &WrittenJournal, text: &[u8]) -> Result<bool, Failure> {
-    let plan = write_plan(alloc, &written.journal.plan)?;
-    let whole = write_journal(alloc, &written.journal)?;
-    let torn = text.strip_prefix(whole.as_slice());
-    Ok(
-        text.starts_with(plan.as_slice())
-            && torn.is_some_and(|torn| torn.is_empty() != written.is_torn
-                && !torn.contains(&b'\n')),
-    )
+    let plan = write_plan(alloc, &written.journal.plan).map_err(failure_of)?;
+    let whole = write_journal(alloc, &written.journal).map_err(failure_of)?;
+    let is_same = match text.strip_prefix(whole.as_slice()) {
+        Some(torn) => torn.is_empty() != written.is_torn && !torn.contains(&b'\n'),
+        None => false,
+    };
+    Ok(is_same && text.starts_with(plan.as_slice()))
 }
 
 /// The state and the journal of both texts. `Script`: one of them is not spelled as such.
-fn both(alloc: Global, state: &[u8], journal: &[u8]) -> Result<(SyncState, Journal), Failure> {
-    let (Ok(state), Ok(Some(written))) = (state_of(alloc, state)?, journal_of(alloc, journal)?)
-    else {
-        return Err(Failure::Script);
-    };
-    Ok((state, written.journal))
+fn read_both(alloc: Global, state: &[u8], journal: &[u8]) -> Result<(SyncState, Journal), Failure> {
+    let state = read_state_text(alloc, state).map_err(failure_of)?;
+    match read_journal(alloc, journal) {
+        Ok(Some(written)) => Ok((state, written.journal)),
+        Ok(None) => Err(Failure::Script),
+        Err(fault) => Err(failure_of(fault)),
+    }
 }
 
-/// The first line of a journal that does not agree with a state, if there is one.
-pub fn bad_line(alloc: Global, state: &[u8], journal: &[u8]) -> Result<Option<usize>, Failure> {
-    let (state, journal) = both(alloc, state, journal)?;
-    Ok(disagreement(&state.entries, &journal))
+fn failure_of(fault: BookFault) -> Failure {
+    match fault {
+        BookFault::NoMemory => Failure::NoMemory,
+        _ => Failure::Script,
+    }
 }
 
-/// Whether a UID is taken on a side.
-pub fn takes(
+/// Tells the first line of a journal that does not agree with a state, if there is one.
+pub fn tell_disagreement(
     alloc: Global,
+    told: &mut Told,
+    state: &[u8],
+    journal: &[u8],
+) -> Result<(), Failure> {
+    let (state, journal) = read_both(alloc, state, journal)?;
+    told.begin();
+    match disagreement(&state.entries, &journal) {
+        Some(line) => {
+            told.text("line ");
+            told.shown(&line);
+            told.text(" disagrees");
+        }
+        None => told.text("each line agrees"),
+    }
+    told.end();
+    Ok(())
+}
+
+/// Tells whether a UID is taken on a side.
+pub fn tell_taken(
+    alloc: Global,
+    told: &mut Told,
     state: &[u8],
     journal: &[u8],
     side: Side,
     uid: Uid,
-) -> Result<bool, Failure> {
-    let (state, journal) = both(alloc, state, journal)?;
-    Ok(is_taken(state.entries.as_slice(), &journal, side, uid))
+) -> Result<(), Failure> {
+    let (state, journal) = read_both(alloc, state, journal)?;
+    let is_taken = is_taken(state.entries.as_slice(), &journal, side, uid);
+    told.answer(if is_taken { "taken" } else { "free" });
+    Ok(())
 }

@@ -1,306 +1,258 @@
 //! A call of a book that stops at a call of its shelf: what is left, and how it is taken up again.
 
-use crate::answer::{Answer, Held};
-use crate::call::Call;
-use crate::desk::{Desk, Opened};
-use crate::failure::Failure;
-use crate::files::{Files, push_file};
-use crate::runs::{At, push_runs};
+use crate::answer::Answer;
+use crate::desk::Desk;
+use crate::files::{shelf_with, tell_files};
+use crate::runs::{Place, Runs};
 use book::mem_shelf::{MemShelf, ShelfCall};
 use book::shelf::File;
 use device::schedule::{Moment, Stop};
 use rules::plan::Plan;
 use std::alloc::Global;
-use std::fmt;
+use test_scripts::failure::Failure;
+use test_scripts::told::Told;
+use test_scripts::words::Words;
+
+/// The calls that are stopped in turn: of each kind as many as a call of a book makes, the reading of both files among them.
+const CALLS: [(ShelfCall, u64, &str); 8] = [
+    (ShelfCall::Read, 1, "read 1"),
+    (ShelfCall::Read, 2, "read 2"),
+    (ShelfCall::Append, 1, "append 1"),
+    (ShelfCall::Append, 2, "append 2"),
+    (ShelfCall::Replace, 1, "replace 1"),
+    (ShelfCall::Replace, 2, "replace 2"),
+    (ShelfCall::Remove, 1, "remove 1"),
+    (ShelfCall::Remove, 2, "remove 2"),
+];
 
 /// How many bytes of an append are written at most where it stops: more than a plan or a line of a script has.
 const LONGEST: usize = 125;
 
-/// How many calls of each kind are stopped in turn: as many as a call of a book makes, the reading of both files among them.
-const CALLS: u64 = 2;
-
-/// A call that is tried: `open` where there is none.
+/// A call that is tried on a shelf with these files: `open`, or a call of a book.
 #[derive(Clone, Copy)]
-struct Trial<'a> {
-    alloc: Global,
-    files: &'a Files,
-    plan: Option<&'a Plan>,
-    call: Option<Call>,
-}
-
-/// What is left of a call that did not stop.
-#[derive(Drop)]
-struct Unbroken {
-    files: Files,
-    held: Held,
-}
-
-/// What the files are, seen from the call.
-#[derive(Clone, Copy, PartialEq, Eq)]
-enum Left {
-    /// As before it.
-    Before,
-    /// As behind it.
-    After,
-    /// As before it, but for as many bytes behind the journal as the stop let pass of those that the call appends.
-    Part,
-    /// The state as behind it, and the journal as before it.
-    NewState,
-    /// Otherwise.
-    Otherwise,
-}
-
-/// What a call with a stop answers, and what is left.
-#[derive(Clone, Copy, PartialEq, Eq)]
-struct Outcome {
-    /// Whether a call of the shelf stopped.
-    is_stopped: bool,
-    answer: Answer,
-    /// What the book answers to `discard` then, if the call was not done.
-    later: Option<Answer>,
-    left: Left,
-    /// What a new book says once the shelf is opened again.
-    opened: Opened,
-    /// What the call answers that book, and what is left, if the book does not say what it says behind an unbroken call.
-    again: Option<(Answer, Left)>,
-}
-
-impl fmt::Display for Left {
-    fn fmt<W: fmt::Write>(&self, f: &mut fmt::Formatter<W>) -> fmt::Result {
-        match self {
-            Left::Before => write!(f, "files as before"),
-            Left::After => write!(f, "files as after"),
-            Left::Part => write!(f, "so many bytes appended"),
-            Left::NewState => write!(f, "state as after, journal as before"),
-            Left::Otherwise => write!(f, "other files"),
-        }
-    }
-}
-
-impl fmt::Display for Outcome {
-    fn fmt<W: fmt::Write>(&self, f: &mut fmt::Formatter<W>) -> fmt::Result {
-        let (answer, left, opened) = (self.answer, self.left, self.opened);
-        let made = if self.is_stopped { "" } else { "not made, " };
-        write!(f, "{made}{answer}")?;
-        if let Some(later) = self.later {
-            write!(f, ", then {later}")?;
-        }
-        write!(f, "; {left}; {opened}")?;
-        if let Some((answer, left)) = self.again {
-            write!(f, "; again {answer}, {left}")?;
-        }
-        Ok(())
-    }
-}
-
-/// Where a call stops, as it is printed.
-#[derive(Clone, Copy)]
-struct Place(Moment);
-
-impl fmt::Display for Place {
-    fn fmt<W: fmt::Write>(&self, f: &mut fmt::Formatter<W>) -> fmt::Result {
-        match self.0 {
-            Moment::Before => write!(f, "before"),
-            Moment::Part(count) => write!(f, "behind {count}"),
-            Moment::After => write!(f, "after"),
-        }
-    }
-}
-
-/// Adds what is left of a call that does not stop, and of the call with a stop at each call of its shelf. `Script`: it is not
-/// done, though nothing stops.
-pub fn push_stops(
-    alloc: Global,
-    record: &mut String,
-    files: &Files,
-    plan: Option<&Plan>,
-    call: Option<Call>,
-) -> Result<(), Failure> {
-    let trial = Trial {
-        alloc,
-        files,
-        plan,
-        call,
-    };
-    let unbroken = trial.unbroken()?;
-    let held = unbroken.held;
-    writeln!(record, "    unbroken: {held}")?;
-    push_file(record, File::State, unbroken.files.bytes(File::State))?;
-    push_file(record, File::Journal, unbroken.files.bytes(File::Journal))?;
-    for (call, word) in [
-        (ShelfCall::Read, "read"),
-        (ShelfCall::Append, "append"),
-        (ShelfCall::Replace, "replace"),
-        (ShelfCall::Remove, "remove"),
-    ] {
-        trial.push_stops_of(record, &unbroken, call, word)?;
-    }
-    Ok(())
+pub struct Trial<'a> {
+    pub alloc: Global,
+    /// The files before it.
+    pub before: &'a MemShelf,
+    pub plan: Option<&'a Plan>,
+    /// Its words.
+    pub call: Words<'a>,
 }
 
 impl<'a> Trial<'a> {
-    /// Makes the call without a stop.
-    fn unbroken(&self) -> Result<Unbroken, Failure> {
-        let mut desk = self.desk(Vec::new(self.alloc))?;
-        self.unbroken_at(&mut desk)
+    /// Tells what is left of the call without a stop, and of the call with a stop at each call of its shelf. `Script`: it is not
+    /// done, though nothing stops.
+    pub fn tell(&self, told: &mut Told) -> Result<(), Failure> {
+        let shelf = shelf_with(self.alloc, self.before, Vec::new(self.alloc))?;
+        let mut held = Told::new(self.alloc);
+        self.tell_from(told, &mut Desk::new(Some(shelf)), &mut held)
     }
 
-    fn unbroken_at(&self, desk: &mut Desk<MemShelf>) -> Result<Unbroken, Failure> {
-        let (Answer::Done, _) = self.answers(desk)? else {
-            return Err(Failure::Script);
-        };
-        let files = Files::of_shelf(self.alloc, desk.shelf()?)?;
-        match desk.open(self.alloc)? {
-            Opened::Held(held) => Ok(Unbroken { files, held }),
-            _ => Err(Failure::Script),
-        }
-    }
-
-    fn desk(&self, schedule: Vec<Stop<ShelfCall>>) -> Result<Desk<MemShelf>, Failure> {
-        Ok(Desk::new(self.files.on_shelf(self.alloc, schedule)?))
-    }
-
-    /// Opens a book, makes the call, and closes the book. Gives the answer and, if the call was not done, what the book answers
-    /// to `discard` then.
-    fn answers(&self, desk: &mut Desk<MemShelf>) -> Result<(Answer, Option<Answer>), Failure> {
-        if let Opened::Refused(fault) = desk.open(self.alloc)? {
-            return Ok((Answer::Fault(fault), None));
-        }
-        let answer = match self.call {
-            Some(call) => desk.call(self.alloc, call, self.plan)?,
-            None => Answer::Done,
-        };
-        let later = match answer {
-            Answer::Done => None,
-            _ => Some(desk.call(self.alloc, Call::Discard, None)?),
-        };
-        desk.close()?;
-        Ok((answer, later))
-    }
-
-    /// Adds what is left of the call with a stop at each call of the shelf that has this word.
-    fn push_stops_of(
+    fn tell_from(
         &self,
-        record: &mut String,
-        unbroken: &Unbroken,
-        call: ShelfCall,
-        word: &str,
+        told: &mut Told,
+        desk: &mut Desk<MemShelf>,
+        held: &mut Told,
     ) -> Result<(), Failure> {
-        for number in 1..=CALLS {
-            let what = format!(in self.alloc; "{word} {number}")?;
-            let outcomes = self.outcomes(unbroken, call, number)?;
-            push_runs(record, what.as_str(), &outcomes)?;
+        self.make_unbroken(desk, held)?;
+        told.begin();
+        told.text("unbroken: ");
+        told.text(held.as_str());
+        told.end();
+        let after = desk.shelf()?;
+        tell_files(told, after);
+        let stopped = Stopped {
+            trial: *self,
+            after,
+            held: held.as_str(),
+        };
+        for (call, number, what) in CALLS {
+            stopped.tell_moments(told, what, call, number)?;
         }
         Ok(())
     }
 
-    /// What is left for each moment of this call of the shelf.
-    fn outcomes(
+    /// Makes the call without a stop, and tells what a new book says then.
+    fn make_unbroken(&self, desk: &mut Desk<MemShelf>, held: &mut Told) -> Result<(), Failure> {
+        let Answer::Done = self.open_and_call(desk)? else {
+            return Err(Failure::Script);
+        };
+        desk.close()?;
+        desk.tell_opened(self.alloc, held)?;
+        desk.close()
+    }
+
+    /// Opens a book and makes the call.
+    fn open_and_call(&self, desk: &mut Desk<MemShelf>) -> Result<Answer, Failure> {
+        match desk.open(self.alloc)? {
+            Answer::Done => self.make(desk),
+            refused => Ok(refused),
+        }
+    }
+
+    /// Makes the call of a book that is open.
+    fn make(&self, desk: &mut Desk<MemShelf>) -> Result<Answer, Failure> {
+        let mut line = self.call;
+        let answer = match line.word() {
+            "open" => Ok(Answer::Done),
+            word => desk.call(self.alloc, word, &mut line, self.plan),
+        };
+        line.end()?;
+        answer
+    }
+}
+
+/// The same call with a stop, and what is left of it without one.
+#[derive(Drop)]
+struct Stopped<'a> {
+    trial: Trial<'a>,
+    /// The files behind the unbroken call.
+    after: &'a MemShelf,
+    /// What a new book says then.
+    held: &'a str,
+}
+
+impl Stopped<'_> {
+    /// Tells what is left for each moment of this call of the shelf.
+    fn tell_moments(
         &self,
-        unbroken: &Unbroken,
+        told: &mut Told,
+        what: &'static str,
         call: ShelfCall,
         number: u64,
-    ) -> Result<Vec<At<Place, Outcome>>, Failure> {
-        let mut outcomes = Vec::new(self.alloc);
-        let parts = (0..=LONGEST).map(Moment::Part);
-        let moments = [Moment::Before].into_iter().chain(parts);
-        for moment in moments.chain([Moment::After]) {
+    ) -> Result<(), Failure> {
+        let mut runs = Runs::new(self.trial.alloc, what);
+        for place in 0..LONGEST + 3 {
+            let moment = moment_at(place);
             let stop = Stop {
                 call,
                 number,
                 moment,
             };
-            let answer = self.outcome(unbroken, stop)?;
-            outcomes.push(At {
-                place: Place(moment),
-                answer,
-            })?;
+            self.tell_stop(&mut runs.next, stop)?;
+            runs.add(told, Place::Stop(moment));
         }
-        Ok(outcomes)
+        runs.finish(told)
     }
 
-    /// Makes the call with this stop, and looks at what is left.
-    fn outcome(&self, unbroken: &Unbroken, stop: Stop<ShelfCall>) -> Result<Outcome, Failure> {
-        let mut schedule = Vec::new(self.alloc);
-        schedule.push(stop)?;
-        let mut desk = self.desk(schedule)?;
-        self.outcome_at(&mut desk, unbroken, stop)
+    /// Makes the call with this stop, and tells what it answers and what is left.
+    fn tell_stop(&self, told: &mut Told, stop: Stop<ShelfCall>) -> Result<(), Failure> {
+        let alloc = self.trial.alloc;
+        let schedule = Vec::from_slice(alloc, &[stop])?;
+        let shelf = shelf_with(alloc, self.trial.before, schedule)?;
+        self.tell_stop_at(told, &mut Desk::new(Some(shelf)), stop)
     }
 
-    fn outcome_at(
+    fn tell_stop_at(
         &self,
+        told: &mut Told,
         desk: &mut Desk<MemShelf>,
-        unbroken: &Unbroken,
         stop: Stop<ShelfCall>,
-    ) -> Result<Outcome, Failure> {
-        let (answer, later) = self.answers(desk)?;
+    ) -> Result<(), Failure> {
+        let answer = self.trial.open_and_call(desk)?;
+        let later = self.close(desk, answer)?;
         let shelf = desk.shelf()?;
-        let is_stopped = shelf.stops() > 0;
-        let left = self.left_on(shelf, unbroken, stop)?;
+        if shelf.stops() == 0 {
+            told.text("not made, ");
+        }
+        answer.tell(told);
+        if let Some(later) = later {
+            told.text(", then ");
+            later.tell(told);
+        }
+        told.text("; ");
+        told.text(self.left_on(shelf, stop));
+        told.text("; ");
         desk.reopen()?;
-        let opened = desk.open(self.alloc)?;
-        let again = if opened == Opened::Held(unbroken.held) {
-            None
+        desk.tell_opened(self.trial.alloc, told)?;
+        if told.as_str().ends_with(self.held) {
+            Ok(())
         } else {
-            Some(self.again(desk, unbroken, stop)?)
-        };
-        Ok(Outcome {
-            is_stopped,
-            answer,
-            later,
-            left,
-            opened,
-            again,
-        })
+            self.tell_again(told, desk, stop)
+        }
     }
 
-    /// Takes the call up again, as a run does: where a plan is to be begun, a journal without one is discarded before, and where
-    /// a step is to be logged, a torn line is mended.
-    fn again(
-        &self,
-        desk: &mut Desk<MemShelf>,
-        unbroken: &Unbroken,
-        stop: Stop<ShelfCall>,
-    ) -> Result<(Answer, Left), Failure> {
-        let call = self.call.ok_or(Failure::Script)?;
-        let before = match call {
-            Call::Begin => Some(Call::Discard),
-            Call::Copied(..) | Call::Done(_) | Call::Void(_) => Some(Call::Mend),
-            Call::Discard | Call::Mend | Call::Commit => None,
-        };
-        if let Some(before) = before {
-            desk.call(self.alloc, before, None)?;
+    /// Closes the book, if one is open. Gives what it answers to `discard` before, if the call was not done.
+    fn close(&self, desk: &mut Desk<MemShelf>, answer: Answer) -> Result<Option<Answer>, Failure> {
+        if desk.shelf().is_ok() {
+            return Ok(None);
         }
-        let answer = desk.call(self.alloc, call, self.plan)?;
+        let later = match answer {
+            Answer::Done => None,
+            _ => Some(self.make_plain(desk, "discard")?),
+        };
         desk.close()?;
-        Ok((answer, self.left_on(desk.shelf()?, unbroken, stop)?))
+        Ok(later)
     }
 
-    /// What the files are, seen from the call.
-    fn left_on(
+    /// Takes the call up again, as a run does, where a new book does not say what it says behind the unbroken call: where a plan is
+    /// to be begun, a journal without one is discarded before, and where a step is to be logged, a torn line is mended.
+    fn tell_again(
         &self,
-        shelf: &MemShelf,
-        unbroken: &Unbroken,
+        told: &mut Told,
+        desk: &mut Desk<MemShelf>,
         stop: Stop<ShelfCall>,
-    ) -> Result<Left, Failure> {
-        let left = Files::of_shelf(self.alloc, shelf)?;
-        if left == *self.files {
-            return Ok(Left::Before);
+    ) -> Result<(), Failure> {
+        let mut words = self.trial.call;
+        match words.word() {
+            "begin" => self.make_plain(desk, "discard")?,
+            "done" | "void" | "log" => self.make_plain(desk, "mend")?,
+            _ => Answer::Done,
+        };
+        told.text("; again ");
+        self.trial.make(desk)?.tell(told);
+        desk.close()?;
+        told.text(", ");
+        told.text(self.left_on(desk.shelf()?, stop));
+        Ok(())
+    }
+
+    /// Makes a call that is one word.
+    fn make_plain(&self, desk: &mut Desk<MemShelf>, word: &str) -> Result<Answer, Failure> {
+        desk.call(self.trial.alloc, word, &mut Words::new(b""), None)
+    }
+
+    /// What the files of this shelf are, seen from the call.
+    fn left_on(&self, shelf: &MemShelf, stop: Stop<ShelfCall>) -> &'static str {
+        let (before, after) = (self.trial.before, self.after);
+        let is_old_state = shelf.bytes(File::State) == before.bytes(File::State);
+        let is_new_state = shelf.bytes(File::State) == after.bytes(File::State);
+        let is_old_journal = shelf.bytes(File::Journal) == before.bytes(File::Journal);
+        let is_new_journal = shelf.bytes(File::Journal) == after.bytes(File::Journal);
+        if is_old_state && is_old_journal {
+            "files as before"
+        } else if is_new_state && is_new_journal {
+            "files as after"
+        } else if is_new_state && is_old_journal {
+            "state as after, journal as before"
+        } else if is_old_state && self.is_part_of_journal(shelf, stop) {
+            "so many bytes appended"
+        } else {
+            "other files"
         }
-        if left == unbroken.files {
-            return Ok(Left::After);
-        }
-        if left.state == unbroken.files.state && left.journal == self.files.journal {
-            return Ok(Left::NewState);
-        }
-        if let (ShelfCall::Append, Moment::Part(count)) = (stop.call, stop.moment) {
-            let before = self.files.journal.as_ref().map_or(0, |bytes| bytes.len());
-            let after = unbroken.files.text(File::Journal)?;
-            let end = before.saturating_add(count).min(after.len());
-            if left.state == self.files.state && left.bytes(File::Journal) == Some(&after[..end]) {
-                return Ok(Left::Part);
+    }
+
+    /// Whether as many bytes stand behind the old journal as the stop let pass of those that the call appends.
+    fn is_part_of_journal(&self, shelf: &MemShelf, stop: Stop<ShelfCall>) -> bool {
+        match (stop.call, stop.moment) {
+            (ShelfCall::Append, Moment::Part(count)) => {
+                let before = self.trial.before.bytes(File::Journal).unwrap_or_default();
+                let after = self.after.bytes(File::Journal).unwrap_or_default();
+                let end = before.len().saturating_add(count).min(after.len());
+                shelf.bytes(File::Journal) == after.get(..end)
             }
+            _ => false,
         }
-        Ok(Left::Otherwise)
+    }
+}
+
+/// The moment at this place in the order in which they are tried: before, behind each number of bytes, and after.
+fn moment_at(place: usize) -> Moment {
+    if place == 0 {
+        Moment::Before
+    } else if place <= LONGEST + 1 {
+        Moment::Part(place - 1)
+    } else {
+        Moment::After
     }
 }

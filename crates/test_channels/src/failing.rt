@@ -6,15 +6,15 @@ use std::io::{ErrorKind, Write};
 
 /// A stream that takes so many bytes, and then fails.
 #[derive(Drop)]
-pub struct Failing {
+pub(crate) struct Failing {
     /// What was written.
-    pub written: Vec<u8>,
+    pub(crate) written: Vec<u8>,
     room: usize,
 }
 
 impl Failing {
     /// A stream with room for so many bytes.
-    pub fn with_room(alloc: Global, room: usize) -> Self {
+    pub(crate) fn with_room(alloc: Global, room: usize) -> Self {
         Failing {
             written: Vec::new(alloc),
             room,

@@ -1,5 +1,7 @@
 //! Stores in memory.
 
+use crate::facts::Facts;
+use crate::lent_box::{LentBox, box_named};
 use config::config::{ImapStore, MaildirStore};
 use mailcore::mailbox_name::MailboxName;
 use mailcore::side::Side;
@@ -9,180 +11,156 @@ use std::alloc::{AllocError, Global};
 use stores::channel_box::ChannelBox;
 use stores::fault::{ListFault, StoreFault};
 use stores::stores::{BoxLists, Stores};
+use test_scripts::failure::Failure;
+use test_scripts::told::Told;
 
-/// The mailboxes of one store.
+/// Stores in memory, as a case gives them, and what they were asked.
 #[derive(Drop)]
-pub struct StoreNames {
-    /// The store's name.
-    pub store: String,
-    /// The names of its mailboxes.
-    pub names: Vec<String>,
-}
-
-/// A mailbox, by its far name.
-#[derive(Drop)]
-pub struct TestBox {
-    /// Its far name.
-    pub name: String,
-    /// Both sides and the shelf.
-    pub outside: MemOutside,
-    /// The path of a message in it that cannot be read, if there is one.
-    pub unread: Option<String>,
-}
-
-/// Stores in memory, and what they were asked.
-#[derive(Drop)]
-pub struct MemStores {
-    /// Where memory comes from.
-    pub alloc: Global,
-    /// The far stores.
-    pub far: Vec<StoreNames>,
-    /// The near stores.
-    pub near: Vec<StoreNames>,
-    /// The mailboxes that can be lent.
-    pub boxes: Vec<TestBox>,
-    /// The mailboxes whose lock is held.
-    pub locked: Vec<String>,
-    /// The stores that list nothing, and the mailboxes that are not lent.
-    pub shut: Vec<String>,
-    /// The stores, and the mailboxes, whose server does not let its user in.
-    pub barred: Vec<String>,
-    /// The mailboxes that cannot be made.
-    pub unmade: Vec<String>,
+pub(crate) struct MemStores<'a> {
+    alloc: Global,
+    facts: &'a Facts,
     /// What the stores were asked, a line each.
-    pub asked: String,
-    /// How many mailboxes were lent.
-    pub lent: usize,
-    /// The place among `boxes` of the one that was lent last.
-    pub open: Option<usize>,
+    pub(crate) asked: Told,
+    /// The mailboxes that were lent, the last one last.
+    pub(crate) boxes: Vec<LentBox>,
+    /// Whether it could still be told which message of the last one cannot be read.
+    is_unread: bool,
+    /// Why a mailbox of the case cannot be had.
+    pub(crate) failure: Option<Failure>,
 }
 
-/// Whether a name stands among these.
-fn stands_among(names: &[String], name: &str) -> bool {
-    names.iter().any(|other| other.as_str() == name)
-}
-
-fn names_in(
-    alloc: Global,
-    all: &[StoreNames],
-    store: &str,
-) -> Result<Vec<MailboxName>, AllocError> {
-    let mut names = Vec::new(alloc);
-    for one in all {
-        if one.store.as_str() == store {
-            add_names(alloc, &mut names, &one.names)?;
+impl<'a> MemStores<'a> {
+    /// The stores of a case, of which nothing was asked.
+    pub(crate) fn new(alloc: Global, facts: &'a Facts) -> MemStores<'a> {
+        MemStores {
+            alloc,
+            facts,
+            asked: Told::new(alloc),
+            boxes: Vec::new(alloc),
+            is_unread: false,
+            failure: None,
         }
     }
-    Ok(names)
-}
 
-fn add_names(
-    alloc: Global,
-    names: &mut Vec<MailboxName>,
-    more: &[String],
-) -> Result<(), AllocError> {
-    for name in more {
-        let text = String::from_str(alloc, name.as_str())?;
-        names.push(MailboxName::from_string(text))?;
+    fn ask(&mut self, question: &str, name: &str) {
+        self.asked.text(question);
+        self.asked.text(name);
+        self.asked.end();
     }
-    Ok(())
-}
 
-impl MemStores {
-    fn list(&mut self, side: &str, store: &str) -> Result<(), ListFault> {
-        if writeln!(self.asked, "{side}_boxes {store}").is_err() {
-            return Err(ListFault::NoMemory);
+    /// The names of the mailboxes of a store.
+    fn list(&self, side: &str, store: &str) -> Result<Vec<MailboxName>, ListFault> {
+        let is_barred = self.facts.has("barred", store);
+        if is_barred || self.facts.has("shut", store) {
+            return Err(list_fault(self.alloc, store, is_barred));
         }
-        let is_barred = stands_among(&self.barred, store);
-        if !is_barred && !stands_among(&self.shut, store) {
-            return Ok(());
-        }
-        match String::from_str(self.alloc, store) {
-            Ok(name) if is_barred => Err(ListFault::LoginRefused(name)),
-            Ok(name) => Err(ListFault::CannotOpen(name)),
+        match names_in(self.alloc, self.facts.of(side, store)) {
+            Ok(names) => Ok(names),
             Err(AllocError) => Err(ListFault::NoMemory),
         }
     }
 
-    /// Tells that a mailbox is lent, or why it is not.
+    /// Lends a mailbox, which is the last one then, or tells why it is not lent.
     fn lend(&mut self, store: &str, name: &str) -> Result<(), StoreFault> {
-        if writeln!(self.asked, "outside {name}").is_err() {
-            return Err(StoreFault::Box(RunFault::NoMemory));
-        }
-        if stands_among(&self.locked, name) {
+        if self.facts.has("locked", name) {
             return Err(StoreFault::Locked);
         }
-        if stands_among(&self.barred, name) {
-            return match String::from_str(self.alloc, store) {
-                Ok(store) => Err(StoreFault::LoginRefused(store)),
-                Err(AllocError) => Err(StoreFault::Box(RunFault::NoMemory)),
-            };
+        if self.facts.has("barred", name) {
+            return Err(store_fault(self.alloc, store, true));
         }
-        if !stands_among(&self.shut, name) {
-            self.lent = self.lent.saturating_add(1);
-            return Ok(());
+        if self.facts.has("shut", name) {
+            return Err(store_fault(self.alloc, name, false));
         }
-        match String::from_str(self.alloc, name) {
-            Ok(name) => Err(StoreFault::CannotOpen(name)),
-            Err(AllocError) => Err(StoreFault::Box(RunFault::NoMemory)),
+        if !self.facts.has("box", name) {
+            return Err(StoreFault::Box(RunFault::Stopped));
+        }
+        match self.add_box(name) {
+            Ok(()) => Ok(()),
+            Err(failure) => {
+                self.failure = Some(failure);
+                Err(StoreFault::Box(RunFault::Stopped))
+            }
         }
     }
 
-    fn place_of(&self, name: &str) -> Option<usize> {
-        self.boxes.iter().position(|one| one.name.as_str() == name)
-    }
-}
-
-fn listed(names: Result<Vec<MailboxName>, AllocError>) -> Result<Vec<MailboxName>, ListFault> {
-    match names {
-        Ok(names) => Ok(names),
-        Err(AllocError) => Err(ListFault::NoMemory),
+    fn add_box(&mut self, name: &str) -> Result<(), Failure> {
+        let lent = box_named(self.alloc, self.facts, name)?;
+        Ok(self.boxes.push(lent)?)
     }
 }
 
-impl BoxLists for MemStores {
+/// That a store of this name is not listed: its server does not let its user in, or it does not open.
+fn list_fault(alloc: Global, store: &str, is_barred: bool) -> ListFault {
+    match String::from_str(alloc, store) {
+        Ok(store) if is_barred => ListFault::LoginRefused(store),
+        Ok(store) => ListFault::CannotOpen(store),
+        Err(AllocError) => ListFault::NoMemory,
+    }
+}
+
+/// The same where a mailbox is not lent.
+fn store_fault(alloc: Global, name: &str, is_barred: bool) -> StoreFault {
+    match String::from_str(alloc, name) {
+        Ok(name) if is_barred => StoreFault::LoginRefused(name),
+        Ok(name) => StoreFault::CannotOpen(name),
+        Err(AllocError) => StoreFault::Box(RunFault::NoMemory),
+    }
+}
+
+/// The names of a line, if there is one.
+fn names_in(alloc: Global, line: Option<&str>) -> Result<Vec<MailboxName>, AllocError> {
+    let mut names = Vec::new(alloc);
+    for name in line.unwrap_or("").split_whitespace() {
+        let name = String::from_str(alloc, name)?;
+        names.push(MailboxName::from_string(name))?;
+    }
+    Ok(names)
+}
+
+impl BoxLists for MemStores<'_> {
     fn far_boxes(&mut self, store: &ImapStore) -> Result<Vec<MailboxName>, ListFault> {
-        self.list("far", store.name.as_str())?;
-        listed(names_in(self.alloc, &self.far, store.name.as_str()))
+        self.ask("far_boxes ", &store.name);
+        self.list("far", &store.name)
     }
 
     fn near_boxes(&mut self, store: &MaildirStore) -> Result<Vec<MailboxName>, ListFault> {
-        self.list("near", store.name.as_str())?;
-        listed(names_in(self.alloc, &self.near, store.name.as_str()))
+        self.ask("near_boxes ", &store.name);
+        self.list("near", &store.name)
     }
 }
 
-impl Stores for MemStores {
+impl Stores for MemStores<'_> {
     type Outside = MemOutside;
 
     fn make(&mut self, side: Side, place: ChannelBox<'_>) -> Result<(), StoreFault> {
-        let (word, name) = match side {
-            Side::Far => ("far", place.far.as_str()),
-            Side::Near => ("near", place.near.as_str()),
+        let (question, name) = match side {
+            Side::Far => ("make far ", place.far.as_str()),
+            Side::Near => ("make near ", place.near.as_str()),
         };
-        if writeln!(self.asked, "make {word} {name}").is_err() {
-            return Err(StoreFault::Box(RunFault::NoMemory));
-        }
-        if stands_among(&self.unmade, name) {
+        self.ask(question, name);
+        if self.facts.has("unmade", name) {
             return Err(StoreFault::Box(RunFault::StoreFault(side, 2)));
         }
         Ok(())
     }
 
     fn outside(&mut self, place: ChannelBox<'_>) -> Result<&mut MemOutside, StoreFault> {
-        self.open = None;
+        self.is_unread = false;
+        self.ask("outside ", place.far.as_str());
         self.lend(place.of.far_store.name.as_str(), place.far.as_str())?;
-        self.open = self.place_of(place.far.as_str());
-        match self.open {
-            Some(at) => match self.boxes.get_mut(at) {
-                Some(one) => Ok(&mut one.outside),
-                None => Err(StoreFault::Box(RunFault::Stopped)),
-            },
+        self.is_unread = true;
+        match self.boxes.last_mut() {
+            Some(one) => Ok(&mut one.outside),
             None => Err(StoreFault::Box(RunFault::Stopped)),
         }
     }
 
     fn unread(&mut self) -> Option<String> {
-        self.boxes.get_mut(self.open?)?.unread.take()
+        if !self.is_unread {
+            return None;
+        }
+        self.is_unread = false;
+        let path = self.facts.of("unread", &self.boxes.last()?.name)?;
+        String::from_str(self.alloc, path).ok()
     }
 }

@@ -1,112 +1,115 @@
-//! Sessions whose server says less than it should.
+//! Cases whose server says less than it should.
 
-use crate::act::Act;
-use crate::playing::{Played, play};
-use client_calls::failure::Failure;
+use crate::record::Record;
 use std::alloc::Global;
-use std::fmt;
+use test_scripts::failure::Failure;
+use test_scripts::told::Told;
 
-/// What an end of the bytes does to a session.
-#[derive(Clone, Copy, PartialEq, Eq)]
-enum Effect {
-    /// None: each call answers as without it.
-    None,
-    /// The call at this place stops, the calls before it answer as without it, and those behind it are stopped and send
-    /// nothing.
-    Stops(usize),
-    /// Something else.
-    Other(usize),
+/// What an end of the bytes does.
+#[derive(Clone, Copy)]
+struct Effect {
+    /// The place of the first call that answers otherwise; behind all calls where none does.
+    place: usize,
+    /// Whether this call stops, and those behind it are stopped and send nothing.
+    stops: bool,
 }
 
-/// The effect where so many bytes are said.
+/// Where the effect began that is the same since.
 #[derive(Clone, Copy)]
-struct Cut {
-    room: usize,
+struct Run {
+    from: usize,
     effect: Effect,
 }
 
-/// An effect as it is told.
-#[derive(Clone, Copy)]
-struct Told<'a> {
-    effect: Effect,
-    acts: &'a [&'a Act],
+/// Plays these lines with each beginning of what the server says in them, and tells what comes of it.
+pub fn tell_cuts(alloc: Global, lines: &str, told: &mut Told) -> Result<(), Failure> {
+    let whole = Record::of(alloc, lines, usize::MAX)?;
+    tell_runs(alloc, lines, &whole, told)
 }
 
-impl fmt::Display for Told<'_> {
-    fn fmt<W: fmt::Write>(&self, f: &mut fmt::Formatter<W>) -> fmt::Result {
-        match self.effect {
-            Effect::None => write!(f, "as before"),
-            Effect::Stops(place) => {
-                let line = line_at(self.acts, place);
-                write!(f, "{line}: stopped, and so is each call behind it")
-            }
-            Effect::Other(place) => {
-                let line = line_at(self.acts, place);
-                write!(f, "{line}: something else")
-            }
+fn tell_runs(alloc: Global, lines: &str, whole: &Record, told: &mut Told) -> Result<(), Failure> {
+    let mut run = Run {
+        from: 0,
+        effect: Effect {
+            place: usize::MAX,
+            stops: false,
+        },
+    };
+    for room in 0..whole.spoken {
+        let effect = effect_at(alloc, lines, whole, room)?;
+        if effect.place != run.effect.place || effect.stops != run.effect.stops {
+            run.tell(told, whole, room);
+            run = Run { from: room, effect };
         }
     }
-}
-
-/// The line of the call at this place.
-fn line_at<'a>(acts: &[&'a Act], place: usize) -> &'a str {
-    match acts.get(place).and_then(|act| act.lines.first()) {
-        Some(line) => line.as_str(),
-        None => "",
-    }
-}
-
-/// Plays the session with each beginning of what its server says, and adds what comes of it.
-pub fn push_cuts(
-    alloc: Global,
-    told: &mut String,
-    acts: &[&Act],
-    piece: usize,
-    whole: &Played,
-) -> Result<(), Failure> {
-    let mut cuts = Vec::new(alloc);
-    for room in 0..whole.spoken {
-        let cut = play(alloc, acts, piece, room)?;
-        let effect = effect_of(acts, whole, &cut);
-        cuts.push(Cut { room, effect })?;
-    }
-    for run in cuts.chunk_by(|a, b| a.effect == b.effect) {
-        push_run(told, acts, run)?;
-    }
+    run.tell(told, whole, whole.spoken);
     Ok(())
 }
 
-/// Adds a line for cuts with one effect.
-fn push_run(told: &mut String, acts: &[&Act], run: &[Cut]) -> Result<(), Failure> {
-    if let (Some(first), Some(last)) = (run.first(), run.last()) {
-        let (from, to, count) = (first.room, last.room, run.len());
-        let effect = Told {
-            effect: first.effect,
-            acts,
-        };
-        writeln!(told, "  {count} places, {from} to {to}: {effect}")?;
-    }
-    Ok(())
+/// What it does that the bytes end behind so many.
+fn effect_at(alloc: Global, lines: &str, whole: &Record, room: usize) -> Result<Effect, Failure> {
+    let cut = Record::of(alloc, lines, room)?;
+    Ok(effect_of(whole, &cut))
 }
 
-/// What the cut does.
-fn effect_of(acts: &[&Act], whole: &Played, cut: &Played) -> Effect {
-    let mut answers = whole.outcomes.iter().zip(&cut.outcomes);
-    let Some(place) = answers.position(|(a, b)| a.answer != b.answer) else {
-        return Effect::None;
-    };
-    let mut behind = acts.iter().zip(&cut.outcomes).skip(place.saturating_add(1));
-    if is_stop(cut, place) && behind.all(|(act, outcome)| outcome.is_stuck(act)) {
-        Effect::Stops(place)
-    } else {
-        Effect::Other(place)
+fn effect_of(whole: &Record, cut: &Record) -> Effect {
+    let answers = cut.answers.as_str().lines();
+    let mut pairs = whole.answers.as_str().lines().zip(answers);
+    match pairs.position(|(before, after)| before != after) {
+        Some(place) => Effect {
+            place,
+            stops: stops_at(cut, place),
+        },
+        None => Effect {
+            place: usize::MAX,
+            stops: false,
+        },
     }
 }
 
-/// Whether the call at this place is stopped.
-fn is_stop(cut: &Played, place: usize) -> bool {
-    match cut.outcomes.get(place) {
-        Some(outcome) => outcome.answer.is_stop(),
+/// Whether the call at this place stops, and those behind it are stuck.
+fn stops_at(cut: &Record, place: usize) -> bool {
+    let mut answers = cut.answers.as_str().lines().skip(place);
+    let stops = match answers.next() {
+        Some(answer) => answer.as_bytes().starts_with(b"Stopped"),
         None => false,
+    };
+    let mut calls = cut.calls.as_str().lines().skip(place.saturating_add(1));
+    stops
+        && calls
+            .zip(answers)
+            .all(|(call, answer)| is_stuck(call, answer))
+}
+
+/// Whether the call was stopped, or not made, and sent nothing. What only hands a session on has to be done.
+fn is_stuck(call: &str, answer: &str) -> bool {
+    matches!(answer, "Stopped" | "not made") || matches!(call, "into_session" | "into_link")
+}
+
+impl Run {
+    /// Tells the cuts of a run, up to this one.
+    fn tell(self, told: &mut Told, whole: &Record, end: usize) {
+        if self.from >= end {
+            return;
+        }
+        told.begin();
+        told.number(end.saturating_sub(self.from) as u64);
+        told.text(" places, ");
+        told.number(self.from as u64);
+        told.text(" to ");
+        told.number(end.saturating_sub(1) as u64);
+        told.text(": ");
+        match whole.calls.as_str().lines().nth(self.effect.place) {
+            Some(call) => {
+                told.text(call);
+                told.text(if self.effect.stops {
+                    ": stopped, and so is each call behind it"
+                } else {
+                    ": something else"
+                });
+            }
+            None => told.text("as before"),
+        }
+        told.end();
     }
 }

@@ -5,7 +5,7 @@ ghost use Rattle.std.specs.Prelude.{◌≡◌, ◌<◌, ◌≤◌, length};
 use crate::tape::Tape;
 use device::stop_count::StopCount;
 use imap_link::link::{Link, LinkFault};
-use std::alloc::{AllocError, Global};
+use std::alloc::Global;
 use std::cell::RefCell;
 
 /// A link whose other end says what a script says, true or not. So it is never honest in the sense of `Link`.
@@ -35,14 +35,6 @@ impl<'t> ScriptLink<'t> {
         }
     }
 
-    // Sends these bytes; tells whether all of them went.
-    fn pass(&self, bytes: &[u8]) -> Result<bool, AllocError> {
-        match self.tape.try_borrow_mut() {
-            Ok(mut tape) => tape.send(bytes),
-            Err(_) => Ok(false),
-        }
-    }
-
     // Writes the next bytes to the front of the piece, and tells how many; none at their end.
     fn take(&self, piece: &mut [u8]) -> usize
         ensures { result ≤ length piece.new }
@@ -50,14 +42,6 @@ impl<'t> ScriptLink<'t> {
         match self.tape.try_borrow_mut() {
             Ok(mut tape) => tape.receive(piece),
             Err(_) => 0,
-        }
-    }
-
-    // Begins a new connection, if there is one.
-    fn connect(&self) -> Result<bool, AllocError> {
-        match self.tape.try_borrow_mut() {
-            Ok(mut tape) => tape.connect(),
-            Err(_) => Ok(false),
         }
     }
 }
@@ -74,11 +58,11 @@ impl Link for ScriptLink<'_> {
     ghost sound = { λ l kept. absurd kept };
 
     fn send(&mut self, bytes: &[u8]) -> Result<(), LinkFault> {
-        match self.pass(bytes) {
-            Ok(true) => Ok(()),
-            Ok(false) => Err(self.stopped()),
-            Err(_) => Err(LinkFault::NoMemory),
-        }
+        let is_sent = match self.tape.try_borrow_mut() {
+            Ok(mut tape) => tape.send(bytes),
+            Err(_) => false,
+        };
+        if is_sent { Ok(()) } else { Err(self.stopped()) }
     }
 
     fn recv(&mut self, piece: &mut [u8]) -> Result<usize, LinkFault> {
@@ -94,10 +78,14 @@ impl Link for ScriptLink<'_> {
     }
 
     fn reconnect(&mut self) -> Result<(), LinkFault> {
-        match self.connect() {
-            Ok(true) => Ok(()),
-            Ok(false) => Err(self.stopped()),
-            Err(_) => Err(LinkFault::NoMemory),
+        let is_connected = match self.tape.try_borrow_mut() {
+            Ok(mut tape) => tape.connect(),
+            Err(_) => false,
+        };
+        if is_connected {
+            Ok(())
+        } else {
+            Err(self.stopped())
         }
     }
 }

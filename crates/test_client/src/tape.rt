@@ -2,22 +2,35 @@
 
 ghost use Rattle.std.specs.Prelude.{◌≤◌, length};
 
-use crate::act::{Act, Turn};
 use std::alloc::{AllocError, Global};
+use std::mem;
+use test_scripts::failure::Failure;
+use test_scripts::told::Told;
+use test_scripts::words::Words;
 
-/// What the server is still to say in a call, and what went over the link.
+/// The most bytes of a piece where a script does not say it.
+pub const PIECE: usize = 4096;
+
+/// What the server says behind what it waits for.
+#[derive(Drop)]
+struct Turn {
+    awaited: Vec<u8>,
+    said: Vec<u8>,
+}
+
+/// What the server is to say in the next call, and what went over the link in it.
 #[derive(Drop)]
 pub struct Tape {
-    // what it says once it is connected
-    opening: Option<Vec<u8>>,
+    alloc: Global,
     // what it says in this call, and how many turns of it have come
     turns: Vec<Turn>,
     came: usize,
     // what was sent since it has spoken last
     sent: Vec<u8>,
     has_sent: bool,
-    // how many bytes can be sent in this call
+    // how many bytes can be sent in this call, and whether it can be reached
     sendable: usize,
+    is_reachable: bool,
     // what it has said, and how much of that was received
     said: Vec<u8>,
     received: usize,
@@ -26,97 +39,126 @@ pub struct Tape {
     room: usize,
     // the most bytes of a piece
     piece: usize,
+    // whether memory was wanted
+    is_lost: bool,
 }
 
 impl Tape {
-    /// One for a server that says as many bytes, and that are received in pieces of at most as many.
-    pub fn new(alloc: Global, piece: usize, room: usize) -> Tape {
+    /// One for a server that says so many bytes at most.
+    pub fn new(alloc: Global, room: usize) -> Tape {
         Tape {
-            opening: None,
+            alloc,
             turns: Vec::new(alloc),
             came: 0,
             sent: Vec::new(alloc),
             has_sent: false,
-            sendable: 0,
+            sendable: usize::MAX,
+            is_reachable: true,
             said: Vec::new(alloc),
             received: 0,
             spoken: 0,
             room,
-            piece,
+            piece: PIECE,
+            is_lost: false,
         }
     }
 
-    /// A call begins.
-    pub fn begin(&mut self, act: &Act) -> Result<(), AllocError> {
-        self.sent.clear();
-        self.has_sent = false;
-        self.sendable = act.sendable;
-        self.came = 0;
-        self.turns = act.turns.clone()?;
-        self.opening = act.opening.clone()?;
-        if act.call.connects() {
-            Ok(())
-        } else {
-            self.say_opening()?;
-            Ok(())
-        }
+    /// A tape over which nothing went, and that has no end.
+    pub fn begin_anew(&mut self) {
+        *self = Tape::new(self.alloc, usize::MAX);
     }
 
-    /// Says what it says at first; tells whether there was anything.
-    fn say_opening(&mut self) -> Result<bool, AllocError> {
-        match self.opening.take() {
-            Some(bytes) => {
-                self.say(&bytes)?;
-                Ok(true)
-            }
-            None => Ok(false),
+    /// Takes a line of what goes over the link in the next call; tells whether it is one.
+    pub fn talk(&mut self, word: &str, line: &mut Words<'_>) -> Result<bool, Failure> {
+        match word {
+            "S:" => self.add(true, line.rest(), b"\r\n")?,
+            "C:" => self.add(false, line.rest(), b"\r\n")?,
+            "says" => self.repeat(true, 1, line)?,
+            "sends" => self.repeat(false, 1, line)?,
+            "repeats" => self.repeat(true, line.number(), line)?,
+            "pieces" => self.piece = line.count().max(1),
+            "breaks" => self.sendable = line.count(),
+            "unreachable" => self.is_reachable = false,
+            _ => return Ok(false),
         }
+        Ok(true)
     }
 
-    /// Begins a new connection, if there is one; what was said on an earlier one is lost.
-    pub fn connect(&mut self) -> Result<bool, AllocError> {
+    fn repeat(&mut self, is_said: bool, times: u32, line: &mut Words<'_>) -> Result<(), Failure> {
+        let bytes = line.bytes(self.alloc)?;
+        for _ in 0..times {
+            self.add(is_said, &bytes, b"")?;
+        }
+        Ok(())
+    }
+
+    /// Adds to what the server says, or waits for. What it waits for behind what it says begins a turn.
+    fn add(&mut self, is_said: bool, bytes: &[u8], end: &[u8]) -> Result<(), AllocError> {
+        let begins = match self.turns.last() {
+            Some(turn) => !is_said && !turn.said.is_empty(),
+            None => true,
+        };
+        if begins {
+            self.turns.push(Turn {
+                awaited: Vec::new(self.alloc),
+                said: Vec::new(self.alloc),
+            })?;
+        }
+        if let Some(turn) = self.turns.last_mut() {
+            let text = if is_said {
+                &mut turn.said
+            } else {
+                &mut turn.awaited
+            };
+            text.extend_from_slice(bytes)?;
+            text.extend_from_slice(end)?;
+        }
+        Ok(())
+    }
+
+    /// Begins a new connection; what was said on an earlier one is lost. Tells whether the server can be reached.
+    pub fn connect(&mut self) -> bool {
         self.said.clear();
         self.received = 0;
         self.sent.clear();
-        self.say_opening()
+        self.is_reachable
     }
 
     /// Sends these bytes; tells whether all of them went.
-    pub fn send(&mut self, bytes: &[u8]) -> Result<bool, AllocError> {
+    pub fn send(&mut self, bytes: &[u8]) -> bool {
+        self.answer();
         self.has_sent = true;
         let count = bytes.len().min(self.sendable);
         self.sendable -= count;
-        self.sent.extend_from_slice(&bytes[..count])?;
-        self.answer()?;
-        Ok(count == bytes.len())
-    }
-
-    /// What was sent is answered, if it is what the server waits for.
-    fn answer(&mut self) -> Result<(), AllocError> {
-        let Some(turn) = self.turns.get(self.came) else {
-            return Ok(());
-        };
-        if turn.awaited.as_slice() != self.sent.as_slice() {
-            return Ok(());
+        if self.sent.extend_from_slice(&bytes[..count]).is_err() {
+            self.is_lost = true;
         }
-        let said = turn.said.clone()?;
-        self.sent.clear();
-        self.came = self.came.saturating_add(1);
-        self.say(&said)
+        self.answer();
+        count == bytes.len()
     }
 
-    /// Says these bytes, as far as its bytes go.
-    fn say(&mut self, bytes: &[u8]) -> Result<(), AllocError> {
-        let count = bytes.len().min(self.room);
-        self.room -= count;
-        self.spoken = self.spoken.saturating_add(count);
-        self.said.extend_from_slice(&bytes[..count])
+    /// What was sent is answered, if it is what the server waits for, as far as its bytes go.
+    fn answer(&mut self) {
+        let Some(turn) = self.turns.get(self.came) else {
+            return;
+        };
+        if turn.awaited.as_slice() == self.sent.as_slice() {
+            let count = turn.said.len().min(self.room);
+            self.room -= count;
+            self.spoken = self.spoken.saturating_add(count);
+            if self.said.extend_from_slice(&turn.said[..count]).is_err() {
+                self.is_lost = true;
+            }
+            self.sent.clear();
+            self.came = self.came.saturating_add(1);
+        }
     }
 
     /// Writes the next bytes to the front of the piece, and tells how many; none at their end.
     pub fn receive(&mut self, piece: &mut [u8]) -> usize
         ensures { result ≤ length piece.new }
     {
+        self.answer();
         let left = self.said.get(self.received..).unwrap_or(&[]);
         let count = left.len().min(self.piece).min(piece.len());
         piece[..count].copy_from_slice(&left[..count]);
@@ -124,23 +166,44 @@ impl Tape {
         count
     }
 
-    /// What was sent in this call since the server has spoken last.
-    pub fn sent(&self) -> &[u8] {
-        &self.sent
-    }
-
-    /// Whether anything was sent in this call.
-    pub fn has_sent(&self) -> bool {
-        self.has_sent
-    }
-
-    /// How many turns of the server have come in this call.
-    pub fn came(&self) -> usize {
-        self.came
+    /// The call has ended. Tells what was sent in it though the server does not wait for it, and what was not, though it does;
+    /// gives whether anything was sent.
+    pub fn end_call(&mut self, told: &mut Told) -> bool {
+        tell_lines(told, "sent ", &self.sent);
+        for turn in self.turns.iter().skip(self.came) {
+            tell_lines(told, "did not send ", &turn.awaited);
+        }
+        self.turns.clear();
+        self.came = 0;
+        self.sent.clear();
+        self.sendable = usize::MAX;
+        self.is_reachable = true;
+        mem::replace(&mut self.has_sent, false)
     }
 
     /// How many bytes the server has said in all.
     pub fn spoken(&self) -> usize {
         self.spoken
+    }
+
+    /// Whether something did not go over the link for want of memory.
+    pub fn is_lost(&self) -> bool {
+        self.is_lost
+    }
+}
+
+/// An answer for each line in these bytes, behind these words.
+fn tell_lines(told: &mut Told, words: &str, bytes: &[u8]) {
+    for line in bytes.split_inclusive(|byte| *byte == b'\n') {
+        told.begin();
+        told.text(words);
+        match line.strip_suffix(b"\r\n") {
+            Some(text) => told.bytes(text),
+            None => {
+                told.bytes(line);
+                told.text(" (no CR LF)");
+            }
+        }
+        told.end();
     }
 }

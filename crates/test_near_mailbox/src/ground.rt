@@ -1,122 +1,57 @@
-//! Where the folder of a case stands, seen from outside the mailbox.
+//! The place of the folder on a disk.
 
-use crate::failure::LineFault;
-use device::schedule::Stop;
-use maildir::folder::Folder;
-use maildir::mem_folder::FolderCall;
-use std::alloc::AllocError;
-use texts::escape::push_escaped;
+use maildir::disk_folder::DiskFolder;
+use std::path::PathBuf;
+use std::{env, fs, process};
+use test_scripts::failure::Failure;
 
-/// A file that stands in a folder.
-#[derive(PartialEq, Eq, Drop)]
-pub struct StandingFile {
-    /// Its path from the folder on, as `cur/a,U=1:2,S`.
-    pub path: Vec<u8>,
-    /// Its bytes.
-    pub bytes: Vec<u8>,
+/// A place among the temporary files. What stands there goes with the value, and the process stands again where it stood before.
+pub struct Ground {
+    rt: HostRuntime,
+    path: String,
+    before: PathBuf,
 }
 
-/// A change of a folder from outside the mailbox.
-#[derive(Drop)]
-pub enum Change {
-    /// A file is put there.
-    Put(StandingFile),
-    /// The file with this path is taken away.
-    TakeFile(Vec<u8>),
-    /// The empty folder with this path is taken away.
-    TakeFolder(Vec<u8>),
-    /// This is made at this path.
-    Make(Vec<u8>, Thing),
-    /// `cur`, `new` and `tmp` are taken away with all that stands in them.
-    Hide,
-    /// `cur`, `new` and `tmp` are made, as far as they are not there.
-    Create,
-}
-
-/// What may stand in a folder and is no new file.
-#[derive(Drop)]
-pub enum Thing {
-    /// An empty folder.
-    Folder,
-    /// A socket.
-    Socket,
-    /// A symlink to what stands at this path.
-    Symlink(Vec<u8>),
-    /// The file that stands at this path, under one name more.
-    HardLink(Vec<u8>),
-}
-
-/// The kind of folder that a case is about: how one is made, changed from outside and looked at.
-pub trait Ground<F: Folder> {
-    /// Changes what stands there. `is_made`: whether a folder was made before. `Bad`: this kind cannot do that.
-    fn change(&mut self, change: Change, is_made: bool) -> Result<(), LineFault>;
-
-    /// The folder, whose calls stop there. `Bad`: this kind has no such stops.
-    fn folder(&self, stop: Option<Stop<FolderCall>>) -> Result<F, LineFault>;
-
-    /// All files that stand in the folder, in any order.
-    fn files(&self, folder: &F) -> Result<Vec<StandingFile>, LineFault>;
-
-    /// What stands at this path, and who may use it. `Bad`: this kind cannot tell.
-    fn kind(&self, path: &[u8]) -> Result<String, LineFault>;
-
-    /// How many calls have stopped.
-    fn stops(&self, folder: &F) -> usize;
-}
-
-/// Adds files in the order of their paths, each as ` PATH "BYTES"`.
-pub fn push_files(text: &mut String, files: &[StandingFile]) -> Result<(), AllocError> {
-    for file in files {
-        text.push(' ')?;
-        push_file(text, file)?;
+impl Drop for Ground {
+    fn drop(self) {
+        let _ = env::set_current_dir(&self.rt, self.before.as_path());
+        self.clear();
+        let Ground {
+            rt: _,
+            path: _,
+            before: _,
+        } = self;
     }
-    Ok(())
 }
 
-/// Adds what is otherwise than before: ` -PATH` for a file that has gone, ` +PATH "BYTES"` for one that has come or has other
-/// bytes.
-pub fn push_changes(
-    text: &mut String,
-    before: &[StandingFile],
-    now: &[StandingFile],
-) -> Result<(), AllocError> {
-    for file in before {
-        if !has_path(now, &file.path) {
-            text.push_str(" -")?;
-            push_escaped(text, &file.path)?;
+impl Ground {
+    /// A place where nothing stands yet; the process's number keeps it apart from those of other runs.
+    pub fn new(rt: &HostRuntime) -> Result<Ground, Failure> {
+        let before = env::current_dir(rt)?;
+        let root = env::temp_dir(rt)?;
+        let root = root.as_path().as_str();
+        let id = process::id(rt.process());
+        Ok(Ground {
+            rt: *rt,
+            path: format!(in rt.alloc(); "{root}/test_near_mailbox_{id}")?,
+            before,
+        })
+    }
+
+    /// A new folder with `cur`, `new` and `tmp` in place of the last one. The process stands in it.
+    pub fn new_folder(&self) -> Result<DiskFolder<HostRuntime>, Failure> {
+        let path = self.path.as_str();
+        self.clear();
+        let folder = DiskFolder::create(self.rt, path)?;
+        env::set_current_dir(&self.rt, path)?;
+        Ok(folder)
+    }
+
+    /// Takes away what stands there. Where memory is wanting, it may be there the second time.
+    fn clear(&self) {
+        let path = self.path.as_str();
+        if fs::remove_dir_all(&self.rt, path).is_err() {
+            let _ = fs::remove_dir_all(&self.rt, path);
         }
     }
-    for file in now {
-        if !before.contains(file) {
-            text.push_str(" +")?;
-            push_file(text, file)?;
-        }
-    }
-    Ok(())
-}
-
-fn has_path(files: &[StandingFile], path: &[u8]) -> bool {
-    for file in files {
-        if file.path.as_slice() == path {
-            return true;
-        }
-    }
-    false
-}
-
-fn push_file(text: &mut String, file: &StandingFile) -> Result<(), AllocError> {
-    push_escaped(text, &file.path)?;
-    text.push_str(" \"")?;
-    push_escaped(text, &file.bytes)?;
-    text.push('"')
-}
-
-/// All files that stand in a folder, in the order of their paths.
-pub fn sorted_files<F: Folder, G: Ground<F>>(
-    ground: &G,
-    folder: &F,
-) -> Result<Vec<StandingFile>, LineFault> {
-    let mut files = ground.files(folder)?;
-    files.sort_by(|a, b| a.path.as_slice().cmp(b.path.as_slice()))?;
-    Ok(files)
 }

@@ -1,129 +1,121 @@
 //! Folders in memory.
 
-use crate::failure::LineFault;
-use crate::ground::{Change, Ground, StandingFile};
+use crate::seat::Seat;
+use crate::stop::read_stop;
+use crate::trial::try_stops;
 use device::schedule::Stop;
 use mailcore::octets::Octets;
 use maildir::folder::{File, Place};
 use maildir::mem_folder::{FolderCall, MemFolder};
 use std::alloc::{AllocError, Global};
+use test_scripts::failure::Failure;
+use test_scripts::script::Script;
+use test_scripts::words::Words;
 
-/// The path of the meta file.
-const META: &[u8] = b".uidvalidity";
-
-/// What folders in memory are made with: each has these files and a stop of its own.
+/// A folder in memory, and what further ones are made of: each has the same files, and a stop of its own.
 #[derive(Drop)]
 pub struct Memory {
-    alloc: Global,
-    files: Vec<StandingFile>,
-    is_hidden: bool,
+    // The lines that say what stands in a new folder.
+    lines: Vec<u8>,
     stop: Option<Stop<FolderCall>>,
+    seat: Seat<MemFolder>,
 }
 
 impl Memory {
-    /// No file; a folder whose maker names no stop stops there.
-    pub fn new(alloc: Global, stop: Option<Stop<FolderCall>>) -> Self {
+    /// `stops STOP`, or nothing: an empty folder, which is made when it is first called.
+    pub fn read(alloc: Global, line: &mut Words<'_>) -> Self {
+        let mut stop = None;
+        if !line.is_over() {
+            if line.word() != "stops" {
+                line.refuse();
+            }
+            stop = Some(read_stop(line));
+        }
         Memory {
-            alloc,
-            files: Vec::new(alloc),
-            is_hidden: false,
+            lines: Vec::new(alloc),
             stop,
+            seat: Seat::Empty,
         }
     }
 
-    fn copy_of(&self, bytes: &[u8]) -> Result<Octets, AllocError> {
-        Ok(Octets::from_vec(Vec::from_slice(self.alloc, bytes)?))
-    }
-
-    fn put(&self, folder: &mut MemFolder, file: &StandingFile) -> Result<(), LineFault> {
-        let bytes = self.copy_of(&file.bytes)?;
-        if file.path.as_slice() == META {
-            folder.put_meta(bytes);
-            return Ok(());
-        }
-        let (place, name) = place_of(&file.path)?;
-        let name = self.copy_of(name)?;
-        Ok(folder.put(File { place, name, bytes })?)
-    }
-
-    fn standing(&self, path: &[u8], name: &[u8], bytes: &[u8]) -> Result<StandingFile, AllocError> {
-        let mut path = Vec::from_slice(self.alloc, path)?;
-        path.extend_from_slice(name)?;
-        Ok(StandingFile {
-            path,
-            bytes: Vec::from_slice(self.alloc, bytes)?,
-        })
-    }
-}
-
-/// Where the file with this path stands, and its name.
-fn place_of(path: &[u8]) -> Result<(Place, &[u8]), LineFault> {
-    if let Some(name) = path.strip_prefix(b"cur/") {
-        return Ok((Place::Cur, name));
-    }
-    match path.strip_prefix(b"new/") {
-        Some(name) => Ok((Place::New, name)),
-        None => Err(LineFault::Bad),
-    }
-}
-
-impl Ground<MemFolder> for Memory {
-    fn change(&mut self, change: Change, is_made: bool) -> Result<(), LineFault> {
-        if is_made {
-            return Err(LineFault::Bad);
-        }
-        match change {
-            Change::Put(file) => {
-                if file.path.as_slice() != META {
-                    place_of(&file.path)?;
-                }
-                Ok(self.files.push(file)?)
+    /// Plays a line with this first word.
+    pub fn play(
+        &mut self,
+        rt: &HostRuntime,
+        word: &str,
+        line: &mut Words<'_>,
+        script: &mut Script<'_>,
+    ) -> Result<(), Failure> {
+        match word {
+            "put" | "hide" if self.seat.is_empty() => Ok(self.keep(word, line)?),
+            "try" => try_stops(rt, self, line, &mut script.told),
+            _ => {
+                self.make(rt.alloc())?;
+                self.seat.play(rt, word, line, script)
             }
-            Change::Hide => {
-                self.is_hidden = true;
-                Ok(())
-            }
-            Change::TakeFile(_path) | Change::TakeFolder(_path) => Err(LineFault::Bad),
-            Change::Make(_path, _thing) => Err(LineFault::Bad),
-            Change::Create => Err(LineFault::Bad),
         }
     }
 
-    fn folder(&self, stop: Option<Stop<FolderCall>>) -> Result<MemFolder, LineFault> {
-        let mut schedule = Vec::new(self.alloc);
-        if let Some(stop) = stop.or(self.stop) {
+    /// Keeps a line that says what stands in a new folder.
+    fn keep(&mut self, word: &str, line: &mut Words<'_>) -> Result<(), AllocError> {
+        self.lines.extend_from_slice(word.as_bytes())?;
+        if !line.is_over() {
+            self.lines.push(b' ')?;
+            self.lines.extend_from_slice(line.rest())?;
+        }
+        Ok(self.lines.push(b'\n')?)
+    }
+
+    /// Makes the folder, if it is not there yet.
+    fn make(&mut self, alloc: Global) -> Result<(), Failure> {
+        if self.seat.is_empty() {
+            self.seat = self.new_seat(alloc, self.stop)?;
+        }
+        Ok(())
+    }
+
+    /// A new folder, with this stop.
+    pub fn new_seat(
+        &self,
+        alloc: Global,
+        stop: Option<Stop<FolderCall>>,
+    ) -> Result<Seat<MemFolder>, Failure> {
+        let mut schedule = Vec::new(alloc);
+        if let Some(stop) = stop {
             schedule.push(stop)?;
         }
-        let mut folder = MemFolder::new(self.alloc, schedule);
-        for file in &self.files {
-            self.put(&mut folder, file)?;
-        }
-        if self.is_hidden {
-            folder.hide();
-        }
-        Ok(folder)
+        let mut folder = MemFolder::new(alloc, schedule);
+        fill(alloc, &mut folder, &self.lines)?;
+        Ok(Seat::new(alloc, folder))
     }
+}
 
-    fn files(&self, folder: &MemFolder) -> Result<Vec<StandingFile>, LineFault> {
-        let mut files = Vec::new(self.alloc);
-        for file in folder.files() {
-            let place = match file.place {
-                Place::New => b"new/",
-                Place::Cur => b"cur/",
-            };
-            files.push(self.standing(place, file.name.as_slice(), file.bytes.as_slice())?)?;
+/// Puts into a folder what these lines say.
+fn fill(alloc: Global, folder: &mut MemFolder, lines: &[u8]) -> Result<(), Failure> {
+    for line in lines.split(|byte| *byte == b'\n') {
+        let mut line = Words::new(line);
+        match line.word() {
+            "put" => put(alloc, folder, &mut line)?,
+            "hide" => folder.hide(),
+            _ => {}
         }
-        if let Some(text) = folder.meta() {
-            files.push(self.standing(META, b"", text)?)?;
-        }
-        Ok(files)
     }
+    Ok(())
+}
 
-    fn kind(&self, _path: &[u8]) -> Result<String, LineFault> {
-        Err(LineFault::Bad)
+/// `PATH "BYTES"`: puts a file there.
+fn put(alloc: Global, folder: &mut MemFolder, line: &mut Words<'_>) -> Result<(), Failure> {
+    let path = line.word();
+    let bytes = Octets::from_vec(line.bytes(alloc)?);
+    if path == ".uidvalidity" {
+        folder.put_meta(bytes);
+        return Ok(());
     }
-
-    fn stops(&self, folder: &MemFolder) -> usize {
-        folder.stops()
-    }
+    let (place, name) = match path.split_once('/') {
+        Some(("cur", name)) => (Place::Cur, name),
+        Some(("new", name)) => (Place::New, name),
+        _ => return Err(Failure::Script),
+    };
+    let name = Octets::from_vec(Vec::from_slice(alloc, name.as_bytes())?);
+    Ok(folder.put(File { place, name, bytes })?)
 }

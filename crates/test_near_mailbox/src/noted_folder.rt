@@ -2,7 +2,6 @@
 
 ghost use Rattle.std.specs.Prelude.{◌≡◌};
 
-use crate::failure::LineFault;
 use device::DeviceFault;
 use maildir::folder::{FileName, Folder, Location, Origin, Source};
 use maildir::mem_folder::FolderCall;
@@ -32,12 +31,14 @@ impl<F: Folder> NotedFolder<F> {
         &self.folder
     }
 
-    /// The calls so far. `NoMemory`: they were not all noted.
-    pub fn calls(&self) -> Result<&[FolderCall], LineFault> {
-        if self.is_short {
-            return Err(LineFault::NoMemory);
-        }
-        Ok(&self.calls)
+    /// The calls so far.
+    pub fn calls(&self) -> &[FolderCall] {
+        &self.calls
+    }
+
+    /// Whether memory was wanting to note a call.
+    pub fn is_short(&self) -> bool {
+        self.is_short
     }
 
     /// Forgets the calls so far.

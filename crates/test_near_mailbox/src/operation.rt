@@ -1,159 +1,173 @@
 //! The operations of a mailbox, and their answers.
 
-use crate::failure::LineFault;
-use crate::words::{
-    read_bytes, read_flags, read_mark, read_number, read_uid, read_uids, two_words,
-};
-use mailcore::flags::Flags;
+use crate::many::{append_copies, count, find_marks, many};
 use mailcore::listing::{Item, Listing};
 use mailcore::tuid::Tuid;
 use mailcore::uid::Uid;
 use maildir::folder::Folder;
 use near_box::{NearBox, NearFault};
 use std::alloc::{AllocError, Global};
-use texts::escape::push_escaped;
+use test_scripts::failure::Failure;
+use test_scripts::told::Told;
+use test_scripts::words::Words;
+use texts::number::read_u32;
 
-/// An operation of a mailbox.
-#[derive(Drop)]
-pub enum Operation {
-    /// `admit`
-    Admit,
-    /// `list`
-    List,
-    /// `fetch` of this message.
-    Fetch(Uid),
-    /// `find_mark` of this mark, from this UID on.
-    Find(Tuid, u32),
-    /// `append` of these bytes with these flags.
-    Append(Flags, Vec<u8>),
-    /// `add_flags` of these flags to this message.
-    Add(Uid, Flags),
-    /// `remove_flags` of these flags from this message.
-    Remove(Uid, Flags),
-    /// `expunge` of these messages.
-    Expunge(Vec<Uid>),
+/// Does what a line with this first word asks of a mailbox, and tells the answer or the fault, which it gives.
+pub fn perform<F: Folder>(
+    alloc: Global,
+    near: &mut NearBox<F>,
+    word: &str,
+    line: &mut Words<'_>,
+    told: &mut Told,
+) -> Option<NearFault> {
+    match word {
+        "admit" => tell_done(told, near.admit()),
+        "list" => tell_listing(told, near.list()),
+        "count" => count(near, line, told),
+        "fetch" => tell_bytes(told, near.fetch(line.uid())),
+        "find" => find(near, line, told),
+        "append" => append(alloc, near, line, told),
+        "add" => {
+            let uid = line.uid();
+            tell_done(told, near.add_flags(uid, line.flags()))
+        }
+        "remove" => {
+            let uid = line.uid();
+            tell_done(told, near.remove_flags(uid, line.flags()))
+        }
+        "expunge" => expunge(alloc, near, line, told),
+        _ => refuse(line),
+    }
 }
 
-impl Operation {
-    /// The operation with this word and what stands behind it, if there is one.
-    pub fn read(alloc: Global, word: &[u8], rest: &[u8]) -> Result<Operation, LineFault> {
-        match word {
-            b"admit" => Ok(Operation::Admit),
-            b"list" => Ok(Operation::List),
-            b"fetch" => Ok(Operation::Fetch(read_uid(rest)?)),
-            b"expunge" => Ok(Operation::Expunge(read_uids(alloc, rest)?)),
-            _ => Operation::read_longer(alloc, word, rest),
+/// The line is bad, whatever is told of it.
+fn refuse(line: &mut Words<'_>) -> Option<NearFault> {
+    line.refuse();
+    None
+}
+
+fn find<F: Folder>(
+    near: &mut NearBox<F>,
+    line: &mut Words<'_>,
+    told: &mut Told,
+) -> Option<NearFault> {
+    if let Some(marks) = many(line, "marks") {
+        return find_marks(near, marks, told);
+    }
+    match Tuid::read(line.word().as_bytes()) {
+        Some(mark) => tell_uid(told, near.find_mark(mark, line.number())),
+        None => refuse(line),
+    }
+}
+
+fn append<F: Folder>(
+    alloc: Global,
+    near: &mut NearBox<F>,
+    line: &mut Words<'_>,
+    told: &mut Told,
+) -> Option<NearFault> {
+    if let Some(copies) = many(line, "copies") {
+        return append_copies(near, copies, told);
+    }
+    let flags = line.flags();
+    match line.bytes(alloc) {
+        Ok(bytes) => tell_uid(told, near.append(&bytes, flags).map(Some)),
+        Err(Failure::NoMemory) => Some(NearFault::NoMemory),
+        Err(_) => refuse(line),
+    }
+}
+
+fn expunge<F: Folder>(
+    alloc: Global,
+    near: &mut NearBox<F>,
+    line: &mut Words<'_>,
+    told: &mut Told,
+) -> Option<NearFault> {
+    let mut uids = Vec::new(alloc);
+    match read_uids(line, &mut uids) {
+        Ok(()) => tell_done(told, near.expunge(&uids)),
+        Err(AllocError) => Some(NearFault::NoMemory),
+    }
+}
+
+/// Adds UIDs with commas between, or none for `-`.
+fn read_uids(line: &mut Words<'_>, uids: &mut Vec<Uid>) -> Result<(), AllocError> {
+    let word = line.word();
+    if word == "-" {
+        return Ok(());
+    }
+    for part in word.as_bytes().split(|byte| *byte == b',') {
+        match read_u32(part, u32::MAX).and_then(Uid::new) {
+            Some(uid) => uids.push(uid)?,
+            None => line.refuse(),
         }
     }
+    Ok(())
+}
 
-    /// The same of those that have two words behind their own.
-    fn read_longer(alloc: Global, word: &[u8], rest: &[u8]) -> Result<Operation, LineFault> {
-        let (first, second) = two_words(rest)?;
-        match word {
-            b"find" => Ok(Operation::Find(read_mark(first)?, read_number(second)?)),
-            b"append" => Ok(Operation::Append(read_flags(first)?, read_bytes(alloc, second)?)),
-            b"add" => Ok(Operation::Add(read_uid(first)?, read_flags(second)?)),
-            b"remove" => Ok(Operation::Remove(read_uid(first)?, read_flags(second)?)),
-            _ => Err(LineFault::Bad),
+/// Tells a fault, and gives it.
+pub fn tell_fault(told: &mut Told, fault: NearFault) -> Option<NearFault> {
+    told.shown(&fault);
+    Some(fault)
+}
+
+/// Tells `ok`, or the fault.
+pub fn tell_done(told: &mut Told, answer: Result<(), NearFault>) -> Option<NearFault> {
+    match answer {
+        Ok(()) => {
+            told.text("ok");
+            None
         }
+        Err(fault) => tell_fault(told, fault),
     }
+}
 
-    /// One of each kind.
-    pub fn each(alloc: Global) -> Option<[Operation; 8]> {
-        let uid = Uid::new(1)?;
-        let mark = Tuid::read(b"AQAAAAAAAAAC")?;
-        Some([
-            Operation::Admit,
-            Operation::List,
-            Operation::Fetch(uid),
-            Operation::Find(mark, 1),
-            Operation::Append(Flags::none(), Vec::new(alloc)),
-            Operation::Add(uid, Flags::none()),
-            Operation::Remove(uid, Flags::none()),
-            Operation::Expunge(Vec::new(alloc)),
-        ])
+fn tell_uid(told: &mut Told, answer: Result<Option<Uid>, NearFault>) -> Option<NearFault> {
+    match answer {
+        Ok(Some(uid)) => told.number(u64::from(uid.get())),
+        Ok(None) => told.text("none"),
+        Err(fault) => return tell_fault(told, fault),
     }
+    None
+}
 
-    /// How many bytes it writes as a copy.
-    pub fn copy_length(&self) -> usize {
-        match self {
-            Operation::Append(_, bytes) => bytes.len(),
-            _ => 0,
-        }
+fn tell_bytes(told: &mut Told, answer: Result<Option<&[u8]>, NearFault>) -> Option<NearFault> {
+    match answer {
+        Ok(Some(bytes)) => told.quoted(bytes),
+        Ok(None) => told.text("none"),
+        Err(fault) => return tell_fault(told, fault),
     }
+    None
+}
 
-    /// What the mailbox answers.
-    pub fn answer<F: Folder>(
-        &self,
-        alloc: Global,
-        near: &mut NearBox<F>,
-    ) -> Result<String, NearFault> {
-        match self {
-            Operation::Admit => done(alloc, near.admit()),
-            Operation::List => {
-                let listing = near.list()?;
-                Ok(listed(alloc, &listing)?)
+fn tell_listing(told: &mut Told, answer: Result<Listing, NearFault>) -> Option<NearFault> {
+    match answer {
+        Ok(listing) => {
+            tell_numbers(told, listing.validity, listing.next);
+            for item in listing.items.as_slice() {
+                tell_item(told, item);
             }
-            Operation::Fetch(uid) => Ok(fetched(alloc, near.fetch(*uid)?)?),
-            Operation::Find(mark, from) => Ok(found(alloc, near.find_mark(*mark, *from)?)?),
-            Operation::Append(flags, bytes) => {
-                let uid = near.append(bytes, *flags)?;
-                Ok(found(alloc, Some(uid))?)
-            }
-            Operation::Add(uid, flags) => done(alloc, near.add_flags(*uid, *flags)),
-            Operation::Remove(uid, flags) => done(alloc, near.remove_flags(*uid, *flags)),
-            Operation::Expunge(uids) => done(alloc, near.expunge(uids)),
+            None
         }
+        Err(fault) => tell_fault(told, fault),
     }
 }
 
-fn done(alloc: Global, answer: Result<(), NearFault>) -> Result<String, NearFault> {
-    answer?;
-    Ok(String::from_str(alloc, "ok")?)
+/// Tells the validity and the next UID of a mailbox.
+pub fn tell_numbers(told: &mut Told, validity: u32, next: u32) {
+    told.text("validity ");
+    told.number(u64::from(validity));
+    told.text(", next ");
+    told.number(u64::from(next));
 }
 
-fn found(alloc: Global, uid: Option<Uid>) -> Result<String, AllocError> {
-    match uid {
-        Some(uid) => {
-            let number = uid.get();
-            format!(in alloc; "{number}")
-        }
-        None => String::from_str(alloc, "none"),
-    }
-}
-
-fn fetched(alloc: Global, bytes: Option<&[u8]>) -> Result<String, AllocError> {
-    let Some(bytes) = bytes else {
-        return String::from_str(alloc, "none");
-    };
-    let mut text = String::from_str(alloc, "\"")?;
-    push_escaped(&mut text, bytes)?;
-    text.push('"')?;
-    Ok(text)
-}
-
-/// The validity and the next UID, and then each message as `UID FLAGS`, and `unfit` where it is not fit to be copied.
-fn listed(alloc: Global, listing: &Listing) -> Result<String, AllocError> {
-    let (validity, next) = (listing.validity, listing.next);
-    let mut text = format!(in alloc; "validity {validity}, next {next}")?;
-    for item in listing.items.as_slice() {
-        push_item(&mut text, item)?;
-    }
-    Ok(text)
-}
-
-fn push_item(text: &mut String, item: &Item) -> Result<(), AllocError> {
-    let number = item.uid.get();
-    write!(text, ", {number} ")?;
-    if item.flags.is_empty() {
-        text.push('-')?;
-    }
-    for letter in item.flags.letters() {
-        text.push(char::from(letter))?;
-    }
-    if item.fit {
-        Ok(())
-    } else {
-        text.push_str(" unfit")
+/// Tells a message as `, UID FLAGS`, and `unfit` where it is not fit to be copied.
+fn tell_item(told: &mut Told, item: &Item) {
+    told.text(", ");
+    told.number(u64::from(item.uid.get()));
+    told.text(" ");
+    told.flags(item.flags);
+    if !item.fit {
+        told.text(" unfit");
     }
 }

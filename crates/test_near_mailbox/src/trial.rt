@@ -1,188 +1,236 @@
 //! An operation that is stopped at each of its calls in turn.
 
-use crate::failure::{LineFault, text_of};
-use crate::ground::{Ground, push_changes, sorted_files};
-use crate::noted_folder::NotedFolder;
-use crate::operation::Operation;
-use crate::session::opened;
-use crate::stop::push_stop;
+use crate::files::{Standing, gather, tell_changes};
+use crate::memory::Memory;
+use crate::seat::{Seat, read_validity};
+use crate::stop::tell_stop;
 use device::schedule::{Moment, Stop};
 use maildir::folder::Folder;
-use maildir::mem_folder::FolderCall;
-use near_box::{NearBox, NearFault};
-use std::alloc::{AllocError, Global};
+use maildir::mem_folder::{FolderCall, MemFolder};
+use near_box::NearFault;
 use std::num::NonZeroU32;
+use test_scripts::failure::Failure;
+use test_scripts::told::Told;
+use test_scripts::words::Words;
 
-/// An operation on a new mailbox, or its opening alone.
+/// An operation of each kind.
+const EACH: [&[u8]; 8] = [
+    b"admit",
+    b"list",
+    b"fetch 1",
+    b"find AQAAAAAAAAAC 1",
+    b"append - \"\"",
+    b"add 1 -",
+    b"remove 1 -",
+    b"expunge -",
+];
+
+/// An operation on a new mailbox, or `open` for the opening alone.
 #[derive(Drop)]
-pub struct Trial {
+struct Trial<'a> {
+    rt: HostRuntime,
+    memory: &'a Memory,
     /// The validity of a mailbox without a meta file.
-    pub fresh: NonZeroU32,
-    /// The operation, or none for the opening alone.
-    pub operation: Option<Operation>,
+    fresh: NonZeroU32,
+    operation: Words<'a>,
+    /// The files in a new folder.
+    before: Vec<Standing>,
+    /// Whether memory was wanting.
+    is_short: bool,
 }
 
-impl Trial {
-    /// Adds what each stop leaves, what a new mailbox lists then, and what the operation answers when it is called again.
-    pub fn push_stops<F: Folder + Drop, G: Ground<F>>(
-        &self,
-        alloc: Global,
-        ground: &G,
-        told: &mut String,
-    ) -> Result<(), LineFault> {
-        let opening = self.calls(alloc, ground, None)?;
-        let calls = self.calls(alloc, ground, self.operation.as_ref())?;
-        let first = match self.operation {
-            Some(_) => opening.len(),
-            None => 0,
-        };
+/// `V OPERATION`: tells what each stop leaves, what a new mailbox lists then, and what the operation answers when it is called
+/// again.
+pub fn try_stops(
+    rt: &HostRuntime,
+    memory: &Memory,
+    line: &mut Words<'_>,
+    told: &mut Told,
+) -> Result<(), Failure> {
+    let fresh = read_validity(line);
+    let mut trial = Trial {
+        rt: *rt,
+        memory,
+        fresh,
+        operation: *line,
+        before: Vec::new(rt.alloc()),
+        is_short: false,
+    };
+    trial.tell_stops(line, told)?;
+    if trial.is_short {
+        return Err(Failure::NoMemory);
+    }
+    Ok(())
+}
+
+impl Trial<'_> {
+    /// Does it in a folder without a stop, which shows its calls, and then with a stop in each of them.
+    fn tell_stops(&mut self, line: &mut Words<'_>, told: &mut Told) -> Result<(), Failure> {
+        let alloc = self.rt.alloc();
+        let mut seat = self.memory.new_seat(alloc, None)?;
+        let first = self.prepare(&mut seat)?;
+        let mut aside = Told::new(alloc);
+        self.act(&mut seat, line, &mut aside);
+        match seat.close() {
+            Some(folder) => self.tell_calls(folder.calls(), first, told),
+            None => Ok(()),
+        }
+    }
+
+    /// Looks at the files of a new folder, and opens its mailbox. Gives the first call that is stopped: the first of all, or the first
+    /// behind the opening.
+    fn prepare(&mut self, seat: &mut Seat<MemFolder>) -> Result<usize, Failure> {
+        let mut operation = self.operation;
+        if let Some(folder) = seat.close() {
+            gather(&self.rt, folder.inner(), &mut self.before)?;
+        }
+        if operation.word() == "open" {
+            return Ok(0);
+        }
+        let _ = seat.open(self.rt.alloc(), self.fresh);
+        match seat.close() {
+            Some(folder) => Ok(folder.calls().len()),
+            None => Ok(0),
+        }
+    }
+
+    /// Stops each of these calls behind the first ones.
+    fn tell_calls(
+        &mut self,
+        calls: &[FolderCall],
+        first: usize,
+        told: &mut Told,
+    ) -> Result<(), Failure> {
         for (place, call) in calls.iter().enumerate().skip(first) {
-            let number = number_of(*call, &calls, place);
-            self.push_stops_at(alloc, ground, *call, number, told)?;
+            let number = number_of(*call, calls, place);
+            self.tell_moments(*call, number, told)?;
         }
         Ok(())
     }
 
-    /// The same of the stops in the call of this name and number.
-    fn push_stops_at<F: Folder + Drop, G: Ground<F>>(
-        &self,
-        alloc: Global,
-        ground: &G,
+    /// Stops the call of this name and number before, behind each byte of a copy, and after.
+    fn tell_moments(
+        &mut self,
         call: FolderCall,
         number: u64,
-        told: &mut String,
-    ) -> Result<(), LineFault> {
-        for moment in self.moments(alloc, call)? {
-            let stop = Stop {
-                call,
-                number,
-                moment,
-            };
-            self.push_stop(alloc, ground, stop, told)?;
-        }
-        Ok(())
-    }
-
-    /// The calls that an operation makes of a folder where nothing stops, behind those of the opening.
-    fn calls<F: Folder + Drop, G: Ground<F>>(
-        &self,
-        alloc: Global,
-        ground: &G,
-        operation: Option<&Operation>,
-    ) -> Result<Vec<FolderCall>, LineFault> {
-        let folder = NotedFolder::new(alloc, ground.folder(None)?);
-        let (folder, _answer) = self.perform(alloc, folder, operation)?;
-        Ok(Vec::from_slice(alloc, folder.calls()?)?)
-    }
-
-    /// Where a call can stop.
-    fn moments(&self, alloc: Global, call: FolderCall) -> Result<Vec<Moment>, AllocError> {
-        let mut moments = Vec::new(alloc);
-        moments.push(Moment::Before)?;
-        if let (FolderCall::WriteTmp, Some(operation)) = (call, &self.operation) {
-            for count in 0..=operation.copy_length() {
-                moments.push(Moment::Part(count))?;
+        told: &mut Told,
+    ) -> Result<(), Failure> {
+        let mut stop = Stop {
+            call,
+            number,
+            moment: Moment::Before,
+        };
+        self.tell_stop(stop, told)?;
+        if call == FolderCall::WriteTmp {
+            for count in 0..=self.copy_length()? {
+                stop.moment = Moment::Part(count);
+                self.tell_stop(stop, told)?;
             }
         }
-        moments.push(Moment::After)?;
-        Ok(moments)
+        stop.moment = Moment::After;
+        self.tell_stop(stop, told)
+    }
+
+    /// How many bytes the operation writes as a copy, which is an `append` then.
+    fn copy_length(&self) -> Result<usize, Failure> {
+        let mut line = self.operation;
+        line.word();
+        line.flags();
+        Ok(line.bytes(self.rt.alloc())?.len())
     }
 
     /// Tries one stop.
-    fn push_stop<F: Folder + Drop, G: Ground<F>>(
-        &self,
-        alloc: Global,
-        ground: &G,
+    fn tell_stop(&mut self, stop: Stop<FolderCall>, told: &mut Told) -> Result<(), Failure> {
+        let mut seat = self.memory.new_seat(self.rt.alloc(), Some(stop))?;
+        self.tell_first(&mut seat, stop, told)?;
+        self.tell_again(&mut seat, told)
+    }
+
+    /// What is answered where the call stops, and what that leaves.
+    fn tell_first(
+        &mut self,
+        seat: &mut Seat<MemFolder>,
         stop: Stop<FolderCall>,
-        told: &mut String,
-    ) -> Result<(), LineFault> {
-        let folder = NotedFolder::new(alloc, ground.folder(Some(stop))?);
-        let (mut folder, answer) = self.perform(alloc, folder, self.operation.as_ref())?;
-        push_first(told, stop, &answer, ground.stops(folder.inner()))?;
-        folder.reopen();
-        let folder = self.push_state(alloc, ground, folder, told)?;
-        let (folder, answer) = self.perform(alloc, folder, self.operation.as_ref())?;
-        write!(told, "    again: {answer};")?;
-        self.push_state(alloc, ground, folder, told)?;
+        told: &mut Told,
+    ) -> Result<(), Failure> {
+        let mut operation = self.operation;
+        told.begin();
+        tell_stop(told, stop);
+        told.text(": ");
+        self.act(seat, &mut operation, told);
+        told.text("; stops: ");
+        if let Some(folder) = seat.close() {
+            told.number(folder.inner().stops() as u64);
+            folder.reopen();
+        }
+        told.text("\n ");
+        self.tell_state(seat, told)
+    }
+
+    /// What is answered when it is done again, and what that leaves.
+    fn tell_again(&mut self, seat: &mut Seat<MemFolder>, told: &mut Told) -> Result<(), Failure> {
+        let mut operation = self.operation;
+        told.text("  again: ");
+        self.act(seat, &mut operation, told);
+        told.text(";");
+        self.tell_state(seat, told)
+    }
+
+    /// Tells what stands in the folder otherwise than at first, and what a new mailbox on it lists.
+    fn tell_state(&mut self, seat: &mut Seat<MemFolder>, told: &mut Told) -> Result<(), Failure> {
+        let mut now = Vec::new(self.rt.alloc());
+        if let Some(folder) = seat.close() {
+            gather(&self.rt, folder.inner(), &mut now)?;
+        }
+        tell_changes(told, &self.before, &now);
+        told.text("; lists ");
+        self.act(seat, &mut Words::new(b"list"), told);
+        told.end();
         Ok(())
     }
 
-    /// Adds what stands in the folder otherwise than at first, and what a new mailbox on it lists.
-    fn push_state<F: Folder + Drop, G: Ground<F>>(
-        &self,
-        alloc: Global,
-        ground: &G,
-        folder: NotedFolder<F>,
-        told: &mut String,
-    ) -> Result<NotedFolder<F>, LineFault> {
-        push_difference(ground, folder.inner(), told)?;
-        let (folder, listing) = self.perform(alloc, folder, Some(&Operation::List))?;
-        writeln!(told, "; lists {listing}")?;
-        Ok(folder)
-    }
-
-    /// What an operation answers on a new mailbox, or the opening alone.
-    fn perform<F: Folder + Drop>(
-        &self,
-        alloc: Global,
-        folder: NotedFolder<F>,
-        operation: Option<&Operation>,
-    ) -> Result<(NotedFolder<F>, String), LineFault> {
-        match opened(alloc, folder, self.fresh) {
-            Ok(mut near) => {
-                let answer = answer_of(alloc, &mut near, operation)?;
-                Ok((near.into_folder(), answer))
+    /// Opens a mailbox, does what a line asks of it, and tells the answer. Behind a fault each operation has to stop.
+    fn act(&mut self, seat: &mut Seat<MemFolder>, line: &mut Words<'_>, told: &mut Told) {
+        let alloc = self.rt.alloc();
+        let word = line.word();
+        let fault = match seat.open(alloc, self.fresh) {
+            Err(fault) => {
+                told.shown(&fault);
+                Some(fault)
             }
-            Err((fault, folder)) => {
-                let answer = text_of(alloc, fault)?;
-                Ok((folder, answer))
+            Ok(_) if word == "open" => {
+                told.text("ok");
+                None
             }
+            Ok(_) => {
+                let fault = seat.perform(alloc, word, line, told);
+                if fault.is_some() {
+                    self.tell_behind(seat, told);
+                }
+                fault
+            }
+        };
+        if fault == Some(NearFault::NoMemory) {
+            self.is_short = true;
         }
     }
-}
 
-/// Adds where a call stops, what was answered, and how many calls have stopped.
-fn push_first(
-    told: &mut String,
-    stop: Stop<FolderCall>,
-    answer: &str,
-    stops: usize,
-) -> Result<(), AllocError> {
-    told.push_str("  ")?;
-    push_stop(told, stop)?;
-    write!(told, ": {answer}; stops: {stops}\n   ")
-}
-
-/// Adds what stands in a folder otherwise than at first.
-fn push_difference<F: Folder + Drop, G: Ground<F>>(
-    ground: &G,
-    folder: &F,
-    told: &mut String,
-) -> Result<(), LineFault> {
-    let before = sorted_files(ground, &ground.folder(None)?)?;
-    let now = sorted_files(ground, folder)?;
-    if now == before {
-        told.push_str(" as before")?;
-    }
-    Ok(push_changes(told, &before, &now)?)
-}
-
-/// What an operation answers. Behind a fault each operation has to stop.
-fn answer_of<F: Folder>(
-    alloc: Global,
-    near: &mut NearBox<NotedFolder<F>>,
-    operation: Option<&Operation>,
-) -> Result<String, LineFault> {
-    let Some(operation) = operation else {
-        return Ok(String::from_str(alloc, "ok")?);
-    };
-    match operation.answer(alloc, near) {
-        Ok(answer) => Ok(answer),
-        Err(fault) => {
-            let fault = text_of(alloc, fault)?;
-            let behind = behind_fault(alloc, near)?;
-            Ok(format!(in alloc; "{fault}, {behind}")?)
+    /// Tells whether each operation is answered by `Stopped`.
+    fn tell_behind(&mut self, seat: &mut Seat<MemFolder>, told: &mut Told) {
+        let alloc = self.rt.alloc();
+        let mut aside = Told::new(alloc);
+        let mut is_stopped = true;
+        for line in EACH {
+            let mut line = Words::new(line);
+            let word = line.word();
+            let fault = seat.perform(alloc, word, &mut line, &mut aside);
+            is_stopped = is_stopped && fault == Some(NearFault::Stopped);
         }
+        told.text(if is_stopped {
+            ", and each call behind it"
+        } else {
+            ", but the mailbox goes on"
+        });
     }
 }
 
@@ -195,18 +243,4 @@ fn number_of(call: FolderCall, calls: &[FolderCall], place: usize) -> u64 {
         }
     }
     number
-}
-
-/// Whether each operation is answered by `Stopped`.
-fn behind_fault<F: Folder>(
-    alloc: Global,
-    near: &mut NearBox<NotedFolder<F>>,
-) -> Result<&'static str, LineFault> {
-    let operations = Operation::each(alloc).ok_or(LineFault::Bad)?;
-    for operation in &operations {
-        if operation.answer(alloc, near).err() != Some(NearFault::Stopped) {
-            return Ok("but the mailbox goes on");
-        }
-    }
-    Ok("and each call behind it")
 }

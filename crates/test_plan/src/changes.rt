@@ -1,84 +1,60 @@
 //! How the text of a world is changed before it is run.
 
-use crate::failure::LineFault;
-use std::alloc::Global;
+use crate::phrases::{pass, read_bytes};
+use std::alloc::{AllocError, Global};
+use test_scripts::failure::Failure;
+use test_scripts::words::Words;
+use texts::cut::cut;
 
-/// A line that stands in place of another.
-#[derive(Drop)]
-pub struct Replacement {
-    /// The place of the other line, counted from 0.
-    pub place: usize,
-    /// The line, without its end.
-    pub bytes: Vec<u8>,
+/// `"BYTES"`: the world with this line in place of the one with this number, counted from 1. `Script`: it has no such line.
+pub fn with_line(
+    alloc: Global,
+    world: &[u8],
+    number: u32,
+    line: &mut Words<'_>,
+) -> Result<Vec<u8>, Failure> {
+    let (before, _, behind) = around(world, number).ok_or(Failure::Script)?;
+    let bytes = read_bytes(alloc, line)?;
+    Ok(joined(alloc, &[before, &bytes, behind])?)
 }
 
-impl Replacement {
-    /// The text with the line in its place. `Bad`: the text has no such line.
-    pub fn made_in(&self, alloc: Global, text: &[u8]) -> Result<Vec<u8>, LineFault> {
-        let mut made = Vec::new(alloc);
-        let mut is_made = false;
-        for (place, line) in text.split_inclusive(|byte| *byte == b'\n').enumerate() {
-            if place == self.place {
-                made.extend_from_slice(&self.bytes)?;
-                made.push(b'\n')?;
-                is_made = true;
-            } else {
-                made.extend_from_slice(line)?;
-            }
+/// `"BYTES"`: the world with these bytes behind it.
+pub fn with_more(alloc: Global, world: &[u8], line: &mut Words<'_>) -> Result<Vec<u8>, Failure> {
+    let bytes = read_bytes(alloc, line)?;
+    Ok(joined(alloc, &[world, &bytes])?)
+}
+
+/// `line N by COUNT`: the world in which the message of line N has so many letters more behind its last byte. `Script`: that line
+/// is no message.
+pub fn grown(alloc: Global, world: &[u8], line: &mut Words<'_>) -> Result<Vec<u8>, Failure> {
+    pass(line, "line");
+    let number = line.number();
+    pass(line, "by");
+    let letters = vec![in alloc; b'a'; line.count()]?;
+    match around(world, number) {
+        Some((before, [start @ .., b'"'], behind)) => {
+            Ok(joined(alloc, &[before, start, &letters, b"\"", behind])?)
         }
-        if is_made {
-            Ok(made)
-        } else {
-            Err(LineFault::Bad)
-        }
+        _ => Err(Failure::Script),
     }
 }
 
-/// A change of a text.
-#[derive(Drop)]
-pub enum Change {
-    /// A line stands in place of another.
-    Line(Replacement),
-    /// These bytes stand behind the text.
-    Behind(Vec<u8>),
-}
-
-impl Change {
-    /// The text, changed. `Bad`: it has not the line that is to be replaced.
-    pub fn made_in(&self, alloc: Global, text: &[u8]) -> Result<Vec<u8>, LineFault> {
-        match self {
-            Change::Line(replacement) => replacement.made_in(alloc, text),
-            Change::Behind(bytes) => {
-                let mut made = Vec::from_slice(alloc, text)?;
-                made.extend_from_slice(bytes)?;
-                Ok(made)
-            }
-        }
+/// What stands before the line with this number, counted from 1, the line without its end, and what comes from its end on.
+pub fn around(text: &[u8], number: u32) -> Option<(&[u8], &[u8], &[u8])> {
+    let mut rest = text;
+    for _ in 1..number {
+        rest = cut(rest, b'\n')?.1;
     }
+    let before = text.get(..text.len().saturating_sub(rest.len()))?;
+    let (line, _) = cut(rest, b'\n')?;
+    Some((before, line, rest.get(line.len()..)?))
 }
 
-/// How the message of a line grows.
-#[derive(Clone, Copy)]
-pub struct Growth {
-    /// The place of the line, counted from 0.
-    pub place: usize,
-    /// How many letters come behind the message's last byte.
-    pub letters: usize,
-}
-
-impl Growth {
-    /// The text with the longer message. `Bad`: the line is no message.
-    pub fn made_in(self, alloc: Global, text: &[u8]) -> Result<Vec<u8>, LineFault> {
-        let mut lines = text.split(|byte| *byte == b'\n');
-        let line = lines.nth(self.place).ok_or(LineFault::Bad)?;
-        let beginning = line.strip_suffix(b"\"").ok_or(LineFault::Bad)?;
-        let mut bytes = Vec::from_slice(alloc, beginning)?;
-        bytes.extend_from_slice(&vec![in alloc; b'a'; self.letters]?)?;
-        bytes.push(b'"')?;
-        let line = Replacement {
-            place: self.place,
-            bytes,
-        };
-        line.made_in(alloc, text)
+/// These texts, one behind the other.
+fn joined(alloc: Global, texts: &[&[u8]]) -> Result<Vec<u8>, AllocError> {
+    let mut made = Vec::new(alloc);
+    for text in texts {
+        made.extend_from_slice(text)?;
     }
+    Ok(made)
 }

@@ -1,53 +1,65 @@
 //! What a run of `mbplan` reads and writes, in memory. It may fail where the script says so.
 
+use crate::phrases::pass;
 use run_plan::run::Arguments;
-use std::alloc::Global;
 use std::io;
 use std::io::{ErrorKind, Read, Write};
-
-/// What stands behind the last byte of a reader.
-#[derive(Clone, Copy)]
-pub enum Ending {
-    /// The end.
-    End,
-    /// A fault, and the bytes before it come one at a time.
-    Fault,
-}
-
-/// What a writer takes.
-#[derive(Clone, Copy)]
-pub enum Room {
-    /// All bytes.
-    Endless,
-    /// So many bytes, and then it fails.
-    Bytes(usize),
-    /// All bytes, but it cannot be flushed.
-    Unflushed,
-}
+use test_scripts::words::Words;
 
 /// What a run is given.
 #[derive(Clone, Copy)]
 pub struct Devices {
     /// Whether it is given arguments.
     pub arguments: Arguments,
-    /// How standard input ends.
-    pub reader: Ending,
-    /// What standard output takes.
-    pub out: Room,
-    /// What standard error takes.
-    pub err: Room,
+    /// Whether standard input gives one byte at a time and then fails.
+    pub reader_fails: bool,
+    /// How many bytes standard output takes before it fails.
+    pub out: usize,
+    /// Whether standard output can be flushed.
+    pub is_flushed: bool,
+    /// How many bytes standard error takes before it fails.
+    pub err: usize,
 }
 
-impl Devices {
-    /// No arguments, and nothing that fails.
-    pub fn sound() -> Devices {
-        Devices {
-            arguments: Arguments::Absent,
-            reader: Ending::End,
-            out: Room::Endless,
-            err: Room::Endless,
+/// No arguments, and nothing that fails.
+pub const SOUND: Devices = Devices {
+    arguments: Arguments::Absent,
+    reader_fails: false,
+    out: usize::MAX,
+    is_flushed: true,
+    err: usize::MAX,
+};
+
+/// The devices of a run that is disturbed as a line with this first word says.
+pub fn read_devices(word: &str, line: &mut Words<'_>) -> Devices {
+    let mut devices = SOUND;
+    match word {
+        "reader" => {
+            pass(line, "fails");
+            devices.reader_fails = true;
         }
+        "error" => {
+            pass(line, "writer takes");
+            devices.err = line.count();
+            pass(line, "bytes");
+        }
+        "argument" => {
+            pass(line, "given");
+            devices.arguments = Arguments::Given;
+        }
+        _ => match line.word() {
+            "takes" => {
+                devices.out = line.count();
+                pass(line, "bytes");
+            }
+            "cannot" => {
+                pass(line, "be flushed");
+                devices.is_flushed = false;
+            }
+            _ => line.refuse(),
+        },
     }
+    devices
 }
 
 /// A reader over bytes.
@@ -55,19 +67,16 @@ impl Devices {
 pub struct Source<'a> {
     /// The bytes that are not read yet.
     pub rest: &'a [u8],
-    /// What stands behind them.
-    pub ending: Ending,
+    /// Whether they come one at a time, with a fault behind them.
+    pub fails: bool,
 }
 
 impl Read for Source<'_> {
     fn read(&mut self, buf: &mut [u8]) -> io::Result<usize> {
-        let most = match self.ending {
-            Ending::End => self.rest.len(),
-            Ending::Fault if self.rest.is_empty() => return Err(io::Error::from(
-                ErrorKind::TimedOut,
-            )),
-            Ending::Fault => 1,
-        };
+        if self.fails && self.rest.is_empty() {
+            return Err(io::Error::from(ErrorKind::TimedOut));
+        }
+        let most = if self.fails { 1 } else { buf.len() };
         let count = most.min(self.rest.len()).min(buf.len());
         let (given, rest) = self.rest.split_at(count);
         buf[..count].copy_from_slice(given);
@@ -83,26 +92,15 @@ pub struct Sink {
     pub bytes: Vec<u8>,
     /// Whether a growth was refused.
     pub wants_memory: bool,
-    room: Room,
-}
-
-impl Sink {
-    /// A writer that has taken nothing.
-    pub fn new(alloc: Global, room: Room) -> Sink {
-        Sink {
-            bytes: Vec::new(alloc),
-            wants_memory: false,
-            room,
-        }
-    }
+    /// How many bytes it takes before it fails.
+    pub most: usize,
+    /// Whether it can be flushed.
+    pub is_flushed: bool,
 }
 
 impl Write for Sink {
     fn write(&mut self, buf: &[u8]) -> io::Result<usize> {
-        let left = match self.room {
-            Room::Endless | Room::Unflushed => buf.len(),
-            Room::Bytes(most) => most.saturating_sub(self.bytes.len()),
-        };
+        let left = self.most.saturating_sub(self.bytes.len());
         let count = left.min(buf.len());
         if count == 0 && !buf.is_empty() {
             return Err(io::Error::from(ErrorKind::TimedOut));
@@ -115,9 +113,10 @@ impl Write for Sink {
     }
 
     fn flush(&mut self) -> io::Result<()> {
-        match self.room {
-            Room::Endless | Room::Bytes(_) => Ok(()),
-            Room::Unflushed => Err(io::Error::from(ErrorKind::TimedOut)),
+        if self.is_flushed {
+            Ok(())
+        } else {
+            Err(io::Error::from(ErrorKind::TimedOut))
         }
     }
 }

@@ -5,36 +5,13 @@ ghost use Rattle.std.specs.Prelude.{◌+◌, ◌*◌, ◌%◌, ◌^◌};
 use rand_core::utils::NextWord;
 use rand_core::{Rng, utils};
 
-/// Which words a generator gives.
-#[derive(Clone, Copy)]
-pub enum Sequence {
-    /// 1, 2, 3 ..
-    Counting,
-    /// 0 again and again.
-    Constant,
-}
-
 /// A generator whose k-th word, k from 1, is k times `step`.
 #[derive(Drop)]
 pub struct Generator {
-    drawn: u64,
-    step: u64,
-}
-
-impl Generator {
-    /// The generator of these words, before its first.
-    pub fn new(sequence: Sequence) -> Generator {
-        let step = match sequence {
-            Sequence::Counting => 1,
-            Sequence::Constant => 0,
-        };
-        Generator { drawn: 0, step }
-    }
-
     /// How many words it has given.
-    pub fn drawn(&self) -> u64 {
-        self.drawn
-    }
+    pub drawn: u64,
+    /// 1 for the words 1, 2, 3 .., and 0 for 0 again and again.
+    pub step: u64,
 }
 
 impl NextWord<u64> for Generator {

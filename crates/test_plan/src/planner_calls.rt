@@ -1,6 +1,6 @@
 //! Calls of the planner on the mailboxes and the state of a world.
 
-use crate::failure::LineFault;
+use crate::marks::read_marks;
 use crate::written::world_of;
 use mailcore::listing::Listing;
 use mailcore::side::Side;
@@ -10,117 +10,120 @@ use planner::news::news;
 use planner::plan::plan;
 use planner::state::{Plan, PlanSide, Step};
 use planner::unfit::unfit;
-use std::alloc::{AllocError, Global};
-use texts::escape::push_escaped;
-use worlds::plan_lines::{FlagsWord, NoteLine, StepLine, UnfitLine};
+use std::alloc::Global;
+use test_scripts::failure::Failure;
+use test_scripts::told::Told;
+use test_scripts::words::Words;
+use worlds::plan_lines::{NoteLine, StepLine, UnfitLine};
 use worlds::world::{Waiting, World};
 
-/// A call of the planner.
-#[derive(Drop)]
-pub enum PlannerCall {
-    /// How many messages are copied.
-    News,
-    /// Which messages are not fit to be copied.
-    Unfit,
-    /// The plan, with these marks for the copies.
-    Plan(Vec<Tuid>),
+/// Tells what a call of the planner answers on the world of a text: `news`, `unfit`, or `plan` with the marks that the rest of the
+/// line names. `Script`: the text is no world, or the plan wants another number of marks.
+pub fn tell_planned(
+    alloc: Global,
+    told: &mut Told,
+    text: &[u8],
+    call: &str,
+    line: &mut Words<'_>,
+) -> Result<(), Failure> {
+    let marks = read_marks(alloc, line)?;
+    let world = world_of(alloc, text, Waiting::Admitted)?;
+    call_planner(alloc, told, &world, call, &marks)
 }
 
-impl PlannerCall {
-    /// Adds what the call answers on the world of a text. `Bad`: the text is no world, or the plan wants another number
-    /// of marks.
-    pub fn push_answer(
-        &self,
-        alloc: Global,
-        told: &mut String,
-        text: &[u8],
-    ) -> Result<(), LineFault> {
-        let world = world_of(alloc, text, Waiting::Admitted)?;
-        let far = world.far.listing(alloc, Side::Far)?;
-        let near = world.near.listing(alloc, Side::Near)?;
-        let opening = Opening {
-            far: &far,
-            near: &near,
-            world: &world,
-        };
-        match self {
-            PlannerCall::News => Ok(writeln!(told, "  {}", opening.count())?),
-            PlannerCall::Unfit => opening.push_unfit(alloc, told),
-            PlannerCall::Plan(marks) => opening.push_plan(alloc, told, marks),
+fn call_planner(
+    alloc: Global,
+    told: &mut Told,
+    world: &World,
+    call: &str,
+    marks: &[Tuid],
+) -> Result<(), Failure> {
+    let far = world.far.listing(alloc, Side::Far)?;
+    let near = world.near.listing(alloc, Side::Near)?;
+    match call {
+        "news" => {
+            told.say(&news(&far, &near, &world.state, &world.options));
+            Ok(())
         }
+        "unfit" => tell_unfit(alloc, told, &far, &near, world),
+        _ => tell_plan(alloc, told, &far, &near, world, marks),
     }
 }
 
-/// What the planner's calls are given: what both mailboxes list, and their world.
-#[derive(Clone, Copy)]
-struct Opening<'a> {
-    far: &'a Listing,
-    near: &'a Listing,
-    world: &'a World,
-}
-
-impl Opening<'_> {
-    fn count(&self) -> usize {
-        news(self.far, self.near, &self.world.state, &self.world.options)
-    }
-
-    fn push_unfit(&self, alloc: Global, told: &mut String) -> Result<(), LineFault> {
-        let (state, options) = (&self.world.state, &self.world.options);
-        for (side, uid) in unfit(alloc, self.far, self.near, state, options)? {
-            writeln!(told, "  {}", UnfitLine(side, uid))?;
+fn tell_unfit(
+    alloc: Global,
+    told: &mut Told,
+    far: &Listing,
+    near: &Listing,
+    world: &World,
+) -> Result<(), Failure> {
+    match unfit(alloc, far, near, &world.state, &world.options) {
+        Ok(unfit) => {
+            for (side, uid) in &unfit {
+                told.say(&UnfitLine(*side, *uid));
+            }
+            Ok(())
         }
-        Ok(())
-    }
-
-    fn push_plan(&self, alloc: Global, told: &mut String, marks: &[Tuid]) -> Result<(), LineFault> {
-        let (state, options) = (&self.world.state, &self.world.options);
-        if marks.len() != news(self.far, self.near, state, options) {
-            return Err(LineFault::Bad);
-        }
-        push_plan(
-            told,
-            &plan(alloc, self.far, self.near, state, options, marks),
-        )
+        Err(_) => Err(Failure::NoMemory),
     }
 }
 
-fn push_plan(told: &mut String, plan: &Result<Plan, PlanFault>) -> Result<(), LineFault> {
-    let plan = match plan {
-        Ok(plan) => plan,
-        Err(PlanFault::NoMemory) => return Err(LineFault::NoMemory),
-        Err(fault) => return Ok(writeln!(told, "  {fault}")?),
-    };
-    let run = plan.run;
-    writeln!(told, "  run {run}")?;
-    push_side(told, "far", &plan.far)?;
-    push_side(told, "near", &plan.near)?;
-    for step in plan.steps.as_slice() {
-        push_step(told, step)?;
+fn tell_plan(
+    alloc: Global,
+    told: &mut Told,
+    far: &Listing,
+    near: &Listing,
+    world: &World,
+    marks: &[Tuid],
+) -> Result<(), Failure> {
+    let (state, options) = (&world.state, &world.options);
+    if marks.len() != news(far, near, state, options) {
+        return Err(Failure::Script);
     }
-    for note in plan.notes.as_slice() {
-        writeln!(told, "  {}", NoteLine(note))?;
+    match plan(alloc, far, near, state, options, marks) {
+        Ok(plan) => tell_steps(told, &plan),
+        Err(PlanFault::NoMemory) => return Err(Failure::NoMemory),
+        Err(fault) => told.say(&fault),
     }
     Ok(())
 }
 
-fn push_side(told: &mut String, name: &str, side: &PlanSide) -> Result<(), AllocError> {
-    let PlanSide {
-        validity,
-        highest,
-        next,
-    } = *side;
-    writeln!(
-        told,
-        "  {name}: validity {validity}, highest {highest}, next {next}"
-    )
+fn tell_steps(told: &mut Told, plan: &Plan) {
+    told.begin();
+    told.text("run ");
+    told.number(plan.run);
+    told.end();
+    tell_side(told, "far", &plan.far);
+    tell_side(told, "near", &plan.near);
+    for step in plan.steps.as_slice() {
+        tell_step(told, step);
+    }
+    for note in plan.notes.as_slice() {
+        told.say(&NoteLine(note));
+    }
 }
 
-/// Adds a step, with the flags and the mark of a copy.
-fn push_step(told: &mut String, step: &Step) -> Result<(), AllocError> {
-    write!(told, "  {}", StepLine(step))?;
+fn tell_side(told: &mut Told, name: &str, side: &PlanSide) {
+    told.begin();
+    told.text(name);
+    told.text(": validity ");
+    told.number(u64::from(side.validity));
+    told.text(", highest ");
+    told.number(u64::from(side.highest));
+    told.text(", next ");
+    told.number(u64::from(side.next));
+    told.end();
+}
+
+/// Tells a step, with the flags and the mark of a copy.
+fn tell_step(told: &mut Told, step: &Step) {
+    told.begin();
+    told.shown(&StepLine(step));
     if let Step::New { flags, mark, .. } = *step {
-        write!(told, " {} ", FlagsWord(flags))?;
-        push_escaped(told, &mark.text())?;
+        told.text(" ");
+        told.flags(flags);
+        told.text(" ");
+        told.bytes(&mark.text());
     }
-    told.push('\n')
+    told.end();
 }

@@ -1,40 +1,97 @@
 //! How a world is written.
 
-use crate::failure::LineFault;
-use std::alloc::{AllocError, Global};
+use crate::changes::{around, with_line};
+use crate::phrases::pass;
+use crate::runs::tell_lines;
+use std::alloc::Global;
+use test_scripts::failure::Failure;
+use test_scripts::told::Told;
+use test_scripts::words::Words;
+use worlds::fault::WorldFault;
 use worlds::read::read_world;
 use worlds::world::{Waiting, World};
 use written_worlds::write::{write_from_far, write_world};
 
-/// What is written of a world.
-#[derive(Clone, Copy)]
-pub enum Part {
-    /// All of it, with its waiting files.
-    Whole,
-    /// What stands from its line `far` on, where the files that wait for a UID become this.
-    FromFar(Waiting),
-}
-
-/// The world of a text. `Bad`: it is none.
-pub fn world_of(alloc: Global, text: &[u8], waiting: Waiting) -> Result<World, LineFault> {
-    Ok(read_world(alloc, text, waiting)?)
-}
-
-/// A part of the world of a text, as it is written. `Bad`: the text is no world.
-pub fn written(alloc: Global, text: &[u8], part: Part) -> Result<String, LineFault> {
-    let waiting = match part {
-        Part::Whole => Waiting::Kept,
-        Part::FromFar(waiting) => waiting,
-    };
-    let world = world_of(alloc, text, waiting)?;
-    Ok(text_of(alloc, &world, part)?)
-}
-
-fn text_of(alloc: Global, world: &World, part: Part) -> Result<String, AllocError> {
-    let mut written = String::new(alloc);
-    match part {
-        Part::Whole => write_world(&mut written, world)?,
-        Part::FromFar(_) => write_from_far(&mut written, world)?,
+/// Tells how what the rest of the line says is written of a world: all of it, a line, or its part from `far` on.
+pub fn tell_written(
+    alloc: Global,
+    told: &mut Told,
+    world: &[u8],
+    line: &mut Words<'_>,
+) -> Result<(), Failure> {
+    if line.is_over() {
+        return tell_part(alloc, told, world, None);
     }
-    Ok(written)
+    if line.word() == "line" {
+        return tell_line(alloc, told, world, line);
+    }
+    pass(line, "far");
+    let waiting = if line.is_over() {
+        Waiting::Kept
+    } else {
+        pass(line, "admitted");
+        Waiting::Admitted
+    };
+    tell_part(alloc, told, world, Some(waiting))
+}
+
+/// `N "BYTES"`: tells how line N is written, once the world has these bytes there.
+fn tell_line(
+    alloc: Global,
+    told: &mut Told,
+    world: &[u8],
+    line: &mut Words<'_>,
+) -> Result<(), Failure> {
+    let number = line.number();
+    let text = with_line(alloc, world, number, line)?;
+    let written = written(alloc, &text, None)?;
+    match around(written.as_str().as_bytes(), number) {
+        Some((_, line, _)) => {
+            told.begin();
+            told.bytes(line);
+            told.end();
+            Ok(())
+        }
+        None => Err(Failure::Script),
+    }
+}
+
+fn tell_part(
+    alloc: Global,
+    told: &mut Told,
+    world: &[u8],
+    from_far: Option<Waiting>,
+) -> Result<(), Failure> {
+    let written = written(alloc, world, from_far)?;
+    tell_lines(told, "", written.as_str().as_bytes());
+    Ok(())
+}
+
+/// How the world of a text is written: all of it, or what stands from its line `far` on, with what becomes of its waiting files.
+/// `Script`: the text is no world.
+fn written(alloc: Global, text: &[u8], from_far: Option<Waiting>) -> Result<String, Failure> {
+    let world = world_of(alloc, text, from_far.unwrap_or(Waiting::Kept))?;
+    text_of(alloc, &world, from_far.is_some())
+}
+
+fn text_of(alloc: Global, world: &World, is_from_far: bool) -> Result<String, Failure> {
+    let mut text = String::new(alloc);
+    let done = if is_from_far {
+        write_from_far(&mut text, world)
+    } else {
+        write_world(&mut text, world)
+    };
+    match done {
+        Ok(()) => Ok(text),
+        Err(_) => Err(Failure::NoMemory),
+    }
+}
+
+/// The world of a text. `Script`: it is none.
+pub fn world_of(alloc: Global, text: &[u8], waiting: Waiting) -> Result<World, Failure> {
+    match read_world(alloc, text, waiting) {
+        Ok(world) => Ok(world),
+        Err(WorldFault::Line(_)) => Err(Failure::Script),
+        Err(WorldFault::NoMemory) => Err(Failure::NoMemory),
+    }
 }

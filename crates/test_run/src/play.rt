@@ -1,78 +1,139 @@
-//! How a case of a script is played.
+//! How the lines of a case are played.
 
-use crate::case::{Sweep, read_case};
-use crate::failure::Failure;
-use crate::stage::Stage;
-use crate::sweep::Sweeping;
+use crate::calls::Schedule;
+use crate::stage::{Stage, left_in, stage_of};
+use crate::sweep::Sweep;
+use book::shelf::File;
 use std::alloc::Global;
-use std::mem;
-use worlds::line::Lines;
+use test_scripts::failure::Failure;
+use test_scripts::play::{Player, play_all};
+use test_scripts::script::Script;
+use test_scripts::told::Told;
+use test_scripts::words::Words;
+use trial::report::Ending;
 
-/// Adds the title of a case, and what is told of it.
-pub fn play(alloc: Global, record: &mut String, case: &str) -> Result<(), Failure> {
-    let (title, text) = case.split_once('\n').ok_or(Failure::Case)?;
-    writeln!(record, "{title}")?;
-    let text = format!(in alloc; "{text}\n")?;
-    run_all(alloc, record, &text)
-}
-
-/// Makes the runs of a case, and adds what is told of each.
-fn run_all(alloc: Global, record: &mut String, text: &str) -> Result<(), Failure> {
-    let mut case = read_case(alloc, &mut Lines::new(text.as_bytes()))?;
-    let later = mem::replace(&mut case.course.later, Vec::new(alloc));
-    let (tries, sweep) = (case.course.tries, case.course.sweep);
-    let stage = run_one(
+/// Plays the runs of a script.
+pub fn run(rt: &HostRuntime, script: &mut Script<'_>) -> Result<(), Failure> {
+    let alloc = rt.alloc();
+    let mut runs = Runs {
         alloc,
-        record,
-        Stage::new(alloc, case.world, case.course)?,
-        tries,
-    )?;
-    if sweep != Sweep::None {
-        sweep_all(alloc, record, text, sweep, &stage)?;
-    }
-    run_later(alloc, record, stage, &later)
+        world: Vec::new(alloc),
+        journal: None,
+        schedule: Schedule::new(alloc),
+        stage: None,
+    };
+    play_all(rt, &mut runs, script)
 }
 
-/// Makes the later runs, one after another.
-fn run_later(
+/// What a case has said, and what its runs have left.
+#[derive(Drop)]
+struct Runs {
     alloc: Global,
-    record: &mut String,
-    stage: Stage,
-    later: &[u32],
-) -> Result<(), Failure> {
-    let mut stage = stage;
-    for tries in later {
-        stage = run_one(alloc, record, stage, *tries)?;
+    /// The text of its world.
+    world: Vec<u8>,
+    /// The journal before the first run.
+    journal: Option<Vec<u8>>,
+    /// Which calls stop or are refused, until the first run.
+    schedule: Schedule,
+    /// What stands behind the last run.
+    stage: Option<Stage>,
+}
+
+impl Player for Runs {
+    fn begin(&mut self) -> Result<(), Failure> {
+        self.world.clear();
+        self.journal = None;
+        self.schedule = Schedule::new(self.alloc);
+        self.stage = None;
+        Ok(())
     }
+
+    fn play(&mut self, line: &mut Words<'_>, script: &mut Script<'_>) -> Result<(), Failure> {
+        match line.word() {
+            "world" => self.set_world(script.block(b"end")?),
+            "journal" => self.set_journal(line),
+            "stop" => self.schedule.read_stop(line),
+            "refuse" => self.schedule.read_refusal(line),
+            "run" => self.run(line.number(), &mut script.told),
+            "each" => self.sweep(line.rest(), &mut script.told),
+            _ => Err(Failure::Script),
+        }
+    }
+
+    fn finish(&mut self) -> Result<(), Failure> {
+        Ok(())
+    }
+}
+
+impl Runs {
+    fn set_world(&mut self, text: &[u8]) -> Result<(), Failure> {
+        self.world.clear();
+        self.world.extend_from_slice(text)?;
+        Ok(self.world.extend_from_slice(b"end\n")?)
+    }
+
+    fn set_journal(&mut self, line: &mut Words<'_>) -> Result<(), Failure> {
+        self.journal = Some(line.bytes(self.alloc)?);
+        Ok(())
+    }
+
+    /// Makes a run, and tells of it.
+    fn run(&mut self, tries: u32, told: &mut Told) -> Result<(), Failure> {
+        let stage = match self.stage.take() {
+            Some(stage) => Ok(stage),
+            None => self.first_stage(),
+        };
+        let (stage, ending) = stage?.run(self.alloc, tries);
+        let ended = tell_run(self.alloc, told, &stage, &ending);
+        self.stage = Some(stage);
+        ended
+    }
+
+    /// The world before the first run.
+    fn first_stage(&mut self) -> Result<Stage, Failure> {
+        let schedule = std::mem::replace(&mut self.schedule, Schedule::new(self.alloc));
+        match stage_of(self.alloc, &self.world, schedule) {
+            Ok(mut stage) => {
+                stage.parts.shelf.put(File::Journal, self.journal.take());
+                Ok(stage)
+            }
+            Err(failure) => Err(failure),
+        }
+    }
+
+    /// `stop` or `pair of stops`: makes the first run again with stops, and tells which came to something else than the last one.
+    fn sweep(&mut self, word: &[u8], told: &mut Told) -> Result<(), Failure> {
+        let is_paired = match word {
+            b"stop" => false,
+            b"pair of stops" => true,
+            _ => return Err(Failure::Script),
+        };
+        let Some(stage) = &self.stage else {
+            return Err(Failure::Script);
+        };
+        let left = left_in(self.alloc, &stage.parts)?;
+        let mut sweep = Sweep::new(self.alloc, &self.world, &left)?;
+        sweep_all(&mut sweep, told, is_paired)
+    }
+}
+
+/// Tells what a run came to, and what it left.
+fn tell_run(alloc: Global, told: &mut Told, stage: &Stage, ending: &Ending) -> Result<(), Failure> {
+    told.lines(&ending.text(alloc)?);
+    told.lines(&left_in(alloc, &stage.parts)?);
     Ok(())
 }
 
-/// Makes a run, and adds what is told of it.
-fn run_one(alloc: Global, record: &mut String, stage: Stage, tries: u32) -> Result<Stage, Failure> {
-    let (stage, ending) = stage.run(alloc, tries);
-    match stage.told(alloc, &ending) {
-        Ok(told) => {
-            record.push_str(&told)?;
-            Ok(stage)
-        }
-        Err(failure) => Err(failure),
-    }
-}
-
-/// Makes the first run again with stops, where it left this stage, and adds what is told of that.
-fn sweep_all(
-    alloc: Global,
-    record: &mut String,
-    text: &str,
-    sweep: Sweep,
-    stage: &Stage,
-) -> Result<(), Failure> {
-    let mut sweeping = Sweeping::new(alloc, text, &stage.left(alloc)?)?;
-    let met = sweeping.each(None)?;
-    if sweep == Sweep::Pairs {
+fn sweep_all(sweep: &mut Sweep<'_>, told: &mut Told, is_paired: bool) -> Result<(), Failure> {
+    let met = sweep.each(told, None)?;
+    if is_paired {
         for first in met {
-            let _ = sweeping.each(Some(first))?;
+            let _ = sweep.each(told, Some(first))?;
         }
     }
-    Ok(sweeping.told(record)?)
+    told.begin();
+    told.number(sweep.runs);
+    told.text(" runs with stops");
+    told.end();
+    Ok(())
 }

@@ -1,122 +1,113 @@
 //! A run that is made again with a stop at each of its calls: it has to leave what the unbroken run leaves, but for the marks.
 
-use crate::call::{CALLS, Call};
-use crate::case::{Case, Course, read_case};
-use crate::failure::Failure;
-use crate::stage::Stage;
+use crate::calls::{CALLS, Call, Schedule, name_of};
+use crate::stage::{Stage, left_in, stage_of};
 use book::mem_shelf::ShelfCall;
 use device::schedule::{Moment, Stop};
 use std::alloc::{AllocError, Global};
-use std::fmt;
+use test_scripts::failure::Failure;
+use test_scripts::told::Told;
 use trial::report::Ending;
-use worlds::line::Lines;
 
-/// How many calls of one name are stopped at most, and how many bytes of one append are written.
+/// How many calls of one name are stopped at most.
 const LIMIT: u64 = 100;
 
-/// The runs of a case with stops, and what is told of them.
+/// How many bytes of one append are written at most.
+const LAST_PART: usize = 99;
+
+/// How many stops at the calls of one name are tried at most.
+const TRIED: u64 = 102 * LIMIT;
+
+/// The runs over a world with stops.
 #[derive(Drop)]
-pub struct Sweeping<'a> {
+pub(crate) struct Sweep<'a> {
     alloc: Global,
-    /// The case.
-    text: &'a str,
+    /// The world.
+    text: &'a [u8],
     /// What the unbroken run left, without marks.
     wanted: String,
     /// How many runs have met all of their stops.
-    runs: usize,
-    /// Those of them that came to something else.
-    record: String,
+    pub(crate) runs: u64,
 }
 
-impl<'a> Sweeping<'a> {
-    /// Of a case whose unbroken run left this world.
-    pub fn new(alloc: Global, text: &'a str, left: &str) -> Result<Sweeping<'a>, AllocError> {
-        Ok(Sweeping {
+impl<'a> Sweep<'a> {
+    /// Over a world of which the unbroken run left this.
+    pub(crate) fn new(alloc: Global, text: &'a [u8], left: &str) -> Result<Sweep<'a>, AllocError> {
+        Ok(Sweep {
             alloc,
             text,
             wanted: masked(alloc, left)?,
             runs: 0,
-            record: String::new(alloc),
         })
     }
 
-    /// What is told of them.
-    pub fn told(&self, record: &mut String) -> Result<(), AllocError> {
-        record.push_str(&self.record)?;
-        writeln!(record, "{} runs with stops", self.runs)
-    }
-
-    /// Makes the run once for each stop, and gives those that it meets.
-    pub fn each(&mut self, first: Option<Stop<Call>>) -> Result<Vec<Stop<Call>>, Failure> {
+    /// Makes the run once for each stop behind the first, and gives those that it meets.
+    pub(crate) fn each(
+        &mut self,
+        told: &mut Told,
+        first: Option<Stop<Call>>,
+    ) -> Result<Vec<Stop<Call>>, Failure> {
         let mut met = Vec::new(self.alloc);
         for (_, call) in CALLS {
-            self.each_moment(first, call, &mut met)?;
+            self.each_of(told, first, call, &mut met)?;
         }
         Ok(met)
     }
 
-    fn each_moment(
+    /// The same for each stop at the calls of this name.
+    fn each_of(
         &mut self,
+        told: &mut Told,
         first: Option<Stop<Call>>,
         call: Call,
         met: &mut Vec<Stop<Call>>,
     ) -> Result<(), Failure> {
-        self.each_number(first, call, Moment::Before, met)?;
-        self.each_number(first, call, Moment::After, met)?;
-        if call == Call::Shelf(ShelfCall::Append) && first.is_none() {
-            for count in 0..LIMIT {
-                self.each_number(first, call, Moment::Part(count as usize), met)?;
-            }
-        }
-        Ok(())
-    }
-
-    /// Stops the calls of this name, one after another, as long as there is one.
-    fn each_number(
-        &mut self,
-        first: Option<Stop<Call>>,
-        call: Call,
-        moment: Moment,
-        met: &mut Vec<Stop<Call>>,
-    ) -> Result<(), Failure> {
-        for number in 1..LIMIT {
-            let stop = Stop {
-                call,
-                number,
-                moment,
-            };
-            if is_of_one_call(first, stop) {
-                continue;
-            }
-            if !self.run(first, stop)? {
+        let mut next = Some(Stop {
+            call,
+            number: 1,
+            moment: Moment::Before,
+        });
+        for _ in 0..TRIED {
+            let Some(second) = next else {
                 break;
+            };
+            let is_left = is_of_one_call(first, second);
+            let is_met = is_left || self.run(told, first, second)?;
+            if is_met && !is_left {
+                met.push(second)?;
             }
-            met.push(stop)?;
+            next = stop_behind(second, is_met, first.is_none());
         }
         Ok(())
     }
 
     /// Makes the run with these stops. Whether it met them.
-    fn run(&mut self, first: Option<Stop<Call>>, second: Stop<Call>) -> Result<bool, Failure> {
-        let case = self.stopped(first, second)?;
+    fn run(
+        &mut self,
+        told: &mut Told,
+        first: Option<Stop<Call>>,
+        second: Stop<Call>,
+    ) -> Result<bool, Failure> {
+        let stage = self.stage_with(first, second)?;
         let tries = if first.is_some() { 3 } else { 2 };
-        let stage = Stage::new(self.alloc, case.world, case.course)?;
         let (stage, ending) = stage.run(self.alloc, tries);
-        self.judge(first, second, &stage, &ending)
+        self.judge(told, first, second, &stage, &ending)
     }
 
-    /// The case with these stops.
-    fn stopped(&self, first: Option<Stop<Call>>, second: Stop<Call>) -> Result<Case, Failure> {
-        let mut case = read_case(self.alloc, &mut Lines::new(self.text.as_bytes()))?;
-        match stop(&mut case.course, first, second) {
-            Ok(()) => Ok(case),
-            Err(AllocError) => Err(Failure::NoMemory),
+    /// The world with these stops.
+    fn stage_with(&self, first: Option<Stop<Call>>, second: Stop<Call>) -> Result<Stage, Failure> {
+        let mut schedule = Schedule::new(self.alloc);
+        if let Some(first) = first {
+            schedule.stop(first)?;
         }
+        schedule.stop(second)?;
+        stage_of(self.alloc, self.text, schedule)
     }
 
     /// Whether a run met its stops. If it came to something else than the unbroken one, that is told.
     fn judge(
         &mut self,
+        told: &mut Told,
         first: Option<Stop<Call>>,
         second: Stop<Call>,
         stage: &Stage,
@@ -127,38 +118,46 @@ impl<'a> Sweeping<'a> {
             return Ok(false);
         }
         self.runs = self.runs.saturating_add(1);
-        let left = masked(self.alloc, &stage.left(self.alloc)?)?;
+        let left = masked(self.alloc, &left_in(self.alloc, &stage.parts)?)?;
         if ending.settled.is_err() || left != self.wanted {
-            self.tell(first, second, &left)?;
+            if let Some(first) = first {
+                tell_stop(told, first);
+            }
+            tell_stop(told, second);
+            told.lines(&left);
         }
         Ok(true)
     }
-
-    /// Tells of a run that came to something else.
-    fn tell(
-        &mut self,
-        first: Option<Stop<Call>>,
-        second: Stop<Call>,
-        left: &str,
-    ) -> Result<(), AllocError> {
-        if let Some(first) = first {
-            writeln!(self.record, "{}", StopLine(first))?;
-        }
-        writeln!(self.record, "{}", StopLine(second))?;
-        self.record.push_str(left)
-    }
 }
 
-/// Adds these stops to a course.
-fn stop(
-    course: &mut Course,
-    first: Option<Stop<Call>>,
-    second: Stop<Call>,
-) -> Result<(), AllocError> {
-    if let Some(first) = first {
-        course.stop(first)?;
+/// Which stop is tried behind this one: at the next call of the name where it was met, else at the next moment.
+fn stop_behind(stop: Stop<Call>, is_met: bool, has_parts: bool) -> Option<Stop<Call>> {
+    let Stop {
+        call,
+        number,
+        moment,
+    } = stop;
+    if is_met && number < LIMIT {
+        return Some(Stop {
+            call,
+            number: number + 1,
+            moment,
+        });
     }
-    course.stop(second)
+    Some(Stop {
+        call,
+        number: 1,
+        moment: moment_behind(moment, has_parts && call == Call::Shelf(ShelfCall::Append))?,
+    })
+}
+
+fn moment_behind(moment: Moment, has_parts: bool) -> Option<Moment> {
+    match moment {
+        Moment::Before => Some(Moment::After),
+        Moment::After if has_parts => Some(Moment::Part(0)),
+        Moment::Part(count) if count < LAST_PART => Some(Moment::Part(count + 1)),
+        _ => None,
+    }
 }
 
 fn is_of_one_call(first: Option<Stop<Call>>, second: Stop<Call>) -> bool {
@@ -166,6 +165,24 @@ fn is_of_one_call(first: Option<Stop<Call>>, second: Stop<Call>) -> bool {
         Some(first) => first.call == second.call && first.number == second.number,
         None => false,
     }
+}
+
+/// An answer for a stop, as a line of a script.
+fn tell_stop(told: &mut Told, stop: Stop<Call>) {
+    told.begin();
+    told.text(match stop.moment {
+        Moment::Before => "stop before ",
+        Moment::After => "stop after ",
+        Moment::Part(_) => "stop part ",
+    });
+    told.text(name_of(stop.call));
+    told.text(" ");
+    told.number(stop.number);
+    if let Moment::Part(count) = stop.moment {
+        told.text(" ");
+        told.number(count as u64);
+    }
+    told.end();
 }
 
 /// A text without the marks of messages.
@@ -180,27 +197,4 @@ fn masked(alloc: Global, text: &str) -> Result<String, AllocError> {
         masked.push_str(seen)?;
     }
     Ok(masked)
-}
-
-/// A stop as a line of a script.
-#[derive(Drop)]
-struct StopLine(Stop<Call>);
-
-impl fmt::Display for StopLine {
-    fn fmt<W: fmt::Write>(&self, f: &mut fmt::Formatter<W>) -> fmt::Result {
-        let name = name_of(self.0.call);
-        let number = self.0.number;
-        match self.0.moment {
-            Moment::Before => write!(f, "stop before {name} {number}"),
-            Moment::After => write!(f, "stop after {name} {number}"),
-            Moment::Part(count) => write!(f, "stop part {name} {number} {count}"),
-        }
-    }
-}
-
-fn name_of(call: Call) -> &'static str {
-    match CALLS.iter().find(|(_, other)| *other == call) {
-        Some((name, _)) => name,
-        None => "",
-    }
 }

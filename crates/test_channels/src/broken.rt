@@ -1,0 +1,93 @@
+//! Runs whose standard output or standard error fails behind a count of bytes.
+
+use crate::work::{Played, Work};
+use test_scripts::failure::Failure;
+use test_scripts::told::Told;
+
+/// A stream that can fail.
+#[derive(Clone, Copy)]
+enum Stream {
+    Out,
+    Err,
+}
+
+impl Stream {
+    /// What a run wrote to it.
+    fn written<'a>(self, played: &'a Played<'_>) -> &'a [u8] {
+        match self {
+            Stream::Out => &played.out.written,
+            Stream::Err => &played.err.written,
+        }
+    }
+
+    /// Makes the run with this stream failing behind so many bytes.
+    fn broken<'a>(self, work: Work<'a>, room: usize) -> Result<Played<'a>, Failure> {
+        match self {
+            Stream::Out => work.played(room, usize::MAX),
+            Stream::Err => work.played(usize::MAX, room),
+        }
+    }
+
+    /// Tells that so many mailboxes are lent where this stream fails behind so many bytes.
+    fn tell(self, told: &mut Told, room: usize, lent: usize) {
+        told.begin();
+        told.text(match self {
+            Stream::Out => "out",
+            Stream::Err => "err",
+        });
+        told.text(" broken behind ");
+        told.number(room as u64);
+        told.text(": ");
+        told.number(lent as u64);
+        told.text(" lent");
+        told.end();
+    }
+}
+
+/// Makes the run again with a standard output, and then a standard error, that fails behind each count of bytes. It is told how many
+/// mailboxes were lent, wherever that changes, and how many runs had another status than 1, or wrote or asked something else before.
+pub(crate) fn break_each(work: Work<'_>, told: &mut Told) -> Result<(), Failure> {
+    let whole = work.played(usize::MAX, usize::MAX)?;
+    break_both(work, told, &whole)
+}
+
+fn break_both(work: Work<'_>, told: &mut Told, whole: &Played<'_>) -> Result<(), Failure> {
+    let out = break_stream(work, told, whole, Stream::Out)?;
+    let err = break_stream(work, told, whole, Stream::Err)?;
+    told.begin();
+    told.text("others ");
+    told.number(out.saturating_add(err));
+    told.end();
+    Ok(())
+}
+
+/// How many runs with this stream failing came to something else than the beginning of the whole one.
+fn break_stream(
+    work: Work<'_>,
+    told: &mut Told,
+    whole: &Played<'_>,
+    stream: Stream,
+) -> Result<u64, Failure> {
+    let mut others = 0u64;
+    let mut lent = usize::MAX;
+    for room in 0..stream.written(whole).len() {
+        let broken = stream.broken(work, room)?;
+        if !begins(whole, &broken, stream) {
+            others = others.saturating_add(1);
+        }
+        if lent != broken.stores.boxes.len() {
+            lent = broken.stores.boxes.len();
+            stream.tell(told, room, lent);
+        }
+    }
+    Ok(others)
+}
+
+/// Whether a broken run has the status 1, and a whole one begins as it: with what that wrote to this stream, and with what it asked the
+/// stores.
+fn begins(whole: &Played<'_>, broken: &Played<'_>, stream: Stream) -> bool {
+    let (written, asked) = (stream.written(broken), broken.stores.asked.as_str());
+    broken.status == 1
+        && stream.written(whole).starts_with(written)
+        && whole.stores.asked.as_str().starts_with(asked)
+}

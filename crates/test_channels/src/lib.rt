@@ -1,0 +1,31 @@
+//! What command lines come to over stores in memory, with the marks of the trial generator. Behind the line `run` stand the lines that
+//! were printed (`out`), those that were told (`err`), what the stores were asked (`ask`), and the exit status.
+//!
+//! A case has these lines, those that say what there is before its line `run`.
+//!
+//! | Line | Meaning |
+//! |---|---|
+//! | `config` | the configuration up to a line `.`; a case without has the one before |
+//! | `far STORE BOX..`, `near STORE BOX..` | the mailboxes of a store |
+//! | `box BOX` | a mailbox that can be lent, by its far name |
+//! | `in BOX LINE` | a line of its world, from `far` to `state` and the entries; one without is empty |
+//! | `stop BOX before CALL k`, `stop BOX after CALL k`, `refuse BOX CALL k` | a call of the mailbox's outside that stops, or is refused |
+//! | `state BOX "BYTES"`, `journal BOX "BYTES"` | the text of its state, or of its journal |
+//! | `unread BOX PATH` | the message of this path cannot be read: it is told where a run is stopped |
+//! | `locked BOX` | another process holds its lock |
+//! | `shut NAME` | a store of this name does not list its mailboxes, or a mailbox of this name is not lent |
+//! | `barred NAME` | the server of this store does not let its user in, or no longer where a mailbox of this name is lent |
+//! | `unmade BOX` | the server says no where this mailbox is to be made |
+//! | `show BOX` | what it is when the run has ended is told behind the exit status, if it was lent |
+//! | `run WORDS` | the command line: `-a`, `-l`, `--expunge`, the flags of Sync, and names |
+//! | `each break` | the run is made again with a standard output, and then a standard error, that fails behind each count of bytes: it is told how many mailboxes were lent, wherever that changes, and how many runs had another status than 1, or wrote or asked something else before (`others`) |
+#![tactic(auto)]
+
+mod broken;
+mod facts;
+mod failing;
+mod lent_box;
+mod mem_stores;
+pub mod play;
+mod run_line;
+mod work;

@@ -1,0 +1,80 @@
+//! The run of a case, and what is told of it.
+
+use crate::facts::Facts;
+use crate::failing::Failing;
+use crate::mem_stores::MemStores;
+use channels::run::run_config;
+use config::config::Config;
+use request::request::Request;
+use std::alloc::Global;
+use test_scripts::failure::Failure;
+use test_scripts::told::Told;
+use worlds::trial_generator::TrialGenerator;
+
+/// A command line, its configuration, and what there is.
+#[derive(Clone, Copy)]
+pub(crate) struct Work<'a> {
+    pub(crate) alloc: Global,
+    pub(crate) config: &'a Config,
+    pub(crate) request: &'a Request,
+    pub(crate) facts: &'a Facts,
+}
+
+/// What a run left.
+#[derive(Drop)]
+pub(crate) struct Played<'a> {
+    pub(crate) out: Failing,
+    pub(crate) err: Failing,
+    pub(crate) stores: MemStores<'a>,
+    pub(crate) status: u8,
+}
+
+impl<'a> Work<'a> {
+    /// Makes the run over a standard output and a standard error that fail behind so many bytes.
+    pub(crate) fn played(self, out: usize, err: usize) -> Result<Played<'a>, Failure> {
+        let mut stores = MemStores::new(self.alloc, self.facts);
+        let mut out = Failing::with_room(self.alloc, out);
+        let mut err = Failing::with_room(self.alloc, err);
+        let status = run_config(
+            self.alloc,
+            self.config,
+            self.request,
+            &mut stores,
+            &mut TrialGenerator::new(),
+            &mut out,
+            &mut err,
+        );
+        match stores.failure {
+            Some(failure) => Err(failure),
+            None => Ok(Played {
+                out,
+                err,
+                stores,
+                status,
+            }),
+        }
+    }
+}
+
+impl Played<'_> {
+    /// Tells the lines that were printed and told, what the stores were asked, and the exit status.
+    pub(crate) fn tell(&self, told: &mut Told) {
+        tell_lines(told, "out ", &self.out.written);
+        tell_lines(told, "err ", &self.err.written);
+        tell_lines(told, "ask ", self.stores.asked.as_str().as_bytes());
+        told.begin();
+        told.text("status ");
+        told.number(u64::from(self.status));
+        told.end();
+    }
+}
+
+/// An answer for each line of a text, behind a word.
+fn tell_lines(told: &mut Told, word: &str, text: &[u8]) {
+    for line in str::from_utf8(text).unwrap_or("(no text)").lines() {
+        told.begin();
+        told.text(word);
+        told.text(line);
+        told.end();
+    }
+}

@@ -1,0 +1,204 @@
+//! A client, and its calls.
+
+use crate::answers::{tell_done, tell_fault};
+use crate::mailbox_calls::ask_mailbox;
+use crate::session_calls::{ask_session, is_word};
+use imap_client::far_box::FarBox;
+use imap_client::session::Session;
+use imap_link::link::Link;
+use std::alloc::Global;
+use std::mem;
+use test_scripts::failure::Failure;
+use test_scripts::told::Told;
+use test_scripts::words::Words;
+
+/// What a client has.
+#[derive(Drop)]
+enum Stand<L: Link> {
+    Nothing,
+    Link(L),
+    Session(Session<L>),
+    Mailbox(FarBox<L>),
+}
+
+/// A client over a link.
+#[derive(Drop)]
+pub struct Client<L: Link> {
+    alloc: Global,
+    stand: Stand<L>,
+}
+
+impl<L: Link + Drop> Client<L> {
+    /// One that has this link, and no session.
+    pub fn new(alloc: Global, link: L) -> Client<L> {
+        Client {
+            alloc,
+            stand: Stand::Link(link),
+        }
+    }
+
+    /// The link, over which nothing more is sent.
+    pub fn into_link(self) -> Option<L> {
+        let Client { stand, .. } = self;
+        match stand {
+            Stand::Nothing => None,
+            Stand::Link(link) => Some(link),
+            Stand::Session(session) => Some(session.into_link()),
+            Stand::Mailbox(mailbox) => Some(mailbox.into_session().into_link()),
+        }
+    }
+
+    /// Makes the call of this word, of whose line the other words are read, and adds its answer.
+    pub fn make(
+        &mut self,
+        word: &str,
+        line: &mut Words<'_>,
+        told: &mut Told,
+    ) -> Result<(), Failure> {
+        match word {
+            "open" => self.open(line, told),
+            "select" => self.select(line, told),
+            "logout" => self.logout(line, told),
+            "into_session" => self.into_session(line, told),
+            "into_link" => self.leave(line, told),
+            "reconnect" | "login" | "names" | "create" => self.ask_session(word, line, told),
+            "list"
+            | "count"
+            | "fetch"
+            | "find_mark"
+            | "append"
+            | "add_flags"
+            | "remove_flags"
+            | "expunge" => return self.ask_mailbox(word, line, told),
+            _ => line.refuse(),
+        }
+        Ok(())
+    }
+
+    fn ask_session(&mut self, word: &str, line: &mut Words<'_>, told: &mut Told) {
+        match &mut self.stand {
+            Stand::Session(session) => ask_session(session, word, line, told),
+            _ => tell_not_made(line, told),
+        }
+    }
+
+    fn ask_mailbox(
+        &mut self,
+        word: &str,
+        line: &mut Words<'_>,
+        told: &mut Told,
+    ) -> Result<(), Failure> {
+        match &mut self.stand {
+            Stand::Mailbox(mailbox) => ask_mailbox(self.alloc, mailbox, word, line, told),
+            _ => {
+                tell_not_made(line, told);
+                Ok(())
+            }
+        }
+    }
+
+    fn take(&mut self) -> Stand<L> {
+        mem::replace(&mut self.stand, Stand::Nothing)
+    }
+
+    fn keep(&mut self, stand: Stand<L>) {
+        self.stand = stand;
+    }
+
+    /// Keeps what stands in place of what the call would take.
+    fn keep_other(&mut self, stand: Stand<L>, line: &mut Words<'_>, told: &mut Told) {
+        self.stand = stand;
+        tell_not_made(line, told);
+    }
+
+    fn open(&mut self, line: &mut Words<'_>, told: &mut Told) {
+        match self.take() {
+            Stand::Link(link) => match Session::open(self.alloc, link) {
+                Ok(session) => {
+                    told.text("done");
+                    self.keep(Stand::Session(session));
+                }
+                Err((fault, link)) => {
+                    tell_fault(told, fault);
+                    self.keep(Stand::Link(link));
+                }
+            },
+            other => self.keep_other(other, line, told),
+        }
+    }
+
+    fn select(&mut self, line: &mut Words<'_>, told: &mut Told) {
+        match self.take() {
+            Stand::Session(session) => {
+                let stand = selected(session, line, told);
+                self.keep(stand);
+            }
+            other => self.keep_other(other, line, told),
+        }
+    }
+
+    fn logout(&mut self, line: &mut Words<'_>, told: &mut Told) {
+        match self.take() {
+            Stand::Session(session) => {
+                let (answered, link) = match session.logout() {
+                    Ok(link) => (Ok(()), link),
+                    Err((fault, link)) => (Err(fault), link),
+                };
+                tell_done(told, answered);
+                self.keep(Stand::Link(link));
+            }
+            other => self.keep_other(other, line, told),
+        }
+    }
+
+    fn into_session(&mut self, line: &mut Words<'_>, told: &mut Told) {
+        match self.take() {
+            Stand::Mailbox(mailbox) => {
+                told.text("done");
+                self.keep(Stand::Session(mailbox.into_session()));
+            }
+            other => self.keep_other(other, line, told),
+        }
+    }
+
+    fn leave(&mut self, line: &mut Words<'_>, told: &mut Told) {
+        match self.take() {
+            Stand::Session(session) => {
+                told.text("done");
+                self.keep(Stand::Link(session.into_link()));
+            }
+            other => self.keep_other(other, line, told),
+        }
+    }
+}
+
+/// What the client has once it has selected the mailbox of this name.
+fn selected<L: Link + Drop>(
+    session: Session<L>,
+    line: &mut Words<'_>,
+    told: &mut Told,
+) -> Stand<L> {
+    let name = line.text().as_bytes();
+    if !is_word(name) {
+        line.refuse();
+        return Stand::Session(session);
+    }
+    match session.select(name) {
+        Ok(mailbox) => {
+            told.text("done");
+            Stand::Mailbox(mailbox)
+        }
+        Err((fault, session)) => {
+            tell_fault(told, fault);
+            Stand::Session(session)
+        }
+    }
+}
+
+/// The call cannot be made: what else its line says is passed over.
+fn tell_not_made(line: &mut Words<'_>, told: &mut Told) {
+    if !line.is_over() {
+        let _ = line.rest();
+    }
+    told.text("not made");
+}

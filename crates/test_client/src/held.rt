@@ -1,0 +1,113 @@
+//! What a server holds.
+
+use crate::answers::{tell_listing, tell_name};
+use mailcore::listing::Listing;
+use mailcore::mailbox::Mailbox;
+use mailcore::side::Side;
+use std::alloc::{AllocError, Global};
+use test_scripts::told::Told;
+
+/// What a server holds, told in the calls of a client that lists it.
+#[derive(Drop)]
+pub struct Held {
+    /// How a client goes on whose call was cut: it connects anew, and lists the mailboxes and each of them.
+    pub calls: Told,
+    /// What these calls answer from the login on.
+    pub answers: Told,
+    /// For each mailbox a line with its name and what it lists.
+    pub listings: Told,
+    // the bytes of all messages
+    bodies: Told,
+}
+
+impl Held {
+    /// Nothing so far.
+    pub fn new(alloc: Global) -> Held {
+        Held {
+            calls: Told::new(alloc),
+            answers: Told::new(alloc),
+            listings: Told::new(alloc),
+            bodies: Told::new(alloc),
+        }
+    }
+
+    /// Tells what a server with these mailboxes holds.
+    pub fn tell(&mut self, alloc: Global, mailboxes: &[Mailbox]) -> Result<(), AllocError> {
+        self.tell_names(alloc, mailboxes)?;
+        for mailbox in mailboxes {
+            let listing = mailbox.listing(alloc, Side::Far)?;
+            self.tell_mailbox(mailbox, &listing);
+        }
+        Ok(())
+    }
+
+    /// The login, and the names in the order of their bytes.
+    fn tell_names(&mut self, alloc: Global, mailboxes: &[Mailbox]) -> Result<(), AllocError> {
+        self.calls
+            .text("into_session\nreconnect\nopen\nlogin u p\nnames\n");
+        self.answers.answer("done");
+        let mut names = Vec::with_capacity(alloc, mailboxes.len())?;
+        for mailbox in mailboxes {
+            names.push(mailbox.name.as_str())?;
+        }
+        names.sort_unstable();
+        self.answers.begin();
+        if names.is_empty() {
+            self.answers.text("no mailbox");
+        }
+        for (place, name) in names.iter().enumerate() {
+            tell_name(&mut self.answers, place, name);
+        }
+        self.answers.end();
+        Ok(())
+    }
+
+    fn tell_mailbox(&mut self, mailbox: &Mailbox, listing: &Listing) {
+        let name = mailbox.name.as_str();
+        self.calls.text("select ");
+        self.calls.text(name);
+        self.calls.text("\nlist\ninto_session\n");
+        self.answers.answer("done");
+        self.answers.begin();
+        tell_listing(&mut self.answers, listing);
+        self.answers.end();
+        self.answers.answer("done");
+        self.listings.text(name);
+        self.listings.text(": ");
+        tell_listing(&mut self.listings, listing);
+        self.listings.end();
+        for message in mailbox.messages.as_slice() {
+            self.bodies.quoted(message.bytes.as_slice());
+        }
+    }
+
+    /// Whether it is the same.
+    pub fn is_as(&self, other: &Held) -> bool {
+        self.listings.as_str() == other.listings.as_str()
+            && self.bodies.as_str() == other.bodies.as_str()
+    }
+
+    /// Whether something could not be told for want of memory.
+    pub fn is_lost(&self) -> bool {
+        self.calls.is_lost()
+            || self.answers.is_lost()
+            || self.listings.is_lost()
+            || self.bodies.is_lost()
+    }
+
+    /// Tells the mailboxes that are others than before.
+    pub fn tell_change(&self, before: &Held, told: &mut Told) {
+        for line in self.listings.as_str().lines() {
+            let mut others = before.listings.as_str().lines();
+            if !others.any(|other| other == line) {
+                told.begin();
+                told.text("leaves ");
+                told.text(line);
+                told.end();
+            }
+        }
+        if self.is_as(before) {
+            told.answer("changes nothing on the server");
+        }
+    }
+}

@@ -1,0 +1,143 @@
+//! A client over a link to a server in memory.
+
+ghost use Rattle.std.specs.Prelude.{IfOk};
+ghost use Rattle.imap_server.specs.Boxes.{AreServed};
+
+use crate::client::Client;
+use crate::tape::PIECE;
+use imap_server::served::are_served;
+use imap_server::server::Server;
+use mailcore::flags::Flags;
+use mailcore::mailbox::{Mailbox, Message};
+use mailcore::octets::Octets;
+use mailcore::uid::Uid;
+use mem_link::mem_link::MemLink;
+use mem_link::schedule::{LinkStop, Schedule};
+use std::alloc::Global;
+use std::mem;
+use test_scripts::failure::Failure;
+use test_scripts::mail::{read_mailbox, read_message};
+use test_scripts::told::Told;
+use test_scripts::words::Words;
+
+/// The mailboxes of a server, and a client over a link to it.
+#[derive(Drop)]
+pub struct Memory {
+    alloc: Global,
+    /// The mailboxes, up to the first call.
+    pub mailboxes: Vec<Mailbox>,
+    piece: usize,
+    // where the link stops
+    stop: Option<LinkStop>,
+    // from the first call on
+    client: Option<Client<MemLink>>,
+}
+
+impl Memory {
+    /// A server without mailboxes, to which a link is that stops there.
+    pub fn new(alloc: Global, stop: Option<LinkStop>) -> Memory {
+        Memory {
+            alloc,
+            mailboxes: Vec::new(alloc),
+            piece: PIECE,
+            stop,
+            client: None,
+        }
+    }
+
+    /// Plays a line: one of the server, or a call, whose answer is told.
+    pub fn play(&mut self, line: &mut Words<'_>, told: &mut Told) -> Result<(), Failure> {
+        match line.word() {
+            "mailbox" => self.mailboxes.push(read_mailbox(self.alloc, line)?)?,
+            "message" => self.push(read_message(self.alloc, line)?)?,
+            "messages" => self.fill(line.number())?,
+            "body" => self.push_body(line.count())?,
+            "pieces" => self.piece = line.count(),
+            word => self.call(word, line, told)?,
+        }
+        Ok(())
+    }
+
+    /// The link, over which nothing more is sent; none where no call was made.
+    pub fn take_link(&mut self) -> Option<MemLink> {
+        match self.client.take() {
+            Some(client) => client.into_link(),
+            None => None,
+        }
+    }
+
+    /// Adds a message to the last mailbox. `Script`: there is none, or the UID is not above the others and below the next one.
+    fn push(&mut self, message: Message) -> Result<(), Failure> {
+        match self.mailboxes.last_mut() {
+            Some(mailbox) => Ok(mailbox.push(message)?),
+            None => Err(Failure::Script),
+        }
+    }
+
+    fn fill(&mut self, count: u32) -> Result<(), Failure> {
+        for before in 0..count {
+            let number = before.saturating_add(1);
+            let text = format!(in self.alloc; "X-TUID: {number:012}\r\n\r\ntext\r\n")?;
+            self.push_plain(number, text.into_bytes())?;
+        }
+        Ok(())
+    }
+
+    fn push_body(&mut self, size: usize) -> Result<(), Failure> {
+        let bytes = vec![in self.alloc; b'x'; size]?;
+        self.push_plain(1, bytes)
+    }
+
+    /// Adds a message without flags.
+    fn push_plain(&mut self, number: u32, bytes: Vec<u8>) -> Result<(), Failure> {
+        let bytes = Octets::from_vec(bytes);
+        match Uid::new(number) {
+            Some(uid) => self.push(Message {
+                uid,
+                flags: Flags::none(),
+                bytes,
+            }),
+            None => Err(Failure::Script),
+        }
+    }
+
+    fn call(&mut self, word: &str, line: &mut Words<'_>, told: &mut Told) -> Result<(), Failure> {
+        if self.client.is_none() {
+            self.client = Some(self.connected()?);
+        }
+        if let Some(client) = &mut self.client {
+            told.begin();
+            client.make(word, line, told)?;
+            told.end();
+        }
+        Ok(())
+    }
+
+    /// A client that has a link to a server with these mailboxes.
+    fn connected(&mut self) -> Result<Client<MemLink>, Failure> {
+        let mut stops = Vec::new(self.alloc);
+        if let Some(stop) = self.stop {
+            stops.push(stop)?;
+        }
+        let mailboxes = mem::replace(&mut self.mailboxes, Vec::new(self.alloc));
+        match server_of(self.alloc, mailboxes) {
+            Ok(server) => {
+                let link = MemLink::new(self.alloc, server, Schedule::new(stops));
+                Ok(Client::new(self.alloc, link.in_pieces(self.piece)))
+            }
+            Err(failure) => Err(failure),
+        }
+    }
+}
+
+/// A server with these mailboxes, for the user `u` with the password `p`. `Script`: it cannot have them.
+fn server_of(alloc: Global, mailboxes: Vec<Mailbox>) -> Result<Server, Failure>
+    ensures { IfOk result (λ server. AreServed server.server.mailboxes) }
+{
+    if !are_served(&mailboxes) {
+        return Err(Failure::Script);
+    }
+    let user = Vec::from_slice(alloc, b"u")?;
+    let password = Vec::from_slice(alloc, b"p")?;
+    Ok(Server::new(alloc, mailboxes, user, password))
+}

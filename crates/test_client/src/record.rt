@@ -1,0 +1,73 @@
+//! Lines that are played without a transcript.
+
+use crate::stage::Stage;
+use crate::tape::Tape;
+use std::alloc::Global;
+use std::cell::RefCell;
+use test_scripts::failure::Failure;
+use test_scripts::told::Told;
+use test_scripts::words::Words;
+
+/// The calls of a script that were made, and what came of them.
+#[derive(Drop)]
+pub struct Record {
+    /// Each call, in a line.
+    pub calls: Told,
+    /// The answer of each, in a line, and `(sent)` where anything was sent.
+    pub answers: Told,
+    /// How many bytes the server has said.
+    pub spoken: usize,
+    // what was sent or not, against what the script says
+    amiss: Told,
+}
+
+impl Record {
+    /// No call.
+    pub fn new(alloc: Global) -> Record {
+        Record {
+            calls: Told::new(alloc),
+            answers: Told::new(alloc),
+            spoken: 0,
+            amiss: Told::new(alloc),
+        }
+    }
+
+    /// What comes of these lines where the server says so many bytes at most.
+    pub fn of(alloc: Global, lines: &str, room: usize) -> Result<Record, Failure> {
+        let tape = RefCell::new(Tape::new(alloc, room));
+        let mut record = Record::new(alloc);
+        let played = record.play(&mut Stage::new(alloc, &tape), lines);
+        record.spoken = tape.into_inner().spoken();
+        match played {
+            Ok(()) => Ok(record),
+            Err(failure) => Err(failure),
+        }
+    }
+
+    /// Plays lines. `NoMemory`: not all is noted, too.
+    pub fn play(&mut self, stage: &mut Stage<'_>, lines: &str) -> Result<(), Failure> {
+        for line in lines.lines() {
+            self.play_line(stage, line)?;
+        }
+        if self.calls.is_lost() || self.answers.is_lost() {
+            return Err(Failure::NoMemory);
+        }
+        Ok(())
+    }
+
+    fn play_line(&mut self, stage: &mut Stage<'_>, line: &str) -> Result<(), Failure> {
+        let mut words = Words::new(line.as_bytes());
+        let word = words.word();
+        if stage.talk(word, &mut words)? {
+            return Ok(());
+        }
+        self.calls.text(line);
+        self.calls.end();
+        stage.call(word, &mut words, &mut self.answers)?;
+        if stage.end_call(&mut self.amiss)? {
+            self.answers.text(" (sent)");
+        }
+        self.answers.end();
+        Ok(())
+    }
+}

@@ -1,0 +1,86 @@
+//! Calls that are made over a link to a server in memory that stops somewhere.
+
+use crate::held::Held;
+use crate::memory::Memory;
+use mem_link::schedule::LinkStop;
+use std::alloc::Global;
+use test_scripts::failure::Failure;
+use test_scripts::told::Told;
+use test_scripts::words::Words;
+
+/// What came of calls.
+#[derive(Drop)]
+pub struct Came {
+    /// The answers of the calls before the last one.
+    pub earlier: Told,
+    /// The answer of the last one.
+    pub last: Told,
+    /// The answers of those that look what stands then.
+    pub look: Told,
+    /// What the server holds behind them.
+    pub held: Held,
+    /// How many calls of the link have stopped.
+    pub stops: usize,
+}
+
+/// What comes of the lines of a case, of its last call and of those that look, over a new link that stops there.
+pub fn replay(
+    alloc: Global,
+    lines: &str,
+    call: &str,
+    look: &str,
+    stop: Option<LinkStop>,
+) -> Result<Came, Failure> {
+    let mut came = Came {
+        earlier: Told::new(alloc),
+        last: Told::new(alloc),
+        look: Told::new(alloc),
+        held: Held::new(alloc),
+        stops: 0,
+    };
+    let mut memory = Memory::new(alloc, stop);
+    let played = came.play(alloc, &mut memory, lines, call, look);
+    match played {
+        Ok(()) => Ok(came),
+        Err(failure) => Err(failure),
+    }
+}
+
+impl Came {
+    fn play(
+        &mut self,
+        alloc: Global,
+        memory: &mut Memory,
+        lines: &str,
+        call: &str,
+        look: &str,
+    ) -> Result<(), Failure> {
+        play_lines(memory, lines, &mut self.earlier)?;
+        play_lines(memory, call, &mut self.last)?;
+        play_lines(memory, look, &mut self.look)?;
+        match memory.take_link() {
+            Some(link) => {
+                self.stops = link.stops();
+                self.held.tell(alloc, link.server().mailboxes())?;
+            }
+            None => self.held.tell(alloc, &memory.mailboxes)?,
+        }
+        if self.is_lost() {
+            return Err(Failure::NoMemory);
+        }
+        Ok(())
+    }
+
+    fn is_lost(&self) -> bool {
+        self.earlier.is_lost() || self.last.is_lost() || self.look.is_lost() || self.held.is_lost()
+    }
+}
+
+fn play_lines(memory: &mut Memory, lines: &str, told: &mut Told) -> Result<(), Failure> {
+    for line in lines.lines() {
+        let mut words = Words::new(line.as_bytes());
+        memory.play(&mut words, told)?;
+        words.end()?;
+    }
+    Ok(())
+}

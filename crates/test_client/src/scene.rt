@@ -1,0 +1,110 @@
+//! A call that is cut at each byte.
+
+use crate::held::Held;
+use crate::replay::{Came, replay};
+use crate::tally::{Cut, Tally};
+use mem_link::schedule::LinkStop;
+use std::alloc::Global;
+use test_scripts::failure::Failure;
+use test_scripts::told::Told;
+
+/// A call, and what stands in its case before it.
+#[derive(Clone, Copy)]
+pub struct Scene<'a> {
+    /// Where memory is taken.
+    pub alloc: Global,
+    /// The lines of the case.
+    pub lines: &'a str,
+    /// The call.
+    pub call: &'a str,
+}
+
+/// The call as it is without a cut.
+#[derive(Clone, Copy)]
+struct Unbroken<'a> {
+    /// What the server holds before it.
+    before: &'a Held,
+    /// What comes of the calls up to it.
+    whole: &'a Came,
+}
+
+impl Scene<'_> {
+    /// Tells what comes of the call, unbroken and cut.
+    pub fn tell(self, told: &mut Told) -> Result<(), Failure> {
+        let before = replay(self.alloc, self.lines, "", "", None)?;
+        self.tell_behind(&before.held, told)
+    }
+
+    fn tell_behind(self, before: &Held, told: &mut Told) -> Result<(), Failure> {
+        let whole = replay(self.alloc, self.lines, self.call, "", None)?;
+        let unbroken = Unbroken {
+            before,
+            whole: &whole,
+        };
+        self.tell_cuts(unbroken, told)
+    }
+
+    /// `Script`: a call of the link stops without a cut.
+    fn tell_cuts(self, unbroken: Unbroken<'_>, told: &mut Told) -> Result<(), Failure> {
+        if unbroken.whole.stops > 0 {
+            return Err(Failure::Script);
+        }
+        told.text(unbroken.whole.last.as_str());
+        unbroken.whole.held.tell_change(unbroken.before, told);
+        self.cut_each(unbroken, true)?.tell(told, "sent: ");
+        self.cut_each(unbroken, false)?.tell(told, "received: ");
+        Ok(())
+    }
+
+    /// Cuts the call behind each byte that is sent or received.
+    fn cut_each(self, unbroken: Unbroken<'_>, is_sent: bool) -> Result<Tally, Failure> {
+        let mut tally = Tally::new();
+        for place in 0..usize::MAX {
+            let stop = if is_sent {
+                LinkStop::Sent(place)
+            } else {
+                LinkStop::Received(place)
+            };
+            if tally.add(place, self.cut_at(unbroken, stop)?) {
+                break;
+            }
+        }
+        Ok(tally)
+    }
+
+    fn cut_at(self, unbroken: Unbroken<'_>, stop: LinkStop) -> Result<Cut, Failure> {
+        let cut = replay(self.alloc, self.lines, self.call, "", Some(stop))?;
+        self.judge(unbroken, &cut, stop)
+    }
+
+    fn judge(self, unbroken: Unbroken<'_>, cut: &Came, stop: LinkStop) -> Result<Cut, Failure> {
+        let Unbroken { before, whole } = unbroken;
+        let is_changed = !cut.held.is_as(before);
+        let stands = cut.held.is_as(&whole.held);
+        let is_earlier = cut.earlier.as_str() != whole.earlier.as_str();
+        let is_as_whole = cut.last.as_str() == whole.last.as_str();
+        if cut.stops == 0 {
+            Ok(Cut::Behind(stands && !is_earlier && is_as_whole))
+        } else if is_earlier {
+            Ok(Cut::Earlier)
+        } else if cut.last.as_str() != "  Stopped\n" {
+            Ok(Cut::Wrong("it does not answer Stopped"))
+        } else if is_changed && !stands {
+            Ok(Cut::Wrong("the server holds something else"))
+        } else if !self.is_listed(cut, stop)? {
+            Ok(Cut::Wrong("what is listed then is something else"))
+        } else if is_changed {
+            Ok(Cut::WithEffect)
+        } else {
+            Ok(Cut::Without)
+        }
+    }
+
+    /// Whether a client that goes on lists just what stands there, which changes nothing.
+    fn is_listed(self, cut: &Came, stop: LinkStop) -> Result<bool, Failure> {
+        let look = cut.held.calls.as_str();
+        let again = replay(self.alloc, self.lines, self.call, look, Some(stop))?;
+        let answers = again.look.as_str().as_bytes();
+        Ok(again.held.is_as(&cut.held) && answers.ends_with(cut.held.answers.as_str().as_bytes()))
+    }
+}

@@ -1,0 +1,35 @@
+//! Which names patterns choose.
+
+use box_patterns::patterns::{Pattern, Patterns, matches};
+use std::alloc::Global;
+use test_scripts::failure::Failure;
+use test_scripts::told::Told;
+
+/// Tells of `WORD .. : NAME ..` for each name whether the words choose it.
+pub fn tell_chosen(alloc: Global, told: &mut Told, text: &str) -> Result<(), Failure> {
+    let (words, names) = text.split_once(" : ").ok_or(Failure::Script)?;
+    let mut patterns = Patterns::new(alloc);
+    add_words(alloc, &mut patterns, words)?;
+    for name in names.split(' ') {
+        told.begin();
+        told.text(name);
+        told.text(if matches(&patterns, name) {
+            " yes"
+        } else {
+            " no"
+        });
+        told.end();
+    }
+    Ok(())
+}
+
+fn add_words(alloc: Global, patterns: &mut Patterns, words: &str) -> Result<(), Failure> {
+    for word in words.split(' ') {
+        let text = String::from_str(alloc, word)?;
+        match Pattern::from_string(text) {
+            Some(word) => patterns.push(word)?,
+            None => return Err(Failure::Script),
+        }
+    }
+    Ok(())
+}

@@ -1,0 +1,88 @@
+//! How a script is played.
+
+use crate::disk::play_on_disk;
+use crate::ground::Ground;
+use crate::memory::Memory;
+use crate::name::tell_name;
+use crate::seat::Seat;
+use maildir::disk_folder::DiskFolder;
+use test_scripts::failure::Failure;
+use test_scripts::play::{Player, play_all};
+use test_scripts::script::Script;
+use test_scripts::words::Words;
+
+/// Plays a script of the near mailbox.
+pub fn run(rt: &HostRuntime, script: &mut Script<'_>) -> Result<(), Failure> {
+    let ground = Ground::new(rt)?;
+    let mut desk = Desk {
+        rt: *rt,
+        ground: &ground,
+        stage: Stage::Empty,
+    };
+    play_all(rt, &mut desk, script)
+}
+
+/// The folder that stands there, and the place of one on a disk.
+#[derive(Drop)]
+struct Desk<'a> {
+    rt: HostRuntime,
+    ground: &'a Ground,
+    stage: Stage,
+}
+
+/// The folder that stands there.
+#[derive(Drop)]
+enum Stage {
+    Empty,
+    Memory(Memory),
+    Disk(Seat<DiskFolder<HostRuntime>>),
+}
+
+impl Player for Desk<'_> {
+    fn begin(&mut self) -> Result<(), Failure> {
+        self.stage = Stage::Empty;
+        Ok(())
+    }
+
+    fn play(&mut self, line: &mut Words<'_>, script: &mut Script<'_>) -> Result<(), Failure> {
+        match line.word() {
+            "folder" => self.set_folder(line),
+            "name" => Ok(tell_name(self.rt.alloc(), line.rest(), &mut script.told)?),
+            word => self.play_in_folder(word, line, script),
+        }
+    }
+
+    fn finish(&mut self) -> Result<(), Failure> {
+        Ok(())
+    }
+}
+
+impl Desk<'_> {
+    fn set_folder(&mut self, line: &mut Words<'_>) -> Result<(), Failure> {
+        let alloc = self.rt.alloc();
+        let folder = match line.word() {
+            "memory" => {
+                self.stage = Stage::Memory(Memory::read(alloc, line));
+                return Ok(());
+            }
+            "disk" => self.ground.new_folder()?,
+            "at" => DiskFolder::new(self.rt, line.text())?,
+            _ => return Err(Failure::Script),
+        };
+        self.stage = Stage::Disk(Seat::new(alloc, folder));
+        Ok(())
+    }
+
+    fn play_in_folder(
+        &mut self,
+        word: &str,
+        line: &mut Words<'_>,
+        script: &mut Script<'_>,
+    ) -> Result<(), Failure> {
+        match &mut self.stage {
+            Stage::Empty => Err(Failure::Script),
+            Stage::Memory(memory) => memory.play(&self.rt, word, line, script),
+            Stage::Disk(seat) => play_on_disk(&self.rt, seat, word, line, script),
+        }
+    }
+}

@@ -1,0 +1,149 @@
+//! How a script is played.
+
+use crate::changes::change;
+use crate::ground::Ground;
+use config::config::MaildirStore;
+use mailcore::mailbox_name::MailboxName;
+use near_places::boxes::near_boxes;
+use near_places::fresh::fresh_validity;
+use near_places::home::Home;
+use near_places::lock::{Lock, LockFault};
+use near_places::refusal::Refusal;
+use std::alloc::{AllocError, Global};
+use test_scripts::failure::Failure;
+use test_scripts::play::{Player, play_all};
+use test_scripts::script::Script;
+use test_scripts::told::Told;
+use test_scripts::words::Words;
+
+/// Plays a script of where near mailboxes are.
+pub fn run(rt: &HostRuntime, script: &mut Script<'_>) -> Result<(), Failure> {
+    let ground = Ground::new(rt)?;
+    let mut scene = Scene {
+        rt: *rt,
+        ground: &ground,
+        home: Home::new(None),
+        store: store_at(rt.alloc(), "mail/", "inbox")?,
+        locks: Vec::new(rt.alloc()),
+    };
+    play_all(rt, &mut scene, script)
+}
+
+/// A folder, a home, a store, and the locks that are held.
+#[derive(Drop)]
+struct Scene<'a> {
+    rt: HostRuntime,
+    ground: &'a Ground,
+    home: Home,
+    store: MaildirStore,
+    locks: Vec<Lock>,
+}
+
+impl Player for Scene<'_> {
+    fn begin(&mut self) -> Result<(), Failure> {
+        let alloc = self.rt.alloc();
+        self.home = Home::new(None);
+        self.store = store_at(alloc, "mail/", "inbox")?;
+        self.locks = Vec::new(alloc);
+        Ok(self.ground.clear()?)
+    }
+
+    fn play(&mut self, line: &mut Words<'_>, script: &mut Script<'_>) -> Result<(), Failure> {
+        let word = line.word();
+        match change(&self.rt, word, line) {
+            Some(done) => Ok(done?),
+            None => self.ask(word, line, &mut script.told),
+        }
+    }
+
+    fn finish(&mut self) -> Result<(), Failure> {
+        Ok(())
+    }
+}
+
+impl Scene<'_> {
+    fn ask(&mut self, word: &str, line: &mut Words<'_>, told: &mut Told) -> Result<(), Failure> {
+        match word {
+            "home" => self.set_home(line),
+            "store" => self.set_store(line),
+            "boxes" => self.tell_boxes(told),
+            "where" => self.tell_folder(line.text(), told),
+            "lock" => self.lock(line.text(), told),
+            "unlock" => {
+                let _ = self.locks.pop();
+                Ok(())
+            }
+            "validity" => {
+                told.say(&fresh_validity(line.long_number()));
+                Ok(())
+            }
+            _ => Err(Failure::Script),
+        }
+    }
+
+    fn set_home(&mut self, line: &mut Words<'_>) -> Result<(), Failure> {
+        let path = if line.is_over() {
+            None
+        } else {
+            Some(String::from_str(self.rt.alloc(), line.text())?)
+        };
+        self.home = Home::new(path);
+        Ok(())
+    }
+
+    fn set_store(&mut self, line: &mut Words<'_>) -> Result<(), Failure> {
+        let path = line.word();
+        self.store = store_at(self.rt.alloc(), path, line.text())?;
+        Ok(())
+    }
+
+    fn tell_boxes(&self, told: &mut Told) -> Result<(), Failure> {
+        match near_boxes(&self.rt, &self.home, &self.store) {
+            Ok(names) => {
+                for name in &names {
+                    told.answer(name.as_str());
+                }
+                Ok(())
+            }
+            Err(refusal) => tell_refusal(told, refusal),
+        }
+    }
+
+    fn tell_folder(&self, name: &str, told: &mut Told) -> Result<(), Failure> {
+        let alloc = self.rt.alloc();
+        let name = MailboxName::from_string(String::from_str(alloc, name)?);
+        told.answer(&self.home.folder_of(alloc, &self.store, &name)?);
+        Ok(())
+    }
+
+    fn lock(&mut self, folder: &str, told: &mut Told) -> Result<(), Failure> {
+        match Lock::take(&self.rt, folder) {
+            Ok(lock) => {
+                told.answer("held");
+                Ok(self.locks.push(lock)?)
+            }
+            Err(LockFault::Refused(refusal)) => tell_refusal(told, refusal),
+            Err(LockFault::Held) => {
+                told.say(&LockFault::Held);
+                Ok(())
+            }
+        }
+    }
+}
+
+fn tell_refusal(told: &mut Told, refusal: Refusal) -> Result<(), Failure> {
+    if let Refusal::NoMemory = refusal {
+        return Err(Failure::NoMemory);
+    }
+    told.say(&refusal);
+    Ok(())
+}
+
+/// A store with these words of Path and Inbox.
+fn store_at(alloc: Global, path: &str, inbox: &str) -> Result<MaildirStore, AllocError> {
+    Ok(MaildirStore {
+        name: String::from_str(alloc, "near")?,
+        path: String::from_str(alloc, path)?,
+        inbox: String::from_str(alloc, inbox)?,
+    })
+}

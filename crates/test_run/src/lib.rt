@@ -1,0 +1,26 @@
+//! Runs over mailboxes and a shelf in memory, with the marks of the trial generator. Of a run it is told what `mbtrial` prints of a
+//! trial: what it came to, what became of its steps, and the world from its line `far` on (docs/FORMATS.md, "Trial").
+//!
+//! A case has these lines, those that say what stops before its first run.
+//!
+//! | Line | Meaning |
+//! |---|---|
+//! | `world` | a world up to its line `end` (docs/FORMATS.md, "World"): what the runs of the case are made over |
+//! | `journal "BYTES"` | the journal before the first run |
+//! | `stop before CALL k` | the k-th call of this name has no effect, and stops |
+//! | `stop after CALL k` | it has its effect, and stops |
+//! | `stop part shelf.append k b` | its first b bytes are written, and it stops |
+//! | `refuse CALL k` | the k-th call of this name is refused |
+//! | `run N` | a run is made in up to N attempts, over what the one before it left |
+//! | `each stop` | a run over the world is made with a stop at each of its calls, before and behind its effect, and behind each count of bytes of an append: it is told how many stops there were, and which run left something else than the last `run` but for its marks |
+//! | `each pair of stops` | the same, and also with each two stops, the second of them before or behind a call |
+//!
+//! The calls of the mailboxes are `open_box`, `admit`, `list`, `find_mark`, `carry`, `add_flags`, `remove_flags` and `expunge`; those
+//! of the shelf, which are not refused, are `shelf.read`, `shelf.append`, `shelf.replace` and `shelf.remove`. Calls are counted over
+//! the whole case.
+#![tactic(auto)]
+
+pub mod calls;
+pub mod play;
+pub mod stage;
+mod sweep;

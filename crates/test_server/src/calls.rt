@@ -1,0 +1,84 @@
+//! Calls of a link.
+
+use crate::sent::push_line;
+use imap_link::link::{Link, LinkFault};
+use std::alloc::Global;
+use test_scripts::failure::Failure;
+use test_scripts::mail::tell_replies;
+use test_scripts::told::Told;
+use test_scripts::words::Words;
+
+/// At most so many bytes are asked of a link at once.
+const PIECE_BYTES: usize = 4096;
+
+/// Makes the call that a line with this first word asks for, and answers what it gives.
+pub fn call<L: Link>(
+    alloc: Global,
+    link: &mut L,
+    word: &str,
+    line: &mut Words<'_>,
+    told: &mut Told,
+) -> Result<(), Failure> {
+    match word {
+        "reconnect" => tell(told, link.reconnect()),
+        "receive" => receive(link, told),
+        "count" => count(link, told),
+        _ => send(alloc, link, word, line, told),
+    }
+}
+
+fn send<L: Link>(
+    alloc: Global,
+    link: &mut L,
+    word: &str,
+    line: &mut Words<'_>,
+    told: &mut Told,
+) -> Result<(), Failure> {
+    let mut sent = Vec::new(alloc);
+    push_line(alloc, &mut sent, word, line)?;
+    tell(told, link.send(&sent))
+}
+
+/// Receives once, and answers what came.
+fn receive<L: Link>(link: &mut L, told: &mut Told) -> Result<(), Failure> {
+    let mut piece = [0; PIECE_BYTES];
+    match link.recv(&mut piece) {
+        Ok(count) => {
+            tell_replies(told, &piece[..count]);
+            Ok(())
+        }
+        Err(fault) => tell(told, Err(fault)),
+    }
+}
+
+/// Receives up to a short piece, and answers how many bytes came.
+fn count<L: Link>(link: &mut L, told: &mut Told) -> Result<(), Failure> {
+    let mut piece = [0; PIECE_BYTES];
+    let mut all = 0u64;
+    for _ in 0..u64::MAX {
+        match link.recv(&mut piece) {
+            Ok(count) => {
+                all = all.saturating_add(count as u64);
+                if count < PIECE_BYTES {
+                    break;
+                }
+            }
+            Err(fault) => return tell(told, Err(fault)),
+        }
+    }
+    told.begin();
+    told.number(all);
+    told.text(" bytes");
+    told.end();
+    Ok(())
+}
+
+/// Answers `ok`, or that the call stopped. Where no memory is there, nothing is printed.
+fn tell(told: &mut Told, answer: Result<(), LinkFault>) -> Result<(), Failure> {
+    match answer {
+        Ok(()) => told.answer("ok"),
+        Err(LinkFault::Stopped) => told.answer("stopped"),
+        Err(LinkFault::NoMemory) => return Err(Failure::NoMemory),
+    }
+    Ok(())
+}

@@ -1,0 +1,137 @@
+//! Sessions with a server.
+
+ghost use Rattle.std.specs.Prelude.{◌<◌};
+
+use crate::mailboxes::{add_mailbox, add_message, make_server, tell_mailboxes};
+use crate::sent::{push_line, push_lines};
+use crate::serving::{serve_loopback, serve_memory};
+use imap_server::server::Server;
+use mailcore::mailbox::Mailbox;
+use test_scripts::failure::Failure;
+use test_scripts::mail::tell_replies;
+use test_scripts::play::Player;
+use test_scripts::script::Script;
+use test_scripts::told::Told;
+use test_scripts::words::Words;
+
+/// The mailboxes of the next server, a server, and of how many bytes the pieces are that are fed to it.
+#[derive(Drop)]
+pub struct Sessions {
+    rt: HostRuntime,
+    mailboxes: Vec<Mailbox>,
+    server: Option<Server>,
+    piece: usize,
+}
+
+impl Sessions {
+    /// No server.
+    pub fn new(rt: &HostRuntime) -> Sessions {
+        Sessions {
+            rt: *rt,
+            mailboxes: Vec::new(rt.alloc()),
+            server: None,
+            piece: 4096,
+        }
+    }
+
+    /// Plays a line that asks for a server.
+    fn ask(
+        &mut self,
+        word: &str,
+        line: &mut Words<'_>,
+        script: &mut Script<'_>,
+    ) -> Result<(), Failure> {
+        let Some(server) = &mut self.server else {
+            return Err(Failure::Script);
+        };
+        match word {
+            "connect" => tell_replies(&mut script.told, server.connect()),
+            "mailboxes" => tell_mailboxes(&mut script.told, server),
+            "hang" if line.word() == "up" => server.hang_up(),
+            _ => return self.send(word, line, script),
+        }
+        Ok(())
+    }
+
+    /// Sends what this line says, or those up to a line `end`.
+    fn send(
+        &mut self,
+        word: &str,
+        line: &mut Words<'_>,
+        script: &mut Script<'_>,
+    ) -> Result<(), Failure> {
+        let alloc = self.rt.alloc();
+        let mut sent = Vec::new(alloc);
+        let pushed = match word {
+            "together" | "loopback" | "stream" => push_lines(alloc, &mut sent, script),
+            _ => push_line(alloc, &mut sent, word, line),
+        };
+        pushed?;
+        self.bring(word, line, &sent, &mut script.told)
+    }
+
+    /// Brings these bytes to the server by the way that the line says.
+    fn bring(
+        &mut self,
+        word: &str,
+        line: &mut Words<'_>,
+        sent: &[u8],
+        told: &mut Told,
+    ) -> Result<(), Failure> {
+        let Some(server) = &mut self.server else {
+            return Err(Failure::Script);
+        };
+        match word {
+            "loopback" => return Ok(serve_loopback(&self.rt, server, sent, told)?),
+            "stream" => serve_memory(self.rt.alloc(), server, sent, line, told),
+            _ => feed(server, sent, self.piece.max(1), told),
+        }
+        Ok(())
+    }
+}
+
+impl Player for Sessions {
+    fn begin(&mut self) -> Result<(), Failure> {
+        *self = Sessions::new(&self.rt);
+        Ok(())
+    }
+
+    fn play(&mut self, line: &mut Words<'_>, script: &mut Script<'_>) -> Result<(), Failure> {
+        let alloc = self.rt.alloc();
+        match line.word() {
+            "mailbox" => add_mailbox(alloc, &mut self.mailboxes, line),
+            "message" => add_message(alloc, &mut self.mailboxes, line),
+            "server" => {
+                self.server = Some(make_server(alloc, &mut self.mailboxes)?);
+                Ok(())
+            }
+            "pieces" => {
+                self.piece = line.count();
+                if self.piece == 0 {
+                    line.refuse();
+                }
+                Ok(())
+            }
+            word => self.ask(word, line, script),
+        }
+    }
+
+    fn finish(&mut self) -> Result<(), Failure> {
+        Ok(())
+    }
+}
+
+/// Feeds bytes in pieces, and answers the replies. Behind a fault nothing more is fed.
+fn feed(server: &mut Server, sent: &[u8], piece: usize, told: &mut Told)
+    requires { 0 < piece }
+{
+    for bytes in sent.chunks(piece) {
+        match server.feed(bytes) {
+            Ok(replies) => tell_replies(told, &replies),
+            Err(fault) => {
+                told.say(&fault);
+                break;
+            }
+        }
+    }
+}

@@ -1,0 +1,14 @@
+//! Trials as `mbtrial` makes them (docs/FORMATS.md, "Trial"), each over a server, a folder and a shelf in memory. Behind a line `play`
+//! stand the lines that are printed, those that standard error is told, each behind `err`, and the exit status.
+//!
+//! | Line | Meaning |
+//! |---|---|
+//! | `trial` | the text of a trial up to a line `.`, which the lines behind it play |
+//! | `play` | the trial is played, and the far mailbox is reached in memory |
+//! | `play over loopback` | the same, and the far mailbox is reached over a loopback connection |
+//! | `play for each B from N to M` | the trial is played once for each number from N to M, in place of each word `B` of its text: where all numbers of a range have the same answer, it is told once behind the range |
+//! | `play for each B from N to M over loopback` | the same over loopback connections |
+#![tactic(auto)]
+
+mod numbered;
+pub mod play;

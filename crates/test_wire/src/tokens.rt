@@ -1,0 +1,196 @@
+//! What plays a script of `tokens`.
+
+use crate::command::tell_command;
+use crate::made::{make, make_of_vec};
+use crate::named::{read_has, read_named};
+use crate::pieces::read_pieces;
+use crate::reply::tell_reply;
+use crate::telling::{tell_count, tell_line};
+use crate::token::tell_token;
+use imap_wire::{Read, UidSet, WireFault, read_command, read_reply};
+use std::alloc::{AllocError, Global};
+use test_scripts::failure::Failure;
+use test_scripts::play::Player;
+use test_scripts::script::Script;
+use test_scripts::told::Told;
+use test_scripts::words::Words;
+use wire_reader::stop::{Kind, ReadError, Stop};
+use wire_strings::line_text::{all_text, write_line_text};
+
+/// What stands before a text that is written, and has to stay there.
+const BEFORE: &[u8] = b"before ";
+
+/// Where values are written, and whether a growth was refused.
+#[derive(Drop)]
+pub struct Tokens {
+    /// What makes the values of a line.
+    pub alloc: Global,
+    /// To which a value is written.
+    pub out: Vec<u8>,
+    is_lost: bool,
+}
+
+impl Tokens {
+    /// Nothing is written yet.
+    pub fn new(alloc: Global) -> Tokens {
+        Tokens {
+            alloc,
+            out: Vec::new(alloc),
+            is_lost: false,
+        }
+    }
+
+    /// Notes whether a growth was refused.
+    pub fn note(&mut self, done: Result<(), AllocError>) {
+        if done.is_err() {
+            self.is_lost = true;
+        }
+    }
+
+    /// Makes all ready for the next value that is written.
+    pub fn empty(&mut self) {
+        self.out.clear();
+        let done = self.out.extend_from_slice(BEFORE);
+        self.note(done);
+    }
+
+    /// Tells what was written; what has no writer writes nothing.
+    pub fn tell_written(&mut self, told: &mut Told, done: Result<(), AllocError>) {
+        self.note(done);
+        match self.out.strip_prefix(BEFORE) {
+            Some([]) => {}
+            Some(written) => tell_line(told, "is written ", written),
+            None => told.answer("is written over what stood there"),
+        }
+    }
+
+    /// The lines that have words of their own before their bytes.
+    fn ask(&mut self, word: &str, line: &mut Words<'_>, told: &mut Told) -> Result<(), Failure> {
+        match word {
+            "has" => {
+                let has = read_has(self.alloc, line)?;
+                told.answer(if has { "has it" } else { "has it not" });
+            }
+            "uid" => read_named(self.alloc, line, told)?,
+            "empty-set" => {
+                let set = UidSet::new(Vec::new(self.alloc));
+                told.answer(if set.is_some() { "a set" } else { "none" });
+            }
+            "make" => {
+                let kind = line.word();
+                let bytes = read_pieces(self.alloc, line)?;
+                self.make(kind, bytes, line, told);
+            }
+            "write" => {
+                if line.word() != "line-text" {
+                    line.refuse();
+                }
+                let text = read_pieces(self.alloc, line)?;
+                self.write_line_text(&text, told);
+            }
+            _ => {
+                let bytes = read_pieces(self.alloc, line)?;
+                self.read(word, &bytes, line, told);
+            }
+        }
+        Ok(())
+    }
+
+    fn make(&mut self, kind: &str, bytes: Vec<u8>, line: &mut Words<'_>, told: &mut Told) {
+        let made = match kind {
+            "text" | "pattern" | "message" => make_of_vec(self, kind, bytes, told),
+            _ => make(self, kind, &bytes, line, told),
+        };
+        if made.is_none() {
+            told.answer("none");
+        }
+    }
+
+    fn read(&mut self, word: &str, bytes: &[u8], line: &mut Words<'_>, told: &mut Told) {
+        match word {
+            "command" => {
+                let read = read_command(self.alloc, bytes);
+                if let Some(command) = self.whole(told, read) {
+                    tell_command(self, told, &command);
+                }
+            }
+            "reply" => {
+                let read = read_reply(self.alloc, bytes);
+                if let Some(reply) = self.whole(told, read) {
+                    tell_reply(self, told, &reply);
+                }
+            }
+            _ => match tell_token(self, word, bytes, line, told) {
+                Ok(()) => {}
+                Err(ReadError::At(stop)) => tell_stop(told, stop, bytes.len()),
+                Err(ReadError::Memory) => self.is_lost = true,
+            },
+        }
+    }
+
+    /// Tells how a text that ends a line is written from its bytes alone.
+    fn write_line_text(&mut self, bytes: &[u8], told: &mut Told) {
+        if all_text(bytes) {
+            let done = write_line_text(bytes, &mut self.out);
+            self.tell_written(told, done);
+        } else {
+            told.answer("none");
+        }
+    }
+
+    /// Tells what the reader of lines answers, and gives what it read.
+    fn whole<T>(&mut self, told: &mut Told, answer: Result<Read<T>, WireFault>) -> Option<T> {
+        match answer {
+            Ok(Read::Whole(value, used)) => {
+                tell_count(told, "whole, ", used, " bytes");
+                return Some(value);
+            }
+            Ok(Read::WantsLiteral(octets)) => {
+                tell_count(told, "waits for ", octets as usize, " octets");
+            }
+            Ok(Read::Partial) => told.answer("partial"),
+            Err(WireFault::Syntax(at)) => tell_count(told, "refused at byte ", at, ""),
+            Err(WireFault::LiteralTooLong(at)) => {
+                tell_count(told, "literal too long at byte ", at, "");
+            }
+            Err(WireFault::LineTooLong) => told.answer("line too long"),
+            Err(WireFault::NoMemory) => self.is_lost = true,
+        }
+        None
+    }
+}
+
+impl Player for Tokens {
+    fn begin(&mut self) -> Result<(), Failure> {
+        Ok(())
+    }
+
+    fn play(&mut self, line: &mut Words<'_>, script: &mut Script<'_>) -> Result<(), Failure> {
+        self.empty();
+        let word = line.word();
+        self.ask(word, line, &mut script.told)?;
+        if self.is_lost {
+            return Err(Failure::NoMemory);
+        }
+        Ok(())
+    }
+
+    fn finish(&mut self) -> Result<(), Failure> {
+        Ok(())
+    }
+}
+
+/// Tells where a reader of tokens stopped in so many bytes, in the words for lines.
+fn tell_stop(told: &mut Told, stop: Stop, length: usize) {
+    match stop {
+        Stop::Ends(None) => told.answer("partial"),
+        Stop::Ends(Some(octets)) => tell_count(told, "waits for ", octets as usize, " octets"),
+        Stop::Fails(kind, left) => {
+            let words = match kind {
+                Kind::Syntax => "refused at byte ",
+                Kind::TooLong => "literal too long at byte ",
+            };
+            tell_count(told, words, length.saturating_sub(left), "");
+        }
+    }
+}
