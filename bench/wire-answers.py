@@ -331,17 +331,51 @@ def read(line):
     return letter, pieces[0].encode() + b"".join(bytes([int(p[:2], 16)]) + p[2:].encode() for p in pieces[1:])
 
 
+# What makes replies, and what is asked of them.
+
+def listing(count):
+    flags = ["", "\\Seen", "\\Answered \\Seen", "\\Flagged $Forwarded keyword"]
+    return b"".join(b"* %d FETCH (UID %d FLAGS (%s) RFC822.SIZE %d)\r\n" % (n, 2 * n, flags[n % 4].encode(), 37 * n)
+                    for n in range(1, count + 1))
+
+
+def body(size):
+    octets = (b"a line of a message\r\n" * (size // 21 + 1))[:size]
+    return b"* 1 FETCH (UID 7 BODY[] {%d}\r\n" % size + octets + b")\r\n"
+
+
+def replies(data):
+    """How many replies stand at the front, and how many bytes they have."""
+    count, used = 0, 0
+    while used < len(data) and (end := begins("R", data[used:])[0]) is not None:
+        count, used = count + 1, used + end
+    return f"{count} replies, {used} bytes"
+
+
+def made():
+    """The lines behind the examples, each with its answer."""
+    for line, data in (("listings 4", listing(4)), ("body 50", body(50))):
+        yield line, f"{len(data)} bytes"
+        for question in ("read all", "feed in pieces of 1000", "feed in pieces of 7"):
+            yield question, replies(data)
+        yield "line feeds", f"{data.count(10)} line feeds"
+
+
 def main():
     if len(sys.argv) != 2 or sys.argv[1] not in ("examples", "answers"):
         sys.exit(__doc__)
     with open(REAL_LINES, encoding="ascii") as file:
         real = [read(line) for line in file if not line.startswith("#")]
-    for side, data in EXAMPLES + real:
-        print(side, shown(data))
-        if sys.argv[1] == "examples":
-            continue
-        for told in answers(side, data) if side.isupper() else [answer(side.upper(), data)]:
-            print("  " + told)
+    lines = [(f"{side} {shown(data)}", side, data) for side, data in EXAMPLES + real]
+    for line, side, data in lines:
+        print(line)
+        if sys.argv[1] == "answers":
+            for told in answers(side, data) if side.isupper() else [answer(side.upper(), data)]:
+                print(f"  {told}")
+    for line, told in made():
+        print(line)
+        if sys.argv[1] == "answers":
+            print(f"  {told}")
 
 
 main()
