@@ -72,6 +72,11 @@ impl<R: Net + Files<File = File> + AllocGlobal + Clone + Drop, P: Progress + Cop
         }
     }
 
+    /// Closes the mailbox that is open, and lets its lock go.
+    fn close(&mut self) {
+        self.open = None;
+    }
+
     /// Takes the lock of a mailbox, and opens both sides.
     fn open_box(&self, place: ChannelBox<'_>) -> Result<OpenBox<R, P>, LockFault> {
         let alloc = self.reach.rt.alloc();
@@ -94,7 +99,7 @@ impl<R: Net + Files<File = File> + AllocGlobal + Clone + Drop, P: Progress + Cop
 impl<R: Net + Files<File = File> + AllocGlobal + Clone + Drop, P: Progress + Copy> BoxLists
     for MailStores<R, P> {
     fn far_boxes(&mut self, store: &ImapStore) -> Result<Vec<MailboxName>, ListFault> {
-        self.open = None;
+        self.close();
         self.reach.far_boxes(store)
     }
 
@@ -108,7 +113,7 @@ impl<R: Net + Files<File = File> + AllocGlobal + Clone + Drop, P: Progress + Cop
     type Outside = RealBox<R, P>;
 
     fn make(&mut self, side: Side, place: ChannelBox<'_>) -> Result<(), StoreFault> {
-        self.open = None;
+        self.close();
         match side {
             Side::Far => self.reach.make_far(place.of.far_store, place.far),
             Side::Near => self.reach.make_near(place).map_err(lock_fault),
@@ -116,7 +121,7 @@ impl<R: Net + Files<File = File> + AllocGlobal + Clone + Drop, P: Progress + Cop
     }
 
     fn outside(&mut self, place: ChannelBox<'_>) -> Result<&mut Self::Outside, StoreFault> {
-        self.open = None;
+        self.close();
         let open = self.open_box(place).map_err(lock_fault)?;
         Ok(&mut self.open.insert(open).outside)
     }
