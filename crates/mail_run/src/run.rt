@@ -10,11 +10,13 @@ use config::config::Config;
 use mail_stores::mail_stores::MailStores;
 use near_places::home::Home;
 use request::request::Request;
+use std::alloc::Global;
 use std::fs::File;
 use std::io::Write;
 use std::net::Net;
 use std::num::NonZeroU32;
 use std::rt::{Clock, Env, Files};
+use stores::stores::Stores;
 
 /// What a run reads before it begins.
 #[derive(Drop)]
@@ -64,29 +66,54 @@ pub fn run_mail<
     }
 }
 
-/// Runs the channels.
+/// Runs the channels over servers and folders.
 fn run_start<
     R: Net + Files<File = File> + Env + Clock + AllocGlobal + Clone + Drop,
     T: Write + Copy,
     O: Write,
     E: Write,
 >(rt: R, request: &Request, start: Start, screen: &Screen<T>, out: &mut O, err: &mut E) -> u8 {
-    let alloc = rt.alloc();
     let Start {
         config,
         home,
         seed,
         fresh,
     } = start;
+    let work = Work {
+        alloc: rt.alloc(),
+        config: &config,
+        request,
+        seed,
+    };
     let stores = MailStores::new(rt, home, fresh, screen.steps());
+    run_over(work, stores, screen, out, err)
+}
+
+/// What is run, whatever the stores are.
+#[derive(Clone, Copy)]
+struct Work<'a> {
+    alloc: Global,
+    config: &'a Config,
+    request: &'a Request,
+    seed: [u8; 32],
+}
+
+/// Runs the channels over these stores.
+fn run_over<S: Stores + Drop, T: Write + Copy, O: Write, E: Write>(
+    work: Work<'_>,
+    stores: S,
+    screen: &Screen<T>,
+    out: &mut O,
+    err: &mut E,
+) -> u8 {
     let mut stores = ShownStores::new(stores, screen);
-    let mut rng = generator(seed);
+    let mut rng = generator(work.seed);
     let mut out = Wiping::new(screen, out);
     let mut err = Wiping::new(screen, err);
     run_config(
-        alloc,
-        &config,
-        request,
+        work.alloc,
+        work.config,
+        work.request,
         &mut stores,
         &mut rng,
         &mut out,

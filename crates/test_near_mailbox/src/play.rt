@@ -40,7 +40,7 @@ enum Stage {
 
 impl Player for Desk<'_> {
     fn begin(&mut self) -> Result<(), Failure> {
-        self.stage = Stage::Empty;
+        self.put(Stage::Empty);
         Ok(())
     }
 
@@ -62,15 +62,20 @@ impl Desk<'_> {
         let alloc = self.rt.alloc();
         let folder = match line.word() {
             "memory" => {
-                self.stage = Stage::Memory(Memory::read(alloc, line));
+                self.put(Stage::Memory(Memory::read(alloc, line)));
                 return Ok(());
             }
             "disk" => self.ground.new_folder()?,
             "at" => DiskFolder::new(self.rt, line.text())?,
             _ => return Err(Failure::Script),
         };
-        self.stage = Stage::Disk(Seat::new(alloc, folder));
+        self.put(Stage::Disk(Seat::new(alloc, folder)));
         Ok(())
+    }
+
+    /// Puts a folder in the place of the one that stands there.
+    fn put(&mut self, stage: Stage) {
+        self.stage = stage;
     }
 
     fn play_in_folder(

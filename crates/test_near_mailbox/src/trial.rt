@@ -66,11 +66,20 @@ pub fn try_stops(
 impl Trial<'_> {
     /// Does it in a folder without a stop, which shows its calls, and then with a stop in each of them.
     fn tell_stops(&mut self, line: &mut Words<'_>, told: &mut Told) -> Result<(), Failure> {
-        let alloc = self.rt.alloc();
-        let mut seat = self.memory.new_seat(alloc, None)?;
-        let first = self.prepare(&mut seat)?;
-        let mut aside = Told::new(alloc);
-        self.act(&mut seat, line, &mut aside);
+        let mut seat = self.memory.new_seat(self.rt.alloc(), None)?;
+        self.tell_stops_in(&mut seat, line, told)
+    }
+
+    /// The same in this folder.
+    fn tell_stops_in(
+        &mut self,
+        seat: &mut Seat<MemFolder>,
+        line: &mut Words<'_>,
+        told: &mut Told,
+    ) -> Result<(), Failure> {
+        let first = self.prepare(seat)?;
+        let mut aside = Told::new(self.rt.alloc());
+        self.act(seat, line, &mut aside);
         match seat.close() {
             Some(folder) => self.tell_calls(folder.calls(), first, told),
             None => Ok(()),
@@ -142,8 +151,18 @@ impl Trial<'_> {
     /// Tries one stop.
     fn tell_stop(&mut self, stop: Stop<FolderCall>, told: &mut Told) -> Result<(), Failure> {
         let mut seat = self.memory.new_seat(self.rt.alloc(), Some(stop))?;
-        self.tell_first(&mut seat, stop, told)?;
-        self.tell_again(&mut seat, told)
+        self.tell_stop_in(&mut seat, stop, told)
+    }
+
+    /// The same in this folder.
+    fn tell_stop_in(
+        &mut self,
+        seat: &mut Seat<MemFolder>,
+        stop: Stop<FolderCall>,
+        told: &mut Told,
+    ) -> Result<(), Failure> {
+        self.tell_first(seat, stop, told)?;
+        self.tell_again(seat, told)
     }
 
     /// What is answered where the call stops, and what that leaves.
