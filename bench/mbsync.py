@@ -10,163 +10,14 @@ server of its own; what has to be printed, and what has to stand on both sides, 
 import argparse
 import fcntl
 import os
-import re
-import shlex
-import shutil
 import signal
 import subprocess
-import sys
-import tempfile
 import time
 
 import trial_imapd
-from imap_side import ImapSide
-from maildir_side import MaildirSide
+from scene import CONFIG, ONE, TWO, Scene, Tally, mode_of, near_text
 
-ONE = b"Subject: one\r\n\r\nThe first.\r\n"
-TWO = b"Subject: two\r\n\r\nThe second.\r\n"
-NOBODY = 65534
 LONGEST = "x" * 200 + "/" + "x" * 54
-MARK = re.compile(rb"\AX-TUID: [A-Za-z0-9_-]{12}\r?\n")
-
-CONFIG = """\
-IMAPStore far
-Host 127.0.0.1
-Port %(port)d
-User u
-Pass %(password)s
-
-MaildirStore near
-Path ~/mail/
-Inbox ~/inbox
-
-Channel c
-Far :far:
-Near :near:
-Create Near
-
-Channel all
-Far :far:
-Near :near:
-Patterns %(patterns)s
-Create %(create)s
-"""
-
-
-class Scene:
-    """A home folder with a configuration, a server with these messages, and mbsync between them."""
-
-    program = None
-    user = None
-
-    def __init__(self, *messages, patterns="* INBOX", create="None", password="p"):
-        self.home = tempfile.mkdtemp(prefix="mbsync-")
-        world = self.path("world")
-        with open(world, "wb") as file:
-            file.write(trial_imapd.world(list(messages)))
-        self.server = trial_imapd.Server(world, 65535)
-        self.server.connect().logout()
-        self.configure(CONFIG % {"port": self.server.port, "password": password, "patterns": patterns, "create": create})
-
-    def __enter__(self):
-        return self
-
-    def __exit__(self, *_):
-        self.server.stop()
-        shutil.rmtree(self.home)
-
-    def path(self, name):
-        return os.path.join(self.home, name)
-
-    def configure(self, text):
-        with open(self.path(".mbsyncrc"), "w", encoding="ascii") as file:
-            file.write(text)
-
-    def words(self, words, home):
-        environment = {name: text for name, text in os.environ.items() if name != "HOME"}
-        if home:
-            environment["HOME"] = self.home
-        known = {"args": [self.program, *words], "env": environment, "stdin": subprocess.DEVNULL, "cwd": self.home}
-        if self.user is not None:
-            known.update(user=self.user, group=self.user, extra_groups=[])
-        return known
-
-    def leave_root(self):
-        """Makes the further runs those of a user who cannot read every file."""
-        if os.geteuid() == 0:
-            self.user = NOBODY
-            for folder, _, names in os.walk(self.home):
-                for path in (folder, *(os.path.join(folder, name) for name in names)):
-                    os.chown(path, NOBODY, NOBODY)
-
-    def run(self, *words, home=True, out=subprocess.PIPE):
-        """The status of a run, and what it prints: standard output, and behind it standard error."""
-        done = subprocess.run(**self.words(words, home), stdout=out, stderr=subprocess.PIPE, timeout=120, check=False)
-        return [done.returncode, *(done.stdout or b"").decode("latin-1").splitlines(), *done.stderr.decode("latin-1").splitlines()]
-
-    def run_on_terminal(self, *words, out):
-        """What a run writes to a terminal that is its standard error. Its standard output goes to this file."""
-        line = f"{shlex.join([self.program, *words])} > {shlex.quote(out)}"
-        known = self.words(words, True)
-        known["args"] = ["script", "-q", "-e", "-c", line, self.path("typescript")]
-        done = subprocess.run(**known, stdout=subprocess.PIPE, timeout=120, check=False)
-        return [done.returncode, done.stdout]
-
-    def start(self, *words):
-        return subprocess.Popen(**self.words(words, True), stdout=subprocess.PIPE, stderr=subprocess.PIPE)
-
-    def far(self):
-        return ImapSide(self.server.port)
-
-    def far_messages(self):
-        """Flags and bytes of each far message by UID, without the line of a mark."""
-        with self.far() as far:
-            return {uid: ("".join(sorted(flags)), MARK.sub(b"", data)) for uid, flags, data in far.messages()}
-
-    def make_far(self, *names):
-        with self.far() as far:
-            for name in names:
-                far.ask(b"CREATE " + name.encode())
-
-    def near(self, box="inbox"):
-        return MaildirSide(self.path(box))
-
-    def near_messages(self, box="inbox"):
-        """The same of the near mailbox in this folder. Waiting messages have UID 0."""
-        return {uid or 0: ("".join(sorted(flags)), MARK.sub(b"", data)) for uid, flags, data in self.near(box).messages()}
-
-    def write(self, name, data):
-        os.makedirs(os.path.dirname(self.path(name)), exist_ok=True)
-        with open(self.path(name), "wb") as file:
-            file.write(data)
-
-    def texts(self, box="inbox"):
-        """The files that belong to a near mailbox, beside its messages."""
-        return sorted(name for name in os.listdir(self.path(box)) if name not in ("cur", "new", "tmp"))
-
-
-class Tally:
-    """Counts checks, and tells each."""
-
-    def __init__(self):
-        self.passed = self.failed = 0
-
-    def same(self, what, got, wanted):
-        if got == wanted:
-            self.passed += 1
-            print(f"ok      {what}")
-        else:
-            self.failed += 1
-            print(f"FAILED  {what}\n        wanted {wanted!r}\n        got    {got!r}")
-        sys.stdout.flush()
-
-
-def near_text(message):
-    return message.replace(b"\r\n", b"\n")
-
-
-def mode_of(path):
-    return oct(os.stat(path).st_mode & 0o777)
 
 
 def first_pull(tally):
@@ -389,7 +240,7 @@ def a_message_that_cannot_be_read(tally):
         scene.leave_root()
         got = scene.run("c")
         file = scene.near().path_of(2)[0]
-        told = ["mbsync: c:INBOX: stopped", f"  {file} cannot be read: make it readable, and run again"]
+        told = ["mbsync: c:INBOX: stopped", f"  {file}: no permission. Let yourself read and write it, and run again"]
         tally.same("a message that cannot be read is named", got, [1, "c:INBOX", *told])
         os.chmod(file, 0o600)
         tally.same("it is pushed once it can be read", scene.run("c"), [0, "c:INBOX", "new push 2 -> 2", "ran"])
@@ -428,12 +279,8 @@ def main():
         trial_imapd.build()
     Scene.program = os.path.abspath(words.program)
     subprocess.run([Scene.program, "-h"], stdout=subprocess.DEVNULL, check=True)
-    tally = Tally()
-    for scene in SCENES:
-        if not words.names or any(name in scene.__name__ for name in words.names):
-            scene(tally)
-    print(f"{tally.passed} passed, {tally.failed} failed")
-    sys.exit(1 if tally.failed else 0)
+    Tally().play(SCENES, words.names)
 
 
-main()
+if __name__ == "__main__":
+    main()

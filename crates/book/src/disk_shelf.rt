@@ -1,11 +1,14 @@
 //! A shelf on a disk.
 
-ghost use Rattle.std.specs.Prelude.{◌≡◌, IfOk};
+ghost use Rattle.std.specs.Prelude.{◌≡◌, IfOk, false};
+ghost use Rattle.device.specs.Calls.{Rest};
 ghost use Rattle.device.specs.Conditions.{disk_at};
+ghost use Rattle.book.specs.DiskShelves.{seen_on_disk};
 
 use crate::shelf::{File, Shelf};
 use device::DeviceFault;
 use device::disk::Disk;
+use device::trouble::Trouble;
 use std::alloc::AllocError;
 use std::io;
 use std::marker::Model;
@@ -58,9 +61,22 @@ impl<R: Files + AllocGlobal + Clone + Drop> DiskShelf<R> {
         self.disk.stops()
     }
 
+    /// What the system said where a call stopped since the shelf was opened.
+    pub fn trouble(&self) -> Option<Trouble> {
+        self.disk.trouble()
+    }
+
+    /// A call stops over this before it has an effect, as where the system fails.
+    pub fn refuse(&mut self, trouble: Trouble) -> Result<(), DeviceFault>
+        ensures { Rest false (seen_on_disk self.old) (seen_on_disk self.new) result }
+    {
+        self.disk.check()?;
+        Err(self.disk.stop(trouble))
+    }
+
     // The bytes of a file. A journal is synced before it is relied on, and with its name that of the state.
     fn bytes_of(&self, file: File) -> io::Result<Option<Vec<u8>>> {
-        let bytes = self.disk.read(name_of(file))?;
+        let bytes = self.disk.read_own(name_of(file))?;
         if file == File::Journal && bytes.is_some() {
             self.disk.sync_file(JOURNAL)?;
             self.disk.sync_names()?;
@@ -75,7 +91,8 @@ impl<R: Files + AllocGlobal + Clone + Drop> DiskShelf<R> {
     }
 }
 
-fn name_of(file: File) -> &'static str {
+/// The name of a file in the folder of a shelf on a disk.
+pub fn name_of(file: File) -> &'static str {
     match file {
         File::State => STATE,
         File::Journal => JOURNAL,

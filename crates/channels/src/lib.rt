@@ -1,6 +1,7 @@
 //! The channels of `mbsync`: what becomes of the mailboxes that a command line asks for, over any stores.
 #![tactic(auto)]
 
+mod advice;
 mod course;
 mod fault;
 mod finding;

@@ -17,6 +17,7 @@ use reports::answer::answer_text;
 use rules::options::{Options, Sides};
 use runner::fault::RunFault;
 use runner::pass::Pass;
+use runner::performed::StepResult;
 use std::alloc::Global;
 use std::io;
 use std::io::Write;
@@ -136,12 +137,17 @@ fn settle_box<S: Stores, R: Rng, O: Write, E: Write>(
     }
     stores.print_box(place.of.channel, place.far)?;
     match stores.settle(work.alloc, place, work.options, rng) {
-        Ok(pass) => print_answer(work.alloc, place, &pass, stores),
+        Ok(pass) => {
+            let verdict = print_answer(work.alloc, place, &pass, stores)?;
+            Ok(verdict.and(tell_left_out(place, stores)?))
+        }
         Err(fault) => stores.tell(place, &fault),
     }
 }
 
-/// Makes a mailbox on the sides on which it is absent, the far one first. Where Create does not cover one of them, nothing is made.
+/// Makes a mailbox on the sides on which it is absent, the far one first. Where Create does not cover one of them, or a former run has
+/// synchronised it, nothing is made: a mailbox that was removed on purpose must not come back, and messages of a folder that was
+/// removed by mistake must not count as removed.
 fn make_absent<S: Stores, O: Write, E: Write>(
     place: ChannelBox<'_>,
     absent: Sides,
@@ -155,6 +161,11 @@ fn make_absent<S: Stores, O: Write, E: Write>(
     if let Some(side) = uncovered(absent, place.of.channel.create) {
         return Err(BoxFault::Absent(side));
     }
+    if let Some(side) = first_of(absent) {
+        if stores.has_state(place)? {
+            return Err(BoxFault::Removed(side));
+        }
+    }
     if absent.far {
         stores.make(Side::Far, place)?;
     }
@@ -164,7 +175,37 @@ fn make_absent<S: Stores, O: Write, E: Write>(
     Ok(())
 }
 
-/// Prints the answer of a run.
+/// The first of these sides, far before near.
+fn first_of(sides: Sides) -> Option<Side> {
+    if sides.far {
+        Some(Side::Far)
+    } else if sides.near {
+        Some(Side::Near)
+    } else {
+        None
+    }
+}
+
+/// Tells which near files a run left out.
+#[tactic(auto, using(crate::proofs::StreamLemmas::stream_steps))]
+fn tell_left_out<S: Stores, O: Write, E: Write>(
+    place: ChannelBox<'_>,
+    stores: &mut ToldStores<'_, S, O, E>,
+) -> io::Result<Verdict>
+    requires going { stores.old.write_failed ≡ false }
+    ensures out { stores.new.out ≡ stores.old.out }
+    ensures err { stores.new.err.ghost_name ≡ stores.old.err.ghost_name }
+    ensures quiet { IfOk result (IsQuiet (E.contents stores.old.err.now) (E.contents stores.new.err.now)) }
+    ensures failed { Notes false stores.new.write_failed result }
+{
+    let mut verdict = Verdict::Clean;
+    for path in stores.left_out() {
+        verdict = verdict.and(stores.tell(place, &BoxFault::LeftOut(path))?);
+    }
+    Ok(verdict)
+}
+
+/// Prints the answer of a run. A step that was void is a fault that the answer tells.
 #[tactic(auto, using(crate::proofs::StreamLemmas::stream_steps))]
 fn print_answer<S: Stores, O: Write, E: Write>(
     alloc: Global,
@@ -182,8 +223,22 @@ fn print_answer<S: Stores, O: Write, E: Write>(
     match answer_text(alloc, pass) {
         Ok(text) => {
             stores.print_text(text.as_str())?;
-            Ok(Verdict::Clean)
+            Ok(if has_void(pass) {
+                Verdict::Faulty
+            } else {
+                Verdict::Clean
+            })
         }
         Err(_) => stores.tell(place, &BoxFault::Run(RunFault::NoMemory)),
+    }
+}
+
+/// Whether a step of a run was void.
+fn has_void(pass: &Pass) -> bool {
+    match pass {
+        Pass::Already => false,
+        Pass::Ran(steps, _) | Pass::Finished(steps) => steps
+            .iter()
+            .any(|performed| performed.result == StepResult::Void),
     }
 }

@@ -5,6 +5,7 @@ ghost use Rattle.std.specs.Io.KnownBytes.{Appends};
 ghost use Rattle.channels.specs.Lines.{box_line};
 ghost use Rattle.channels.specs.Streams.{Extends, IsTold};
 
+use crate::advice::{advise, advise_login};
 use crate::fault::BoxFault;
 use crate::verdict::Verdict;
 use config::config::Channel;
@@ -16,7 +17,7 @@ use std::io::Write;
 use std::{fmt, io};
 use stores::channel_box::ChannelBox;
 use stores::fault::ListFault;
-use worlds::plan_lines::{StepLine, side_word};
+use worlds::plan_lines::side_word;
 
 /// Prints which mailbox is listed, or synchronised from now on.
 pub(crate) fn print_box<O: Write>(
@@ -48,14 +49,6 @@ pub(crate) fn tell_list<E: Write>(err: &mut E, fault: &ListFault) -> io::Result<
         advise_login(err, store.as_str())?;
     }
     Ok(Verdict::Over)
-}
-
-/// Tells what can be done where a server does not let its user in. The password is not told.
-fn advise_login<E: Write>(err: &mut E, store: &str) -> io::Result<()> {
-    writeln!(
-        err,
-        "  the server refused the user and the password: mend User or Pass of IMAPStore {store}, and run again"
-    )
 }
 
 /// Tells that a channel or a store of it is not in the configuration. This does not come where the configuration was read from a file.
@@ -92,53 +85,18 @@ struct BoxFaultText<'a>(&'a BoxFault);
 impl fmt::Display for BoxFaultText<'_> {
     fn fmt<W: fmt::Write>(&self, f: &mut fmt::Formatter<W>) -> fmt::Result {
         match self.0 {
-            BoxFault::Absent(side) => write!(f, "absent {}", side_word(*side)),
+            BoxFault::Absent(side) | BoxFault::Removed(side) => {
+                write!(f, "absent {}", side_word(*side))
+            }
             BoxFault::CannotOpen(name) | BoxFault::LoginRefused(name) => {
                 write!(f, "cannot open {name}")
             }
             BoxFault::Locked => f.write_str("locked"),
             BoxFault::Refused(number, _) => write!(f, "refused step {number}"),
-            BoxFault::Unread(_) => write!(f, "{}", FaultText(RunFault::Stopped)),
+            BoxFault::Stopped(_) => write!(f, "{}", FaultText(RunFault::Stopped)),
+            BoxFault::GivenAgain(_) => write!(f, "{}", FaultText(RunFault::BadState(0))),
+            BoxFault::LeftOut(path) => write!(f, "left out {path}"),
             BoxFault::Run(fault) => write!(f, "{}", FaultText(*fault)),
         }
-    }
-}
-
-/// Tells what can be done, where that is known, on a line that begins with two spaces.
-fn advise<E: Write>(err: &mut E, fault: &BoxFault) -> io::Result<()> {
-    match fault {
-        BoxFault::Absent(Side::Far) => writeln!(
-            err,
-            "  Create Far or Create Both in this channel would make it"
-        ),
-        BoxFault::Absent(Side::Near) => writeln!(
-            err,
-            "  Create Near or Create Both in this channel would make it"
-        ),
-        BoxFault::LoginRefused(store) => advise_login(err, store.as_str()),
-        BoxFault::Locked => writeln!(
-            err,
-            "  another process synchronises this box: run again when it has ended"
-        ),
-        BoxFault::Refused(number, Some(step)) => {
-            writeln!(
-                err,
-                "  step {number} is {}: the server does not take it",
-                StepLine(step)
-            )
-        }
-        BoxFault::Unread(path) => {
-            writeln!(
-                err,
-                "  {path} cannot be read: make it readable, and run again"
-            )
-        }
-        BoxFault::Run(RunFault::BadState(_)) => {
-            writeln!(
-                err,
-                "  .mbsyncstate is no state of this program: without it the box starts over, and each message is new on both sides"
-            )
-        }
-        _ => Ok(()),
     }
 }

@@ -22,6 +22,7 @@ use std::io;
 use std::io::Write;
 use stores::channel_box::ChannelBox;
 use stores::fault::{ListFault, StoreFault};
+use stores::stop_cause::StopCause;
 use stores::stores::{BoxLists, Stores};
 
 /// The stores of a run and its streams, as one. Each call of the stores goes through it, and each write. A store may be asked only where
@@ -141,7 +142,23 @@ impl<S: Stores, O: Write, E: Write> ToldStores<'_, S, O, E> {
         self.stores.make(side, place)
     }
 
-    /// Makes one run over a mailbox. Where it was stopped at a message that could not be read, the fault names it.
+    /// Whether the near folder of a mailbox has the state of a former run.
+    pub(crate) fn has_state(&mut self, place: ChannelBox<'_>) -> Result<bool, StoreFault>
+        requires going { self.old.write_failed ≡ false }
+        ensures { self.new ≡ record self.old { stores = self.new.stores } }
+    {
+        self.stores.has_state(place)
+    }
+
+    /// The paths of the near files that the last run left out.
+    pub(crate) fn left_out(&mut self) -> Vec<String>
+        requires going { self.old.write_failed ≡ false }
+        ensures { self.new ≡ record self.old { stores = self.new.stores } }
+    {
+        self.stores.left_out()
+    }
+
+    /// Makes one run over a mailbox. Where it is known what stopped it, the fault tells it.
     pub(crate) fn settle<R: Rng>(
         &mut self,
         alloc: Global,
@@ -154,6 +171,7 @@ impl<S: Stores, O: Write, E: Write> ToldStores<'_, S, O, E> {
     {
         match self.settle_open(alloc, place, options, rng) {
             Err(BoxFault::Run(RunFault::Stopped)) => Err(self.stopped()),
+            Err(BoxFault::Run(RunFault::BadState(0))) => Err(self.given_again()),
             answer => answer,
         }
     }
@@ -180,9 +198,20 @@ impl<S: Stores, O: Write, E: Write> ToldStores<'_, S, O, E> {
         requires going { self.old.write_failed ≡ false }
         ensures { self.new ≡ record self.old { stores = self.new.stores } }
     {
-        match self.stores.unread() {
-            Some(path) => BoxFault::Unread(path),
+        match self.stores.stop_cause() {
+            Some(cause) => BoxFault::Stopped(cause),
             None => BoxFault::Run(RunFault::Stopped),
+        }
+    }
+
+    /// Why a run ended over a sound state.
+    fn given_again(&mut self) -> BoxFault
+        requires going { self.old.write_failed ≡ false }
+        ensures { self.new ≡ record self.old { stores = self.new.stores } }
+    {
+        match self.stores.stop_cause() {
+            Some(StopCause::GivenAgain(uid)) => BoxFault::GivenAgain(uid),
+            _ => BoxFault::Run(RunFault::BadState(0)),
         }
     }
 }

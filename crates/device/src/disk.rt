@@ -5,12 +5,14 @@ ghost use Rattle.device.specs.Conditions.{disk_at};
 
 use crate::DeviceFault;
 use crate::condition::Condition;
+use crate::trouble::Trouble;
 use std::alloc::AllocError;
 use std::fs::{DirBuilder, OpenFile, OpenOptions};
 use std::io::{ErrorKind, Write};
 use std::marker::Model;
 use std::os::unix::fs::{DirBuilderExt, OpenOptionsExt};
 use std::rt::Files;
+use std::time::SystemTime;
 use std::{fs, io};
 
 /// Who may read and write a new file: its owner.
@@ -28,6 +30,7 @@ pub struct Disk<R: Files + AllocGlobal + Clone + Drop> {
     rt: R,
     path: String,
     condition: Condition,
+    trouble: Option<Trouble>,
 }
 
 impl<R: Files + AllocGlobal + Clone + Drop> Model for Disk<R> {
@@ -50,6 +53,7 @@ impl<R: Files + AllocGlobal + Clone + Drop> Disk<R> {
             rt,
             path,
             condition,
+            trouble: None,
         })
     }
 
@@ -58,6 +62,11 @@ impl<R: Files + AllocGlobal + Clone + Drop> Disk<R> {
         ensures { result ≡ self.now.condition.stops }
     {
         self.condition.stops()
+    }
+
+    /// What the system said where a call stopped since the device was opened. None: none has, or memory was wanting.
+    pub fn trouble(&self) -> Option<Trouble> {
+        self.trouble
     }
 
     /// Whether a call may be made. `Stopped`: one has stopped since the device was opened.
@@ -80,8 +89,20 @@ impl<R: Files + AllocGlobal + Clone + Drop> Disk<R> {
         match answer {
             Ok(value) => Ok(value),
             Err(error) if error.kind() == ErrorKind::OutOfMemory => Err(self.condition.lack()),
-            Err(_) => Err(self.condition.stop()),
+            Err(error) => Err(self.stop(Trouble::of(error.kind()))),
         }
+    }
+
+    /// A call stops over this, and from now on each call does. Gives what the call answers.
+    pub fn stop(&mut self, trouble: Trouble) -> DeviceFault
+        ensures path { self.new.path ≡ self.old.path }
+        ensures broken { self.new.condition.is_broken ≡ true }
+        ensures counted { result ≡ DeviceFault.Stopped → self.new.condition.stops ≡ self.old.condition.stops + 1 }
+        ensures uncounted { result ≡ DeviceFault.NoMemory → self.new.condition.stops ≡ self.old.condition.stops }
+        ensures no_less { self.old.condition.stops ≤ self.new.condition.stops }
+    {
+        self.trouble = Some(trouble);
+        self.condition.stop()
     }
 
     /// Calls are answered again.
@@ -89,6 +110,7 @@ impl<R: Files + AllocGlobal + Clone + Drop> Disk<R> {
         ensures path { self.new.path ≡ self.old.path }
         ensures whole { self.new.condition ≡ record self.old.condition { is_broken = false } }
     {
+        self.trouble = None;
         self.condition.reopen();
     }
 
@@ -121,10 +143,34 @@ impl<R: Files + AllocGlobal + Clone + Drop> Disk<R> {
         builder.create(&self.rt, path.as_str())
     }
 
+    /// When the names that stand in a part that is a folder changed last.
+    pub fn changed(&self, part: &str) -> io::Result<SystemTime> {
+        let path = self.at(part)?;
+        fs::metadata(&self.rt, path.as_str())?.modified()
+    }
+
     /// The bytes of a file, or none where it is missing.
     pub fn read(&self, part: &str) -> io::Result<Option<Vec<u8>>> {
         let path = self.at(part)?;
         found(fs::read(&self.rt, path.as_str()))
+    }
+
+    /// The same of a file that no other program makes. No link is followed, and nothing but a file is opened: a fifo would not answer.
+    pub fn read_own(&self, part: &str) -> io::Result<Option<Vec<u8>>> {
+        if self.has_own(part)? {
+            self.read(part)
+        } else {
+            Ok(None)
+        }
+    }
+
+    /// Whether a file stands there. `InvalidInput`: something else does, a link among it.
+    fn has_own(&self, part: &str) -> io::Result<bool> {
+        let path = self.at(part)?;
+        match found(fs::symlink_metadata(&self.rt, path.as_str()))? {
+            Some(found) if !found.is_file() => Err(io::Error::from(ErrorKind::InvalidInput)),
+            found => Ok(found.is_some()),
+        }
     }
 
     /// Writes a new file and syncs its bytes. What stood under this name is removed before: a link is never followed.
@@ -145,7 +191,7 @@ impl<R: Files + AllocGlobal + Clone + Drop> Disk<R> {
         self.rename(other, part)
     }
 
-    /// Adds bytes behind those of a file. Where the file is made for them, they and its name are synced.
+    /// Adds bytes behind those of a file that no other program makes. Where it is made for them, they and its name are synced.
     pub fn append(&self, part: &str, bytes: &[u8]) -> io::Result<()> {
         let path = self.at(part)?;
         let mut options = OpenOptions::new();
@@ -156,13 +202,18 @@ impl<R: Files + AllocGlobal + Clone + Drop> Disk<R> {
                 OpenFile::sync_all(&made)?;
                 self.sync_names()
             }
-            Err(error) if error.kind() == ErrorKind::AlreadyExists => {
-                let mut options = OpenOptions::new();
-                options.append(true);
-                options.open(&self.rt, path.as_str())?.write_all(bytes)
-            }
+            Err(error) if error.kind() == ErrorKind::AlreadyExists => self.append_to(part, bytes),
             Err(error) => Err(error),
         }
+    }
+
+    /// Adds bytes behind those of a file that is there.
+    fn append_to(&self, part: &str, bytes: &[u8]) -> io::Result<()> {
+        self.has_own(part)?;
+        let path = self.at(part)?;
+        let mut options = OpenOptions::new();
+        options.append(true);
+        options.open(&self.rt, path.as_str())?.write_all(bytes)
     }
 
     /// Gives a file another name. It is whole or not at all, and is not synced.

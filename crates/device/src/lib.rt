@@ -10,6 +10,7 @@ pub mod condition;
 pub mod disk;
 pub mod schedule;
 pub mod stop_count;
+pub mod trouble;
 
 use std::alloc::{AllocError, AllocFailed};
 use thiserror::Error;

@@ -1,8 +1,9 @@
 -- Where replies to UID FETCH show a mark.
-use Rattle.std.specs.Prelude.{ℕ, min, Bool, false, ◌&&◌, nat_le, List, Option, None, Some, if◌then◌else◌}
+use Rattle.std.specs.Prelude.{ℕ, min, Bool, false, ◌&&◌, nat_le, nat_lt, List, length, Option, None, Some, if◌then◌else◌}
 use Rattle.std.specs.List.{fold, list_any}
 use Rattle.mailcore.specs.Content.{mark_of}
 use Rattle.mailcore.specs.Operations.{is_mark}
+use Rattle.wire_strings.specs.Quotes.{unescaped}
 use Rattle.wire_strings.specs.declared.string.WireString.{WireString}
 use Rattle.wire_strings.specs.declared.string.WireString.TheVariants.{Quoted, Literal}
 use Rattle.imap_replies.specs.declared.fetch.FetchItem.{FetchItem}
@@ -51,3 +52,32 @@ least_marked mark from replies = fold (least_more mark from) None replies
 abbrev pub uid_found : Option ℕ → Option (Option ℕ)
 uid_found None = Some None
 uid_found (Some n) = if is_uid n then Some (Some n) else None
+
+-- ---- no more was told than was asked for
+
+-- how many octets of each message are asked for: `BODY.PEEK[]<0.22>`
+abbrev pub head_size : ℕ
+head_size = 22
+
+-- a string has more octets than that
+abbrev pub is_long : Option WireString → Bool
+is_long None = false
+is_long (Some (Literal bytes)) = nat_lt head_size (length bytes)
+is_long (Some (Quoted raw)) = nat_lt head_size (length (unescaped raw))
+
+-- an item is such a beginning of a message
+abbrev pub is_long_head : FetchItem → Bool
+is_long_head (items.Uid uid) = false
+is_long_head (items.Flags flags) = false
+is_long_head (items.Size size) = false
+is_long_head (items.Body body) = false
+is_long_head (items.Head head) = is_long head
+
+-- a reply shows one
+abbrev pub has_long_head : Reply → Bool
+has_long_head (Fetch n list) = list_any is_long_head list
+has_long_head _ = false
+
+-- the UID that was found, if one was; or nothing that the call can take
+abbrev pub mark_found : (mark : List ℕ) (from : ℕ) → List Reply → Option (Option ℕ)
+mark_found mark from replies = if list_any has_long_head replies then None else uid_found (least_marked mark from replies)

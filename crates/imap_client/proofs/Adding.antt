@@ -1,6 +1,6 @@
 -- A message is added to the selected mailbox.
 use Rattle.std.proofs.Common.{◌≡◌, ◌⊎◌, ◌<◌, ◌≤◌, inl, inr, ℕ, ◌+◌, Bool, true, false, List, [], ◌∷◌, ◌++◌, refl, sym, ◌∙◌, ap, subst, arith, take, length, Option, Some, None, Result, Ok, Err}
-use Rattle.std.specs.Prelude.{◌==◌, ◌&&◌, nat_le, nat_lt, if◌then◌else◌}
+use Rattle.std.specs.Prelude.{filter, ◌==◌, ◌&&◌, nat_le, nat_lt, if◌then◌else◌}
 use Rattle.std.specs.Option.{option_map}
 use Rattle.std.proofs.lemmas.Bool.{cases_Bool, le-leb, leb-true}
 use Rattle.mailcore.specs.Stores.{Store}
@@ -21,6 +21,7 @@ use Rattle.imap_session.specs.Steps.{Step}
 use Rattle.exchange_laws.specs.Ends.{MayHave, DidCommand}
 use Rattle.imap_link.specs.declared.fault.FarFault.{FarFault}
 use Rattle.imap_link.specs.declared.fault.FarFault.TheVariants as faults
+use Rattle.imap_link.specs.UsedReplies.{answer_alone, is_used}
 use Rattle.imap_link.specs.Outcomes.{Outcome}
 use Rattle.imap_link.specs.Exchanges.{Replied}
 use Rattle.imap_answers.specs.declared.given.Given.{Given}
@@ -31,6 +32,7 @@ use Rattle.imap_client.specs.States.{State, EndsSo}
 use Rattle.imap_answers.specs.Given.{given_more, given_in, uid_told}
 use Rattle.imap_client.specs.Boxes.{selected_name, is_next, IsSelected}
 use Rattle.imap_client.specs.Appending.{AddsUnder, AddsSome, Adds, IsTold, NoUidLeft, next_known}
+use Rattle.imap_answers.proofs.Unread.{given_in_read}
 use Rattle.imap_client.proofs.Answered.{final_last, did_step, said_of}
 use Rattle.imap_client.proofs.Changed.{with_store, selected_changed, there_of}
 
@@ -64,7 +66,7 @@ at_of name mailboxes LoggedOut e = cc
 pub record AddedSo (n : ℕ) (name : List ℕ) (m : FarMailbox) (flags : ℕ) (message bytes : List ℕ) (old new : Server) : Type 0 where
   pub uid : ℕ
   pub under : AddsUnder m flags message uid old new
-  pub heard : HeardOf (grown old.condition name (length m.store.messages + 1) ++ done_with (tag_text n) (codes_of.AppendUid m.store.validity uid) ∷ []) bytes
+  pub heard : HeardOf answer_alone (grown old.condition name (length m.store.messages + 1) ++ done_with (tag_text n) (codes_of.AppendUid m.store.validity uid) ∷ []) bytes
 
 module _ (n : ℕ) (name : List ℕ) (flags : ℕ) (message : List ℕ) (old : Server) (m : FarMailbox) (named : selected_name old.condition ≡ Some name) (is : selected old ≡ Some m) where
   abbrev this : Command
@@ -95,7 +97,7 @@ module _ (n : ℕ) (name : List ℕ) (flags : ℕ) (message : List ℕ) (old : S
       let s = said_of this statuses.Ok bytes old new r in
       elim (by_step s.said new s.step) [
         | inl l ↦ (let both = none_status s.said new statuses.Ok l s.status_is in cc)
-        | inr a ↦ record { uid = a.uid; under = under_of s.said new a; heard = subst (λ (rs : List Reply). HeardOf rs bytes) a.gives.0 s.heard }
+        | inr a ↦ record { uid = a.uid; under = under_of s.said new a; heard = subst (λ (rs : List Reply). HeardOf answer_alone rs bytes) a.gives.0 s.heard }
       ]
 
   no_so : (bytes : List ℕ) (new : Server) → Replied this statuses.No bytes old new → NoUidLeft m old new
@@ -210,7 +212,7 @@ told_so n name m flags message bytes old new validity next sel is a given told =
     let may = a.under.may in
     let at_least = may.at_least in
     told_by m.store.validity next validity a.uid given (validity_is m (selected old) validity is sel.1) (omega (arith, least, at_least)) may.below
-    (subst (IsOf m.store.validity a.uid) (sym (told a.heard.replies a.heard.spelled)) (given_of (tag_text n) m.store.validity a.uid old.condition name (length m.store.messages + 1) a.heard.replies a.heard.left_out))
+    (subst (IsOf m.store.validity a.uid) (sym (told (filter (is_used answer_alone) a.heard.replies) a.heard.spelled ∙ given_in_read a.heard.replies)) (given_of (tag_text n) m.store.validity a.uid old.condition name (length m.store.messages + 1) a.heard.replies a.heard.left_out))
 
 same_told : (a b : Option ℕ) → (let x : Result (Option ℕ) FarFault = Ok a in x) ≡ Ok b → a ≡ b
 same_told a b e = cc

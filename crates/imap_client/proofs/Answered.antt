@@ -1,6 +1,6 @@
 -- What became of a command of which it is known what the server does with it.
 use Rattle.std.proofs.Common.{◌≡◌, ◌⊎◌, inl, inr, ℕ, Bool, true, false, List, [], ◌∷◌, ◌++◌, refl, sym, ◌∙◌, ap, subst, append-nil, take, Option, Some, Result, Ok, Err}
-use Rattle.std.specs.Prelude.{nat_eq, if◌then◌else◌}
+use Rattle.std.specs.Prelude.{filter, nat_eq, if◌then◌else◌}
 use Rattle.std.specs.Cmp.Lexicographic.{pointwise}
 use Rattle.imap_commands.specs.declared.command.Command.{Command}
 use Rattle.imap_replies.specs.declared.word.Status.{Status}
@@ -17,10 +17,12 @@ use Rattle.imap_link.specs.declared.fault.FarFault.{FarFault}
 use Rattle.imap_link.specs.declared.fault.FarFault.TheVariants as faults
 use Rattle.imap_link.specs.declared.front.Kind.TheVariants.{Mine, Stray}
 use Rattle.imap_link.specs.ReplyKinds.{kind_of, IsAwaited}
+use Rattle.imap_link.specs.UsedReplies.{uses_of, is_used}
 use Rattle.imap_link.specs.Outcomes.{Outcome, Never}
 use Rattle.imap_link.specs.Exchanges.{Replied}
 use Rattle.imap_link.proofs.KindLemmas.{awaited_stays, tagged_awaited}
 use Rattle.imap_link.proofs.Astray.{ends_apart, closed_of}
+use Rattle.imap_link.proofs.Passing.{untagged_used, tagged_used, used_last}
 use Rattle.imap_client.specs.Exchanged.{Exchanged}
 use Rattle.imap_client.specs.Saying.{status_of, final_status, HeardOf}
 
@@ -77,17 +79,19 @@ did_step c old said new d =
 pub record Said (c : Command) (status : Status) (bytes : List ℕ) (old new : Server) : Type 0 where
   pub said : List Reply
   pub step : Step old c said new
-  pub heard : HeardOf said bytes
+  pub heard : HeardOf (uses_of c.request) said bytes
   pub status_is : final_status said ≡ Some status
 
 pub said_of : (c : Command) (status : Status) (bytes : List ℕ) (old new : Server) → Replied c status bytes old new → Said c status bytes old new
 said_of c status bytes old new r =
+    let uses = uses_of c.request in
     let said = r.did.said in
     let answer = leaves_answer c.tag r.replies said r.did.left_out (did_answer c old said new r.did.did) in
     let closed = closed_of c.tag r.replies answer in
     let mine : IsAwaited (kind_of c.tag r.text.last) = subst IsAwaited (sym r.text.is) tt in
     let same = ends_apart r.text.last closed.last (awaited_stays c.tag r.text.last mine) (awaited_stays c.tag closed.last (tagged_awaited c.tag closed.last closed.is))
-    r.text.passed closed.passed bytes bytes [] r.text.untagged closed.untagged r.text.spelled (subst (λ (l : List Reply). AreReplies l bytes) closed.all r.spelled) (append-nil bytes) in
+    r.text.passed (filter (is_used uses) closed.passed) bytes bytes [] r.text.untagged (untagged_used uses closed.passed closed.untagged) r.text.spelled
+    (subst (λ (l : List Reply). AreReplies l bytes) (ap (filter (is_used uses)) closed.all ∙ used_last uses closed.passed closed.last (tagged_used uses closed.last c.tag closed.is)) r.spelled) (append-nil bytes) in
     record {
       said = said;
       step = did_step c old said new r.did.did;
@@ -111,15 +115,15 @@ module _ (c : Command) (old : Server) (xs : List Reply) (last : Reply) (after : 
   after_so new (inl q) = inl q
   after_so new (inr d) = inr (sure.each d.said new (did_step c old d.said new d.did)).1
 
-  pub heard_so : (status : Status) (bytes : List ℕ) (new : Server) → Replied c status bytes old new → HeardOf (xs ++ last ∷ []) bytes × (new ≡ after)
+  pub heard_so : (status : Status) (bytes : List ℕ) (new : Server) → Replied c status bytes old new → HeardOf (uses_of c.request) (xs ++ last ∷ []) bytes × (new ≡ after)
   heard_so status bytes new r =
       let s = said_of c status bytes old new r in
       let is = sure.each s.said new s.step in
-      (subst (λ (rs : List Reply). HeardOf rs bytes) is.0 s.heard, is.1)
+      (subst (λ (rs : List Reply). HeardOf (uses_of c.request) rs bytes) is.0 s.heard, is.1)
 
   -- where it is OK
   pub answered : status_of last ≡ Some statuses.Ok → (result : Result ℕ FarFault) (heard : List ℕ) (new : Server) → Exchanged c result heard old new
-      → Outcome {T = ℕ} (λ len s t. HeardOf (xs ++ last ∷ []) (take len heard) × (t ≡ after)) Never (λ s t. t ≡ after) result old new
+      → Outcome {T = ℕ} (λ len s t. HeardOf (uses_of c.request) (xs ++ last ∷ []) (take len heard) × (t ≡ after)) Never (λ s t. t ≡ after) result old new
   answered ok (Ok len) heard new h = heard_so statuses.Ok (take len heard) new h
   answered ok (Err faults.Stopped) heard new h = after_so new h
   answered ok (Err faults.Refused) heard new h = let no = status_so statuses.No h.bytes new h.replied in let both : (let x : Option Status = Some statuses.Ok in x) ≡ Some statuses.No = sym ok ∙ no in cc

@@ -1,10 +1,9 @@
 -- The bytes that are told of one message.
-use Rattle.std.proofs.Common.{◌≡◌, ℕ, ◌+◌, ◌<◌, Bool, true, false, List, [], ◌∷◌, ◌++◌, refl, sym, ◌∙◌, ap, subst, take, drop, length, get_or, Option, Some, None, take-append-drop, arith}
+use Rattle.std.proofs.Common.{◌≡◌, ℕ, ◌+◌, ◌<◌, Bool, true, false, List, [], ◌∷◌, ◌++◌, refl, sym, ◌∙◌, ap, subst, Option, Some, None, arith}
 use Rattle.std.specs.Prelude.{find, ◌==◌, ◌||◌, if◌then◌else◌}
 use Rattle.std.specs.List.{fold}
 use Rattle.std.specs.Option.{option_map}
 use Rattle.std.proofs.lemmas.Bool.{eqb-true, ne_eqb}
-use Rattle.std.proofs.lemmas.List.Sums.{fold-append, fold_more}
 use Rattle.mailcore.specs.declared.mailbox.Message.{Message}
 use Rattle.mailcore.specs.Operations.{bytes_among, bytes_of}
 use Rattle.mailcore.specs.Ranges.{AreInRange}
@@ -12,15 +11,13 @@ use Rattle.mailcore.specs.Stores.{IsStore}
 use Rattle.wire_tokens.specs.Sets.{names}
 use Rattle.imap_commands.specs.declared.command.FetchItems.TheVariants as wanted
 use Rattle.imap_replies.specs.declared.reply.Reply.{Reply}
-use Rattle.imap_replies.specs.declared.reply.Reply.TheVariants.{Continue, Tagged, Notice, Capability, Enabled, List as Listed, Flags, Exists, Expunge, Fetch, Other, OtherNumbered}
-use Rattle.imap_replies.specs.declared.fetch.FetchItem.{FetchItem}
+use Rattle.imap_replies.specs.declared.reply.Reply.TheVariants.{Fetch}
 use Rattle.imap_session.specs.Mailboxes.{FarMailbox}
 use Rattle.imap_session.specs.NamedMessages.{greatest, named_in}
 use Rattle.imap_session.specs.Answering.{done}
 use Rattle.imap_session.specs.MessageCommands.{shown, fetched}
-use Rattle.imap_answers.specs.Bodies.{body_more, body_in, is_told, bodies_more, body_told}
+use Rattle.imap_answers.specs.Bodies.{bodies_more, body_told}
 use Rattle.imap_client.specs.Boxes.{one_uid}
-use Rattle.imap_answers.specs.Fetching.{told_of}
 use Rattle.imap_client.proofs.Fetched.{replies_for}
 use Rattle.imap_client.proofs.Numbered.{Rise, store_rises, last_of, greatest_is}
 

@@ -16,6 +16,8 @@ use Rattle.imap_session.specs.Answering.{Gives, done}
 use Rattle.imap_session.specs.MessageCommands.{stores_in, removed, expunges_in}
 use Rattle.imap_link.specs.declared.fault.FarFault.{FarFault}
 use Rattle.imap_link.specs.declared.fault.FarFault.TheVariants as faults
+use Rattle.imap_link.specs.declared.uses.Uses.{Uses}
+use Rattle.imap_link.specs.UsedReplies.{uses_of}
 use Rattle.imap_link.specs.Outcomes.{Outcome, Never}
 use Rattle.imap_client.specs.declared.call.Call.{Call}
 use Rattle.imap_client.specs.declared.call.Call.TheVariants as calls
@@ -57,21 +59,21 @@ module _ (n : ℕ) (old : Server) (m : FarMailbox) (is : selected old ≡ Some m
     each = λ said new step. subst (λ (x : Option FarMailbox). Gives (expunges_in x old (tag_text n) set) said new) is step;
   }
 
-  becomes_by : (xs : List Reply) (change : Store → Store) (heard : List ℕ) (new : Server) (result : Result ℕ FarFault)
-      → Outcome {T = ℕ} (λ len s t. HeardOf xs (take len heard) × (t ≡ with_selected change old)) Never (λ s t. t ≡ with_selected change old) result old new
+  becomes_by : (uses : Uses) (xs : List Reply) (change : Store → Store) (heard : List ℕ) (new : Server) (result : Result ℕ FarFault)
+      → Outcome {T = ℕ} (λ len s t. HeardOf uses xs (take len heard) × (t ≡ with_selected change old)) Never (λ s t. t ≡ with_selected change old) result old new
       → Outcome {T = ℕ} (λ len. Becomes change) Never (Becomes change) result old new
-  becomes_by xs change heard new (Ok len) h = h.1
-  becomes_by xs change heard new (Err faults.Stopped) h = h
-  becomes_by xs change heard new (Err faults.Refused) h = h
-  becomes_by xs change heard new (Err faults.Protocol) h = h
-  becomes_by xs change heard new (Err faults.TooLong) h = h
-  becomes_by xs change heard new (Err faults.NoRev2) h = h
-  becomes_by xs change heard new (Err faults.ReadOnly) h = h
-  becomes_by xs change heard new (Err faults.NoMemory) h = h
+  becomes_by uses xs change heard new (Ok len) h = h.1
+  becomes_by uses xs change heard new (Err faults.Stopped) h = h
+  becomes_by uses xs change heard new (Err faults.Refused) h = h
+  becomes_by uses xs change heard new (Err faults.Protocol) h = h
+  becomes_by uses xs change heard new (Err faults.TooLong) h = h
+  becomes_by uses xs change heard new (Err faults.NoRev2) h = h
+  becomes_by uses xs change heard new (Err faults.ReadOnly) h = h
+  becomes_by uses xs change heard new (Err faults.NoMemory) h = h
 
   becomes : (xs : List Reply) (c : Command) (change : Store → Store) → Sure c old xs (done (tag_text n)) (with_selected change old) → (result : Result ℕ FarFault) (heard : List ℕ) (new : Server) → Exchanged c result heard old new
       → Outcome {T = ℕ} (λ len. Becomes change) Never (Becomes change) result old new
-  becomes xs c change sure result heard new h = becomes_by (xs ++ done (tag_text n) ∷ []) change heard new result (answered c old xs (done (tag_text n)) (with_selected change old) sure refl result heard new h)
+  becomes xs c change sure result heard new h = becomes_by (uses_of c.request) (xs ++ done (tag_text n) ∷ []) change heard new result (answered c old xs (done (tag_text n)) (with_selected change old) sure refl result heard new h)
 
   pub changes : (call : Call) (change : Store → Store) → Changing call change → (result : Result ℕ FarFault) (heard : List ℕ) (new : Server) → Exchanged (command_at n (request_of call)) result heard old new
       → Outcome {T = ℕ} (λ len. Becomes change) Never (Becomes change) result old new

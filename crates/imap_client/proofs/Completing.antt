@@ -38,6 +38,8 @@ use Rattle.imap_commands.specs.Writing.{WrittenText, WrittenRequest, Written}
 use Rattle.imap_commands.proofs.WrittenCommands.{written_spelled}
 use Rattle.imap_commands.proofs.CommandsFit.{command_few}
 use Rattle.imap_session.specs.SessionCommands.{REV2}
+use Rattle.imap_link.specs.declared.uses.Uses.{Uses}
+use Rattle.imap_link.specs.UsedReplies.{uses_of}
 use Rattle.imap_link.specs.Exchanges.{Completes}
 use Rattle.imap_client.specs.Requests.{IsPlain}
 use Rattle.imap_client.proofs.Plain.{lacks, calm, no_return, IsCalm, IsLine, tame, tame_calm, class_tame, tame_then, tame_is, tame_items, bare_line, line_then, line_asks_none}
@@ -192,12 +194,13 @@ behind_short (requests.Expunge set) p = omega (arith, p)
 pub tag_short : (c : Command) (t : List ℕ) → Written c t → length c.tag ≤ 32
 tag_short c t h = let same = h.first.0 in let most = h.first.1.most in let long = ap length same in omega (arith, most, long)
 
-pub plain_completes : (c : Command) (t : List ℕ) → IsPlain c.request → Written c t → Completes c c.tag [] t
-plain_completes c t p h = record {
+pub plain_completes : (c : Command) (uses : Uses) (t : List ℕ) → uses ≡ uses_of c.request → IsPlain c.request → Written c t → Completes c uses c.tag [] t
+plain_completes c uses t u p h = record {
   text = record {
     spelled = written_spelled c t h;
     fits = (let most = command_few c t h in let a = verb_short (verb_of c.request) in let b = behind_short c.request p in let d = tag_short c t h in omega (arith, most, a, b, d));
   };
   asks_no_more = line_asks_none t (head_then c (WrittenRequest c.request) (request_line c.request p) t h);
   tag_is = refl;
+  uses_is = sym u;
 }

@@ -10,6 +10,7 @@ use Rattle.imap_session.specs.Answering.{Gives, done, refused as refused_reply, 
 use Rattle.imap_session.specs.MailboxCommands.{is_name, next_validity, makes, creates_at}
 use Rattle.imap_link.specs.declared.fault.FarFault.{FarFault}
 use Rattle.imap_link.specs.declared.fault.FarFault.TheVariants as faults
+use Rattle.imap_link.specs.UsedReplies.{answer_alone}
 use Rattle.imap_link.specs.Outcomes.{Outcome, Never}
 use Rattle.imap_client.specs.Tags.{tag_text}
 use Rattle.imap_client.specs.Exchanged.{command_at, Exchanged}
@@ -20,7 +21,7 @@ use Rattle.imap_client.proofs.Answered.{Sure, answered, refused}
 module _ (old after : Server) (refuses effect : Server → Server → Type 0) where
   -- where it was done
   pub to_effect : ((t : Server) → t ≡ after → effect old t) → (said : List Reply) (heard : List ℕ) (new : Server) (result : Result ℕ FarFault)
-      → Outcome {T = ℕ} (λ len s t. HeardOf said (take len heard) × (t ≡ after)) Never (λ s t. t ≡ after) result old new
+      → Outcome {T = ℕ} (λ len s t. HeardOf answer_alone said (take len heard) × (t ≡ after)) Never (λ s t. t ≡ after) result old new
       → Outcome {T = ℕ} (λ len. effect) refuses effect result old new
   to_effect e said heard new (Ok len) h = e new h.1
   to_effect e said heard new (Err faults.Stopped) (inl q) = inl q

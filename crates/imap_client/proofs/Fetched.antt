@@ -1,6 +1,6 @@
 -- UID FETCH: the replies are those for the messages that the set names, and nothing is left out of them.
 use Rattle.std.proofs.Common.{◌≡◌, ◌⊎◌, inl, inr, ℕ, ◌+◌, Bool, true, false, List, [], ◌∷◌, ◌++◌, refl, sym, ◌∙◌, ap, subst, take, Option, Some, None, Result, Ok, Err}
-use Rattle.std.specs.Prelude.{if◌then◌else◌}
+use Rattle.std.specs.Prelude.{filter, if◌then◌else◌}
 use Rattle.mailcore.specs.declared.mailbox.Message.{Message}
 use Rattle.wire_tokens.specs.declared.uid_set.SetItem.{SetItem}
 use Rattle.imap_commands.specs.declared.command.FetchItems.{FetchItems}
@@ -19,6 +19,7 @@ use Rattle.imap_session.specs.MessageCommands.{shown, fetched, fetches_in}
 use Rattle.imap_session.specs.Heard.{AreReplies, LeavesOut, WithoutUid}
 use Rattle.imap_link.specs.declared.fault.FarFault.{FarFault}
 use Rattle.imap_link.specs.declared.fault.FarFault.TheVariants as faults
+use Rattle.imap_link.specs.UsedReplies.{messages_read, is_used}
 use Rattle.imap_link.specs.Outcomes.{Outcome, Never}
 use Rattle.imap_client.specs.Tags.{tag_text}
 use Rattle.imap_client.specs.Exchanged.{command_at, Exchanged}
@@ -56,6 +57,18 @@ exact_fetched : (named : ℕ → Bool) (what : FetchItems) (place : ℕ) (ms : L
 exact_fetched named what place [] tail e = e
 exact_fetched named what place (m ∷ ms) tail e = exact_if (named m.uid) place (shown what m) (fetched named what (place + 1) ms) tail (exact_fetched named what (place + 1) ms tail e)
 
+-- ---- the call reads all of them
+
+read_if : (b : Bool) (place : ℕ) (list : List FetchItem) (rest tail : List Reply) → filter (is_used messages_read) (rest ++ tail) ≡ rest ++ tail
+    → filter (is_used messages_read) ((if b then Fetch place list ∷ rest else rest) ++ tail) ≡ (if b then Fetch place list ∷ rest else rest) ++ tail
+read_if true place list rest tail e = ap (λ (rs : List Reply). Fetch place list ∷ rs) e
+read_if false place list rest tail e = e
+
+all_read : (named : ℕ → Bool) (what : FetchItems) (place : ℕ) (ms : List Message) (tag : List ℕ)
+    → filter (is_used messages_read) (fetched named what place ms ++ done tag ∷ []) ≡ fetched named what place ms ++ done tag ∷ []
+all_read named what place [] tag = refl
+all_read named what place (m ∷ ms) tag = read_if (named m.uid) place (shown what m) (fetched named what (place + 1) ms) (done tag ∷ []) (all_read named what (place + 1) ms tag)
+
 -- ---- what was heard
 
 -- the replies to UID FETCH
@@ -68,13 +81,14 @@ module _ (n : ℕ) (old : Server) (m : FarMailbox) (is : selected old ≡ Some m
     each = λ said new step. subst (λ (x : Option FarMailbox). Gives (fetches_in x old (tag_text n) set what) said new) is step;
   }
 
-  heard_are : (bytes : List ℕ) → HeardOf (replies_for m set what (tag_text n)) bytes → AreReplies (replies_for m set what (tag_text n)) bytes
+  heard_are : (bytes : List ℕ) → HeardOf messages_read (replies_for m set what (tag_text n)) bytes → AreReplies (replies_for m set what (tag_text n)) bytes
   heard_are bytes h =
       subst (λ (rs : List Reply). AreReplies rs bytes)
-      (exact_same h.replies _ (exact_fetched (named_in m.store set) what 1 m.store.messages (done (tag_text n) ∷ []) (done_exact (tag_text n), tt)) h.left_out) h.spelled
+      (ap (filter (is_used messages_read)) (exact_same h.replies _ (exact_fetched (named_in m.store set) what 1 m.store.messages (done (tag_text n) ∷ []) (done_exact (tag_text n), tt)) h.left_out)
+      ∙ all_read (named_in m.store set) what 1 m.store.messages (tag_text n)) h.spelled
 
   fetch_by : (heard : List ℕ) (new : Server) (result : Result ℕ FarFault)
-      → Outcome {T = ℕ} (λ len s t. HeardOf (replies_for m set what (tag_text n)) (take len heard) × (t ≡ old)) Never (λ s t. t ≡ old) result old new
+      → Outcome {T = ℕ} (λ len s t. HeardOf messages_read (replies_for m set what (tag_text n)) (take len heard) × (t ≡ old)) Never (λ s t. t ≡ old) result old new
       → Outcome {T = ℕ} (λ len. Tells (λ x. AreReplies (replies_for m set what (tag_text n)) (take x heard)) len) Never Remains result old new
   fetch_by heard new (Ok len) h = (heard_are (take len heard) h.0, h.1)
   fetch_by heard new (Err faults.Stopped) h = h

@@ -205,6 +205,7 @@ in_two tag name message front rest flags word is h e =
     (record {
       tag_is = refl;
       stays = refl;
+      alone = refl;
       text = record {
         spelled = written_spelled c (front ++ text) written;
         fits = (let few = command_few c (front ++ text) written in let short = tag_short c (front ++ text) written in let most = word.most in omega (arith, few, short, most));

@@ -1,10 +1,10 @@
 -- Capabilities are asked for, somebody logs in, and the revision is enabled.
 use Rattle.std.proofs.Common.{◌≡◌, ◌⊎◌, ◌≤◌, inl, inr, ℕ, ◌+◌, Bool, true, false, List, [], ◌∷◌, ◌++◌, refl, sym, ◌∙◌, ap, subst, arith, take, Option, Some, None, Result, Ok, Err}
-use Rattle.std.specs.Prelude.{codes, ◌||◌, if◌then◌else◌}
+use Rattle.std.specs.Prelude.{codes, filter, ◌||◌, if◌then◌else◌}
 use Rattle.std.specs.List.{list_any}
 use Rattle.imap_commands.specs.declared.command.Request.TheVariants as requests
 use Rattle.imap_replies.specs.declared.reply.Reply.{Reply}
-use Rattle.imap_replies.specs.declared.reply.Reply.TheVariants.{Capability, Enabled}
+use Rattle.imap_replies.specs.declared.reply.Reply.TheVariants.{Continue, Tagged, Notice, Capability, Enabled, List as Listed, Flags, Exists, Expunge, Fetch, Other, OtherNumbered}
 use Rattle.wire_tokens.specs.Names.{has_name}
 use Rattle.imap_session.specs.Servers.{Server, Authenticated, is_before_login, is_logged_in}
 use Rattle.imap_session.specs.Answering.{Gives, done, refused_with, out_of_place}
@@ -12,6 +12,7 @@ use Rattle.imap_session.specs.SessionCommands.{REV2, lets_in, logs_in}
 use Rattle.imap_session.specs.Heard.{AreReplies, LeavesOut, WithoutUid}
 use Rattle.imap_link.specs.declared.fault.FarFault.{FarFault}
 use Rattle.imap_link.specs.declared.fault.FarFault.TheVariants as faults
+use Rattle.imap_link.specs.UsedReplies.{answer_alone, abilities_read, is_used}
 use Rattle.imap_link.specs.Outcomes.{Outcome, Never}
 use Rattle.imap_client.specs.Tags.{tag_text}
 use Rattle.imap_link.specs.declared.wire.Answered.{Answered}
@@ -33,8 +34,8 @@ module _ (n : ℕ) (old : Server) where
   ability_sure = record { each = λ said new step. step }
 
   ability_by : (heard : List ℕ) (new : Server) (result : Result ℕ FarFault)
-      → Outcome {T = ℕ} (λ len s t. HeardOf (abilities ++ done (tag_text n) ∷ []) (take len heard) × (t ≡ old)) Never (λ s t. t ≡ old) result old new
-      → Outcome {T = ℕ} (λ len s t. HeardOf (abilities ++ done (tag_text n) ∷ []) (take len heard) × Remains s t) Never Remains result old new
+      → Outcome {T = ℕ} (λ len s t. HeardOf abilities_read (abilities ++ done (tag_text n) ∷ []) (take len heard) × (t ≡ old)) Never (λ s t. t ≡ old) result old new
+      → Outcome {T = ℕ} (λ len s t. HeardOf abilities_read (abilities ++ done (tag_text n) ∷ []) (take len heard) × Remains s t) Never Remains result old new
   ability_by heard new (Ok len) h = h
   ability_by heard new (Err faults.Stopped) h = h
   ability_by heard new (Err faults.Refused) h = h
@@ -45,7 +46,7 @@ module _ (n : ℕ) (old : Server) where
   ability_by heard new (Err faults.NoMemory) h = h
 
   pub ability_exchanged : (result : Result ℕ FarFault) (heard : List ℕ) (new : Server) → Exchanged (command_at n requests.Capability) result heard old new
-      → Outcome {T = ℕ} (λ len s t. HeardOf (abilities ++ done (tag_text n) ∷ []) (take len heard) × Remains s t) Never Remains result old new
+      → Outcome {T = ℕ} (λ len s t. HeardOf abilities_read (abilities ++ done (tag_text n) ∷ []) (take len heard) × Remains s t) Never Remains result old new
   ability_exchanged result heard new h =
       ability_by heard new result (answered (command_at n requests.Capability) old abilities (done (tag_text n)) old ability_sure refl result heard new h)
 
@@ -59,9 +60,33 @@ leaves_tells [] (s ∷ ss) l = absurd l
 leaves_tells (h ∷ hs) [] l = absurd l
 leaves_tells (h ∷ hs) (s ∷ ss) l = ap (λ (b : Bool). b || list_any tells_rev2 hs) (same_tells h s l.0) ∙ ap (λ (b : Bool). tells_rev2 s || b) (leaves_tells hs ss l.1)
 
+-- what is not read names nothing
+tells_none : (r : Reply) → is_used abilities_read r ≡ false → tells_rev2 r ≡ false
+tells_none (Capability names) e = cc
+tells_none (Continue text) e = refl
+tells_none (Tagged tag status text) e = refl
+tells_none (Notice kind text) e = refl
+tells_none (Enabled names) e = refl
+tells_none (Listed attributes delimiter name) e = refl
+tells_none (Flags flags) e = refl
+tells_none (Exists n) e = refl
+tells_none (Expunge n) e = refl
+tells_none (Fetch n items) e = refl
+tells_none (Other word text) e = refl
+tells_none (OtherNumbered n event text) e = refl
+
+tells_by : (b : Bool) (r : Reply) (rs : List Reply) → is_used abilities_read r ≡ b → list_any tells_rev2 (filter (is_used abilities_read) rs) ≡ list_any tells_rev2 rs
+    → list_any tells_rev2 (if b then r ∷ filter (is_used abilities_read) rs else filter (is_used abilities_read) rs) ≡ list_any tells_rev2 (r ∷ rs)
+tells_by true r rs e h = ap (λ (t : Bool). tells_rev2 r || t) h
+tells_by false r rs e h = h ∙ sym (ap (λ (t : Bool). t || list_any tells_rev2 rs) (tells_none r e))
+
+tells_read : (rs : List Reply) → list_any tells_rev2 (filter (is_used abilities_read) rs) ≡ list_any tells_rev2 rs
+tells_read [] = refl
+tells_read (r ∷ rs) = tells_by (is_used abilities_read r) r rs refl (tells_read rs)
+
 -- an honest server names the revision
-pub named_so : (tag bytes : List ℕ) (told : Bool) → HeardOf (abilities ++ done tag ∷ []) bytes → ((rs : List Reply) → AreReplies rs bytes → told ≡ list_any tells_rev2 rs) → told ≡ true
-named_so tag bytes told h t = t h.replies h.spelled ∙ leaves_tells h.replies (abilities ++ done tag ∷ []) h.left_out
+pub named_so : (tag bytes : List ℕ) (told : Bool) → HeardOf abilities_read (abilities ++ done tag ∷ []) bytes → ((rs : List Reply) → AreReplies rs bytes → told ≡ list_any tells_rev2 rs) → told ≡ true
+named_so tag bytes told h t = t (filter (is_used abilities_read) h.replies) h.spelled ∙ tells_read h.replies ∙ leaves_tells h.replies (abilities ++ done tag ∷ []) h.left_out
 
 -- ---- LOGIN
 
@@ -79,7 +104,7 @@ module _ (n : ℕ) (user password : List ℕ) (old : Server) (before : is_before
   out_sure is = record { each = λ said new step. stepped false is said new step }
 
   in_by : is_known user password old ≡ true → (heard : List ℕ) (new : Server) (result : Result ℕ FarFault)
-      → Outcome {T = ℕ} (λ len s t. HeardOf (done (tag_text n) ∷ []) (take len heard) × (t ≡ record old { condition = Authenticated })) Never (λ s t. t ≡ record old { condition = Authenticated }) result old new
+      → Outcome {T = ℕ} (λ len s t. HeardOf answer_alone (done (tag_text n) ∷ []) (take len heard) × (t ≡ record old { condition = Authenticated })) Never (λ s t. t ≡ record old { condition = Authenticated }) result old new
       → Outcome {T = ℕ} (λ len. Authenticates user password) (Rejects user password) (Authenticates user password) result old new
   in_by is heard new (Ok len) h = (is, h.1)
   in_by is heard new (Err faults.Stopped) (inl q) = inl q

@@ -1,5 +1,5 @@
 -- A session ends at the server.
-use Rattle.std.proofs.Common.{◌≡◌, ℕ, List, [], ◌∷◌, refl, ◌∙◌, subst, sym, take, Result, Ok, Err}
+use Rattle.std.proofs.Common.{◌≡◌, ℕ, List, [], ◌∷◌, refl, ◌∙◌, subst, sym, take, Result, Ok, Err, ap}
 use Rattle.std.specs.Prelude.{codes}
 use Rattle.imap_commands.specs.declared.command.Command.{Command}
 use Rattle.imap_commands.specs.declared.command.Request.{Request}
@@ -15,6 +15,8 @@ use Rattle.imap_link.specs.declared.fault.FarFault.TheVariants as faults
 use Rattle.imap_link.specs.declared.wire.Answered.{Answered}
 use Rattle.imap_link.specs.Faults.{IsHearing}
 use Rattle.imap_link.specs.Outcomes.{Outcome, Never}
+use Rattle.imap_link.specs.declared.uses.Uses.{Uses}
+use Rattle.imap_link.specs.UsedReplies.{answer_alone, uses_of}
 use Rattle.imap_link.specs.Exchanges.{Completes}
 use Rattle.imap_client.specs.Exchanged.{AnsweredSo}
 use Rattle.imap_client.specs.Leaving.{Leaves, LeftSo}
@@ -25,8 +27,8 @@ use Rattle.imap_client.proofs.Completing.{plain_completes}
 use Rattle.imap_client.proofs.LoggingIn.{same_status}
 
 module _ (c : Command) (is : c.request ≡ requests.Logout) where
-  pub logout_completes : (t : List ℕ) → Written c t → Completes c c.tag [] t
-  logout_completes t w = plain_completes c t (subst IsPlain (sym is) tt) w
+  pub logout_completes : (uses : Uses) (t : List ℕ) → uses ≡ answer_alone → Written c t → Completes c uses c.tag [] t
+  logout_completes uses t u w = plain_completes c uses t (u ∙ sym (ap uses_of is)) (subst IsPlain (sym is) tt) w
 
   module _ (old : Server) where
     abbrev over : Server

@@ -1,11 +1,11 @@
 -- Where the beginnings of messages show a mark.
-use Rattle.std.proofs.Common.{◌≡◌, ℕ, ◌+◌, ◌<◌, ◌≤◌, Bool, true, false, List, [], ◌∷◌, ◌++◌, refl, sym, ◌∙◌, ap, take, drop, Option, Some, None, arith}
-use Rattle.std.specs.Prelude.{codes, min, nat_eq, nat_le, find, ◌&&◌, ◌||◌, if◌then◌else◌}
-use Rattle.std.specs.List.{fold, starts_with}
+use Rattle.std.proofs.Common.{◌≡◌, ℕ, ◌+◌, ◌<◌, ◌≤◌, Bool, true, false, List, [], ◌∷◌, ◌++◌, refl, sym, ◌∙◌, ap, take, drop, length, Option, Some, None, arith}
+use Rattle.std.specs.Prelude.{codes, min, nat_eq, nat_le, nat_lt, find, ◌&&◌, ◌||◌, if◌then◌else◌}
+use Rattle.std.specs.List.{fold, list_any, starts_with}
 use Rattle.std.specs.Option.{option_map}
 use Rattle.std.specs.Cmp.Lexicographic.{pointwise}
-use Rattle.std.proofs.lemmas.Bool.{and_parts}
-use Rattle.std.proofs.lemmas.List.{take-take, drop-take}
+use Rattle.std.proofs.lemmas.Bool.{and_parts, le-ltb}
+use Rattle.std.proofs.lemmas.List.{take-take, drop-take, length-take}
 use Rattle.mailcore.specs.declared.mailbox.Message.{Message}
 use Rattle.mailcore.specs.Mark.{is_mark as is_mark_text}
 use Rattle.mailcore.specs.Content.{LF, CR, begins_with_line_end, mark_of}
@@ -21,7 +21,7 @@ use Rattle.imap_session.specs.Answering.{done}
 use Rattle.imap_session.specs.MessageCommands.{shown, fetched}
 use Rattle.imap_client.specs.Calls.{from_on}
 use Rattle.imap_answers.specs.Listings.{is_uid}
-use Rattle.imap_answers.specs.Markings.{lesser, least_more, least_marked, uid_found}
+use Rattle.imap_answers.specs.Markings.{head_size, has_long_head, lesser, least_more, least_marked, uid_found, mark_found}
 use Rattle.imap_client.proofs.Fetched.{replies_for}
 use Rattle.imap_client.proofs.Numbered.{Rise, Names, store_rises, names_from}
 use Rattle.imap_client.proofs.Rows.{uid_is}
@@ -105,7 +105,25 @@ module _ (mark : List ℕ) (from : ℕ) (named : ℕ → Bool) (tag : List ℕ) 
   uid_sure low [] some r = refl
   uid_sure low (m ∷ ms) some r = uid_by (seeks m) m ms (uid_is low m ms some r) (uid_sure (m.uid + 1) ms (omega arith) r.2)
 
-pub finds_mark : (mark : List ℕ) (from : ℕ) (m : FarMailbox) (tag : List ℕ) → IsStore m.store → AreInRange m.store.messages → uid_found (least_marked mark from (replies_for m (from_on from) wanted.Head tag)) ≡ Some (marked_from mark from m.store)
+-- ---- no more is told than was asked for
+
+-- the first 22 octets are at most 22
+fits_head : (bytes : List ℕ) → nat_lt head_size (length (take 22 bytes)) ≡ false
+fits_head bytes = le-ltb head_size (length (take 22 bytes)) (let e = length-take 22 bytes in omega arith)
+
+module _ (named : ℕ → Bool) (tag : List ℕ) where
+  none_long_if : (b : Bool) (place : ℕ) (m : Message) (others : List Reply) → list_any has_long_head (others ++ done tag ∷ []) ≡ false
+      → list_any has_long_head ((if b then Fetch place (shown wanted.Head m) ∷ others else others) ++ done tag ∷ []) ≡ false
+  none_long_if true place m others e =
+      ap (λ (b : Bool). (b || false) || list_any has_long_head (others ++ done tag ∷ [])) (fits_head m.bytes) ∙ e
+  none_long_if false place m others e = e
+
+  none_long : (place : ℕ) (ms : List Message) → list_any has_long_head (fetched named wanted.Head place ms ++ done tag ∷ []) ≡ false
+  none_long place [] = refl
+  none_long place (m ∷ ms) = none_long_if (named m.uid) place m (fetched named wanted.Head (place + 1) ms) (none_long (place + 1) ms)
+
+pub finds_mark : (mark : List ℕ) (from : ℕ) (m : FarMailbox) (tag : List ℕ) → IsStore m.store → AreInRange m.store.messages → mark_found mark from (replies_for m (from_on from) wanted.Head tag) ≡ Some (marked_from mark from m.store)
 finds_mark mark from m tag is range =
     let rises = store_rises m.store is range in
-    ap uid_found (found_first mark from (named_in m.store (from_on from)) tag 1 1 m.store.messages rises (names_from m.store from rises)) ∙ uid_sure mark from (named_in m.store (from_on from)) tag 1 m.store.messages (omega arith) rises
+    ap (λ (b : Bool). if b then None else uid_found (least_marked mark from (replies_for m (from_on from) wanted.Head tag))) (none_long (named_in m.store (from_on from)) tag 1 m.store.messages)
+    ∙ ap uid_found (found_first mark from (named_in m.store (from_on from)) tag 1 1 m.store.messages rises (names_from m.store from rises)) ∙ uid_sure mark from (named_in m.store (from_on from)) tag 1 m.store.messages (omega arith) rises

@@ -1,10 +1,8 @@
 -- The names of a server's mailboxes are told.
-use Rattle.std.proofs.Common.{◌≡◌, ◌⊎◌, ◌<◌, inl, inr, ℕ, zero, suc, Bool, true, false, List, arith, length, [], ◌∷◌, ◌++◌, refl, sym, ◌∙◌, ap, subst, append_assoc, append-nil, take, Option, Some, None, Result, Err}
-use Rattle.std.specs.Prelude.{map, filter, nat_le, ◌&&◌, ◌==◌, slice_index, if◌then◌else◌}
-use Rattle.std.specs.List.{fold, list_all, slice_split}
-use Rattle.std.specs.Str.{IsAscii}
-use Rattle.std.proofs.lemmas.Bool.{and_parts, and_from}
-use Rattle.std.proofs.lemmas.Bool.Decides.{nat_tests}
+use Rattle.std.proofs.Common.{◌≡◌, ◌⊎◌, inl, inr, ℕ, Bool, true, false, List, [], ◌∷◌, ◌++◌, refl, sym, ◌∙◌, ap, subst, append_assoc, append-nil, take, Option, Some, None, Result, Err}
+use Rattle.std.specs.Prelude.{map, filter, if◌then◌else◌}
+use Rattle.std.specs.List.{fold, list_all}
+use Rattle.std.proofs.lemmas.Bool.{and_from}
 use Rattle.std.proofs.lemmas.List.Folds.{list_all-append}
 use Rattle.wire_strings.specs.Quotes.{unescaped}
 use Rattle.wire_strings.specs.Strings.{value_of}
@@ -13,10 +11,11 @@ use Rattle.imap_replies.specs.declared.reply.Reply.{Reply}
 use Rattle.imap_replies.specs.declared.reply.Reply.TheVariants.{Continue, Tagged, Notice, Capability, Enabled, List as Listed, Flags, Exists, Expunge, Fetch, Other, OtherNumbered}
 use Rattle.imap_session.specs.Servers.{Server, is_logged_in}
 use Rattle.imap_session.specs.Answering.{Gives, listed, done, out_of_place}
-use Rattle.imap_session.specs.MailboxCommands.{is_name_byte, is_part, is_name, names_matched}
+use Rattle.imap_session.specs.MailboxCommands.{is_name, names_matched}
 use Rattle.imap_session.specs.Heard.{AreReplies, LeavesOut, WithoutUid}
 use Rattle.imap_link.specs.declared.fault.FarFault.{FarFault}
 use Rattle.imap_link.specs.declared.fault.FarFault.TheVariants as faults
+use Rattle.imap_link.specs.UsedReplies.{names_read, is_used}
 use Rattle.imap_link.specs.Outcomes.{Outcome, Never}
 use Rattle.imap_client.specs.Tags.{tag_text}
 use Rattle.imap_client.specs.Exchanged.{command_at, Exchanged}
@@ -24,6 +23,7 @@ use Rattle.imap_client.specs.Saying.{HeardOf}
 use Rattle.imap_client.specs.Logins.{Remains}
 use Rattle.imap_client.specs.States.{State, Asked, EndsSo}
 use Rattle.imap_answers.specs.MailboxNames.{within_limits, name_told, with_name, names_more, names_in, names_of, TellsNames}
+use Rattle.imap_answers.proofs.Unread.{names_in_read}
 use Rattle.imap_client.proofs.Answered.{Sure, answered}
 
 -- ---- what was said
@@ -39,7 +39,7 @@ module _ (n : ℕ) (old : Server) (logged : is_logged_in old.condition ≡ true)
   }
 
   pub names_exchanged : (result : Result ℕ FarFault) (heard : List ℕ) (new : Server) → Exchanged (command_at n (requests.List (42 ∷ []))) result heard old new
-      → Outcome {T = ℕ} (λ len s t. HeardOf (told_first old ++ done (tag_text n) ∷ []) (take len heard) × (t ≡ old)) Never (λ s t. t ≡ old) result old new
+      → Outcome {T = ℕ} (λ len s t. HeardOf names_read (told_first old ++ done (tag_text n) ∷ []) (take len heard) × (t ≡ old)) Never (λ s t. t ≡ old) result old new
   names_exchanged result heard new h = answered (command_at n (requests.List (42 ∷ []))) old (told_first old) (done (tag_text n)) old names_sure refl result heard new h
 
 -- ---- what it tells
@@ -65,9 +65,9 @@ listed_names tag names (n ∷ ns) =
     let x = unescaped n in
     listed_names tag (with_name names (within_limits x)) ns ∙ by_limits (is_name x) names (filter is_name (map unescaped ns)) x
 
-pub names_told : (tag bytes : List ℕ) (old : Server) (names : List (List ℕ)) → HeardOf (told_first old ++ done tag ∷ []) bytes → ((rs : List Reply) → AreReplies rs bytes → names ≡ names_in rs) → names ≡ names_of old
+pub names_told : (tag bytes : List ℕ) (old : Server) (names : List (List ℕ)) → HeardOf names_read (told_first old ++ done tag ∷ []) bytes → ((rs : List Reply) → AreReplies rs bytes → names ≡ names_in rs) → names ≡ names_of old
 names_told tag bytes old names h told =
-    told h.replies h.spelled ∙ leaves_names [] h.replies (told_first old ++ done tag ∷ []) h.left_out ∙ listed_names tag [] (names_matched (42 ∷ []) old.mailboxes)
+    told (filter (is_used names_read) h.replies) h.spelled ∙ names_in_read h.replies ∙ leaves_names [] h.replies (told_first old ++ done tag ∷ []) h.left_out ∙ listed_names tag [] (names_matched (42 ∷ []) old.mailboxes)
 
 -- ---- the limits
 
@@ -99,7 +99,7 @@ names_within names rs e = ap (list_all is_name) e ∙ within_from [] rs refl
 -- ---- how the call ends
 
 module _ (T : Type 0) (r : Result T FarFault) (items : T → List (List ℕ)) (old new : Server) where
-  by_fault : (f : FarFault) (said : List Reply) (heard : List ℕ) → Outcome {T = ℕ} (λ len s t. HeardOf said (take len heard) × (t ≡ old)) Never (λ s t. t ≡ old) (Err f) old new
+  by_fault : (f : FarFault) (said : List Reply) (heard : List ℕ) → Outcome {T = ℕ} (λ len s t. HeardOf names_read said (take len heard) × (t ≡ old)) Never (λ s t. t ≡ old) (Err f) old new
       → Outcome {T = T} (λ x. TellsNames (items x)) Never Remains (Err f) old new
   by_fault faults.Stopped said heard h = h
   by_fault faults.Refused said heard h = h
@@ -109,7 +109,7 @@ module _ (T : Type 0) (r : Result T FarFault) (items : T → List (List ℕ)) (o
   by_fault faults.ReadOnly said heard h = h
   by_fault faults.NoMemory said heard h = h
 
-  pub not_answered : (f : FarFault) (said : List Reply) (heard : List ℕ) → r ≡ Err f → Outcome {T = ℕ} (λ len s t. HeardOf said (take len heard) × (t ≡ old)) Never (λ s t. t ≡ old) (Err f) old new
+  pub not_answered : (f : FarFault) (said : List Reply) (heard : List ℕ) → r ≡ Err f → Outcome {T = ℕ} (λ len s t. HeardOf names_read said (take len heard) × (t ≡ old)) Never (λ s t. t ≡ old) (Err f) old new
       → Outcome {T = T} (λ x. TellsNames (items x)) Never Remains r old new
   not_answered f said heard e h = subst (λ (q : Result T FarFault). Outcome {T = T} (λ x. TellsNames (items x)) Never Remains q old new) (sym e) (by_fault f said heard h)
 

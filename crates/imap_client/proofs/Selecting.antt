@@ -1,6 +1,6 @@
 -- A mailbox is selected.
 use Rattle.std.proofs.Common.{◌≡◌, ◌⊎◌, inl, inr, ℕ, Bool, true, false, List, [], ◌∷◌, ◌++◌, refl, sym, ◌∙◌, ap, subst, append_assoc, length, arith, take, Option, Some, None, Result, Ok, Err}
-use Rattle.std.specs.Prelude.{codes, if◌then◌else◌}
+use Rattle.std.specs.Prelude.{codes, filter, if◌then◌else◌}
 use Rattle.std.specs.List.{fold}
 use Rattle.std.specs.Option.{option_map}
 use Rattle.std.proofs.lemmas.Bool.{le-leb}
@@ -15,6 +15,7 @@ use Rattle.imap_session.specs.MailboxCommands.{SIX, closes, selects_at}
 use Rattle.imap_session.specs.Heard.{AreReplies, LeavesOut, WithoutUid}
 use Rattle.imap_link.specs.declared.fault.FarFault.{FarFault}
 use Rattle.imap_link.specs.declared.fault.FarFault.TheVariants as faults
+use Rattle.imap_link.specs.UsedReplies.{opening_read, is_used}
 use Rattle.imap_link.specs.Outcomes.{Outcome, Never}
 use Rattle.imap_answers.specs.declared.opening.Opening.{Opening}
 use Rattle.imap_client.specs.Tags.{tag_text}
@@ -26,6 +27,7 @@ use Rattle.imap_answers.specs.Spoken.{Speaks}
 use Rattle.imap_link.specs.Buffers.{IsAnswerText}
 use Rattle.imap_replies.specs.declared.word.Status.{Status}
 use Rattle.imap_replies.specs.declared.word.Status.TheVariants as statuses
+use Rattle.imap_answers.proofs.Unread.{opening_of_read}
 use Rattle.imap_client.proofs.Answered.{Sure, status_so, answered, refused}
 
 -- all but the tagged reply
@@ -41,7 +43,7 @@ pub record ChosenBy (name tag bytes : List ℕ) (old new : Server) : Type 0 wher
   pub mailbox : FarMailbox
   pub there : mailbox_at name old.mailboxes ≡ Some mailbox
   pub after : new ≡ record old { condition = Selected name }
-  pub heard : HeardOf ((closes old.condition ++ front mailbox) ++ done_with tag codes_of.ReadWrite ∷ []) bytes
+  pub heard : HeardOf opening_read ((closes old.condition ++ front mailbox) ++ done_with tag codes_of.ReadWrite ∷ []) bytes
 
 chosen : (old new : Server) (c : Condition) → new ≡ record old { condition = c } → new ≡ record old { condition = new.condition }
 chosen old new c e = e ∙ ap (λ (d : Condition). record old { condition = d }) (sym (ap (λ (s : Server). s.condition) e))
@@ -60,7 +62,7 @@ module _ (n : ℕ) (name : List ℕ) (old : Server) (logged : is_logged_in old.c
     }
 
     some_by : (result : Result ℕ FarFault) (heard : List ℕ) (new : Server)
-        → Outcome {T = ℕ} (λ len s t. HeardOf ((closes old.condition ++ front m) ++ done_with (tag_text n) codes_of.ReadWrite ∷ []) (take len heard) × (t ≡ record old { condition = Selected name })) Never (λ s t. t ≡ record old { condition = Selected name }) result old new
+        → Outcome {T = ℕ} (λ len s t. HeardOf opening_read ((closes old.condition ++ front m) ++ done_with (tag_text n) codes_of.ReadWrite ∷ []) (take len heard) × (t ≡ record old { condition = Selected name })) Never (λ s t. t ≡ record old { condition = Selected name }) result old new
         → Outcome {T = ℕ} (λ len. ChosenBy name (tag_text n) (take len heard)) (NoMailbox name) (Chooses name) result old new
     some_by (Ok len) heard new h = record { mailbox = m; there = is; after = h.1; heard = h.0 }
     some_by (Err faults.Stopped) heard new (inl q) = inl q
@@ -145,7 +147,7 @@ closes_tell (Selected name) m tag = refl
 closes_tell LoggedOut m tag = refl
 
 pub told_so : (name tag bytes : List ℕ) (old new : Server) (c : ChosenBy name tag bytes old new) (o : Opening) → ((rs : List Reply) → AreReplies rs bytes → o ≡ opening_of rs) → o ≡ told_of c.mailbox
-told_so name tag bytes old new c o h = h c.heard.replies c.heard.spelled ∙ leaves_opening nothing_told c.heard.replies _ c.heard.left_out ∙ closes_tell old.condition c.mailbox tag
+told_so name tag bytes old new c o h = h (filter (is_used opening_read) c.heard.replies) c.heard.spelled ∙ opening_of_read c.heard.replies ∙ leaves_opening nothing_told c.heard.replies _ c.heard.left_out ∙ closes_tell old.condition c.mailbox tag
 
 -- ---- behind it
 

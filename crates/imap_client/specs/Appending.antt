@@ -20,6 +20,7 @@ use Rattle.imap_session.specs.Servers.{Server, Quiet}
 use Rattle.imap_session.specs.Lines.{Line}
 use Rattle.exchange_laws.specs.Ends.{ends_of, IsAt, IsText, AsksAtEnd, DidCommand, is_logout}
 use Rattle.imap_link.specs.declared.fault.FarFault.{FarFault}
+use Rattle.imap_link.specs.UsedReplies.{answer_alone, uses_of}
 use Rattle.imap_link.specs.Outcomes.{Outcome, Never}
 use Rattle.imap_client.specs.declared.addition.Addition.{Addition}
 use Rattle.imap_client.specs.Boxes.{Becomes}
@@ -78,6 +79,7 @@ FrontText tag name flags count =
 pub record InTwo (tag front rest : List ℕ) (c : Command) : Type 0 where
   pub tag_is : c.tag ≡ tag
   pub stays : is_logout c.request ≡ false
+  pub alone : uses_of c.request ≡ answer_alone
   pub text : IsText c (front ++ rest)
   pub some : rest ≡ [] → ⊥
   pub count : ℕ

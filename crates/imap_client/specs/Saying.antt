@@ -1,9 +1,11 @@
 -- What the replies to a command say.
-use Rattle.std.specs.Prelude.{ℕ, List, [], ◌∷◌, Option, None, Some}
+use Rattle.std.specs.Prelude.{ℕ, List, [], ◌∷◌, filter, Option, None, Some}
 use Rattle.imap_replies.specs.declared.word.Status.{Status}
 use Rattle.imap_replies.specs.declared.reply.Reply.{Reply}
 use Rattle.imap_replies.specs.declared.reply.Reply.TheVariants.{Continue, Tagged, Notice, Capability, Enabled, List as Listed, Flags, Exists, Expunge, Fetch, Other, OtherNumbered}
 use Rattle.imap_session.specs.Heard.{AreReplies, LeavesOut}
+use Rattle.imap_link.specs.declared.uses.Uses.{Uses}
+use Rattle.imap_link.specs.UsedReplies.{is_used}
 
 abbrev pub status_of : Reply → Option Status
 status_of (Continue text) = None
@@ -25,8 +27,8 @@ final_status [] = None
 final_status (r ∷ []) = status_of r
 final_status (r ∷ q ∷ rs) = final_status (q ∷ rs)
 
--- the bytes are these replies, but that a code may be left out
-pub record HeardOf (said : List Reply) (bytes : List ℕ) : Type 0 where
+-- the bytes are those of these replies that the call reads, but that a code may be left out
+pub record HeardOf (uses : Uses) (said : List Reply) (bytes : List ℕ) : Type 0 where
   pub replies : List Reply
-  pub spelled : AreReplies replies bytes
+  pub spelled : AreReplies (filter (is_used uses) replies) bytes
   pub left_out : LeavesOut replies said

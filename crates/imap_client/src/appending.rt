@@ -27,6 +27,7 @@ use imap_answers::given::{Given, given_in, uid_told};
 use imap_answers::reading::read_replies;
 use imap_link::fault::FarFault;
 use imap_link::link::Link;
+use imap_link::uses::Uses;
 use imap_link::wire::{Answered, Told};
 use mailcore::flags::Flags;
 use mailcore::uid::Uid;
@@ -76,7 +77,7 @@ impl<L: Link> Session<L> {
             × IsAnswerText tag.now statuses.Ok (take len self.new.wire.heard.items)) }
     {
         self.offer(tag, front)?;
-        let answered = self.wire.finish(tag, rest, false)?;
+        let answered = self.wire.finish(tag, rest, false, Uses::answer_alone())?;
         self.judge(answered)
     }
 

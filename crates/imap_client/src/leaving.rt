@@ -12,6 +12,7 @@ use crate::session::Session;
 use imap_commands::command::{Command, Request};
 use imap_link::fault::FarFault;
 use imap_link::link::Link;
+use imap_link::uses::Uses;
 use imap_replies::word::Status;
 
 impl<L: Link> Session<L> {
@@ -59,7 +60,9 @@ impl<L: Link> Session<L> {
         ensures outcome { L.honest self.new.wire.link → Outcome (λ _. Leaves) Never Leaves result (server_of self.old) (server_of self.new) }
     {
         let text = text_of(self.wire.alloc, command)?;
-        let answered = self.wire.finish(&command.tag, &text, true)?;
+        let answered = self
+            .wire
+            .finish(&command.tag, &text, true, Uses::answer_alone())?;
         match answered.status {
             Status::Ok => Ok(()),
             Status::No => Err(FarFault::Refused),

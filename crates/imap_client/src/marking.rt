@@ -10,7 +10,7 @@ ghost use Rattle.mailcore.specs.Operations.{marked_from};
 ghost use Rattle.mailcore.specs.Ranges.{AreInRange};
 ghost use Rattle.mailcore.specs.Stores.{IsStore};
 ghost use Rattle.imap_client.specs.Logins.{Remains};
-ghost use Rattle.imap_answers.specs.Markings.{least_marked, uid_found};
+ghost use Rattle.imap_answers.specs.Markings.{mark_found};
 ghost use Rattle.imap_answers.specs.Readings.{ReadsAs, IsReadFault, Tells};
 ghost use Rattle.imap_answers.specs.Spoken.{Speaks};
 ghost use Rattle.imap_client.specs.States.{EndsSo};
@@ -18,7 +18,7 @@ ghost use Rattle.imap_client.specs.States.{EndsSo};
 use crate::call::Call;
 use crate::far_box::FarBox;
 use crate::session::Session;
-use imap_answers::marks::{least_marked, uid_found};
+use imap_answers::marks::mark_found;
 use imap_answers::reading::read_replies;
 use imap_link::fault::FarFault;
 use imap_link::link::Link;
@@ -33,11 +33,11 @@ impl<L: Link> Session<L> {
         requires within { len ≤ length self.now.wire.heard.items }
         requires speaks { Speaks (take len self.now.wire.heard.items) }
         ensures told { (rs : List Reply) → AreReplies rs (take len self.now.wire.heard.items)
-            → ReadsAs (λ uid. uid) result (uid_found (least_marked mark from rs)) }
+            → ReadsAs (λ uid. uid) result (mark_found mark from rs) }
         ensures err { IfErr result IsReadFault }
     {
         let replies = read_replies(self.wire.alloc, &self.wire.heard[..len])?;
-        uid_found(least_marked(&replies, mark, from))
+        mark_found(&replies, mark, from)
     }
 
     /// Where the mark stands in the selected mailbox, from this UID on.
@@ -64,7 +64,7 @@ impl<L: Link> FarBox<L> {
     /// The least UID of at least `from` whose message has the mark: one UID FETCH of the first 22 octets. A message below `from`
     /// that the server sends, since `*` names the last one, never counts.
     ///
-    /// `Protocol`: the server tells the mark under 4294967295, too.
+    /// `Protocol`: the server shows more than 22 octets of a message, or tells the mark under 4294967295, too.
     pub fn find_mark(&mut self, mark: Tuid, from: u32) -> Result<Option<Uid>, FarFault>
         ensures was_honest { L.honest self.new.session.wire.link → L.honest self.old.session.wire.link }
         ensures stuck { self.old.session.is_ready ≡ false → self.new.session ≡ self.old.session }

@@ -20,6 +20,7 @@ use crate::tags::tag_of;
 use imap_commands::command::{Command, Request};
 use imap_link::fault::FarFault;
 use imap_link::link::Link;
+use imap_link::uses::Uses;
 use imap_link::wire::{Answered, Wire};
 use imap_replies::word::Status;
 use std::alloc::Global;
@@ -165,7 +166,9 @@ impl<L: Link> Session<L> {
             × IsAnswerText command.now.tag a.status (take a.len self.new.wire.heard.items)) }
     {
         let text = text_of(self.wire.alloc, command)?;
-        let answered = self.wire.finish(&command.tag, &text, false)?;
+        let answered = self
+            .wire
+            .finish(&command.tag, &text, false, Uses::of(&command.request))?;
         Ok(answered)
     }
 

@@ -1,5 +1,5 @@
 -- How the sending of the front of a command ends.
-use Rattle.std.proofs.Common.{◌≡◌, inl, inr, ℕ, List, [], ◌∷◌, ◌++◌, refl, sym, ◌∙◌, ap, subst, take, drop, Result, Ok, Err}
+use Rattle.std.proofs.Common.{◌≡◌, inl, inr, ℕ, List, [], ◌++◌, refl, sym, ◌∙◌, ap, subst, take, drop, Result, Ok, Err}
 use Rattle.imap_commands.specs.declared.command.Command.{Command}
 use Rattle.imap_replies.specs.declared.word.Status.{Status}
 use Rattle.imap_replies.specs.declared.reply.Reply.{Reply}
@@ -15,14 +15,16 @@ use Rattle.imap_link.specs.declared.fault.FarFault.{FarFault}
 use Rattle.imap_link.specs.declared.fault.FarFault.TheVariants.{Stopped, Refused, Protocol, TooLong, NoRev2, ReadOnly, NoMemory}
 use Rattle.imap_link.specs.declared.wire.Told.{Told}
 use Rattle.imap_link.specs.declared.wire.Told.TheVariants as tells
-use Rattle.imap_link.specs.declared.front.Kind.TheVariants.{Go}
+use Rattle.imap_link.specs.declared.front.Kind.TheVariants.{Go, Mine}
+use Rattle.imap_link.specs.declared.uses.Uses.{Uses}
 use Rattle.imap_link.specs.Faults.{IsStop}
 use Rattle.imap_link.specs.ReplyKinds.{kind_of, IsAwaited}
-use Rattle.imap_link.specs.Buffers.{IsAnswerText, IsGoText, Tells, Expects, Keeps}
+use Rattle.imap_link.specs.Buffers.{Expects, Came, GoesOn, IsTold, length_of}
 use Rattle.imap_link.specs.Exchanges.{Waits, AsksOr, AsksFor}
 use Rattle.imap_link.proofs.KindLemmas.{awaited_stays, mine_tagged, tagged_awaited, go_or_tagged}
 use Rattle.imap_link.proofs.Astray.{ends_apart}
-use Rattle.imap_link.proofs.Finished.{hears_of, some_end}
+use Rattle.imap_link.proofs.Finished.{some_end}
+use Rattle.imap_link.proofs.Passing.{text_of}
 
 stop_asks : (c : Command) (front : List ℕ) (y : FarFault) (old new : Line) (heard : List ℕ) → IsStop y → MayHave (DidCommand c) old.end.server new.end.server → AsksOr c front (Err y) old new heard
 stop_asks c front Stopped old new heard s h = h
@@ -49,33 +51,33 @@ module _ (c : Command) (tag front rest : List ℕ) (n : ℕ) (text : IsText c (f
   pub quiet_so : Quiet old.end.server mid.end.server
   quiet_so = elim or [ inl none ↦ none.quiet | inr w ↦ w.quiet ]
 
-  pub waits_so : (now : List ℕ) (len : ℕ) → IsGoText tag (take len now) → Keeps (ends_of mid heard) (ends_of new now) → Waits front len old new now
-  waits_so now len g k =
-      let h = hears_of (ends_of mid heard) new now len (g.passed ++ g.last ∷ []) k g.spelled in
-      elim or [
-        | inl none ↦ absurd (some_end (take len now) (drop len now ++ new.unseen) g (sym h.heard ∙ none.coming))
-        | inr w ↦
-            let same = ends_apart g.last go (awaited_stays tag g.last (go_stays tag g.last g.is)) (awaited_stays tag go tt) g.passed [] (take len now) (ends_of mid heard).coming (drop len now ++ new.unseen) g.untagged tt g.spelled w.coming (sym h.heard) in
-            record {
-              quiet = quiet-trans old.end.server mid.end.server new.end.server w.quiet k.stays.quiet;
-              at = record {
-                reads_on = quiet_left mid.end.server new.end.server k.stays.quiet ∙ quiet_left old.end.server mid.end.server w.quiet ∙ idle.reads_on;
-                has_read = read_stays front mid.end new.end k.stays w.has_read;
-                coming = same.2;
-              };
-            }
-      ]
+  module _ (uses : Uses) (kept now : List ℕ) (len : ℕ) where
+    pub waits_so : Came uses (λ r. kind_of tag r ≡ Go) kept (GoesOn (ends_of mid heard) (ends_of new (drop len now))) → Waits front len old new now
+    waits_so a =
+        let g = text_of uses (λ r. kind_of tag r ≡ Go) kept (GoesOn (ends_of mid heard) (ends_of new (drop len now))) a in
+        elim or [
+          | inl none ↦ absurd (some_end a.text (drop len now ++ new.unseen) g (sym a.goes.coming ∙ none.coming))
+          | inr w ↦
+              let same = ends_apart a.last go (awaited_stays tag a.last (go_stays tag a.last a.is)) (awaited_stays tag go tt) a.passed [] a.text (ends_of mid heard).coming (drop len now ++ new.unseen) a.untagged tt a.spelled w.coming (sym a.goes.coming) in
+              record {
+                quiet = quiet-trans old.end.server mid.end.server new.end.server w.quiet a.goes.stays.quiet;
+                at = record {
+                  reads_on = quiet_left mid.end.server new.end.server a.goes.stays.quiet ∙ quiet_left old.end.server mid.end.server w.quiet ∙ idle.reads_on;
+                  has_read = read_stays front mid.end new.end a.goes.stays w.has_read;
+                  coming = same.2;
+                };
+              }
+        ]
 
-  pub no_answer : (now : List ℕ) (len : ℕ) (status : Status) → IsAnswerText tag status (take len now) → Keeps (ends_of mid heard) (ends_of new now) → ⊥
-  no_answer now len status a k =
-      let h = hears_of (ends_of mid heard) new now len (a.passed ++ a.last ∷ []) k a.spelled in
-      let mine = mine_tagged tag a.last status a.is in
-      elim or [
-        | inl none ↦ some_end (take len now) (drop len now ++ new.unseen) a (sym h.heard ∙ none.coming)
-        | inr w ↦
-            let same = ends_apart a.last go (awaited_stays tag a.last (tagged_awaited tag a.last mine)) (awaited_stays tag go tt) a.passed [] (take len now) (ends_of mid heard).coming (drop len now ++ new.unseen) a.untagged tt a.spelled w.coming (sym h.heard) in
-            go_or_tagged tag a.last tag (ap (kind_of tag) same.1) mine
-      ]
+    pub no_answer : (status : Status) → Came uses (λ r. kind_of tag r ≡ Mine status) kept (GoesOn (ends_of mid heard) (ends_of new (drop len now))) → ⊥
+    no_answer status a =
+        let mine = mine_tagged tag a.last status a.is in
+        elim or [
+          | inl none ↦ some_end a.text (drop len now ++ new.unseen) (text_of uses (λ r. kind_of tag r ≡ Mine status) kept (GoesOn (ends_of mid heard) (ends_of new (drop len now))) a) (sym a.goes.coming ∙ none.coming)
+          | inr w ↦
+              let same = ends_apart a.last go (awaited_stays tag a.last (tagged_awaited tag a.last mine)) (awaited_stays tag go tt) a.passed [] a.text (ends_of mid heard).coming (drop len now ++ new.unseen) a.untagged tt a.spelled w.coming (sym a.goes.coming) in
+              go_or_tagged tag a.last tag (ap (kind_of tag) same.1) mine
+        ]
 
 -- where the front was not sent
 pub unasked : (front : List ℕ) (y : FarFault) (old new : Line) (heard now : List ℕ) → IsStop y → FeedsSome old.end front new.end.server → AsksFor front (Err y) old heard new now
@@ -91,11 +93,11 @@ unanswered tag front y old mid new heard now s q stop c rest n text some asking 
     (inl (quiet-trans old.end.server mid.end.server new.end.server (quiet_so c tag front rest n text some asking old mid new heard idle s) q))
 
 -- where it was sent
-pub answered_so : (tag front : List ℕ) (result : Result Told FarFault) (old mid new : Line) (heard now : List ℕ) → Sends front old mid → Quiet mid.end.server new.end.server
-    → ((told : Told) → result ≡ Ok told → Tells tag now told × Keeps (ends_of mid heard) (ends_of new now))
+pub answered_so : (uses : Uses) (tag front : List ℕ) (result : Result Told FarFault) (old mid new : Line) (heard now : List ℕ) → Sends front old mid → Quiet mid.end.server new.end.server
+    → ((told : Told) → result ≡ Ok told → Came uses (IsTold tag told) (take (length_of told) now) (GoesOn (ends_of mid heard) (ends_of new (drop (length_of told) now))))
     → ((y : FarFault) → result ≡ Err y → Expects tag (ends_of mid heard).coming → IsStop y) → AsksFor front result old heard new now
-answered_so tag front (Ok (tells.Go len)) old mid new heard now s q ok err c rest n text some asking idle =
-    let h = ok (tells.Go len) refl in waits_so c tag front rest n text some asking old mid new heard idle s now len h.0.1 h.1
-answered_so tag front (Ok (tells.Answer len status)) old mid new heard now s q ok err c rest n text some asking idle =
-    let h = ok (tells.Answer len status) refl in no_answer c tag front rest n text some asking old mid new heard idle s now len status h.0.1 h.1
-answered_so tag front (Err y) old mid new heard now s q ok err c rest n text some asking idle = unanswered tag front y old mid new heard now s q (err y refl) c rest n text some asking idle
+answered_so uses tag front (Ok (tells.Go len)) old mid new heard now s q ok err c rest n text some asking idle =
+    waits_so c tag front rest n text some asking old mid new heard idle s uses (take len now) now len (ok (tells.Go len) refl)
+answered_so uses tag front (Ok (tells.Answer len status)) old mid new heard now s q ok err c rest n text some asking idle =
+    no_answer c tag front rest n text some asking old mid new heard idle s uses (take len now) now len status (ok (tells.Answer len status) refl)
+answered_so uses tag front (Err y) old mid new heard now s q ok err c rest n text some asking idle = unanswered tag front y old mid new heard now s q (err y refl) c rest n text some asking idle

@@ -8,10 +8,13 @@ use Rattle.imap_replies.specs.declared.reply.Reply.TheVariants.{Continue}
 use Rattle.imap_session.specs.Heard.{tag_of, is_passed, IsAnswer, AreUntagged, AreReplies}
 use Rattle.exchange_laws.proofs.Apart.{apart, replies_apart}
 use Rattle.exchange_laws.proofs.AnswersApart.{plain_go, reply_some}
+use Rattle.imap_session.specs.Lines.{Line}
+use Rattle.exchange_laws.specs.Ends.{Ends, ends_of}
+use Rattle.imap_link.specs.declared.uses.Uses.{Uses}
 use Rattle.imap_link.specs.declared.front.Kind.{Kind}
 use Rattle.imap_link.specs.declared.front.Kind.TheVariants.{Stray}
 use Rattle.imap_link.specs.ReplyKinds.{kind_of, passes, IsAwaited}
-use Rattle.imap_link.specs.Buffers.{Begins, IsFaulty, IsPassed, EndsIn, Expects, IsAnswerText}
+use Rattle.imap_link.specs.Buffers.{Begins, IsFaulty, Expects, IsAnswerText, Passed, GoesOn}
 use Rattle.imap_link.proofs.KindLemmas.{passes_is, awaited_stays, tagged_awaited, mine_tagged}
 
 -- ---- the same bytes end in the same reply
@@ -110,10 +113,12 @@ back_none : (a b : List ℕ) → a ++ b ≡ [] → b ≡ []
 back_none [] b e = e
 back_none (x ∷ a) b e = cc
 
-drop_none : (n : ℕ) (l : List ℕ) → l ≡ [] → drop n l ≡ []
-drop_none n l e = let none : take n l ++ drop n l ≡ [] = take-append-drop n l ∙ e in back_none (take n l) (drop n l) none
+-- behind replies that are passed over
+pub none_astray : (tag text rest coming : List ℕ) (us : List Reply) → AreUntagged us → AreReplies us text → coming ≡ text ++ rest → Expects tag coming → Astray tag rest → ⊥
+none_astray tag text rest coming us u a e (inl none) s = nothing_astray tag rest (back_none text rest (sym e ∙ none)) s
+none_astray tag text rest coming us u a e (inr x) s = walk tag us x.passed x.last text rest coming u a x.untagged x.is x.spelled (sym e) s
 
-pub none_astray : (tag coming : List ℕ) (read : ℕ) → IsPassed (take read coming) → Expects tag coming → Astray tag (drop read coming) → ⊥
-none_astray tag coming read u (inl e) s = nothing_astray tag (drop read coming) (drop_none read coming e) s
-none_astray tag coming read u (inr a) s =
-    walk tag u.replies a.passed a.last (take read coming) (drop read coming) coming u.untagged u.spelled a.untagged a.is a.spelled (take-append-drop read coming) s
+pub never_astray : (tag : List ℕ) (uses : Uses) (kept : List ℕ) (first : Ends) (line : Line) (heard : List ℕ) (read : ℕ) (honest : Type 0)
+    → Passed uses kept (λ text. honest → GoesOn first (ends_of line (drop read heard)) text) → honest → Expects tag first.coming → Astray tag (drop read heard ++ line.unseen) → ⊥
+never_astray tag uses kept first line heard read honest p h expects s =
+    none_astray tag p.text (drop read heard ++ line.unseen) first.coming p.replies p.untagged p.spelled (p.goes h).coming expects s

@@ -1,4 +1,5 @@
 -- How the sending of a command ends.
+use Rattle.std.specs.Prelude.{filter}
 use Rattle.std.proofs.Common.{◌≡◌, inl, inr, ℕ, false, List, [], ◌∷◌, ◌++◌, refl, sym, ◌∙◌, ap, subst, append_assoc, take, drop, take-append-drop, Err, Some}
 use Rattle.imap_commands.specs.declared.command.Command.{Command}
 use Rattle.imap_replies.specs.declared.word.Status.{Status}
@@ -15,14 +16,17 @@ use Rattle.exchange_laws.proofs.AnswersApart.{reply_some}
 use Rattle.imap_link.specs.declared.fault.FarFault.{FarFault}
 use Rattle.imap_link.specs.declared.fault.FarFault.TheVariants.{Stopped, Refused, Protocol, TooLong, NoRev2, ReadOnly, NoMemory}
 use Rattle.imap_link.specs.declared.wire.Answered.{Answered}
-use Rattle.imap_link.specs.declared.front.Kind.TheVariants.{Go}
+use Rattle.imap_link.specs.declared.front.Kind.TheVariants.{Go, Mine}
+use Rattle.imap_link.specs.declared.uses.Uses.{Uses}
+use Rattle.imap_link.specs.UsedReplies.{is_used}
 use Rattle.imap_link.specs.Faults.{IsStop}
 use Rattle.imap_link.specs.ReplyKinds.{kind_of, IsAwaited}
 use Rattle.imap_link.specs.Outcomes.{Outcome, Never}
-use Rattle.imap_link.specs.Buffers.{EndsIn, IsAnswerText, IsGoText, Expects, Keeps}
+use Rattle.imap_link.specs.Buffers.{EndsIn, IsAnswerText, IsGoText, Expects, Keeps, Came, GoesOn}
 use Rattle.imap_link.specs.Exchanges.{Replied, Completes, Exchanges}
 use Rattle.imap_link.proofs.KindLemmas.{awaited_stays, tagged_awaited, go_or_tagged}
 use Rattle.imap_link.proofs.Astray.{ends_apart, answer_of, closed_of, expects_answer}
+use Rattle.imap_link.proofs.Passing.{front_of, text_of, came_hears, came_used}
 
 pub stop_outcome : {T : Type 0} (does : T → Server → Server → Type 0) (refuses effect : Server → Server → Type 0) (y : FarFault) (old new : Server) → IsStop y → MayHave effect old new
     → Outcome {T = T} does refuses effect (Err y) old new
@@ -74,7 +78,7 @@ go_astray c tag old mid new bytes t (inr w) g e =
     g.passed closed.passed bytes mid.coming new.coming g.untagged closed.untagged g.spelled (subst (λ (l : List Reply). AreReplies l mid.coming) closed.all w.coming) (sym e) in
     go_or_tagged tag g.last c.tag g.is (ap tag_of same.1 ∙ closed.is)
 
-module _ (c : Command) (tag from rest : List ℕ) (w : Completes c tag from rest) (old mid new : Line) (heard : List ℕ) (at : IsAt from (ends_of old heard)) (s : Sends rest old mid) where
+module _ (c : Command) (uses : Uses) (tag from rest : List ℕ) (w : Completes c uses tag from rest) (old mid new : Line) (heard : List ℕ) (at : IsAt from (ends_of old heard)) (s : Sends rest old mid) where
   or : SentOr c (ends_of old heard) (ends_of mid heard)
   or = sent c from rest old mid heard w.text w.asks_no_more at s
 
@@ -84,36 +88,40 @@ module _ (c : Command) (tag from rest : List ℕ) (w : Completes c tag from rest
   pub may_have : (after : Server) → Quiet mid.end.server after → MayHave (DidCommand c) old.end.server after
   may_have after q = half_of c (ends_of old heard) (ends_of mid heard) after or q
 
-  done : (now : List ℕ) (n : ℕ) (status : Status) (a : IsAnswerText tag status (take n now)) → Keeps (ends_of mid heard) (ends_of new now)
-      → Done c (a.passed ++ a.last ∷ []) (ends_of old heard) (ends_of new (drop n now))
-  done now n status a k =
-      done_of c tag (ends_of old heard) (ends_of mid heard) (ends_of new (drop n now)) (a.passed ++ a.last ∷ []) at.reads_on or
-      (hears_of (ends_of mid heard) new now n (a.passed ++ a.last ∷ []) k a.spelled) (answer_of tag (take n now) status a)
+  -- the replies up to the tagged one came, and `kept` are those that the call reads
+  module _ (kept now : List ℕ) (status : Status) (a : Came uses (λ r. kind_of tag r ≡ Mine status) kept (GoesOn (ends_of mid heard) (ends_of new now))) where
+    done : Done c (a.passed ++ a.last ∷ []) (ends_of old heard) (ends_of new now)
+    done =
+        done_of c tag (ends_of old heard) (ends_of mid heard) (ends_of new now) (a.passed ++ a.last ∷ []) at.reads_on or
+        (came_hears uses (λ r. kind_of tag r ≡ Mine status) kept (ends_of mid heard) (ends_of new now) a)
+        (answer_of tag a.text status (text_of uses (λ r. kind_of tag r ≡ Mine status) kept (GoesOn (ends_of mid heard) (ends_of new now)) a))
 
-  pub replied : (now : List ℕ) (n : ℕ) (status : Status) → IsAnswerText tag status (take n now) → Keeps (ends_of mid heard) (ends_of new now) → Replied c status (take n now) old.end.server new.end.server
-  replied now n status a k = record {
-    text = subst (λ (t : List ℕ). IsAnswerText t status (take n now)) (sym w.tag_is) a;
-    replies = a.passed ++ a.last ∷ [];
-    spelled = a.spelled;
-    did = (done now n status a k).did;
-  }
+    pub replied : Replied c status kept old.end.server new.end.server
+    replied = record {
+      text = subst (λ (t : List ℕ). IsAnswerText t status kept) (sym w.tag_is) (front_of uses (λ r. kind_of tag r ≡ Mine status) kept (GoesOn (ends_of mid heard) (ends_of new now)) a);
+      replies = a.passed ++ a.last ∷ [];
+      spelled =
+          subst (λ (u : Uses). AreReplies (filter (is_used u) (a.passed ++ a.last ∷ [])) kept) (sym w.uses_is)
+          (came_used uses tag status kept (GoesOn (ends_of mid heard) (ends_of new now)) a);
+      did = done.did;
+    }
 
-  pub idle : (now : List ℕ) (n : ℕ) (status : Status) → is_logout c.request ≡ false → IsAnswerText tag status (take n now) → Keeps (ends_of mid heard) (ends_of new now) → IsIdle (ends_of new (drop n now))
-  idle now n status l a k = (done now n status a k).idle l
+    pub idle : is_logout c.request ≡ false → IsIdle (ends_of new now)
+    idle l = done.idle l
 
-  pub no_go : (now : List ℕ) (n : ℕ) → IsGoText tag (take n now) → Keeps (ends_of mid heard) (ends_of new now) → ⊥
-  no_go now n g k =
-      let h = hears_of (ends_of mid heard) new now n (g.passed ++ g.last ∷ []) k g.spelled in
-      go_astray c tag (ends_of old heard) (ends_of mid heard) (ends_of new (drop n now)) (take n now) w.tag_is or g h.heard
+  pub no_go : (kept now : List ℕ) → Came uses (λ r. kind_of tag r ≡ Go) kept (GoesOn (ends_of mid heard) (ends_of new now)) → ⊥
+  no_go kept now a =
+      go_astray c tag (ends_of old heard) (ends_of mid heard) (ends_of new now) a.text w.tag_is or
+      (text_of uses (λ r. kind_of tag r ≡ Go) kept (GoesOn (ends_of mid heard) (ends_of new now)) a) a.goes.coming
 
 -- where the bytes were not sent
-pub unsent : (tag rest : List ℕ) (y : FarFault) (old new : Line) (heard now : List ℕ) → IsStop y → FeedsSome old.end rest new.end.server → Exchanges tag rest (Err y) old heard new now
-unsent tag rest y old new heard now stop s c from w at =
+pub unsent : (uses : Uses) (tag rest : List ℕ) (y : FarFault) (old new : Line) (heard now : List ℕ) → IsStop y → FeedsSome old.end rest new.end.server → Exchanges uses tag rest (Err y) old heard new now
+unsent uses tag rest y old new heard now stop s c from w at =
     stop_outcome {T = Answered} (λ a. Replied c a.status (take a.len now)) Never (DidCommand c) y old.end.server new.end.server stop (half_sent c from rest old new.end.server heard w.text at s)
 
 -- where they were sent, and waiting failed
-pub unheard : (tag rest : List ℕ) (y : FarFault) (old mid new : Line) (heard now : List ℕ) → Sends rest old mid → Quiet mid.end.server new.end.server
-    → (Expects tag (ends_of mid heard).coming → IsStop y) → Exchanges tag rest (Err y) old heard new now
-unheard tag rest y old mid new heard now s q stop c from w at =
+pub unheard : (uses : Uses) (tag rest : List ℕ) (y : FarFault) (old mid new : Line) (heard now : List ℕ) → Sends rest old mid → Quiet mid.end.server new.end.server
+    → (Expects tag (ends_of mid heard).coming → IsStop y) → Exchanges uses tag rest (Err y) old heard new now
+unheard uses tag rest y old mid new heard now s q stop c from w at =
     stop_outcome {T = Answered} (λ a. Replied c a.status (take a.len now)) Never (DidCommand c) y old.end.server new.end.server
-    (stop (may_expect c tag from rest w old mid new heard at s)) (may_have c tag from rest w old mid new heard at s new.end.server q)
+    (stop (may_expect c uses tag from rest w old mid new heard at s)) (may_have c uses tag from rest w old mid new heard at s new.end.server q)

@@ -1,8 +1,8 @@
 -- What is to be heard while more comes.
-use Rattle.std.proofs.Common.{ℕ, List, sym, ◌∙◌, subst}
+use Rattle.std.proofs.Common.{refl, ◌∙◌}
 use Rattle.exchange_laws.specs.Ends.{Ends}
 use Rattle.exchange_laws.proofs.Others.{quiet-trans}
-use Rattle.imap_link.specs.Buffers.{Keeps, Expects}
+use Rattle.imap_link.specs.Buffers.{Keeps}
 
 pub keeps-trans : (s t u : Ends) → Keeps s t → Keeps t u → Keeps s u
 keeps-trans s t u h k = record {
@@ -13,5 +13,5 @@ keeps-trans s t u h k = record {
   coming = k.coming ∙ h.coming;
 }
 
-pub expects_still : (tag : List ℕ) (s t : Ends) → Keeps s t → Expects tag s.coming → Expects tag t.coming
-expects_still tag s t h c = subst (Expects tag) (sym h.coming) c
+pub keeps-refl : (s : Ends) → Keeps s s
+keeps-refl s = record { stays = record { quiet = refl; kept = refl }; coming = refl }

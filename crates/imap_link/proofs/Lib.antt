@@ -1,6 +1,8 @@
 pub mod KindLemmas
 pub mod Places
 pub mod Text
+pub mod Searched
+pub mod Passing
 pub mod Astray
 pub mod Faulty
 pub mod Kept

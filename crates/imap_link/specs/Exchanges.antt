@@ -1,5 +1,5 @@
 -- A command that is sent, and the replies to it.
-use Rattle.std.specs.Prelude.{◌≡◌, ℕ, false, List, [], ◌++◌, take, drop, Result, Ok, Err}
+use Rattle.std.specs.Prelude.{◌≡◌, ℕ, false, List, [], ◌++◌, take, drop, filter, Result, Ok, Err}
 use Rattle.imap_commands.specs.declared.command.Command.{Command}
 use Rattle.imap_replies.specs.declared.word.Status.{Status}
 use Rattle.imap_replies.specs.declared.reply.Reply.{Reply}
@@ -13,32 +13,35 @@ use Rattle.imap_link.specs.declared.fault.FarFault.TheVariants.{Stopped, Refused
 use Rattle.imap_link.specs.declared.wire.Answered.{Answered}
 use Rattle.imap_link.specs.declared.wire.Told.{Told}
 use Rattle.imap_link.specs.declared.wire.Told.TheVariants as tells
+use Rattle.imap_link.specs.declared.uses.Uses.{Uses}
+use Rattle.imap_link.specs.UsedReplies.{is_used, uses_of}
 use Rattle.imap_link.specs.Buffers.{IsAnswerText}
 use Rattle.imap_link.specs.Outcomes.{Outcome, Never}
 
--- the server did the command, and these bytes are its replies, of which the last has this status
+-- The server did the command. These bytes are those of its replies that the call reads, of which the last has this status.
 pub record Replied (c : Command) (status : Status) (bytes : List ℕ) (old new : Server) : Type 0 where
   pub text : IsAnswerText c.tag status bytes
   pub replies : List Reply
-  pub spelled : AreReplies replies bytes
+  pub spelled : AreReplies (filter (is_used (uses_of c.request)) replies) bytes
   pub did : DidSo c replies old new
 
--- the bytes are what is missing of the command, behind what the server has read
-pub record Completes (c : Command) (tag from rest : List ℕ) : Type 0 where
+-- the bytes are what is missing of the command, behind what the server has read; its call reads these replies
+pub record Completes (c : Command) (uses : Uses) (tag from rest : List ℕ) : Type 0 where
   pub text : IsText c (from ++ rest)
   pub asks_no_more : goes_in (from ++ rest) ≡ goes_in from
   pub tag_is : c.tag ≡ tag
+  pub uses_is : uses_of c.request ≡ uses
 
 -- the outcome of a command whose rest is sent; `new_heard` is the buffer after it
-abbrev pub Exchanges : (tag rest : List ℕ) → Result Answered FarFault → (old : Line) (old_heard : List ℕ) (new : Line) (new_heard : List ℕ) → Type 0
-Exchanges tag rest result old old_heard new new_heard =
-    (c : Command) (from : List ℕ) → Completes c tag from rest → IsAt from (ends_of old old_heard)
+abbrev pub Exchanges : (uses : Uses) → (tag rest : List ℕ) → Result Answered FarFault → (old : Line) (old_heard : List ℕ) (new : Line) (new_heard : List ℕ) → Type 0
+Exchanges uses tag rest result old old_heard new new_heard =
+    (c : Command) (from : List ℕ) → Completes c uses tag from rest → IsAt from (ends_of old old_heard)
     → Outcome (λ a. Replied c a.status (take a.len new_heard)) Never (DidCommand c) result old.end.server new.end.server
 
 -- where it has an answer, nothing is on the way behind that
-abbrev pub StaysIdle : (tag rest : List ℕ) → (n : ℕ) → (old : Line) (old_heard : List ℕ) (new : Line) (new_heard : List ℕ) → Type 0
-StaysIdle tag rest n old old_heard new new_heard =
-    (c : Command) (from : List ℕ) → Completes c tag from rest → is_logout c.request ≡ false → IsAt from (ends_of old old_heard) → IsIdle (ends_of new (drop n new_heard))
+abbrev pub StaysIdle : (uses : Uses) → (tag rest : List ℕ) → (n : ℕ) → (old : Line) (old_heard : List ℕ) (new : Line) (new_heard : List ℕ) → Type 0
+StaysIdle uses tag rest n old old_heard new new_heard =
+    (c : Command) (from : List ℕ) → Completes c uses tag from rest → is_logout c.request ≡ false → IsAt from (ends_of old old_heard) → IsIdle (ends_of new (drop n new_heard))
 
 -- ---- a literal
 

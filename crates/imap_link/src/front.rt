@@ -5,6 +5,7 @@ ghost use Rattle.imap_link.specs.Buffers.{Looks, IsBreach};
 ghost use Rattle.imap_link.specs.ReplyKinds.{kind_of};
 
 use crate::fault::FarFault;
+use crate::uses::Uses;
 use imap_replies::reading::read_reply;
 use imap_replies::reply::Reply;
 use imap_replies::word::{NoticeKind, Status};
@@ -34,8 +35,8 @@ pub enum Kind {
 pub enum Front {
     /// No whole reply.
     Begun,
-    /// A reply of this kind, with so many bytes.
-    Whole(Kind, usize),
+    /// A reply of this kind; whether the call reads it; the number of its bytes.
+    Whole(Kind, bool, usize),
 }
 
 /// What the reply is to who has sent the command of this tag.
@@ -59,13 +60,16 @@ pub(crate) fn kind_of(reply: &Reply<'_>, tag: &Tag) -> Kind
 }
 
 /// Looks at the front of the bytes. A fault: they are no reply and begin none, or memory ran out.
-pub(crate) fn look(alloc: Global, bytes: &[u8], tag: &Tag) -> Result<Front, FarFault>
-    ensures ok { IfOk result (λ front. Looks tag.now bytes.now front) }
+pub(crate) fn look(alloc: Global, bytes: &[u8], tag: &Tag, uses: Uses) -> Result<Front, FarFault>
+    ensures ok { IfOk result (λ front. Looks uses tag.now bytes.now front) }
     ensures fault { IfErr result (λ fault. IsBreach fault bytes.now) }
 {
     match read_reply(alloc, bytes) {
-        Ok(Read::Whole(reply, len)) => Ok(Front::Whole(kind_of(&reply, tag), len)),
-        Ok(_) => Ok(Front::Begun),
+        Ok(Read::Whole(reply, len)) => {
+            Ok(Front::Whole(kind_of(&reply, tag), uses.takes(&reply), len))
+        }
+        Ok(Read::WantsLiteral(_)) => Ok(Front::Begun),
+        Ok(Read::Partial) => Ok(Front::Begun),
         Err(fault) => Err(FarFault::from(fault)),
     }
 }

@@ -3,6 +3,8 @@
 
 pub mod fault;
 pub mod front;
+mod held;
 pub mod link;
 mod place;
+pub mod uses;
 pub mod wire;

@@ -1,10 +1,13 @@
 //! Where to look for the end of a reply that comes in pieces.
 
-ghost use Rattle.std.specs.Prelude.{◌≤◌, length, IfSome, IfOk, IfErr};
+ghost use Rattle.std.specs.Prelude.{◌≡◌, ℕ, List, IfOk, IfErr};
+ghost use Rattle.imap_link.specs.declared.front.Front.TheVariants.{Begun};
 ghost use Rattle.imap_link.specs.Buffers.{Looks, IsBreach};
+ghost use Rattle.imap_link.specs.Searches.{IsSearched, Finds};
 
 use crate::fault::FarFault;
 use crate::front::{Front, look};
+use crate::uses::Uses;
 use std::alloc::Global;
 use wire_reader::scanner::Scanner;
 use wire_tokens::tag::Tag;
@@ -20,7 +23,9 @@ pub(crate) struct Search {
 
 impl Search {
     /// One for the begin of a reply.
-    pub(crate) fn new() -> Search {
+    pub(crate) fn new() -> Search
+        ensures { (bytes : List ℕ) → IsSearched result bytes }
+    {
         Search {
             scanner: Scanner::new(),
             scanned: 0,
@@ -29,10 +34,10 @@ impl Search {
 
     /// The number of bytes up to the next place; none where no further place has come.
     fn next_place(&mut self, bytes: &[u8]) -> Option<usize>
-        ensures { IfSome result (λ end. end ≤ length bytes.now) }
+        requires { IsSearched self.old bytes.now }
+        ensures { Finds self.old self.new bytes.now result }
     {
-        let behind = bytes.get(self.scanned..)?;
-        match self.scanner.advance(behind) {
+        match self.scanner.advance(&bytes[self.scanned..]) {
             Some(count) => {
                 self.scanned += count;
                 Some(self.scanned)
@@ -45,15 +50,23 @@ impl Search {
     }
 
     /// Looks at the front of the bytes, of which those before were looked at already: at each further place.
-    pub(crate) fn look(&mut self, alloc: Global, bytes: &[u8], tag: &Tag) -> Result<Front, FarFault>
-        ensures ok { IfOk result (λ front. Looks tag.now bytes.now front) }
+    pub(crate) fn look(
+        &mut self,
+        alloc: Global,
+        bytes: &[u8],
+        tag: &Tag,
+        uses: Uses,
+    ) -> Result<Front, FarFault>
+        requires { IsSearched self.old bytes.now }
+        ensures ok { IfOk result (λ front. Looks uses tag.now bytes.now front) }
+        ensures searched { IfOk result (λ front. front ≡ Begun → IsSearched self.new bytes.now) }
         ensures fault { IfErr result (λ fault. IsBreach fault bytes.now) }
     {
         for _ in 0..bytes.len() {
             let Some(end) = self.next_place(bytes) else {
                 return Ok(Front::Begun);
             };
-            match look(alloc, &bytes[..end], tag)? {
+            match look(alloc, &bytes[..end], tag, uses)? {
                 Front::Begun => {}
                 front => return Ok(front),
             }

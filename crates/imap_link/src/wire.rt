@@ -1,17 +1,20 @@
 //! What is heard over a link, kept in a buffer, and commands that are sent over it.
 
-ghost use Rattle.std.specs.Prelude.{◌≡◌, ◌<◌, ◌≤◌, ◌⊎◌, ◌++◌, ℕ, List, [], length, take, drop, IfOk, IfErr, OnOk, OnErr, IsErrOf};
+ghost use Rattle.std.specs.Prelude.{◌≡◌, ◌<◌, ◌≤◌, ◌⊎◌, ◌++◌, ℕ, List, [], length, take, drop, max, IfOk, IfErr, OnOk, OnErr, IsErrOf};
 ghost use Rattle.imap_session.specs.Servers.{Quiet};
 ghost use Rattle.exchange_laws.specs.Ends.{ends_of, IsIdle};
 ghost use Rattle.imap_link.specs.Faults.{IsStop, IsHearing};
-ghost use Rattle.imap_link.specs.Buffers.{Begins, IsFaulty, Tells, SaysBye, Expects, Keeps, IsAnswerText};
+ghost use Rattle.imap_link.specs.Buffers.{Reads, IsFaulty, Tells, SaysBye, Expects, Keeps, IsAnswerText, Came, GoesOn, IsTold, length_of, OneMore, IsBounded};
+ghost use Rattle.imap_link.specs.UsedReplies.{answer_alone};
 ghost use Rattle.imap_link.specs.Outcomes.{Outcome, Never};
 ghost use Rattle.imap_link.specs.Exchanges.{Exchanges, StaysIdle, AsksFor, Restarts};
 
 use crate::fault::FarFault;
 use crate::front::{Front, Kind};
+use crate::held::Held;
 use crate::link::Link;
 use crate::place::Search;
+use crate::uses::Uses;
 use imap_replies::word::Status;
 use std::alloc::Global;
 use wire_tokens::tag::Tag;
@@ -40,7 +43,8 @@ pub struct Answered {
 /// A link, and what came over it that was not dropped yet.
 ///
 /// Replies lie in the buffer and are read where they lie. Each byte is scanned once, whatever the pieces are in which it
-/// comes.
+/// comes. A reply that the call does not read is dropped once so many stand there that one move of the bytes behind them
+/// pays for all.
 #[derive(Drop)]
 pub struct Wire<L: Link> {
     /// The link.
@@ -60,7 +64,7 @@ impl<L: Link> Wire<L> {
         ensures quiet { L.honest self.new.link → Quiet (L.line self.old.link).end.server (L.line self.new.link).end.server }
         ensures same { OnOk result (L.honest self.new.link → Keeps (ends_of (L.line self.old.link) self.old.heard.items)
             (ends_of (L.line self.new.link) self.new.heard.items)) }
-        ensures grows { OnOk result ((bytes : List ℕ) × (self.new.heard.items ≡ self.old.heard.items ++ bytes)) }
+        ensures grows { (bytes : List ℕ) × (length bytes ≤ 4096) × (self.new.heard.items ≡ self.old.heard.items ++ bytes) }
         ensures fault { IfErr result IsStop }
         ensures stopped { IsErrOf result FarFault.Stopped → L.stops self.old.link < L.stops self.new.link }
     {
@@ -73,8 +77,9 @@ impl<L: Link> Wire<L> {
         Ok(())
     }
 
-    /// Waits until a whole reply stands in the buffer behind so many bytes; tells its kind and its length.
-    fn hear(&mut self, read: usize, tag: &Tag) -> Result<(Kind, usize), FarFault>
+    /// Waits until a whole reply stands in the buffer behind so many bytes; tells its kind, whether the call reads it, and
+    /// its length.
+    fn hear(&mut self, read: usize, tag: &Tag, uses: Uses) -> Result<(Kind, bool, usize), FarFault>
         requires { read ≤ length self.old.heard.items }
         ensures was_honest { L.honest self.new.link → L.honest self.old.link }
         ensures counts { L.stops self.old.link ≤ L.stops self.new.link }
@@ -82,8 +87,9 @@ impl<L: Link> Wire<L> {
         ensures quiet { L.honest self.new.link → Quiet (L.line self.old.link).end.server (L.line self.new.link).end.server }
         ensures same { OnOk result (L.honest self.new.link → Keeps (ends_of (L.line self.old.link) self.old.heard.items)
             (ends_of (L.line self.new.link) self.new.heard.items)) }
-        ensures grows { OnOk result ((bytes : List ℕ) × (self.new.heard.items ≡ self.old.heard.items ++ bytes)) }
-        ensures heard { IfOk result (λ r. Begins tag.now r.0 (drop read self.new.heard.items) r.1) }
+        ensures grows { (bytes : List ℕ) × (self.new.heard.items ≡ self.old.heard.items ++ bytes) }
+        ensures late { OneMore (max 4096 (length (drop read self.old.heard.items))) (drop read self.new.heard.items) }
+        ensures heard { IfOk result (λ r. Reads uses tag.now r.0 r.1 (drop read self.new.heard.items) r.2) }
         ensures fault { IfErr result (λ fault. L.honest self.new.link → IsStop fault ⊎ IsFaulty
             (drop read (ends_of (L.line self.old.link) self.old.heard.items).coming)) }
         ensures known { IfErr result IsHearing }
@@ -91,65 +97,82 @@ impl<L: Link> Wire<L> {
     {
         let mut search = Search::new();
         for _ in 0..u64::MAX {
-            match search.look(self.alloc, &self.heard[read..], tag)? {
+            match search.look(self.alloc, &self.heard[read..], tag, uses)? {
                 Front::Begun => self.more()?,
-                Front::Whole(kind, len) => return Ok((kind, len)),
+                Front::Whole(kind, is_used, len) => return Ok((kind, is_used, len)),
             }
         }
         Err(FarFault::NoMemory)
     }
 
-    /// Waits until the buffer begins with what a sender waits for. `* BYE` is passed over where the command ends the
-    /// connection, and else is a stop.
-    fn wait(&mut self, tag: &Tag, ends: bool) -> Result<Told, FarFault>
+    /// Waits until the buffer begins with what a sender waits for, behind those of the replies before it that the call reads.
+    /// `* BYE` is passed over where the command ends the connection, and else is a stop.
+    fn wait(&mut self, tag: &Tag, ends: bool, uses: Uses) -> Result<Told, FarFault>
         ensures was_honest { L.honest self.new.link → L.honest self.old.link }
         ensures counts { L.stops self.old.link ≤ L.stops self.new.link }
         ensures steady { OnOk result (L.stops self.new.link ≡ L.stops self.old.link) }
         ensures quiet { L.honest self.new.link → Quiet (L.line self.old.link).end.server (L.line self.new.link).end.server }
         ensures told { IfOk result (λ told. Tells tag.now self.new.heard.items told) }
-        ensures same { OnOk result (L.honest self.new.link → Keeps (ends_of (L.line self.old.link) self.old.heard.items)
-            (ends_of (L.line self.new.link) self.new.heard.items)) }
+        ensures came { IfOk result (λ told. Came uses (IsTold tag.now told) (take (length_of told) self.new.heard.items)
+            (λ text. L.honest self.new.link → GoesOn (ends_of (L.line self.old.link) self.old.heard.items)
+            (ends_of (L.line self.new.link) (drop (length_of told) self.new.heard.items)) text)) }
         ensures fault { IfErr result (λ fault. L.honest self.new.link → Expects tag.now
             (ends_of (L.line self.old.link) self.old.heard.items).coming → IsStop fault) }
+        ensures bounded { IsBounded uses (max 4096 (length self.old.heard.items)) self.new.heard.items }
         ensures known { IfErr result IsHearing }
         ensures stopped { IsErrOf result FarFault.Stopped → (L.stops self.old.link < L.stops self.new.link) ⊎ SaysBye tag.now self.new.heard.items }
     {
-        let mut read = 0;
+        let mut held = Held::nothing();
         for _ in 0..u64::MAX {
-            let (kind, len) = self.hear(read, tag)?;
+            let (kind, is_used, len) = self.hear(held.kept + held.gap, tag, uses)?;
             match kind {
-                Kind::Hello | Kind::Passed => read += len,
+                Kind::Hello | Kind::Passed => held = held.pass(&mut self.heard, is_used, len),
                 Kind::Bye => {
                     if !ends {
+                        let _ = held.pass(&mut self.heard, true, len);
                         return Err(FarFault::Stopped);
                     }
-                    read += len;
+                    held = held.pass(&mut self.heard, is_used, len);
                 }
-                Kind::Go => return Ok(Told::Go(read + len)),
-                Kind::Mine(status) => return Ok(Told::Answer(read + len, status)),
+                Kind::Go => {
+                    let held = held.pass(&mut self.heard, true, len);
+                    return Ok(Told::Go(held.kept));
+                }
+                Kind::Mine(status) => {
+                    let held = held.pass(&mut self.heard, true, len);
+                    return Ok(Told::Answer(held.kept, status));
+                }
                 Kind::Stray => return Err(FarFault::Protocol),
             }
         }
         Err(FarFault::NoMemory)
     }
 
-    /// Sends what is missing of a command, and waits for the replies to it. They stand at the front of the buffer then.
+    /// Sends what is missing of a command, and waits for the replies to it. Those that the call reads stand at the front of the
+    /// buffer then; the others are dropped.
     ///
     /// `Protocol`: the server asks for a literal where none waits, too.
-    pub fn finish(&mut self, tag: &Tag, rest: &[u8], ends: bool) -> Result<Answered, FarFault>
+    pub fn finish(
+        &mut self,
+        tag: &Tag,
+        rest: &[u8],
+        ends: bool,
+        uses: Uses,
+    ) -> Result<Answered, FarFault>
         ensures was_honest { L.honest self.new.link → L.honest self.old.link }
         ensures counts { L.stops self.old.link ≤ L.stops self.new.link }
         ensures steady { OnOk result (L.stops self.new.link ≡ L.stops self.old.link) }
-        ensures outcome { L.honest self.new.link → Exchanges tag.now rest.now result
+        ensures outcome { L.honest self.new.link → Exchanges uses tag.now rest.now result
             (L.line self.old.link) self.old.heard.items (L.line self.new.link) self.new.heard.items }
-        ensures idle { IfOk result (λ a. L.honest self.new.link → StaysIdle tag.now rest.now a.len
+        ensures idle { IfOk result (λ a. L.honest self.new.link → StaysIdle uses tag.now rest.now a.len
             (L.line self.old.link) self.old.heard.items (L.line self.new.link) self.new.heard.items) }
         ensures answer { IfOk result (λ a. (a.len ≤ length self.new.heard.items) × IsAnswerText tag.now a.status (take a.len self.new.heard.items)) }
+        ensures bounded { IsBounded uses (max 4096 (length self.old.heard.items)) self.new.heard.items }
         ensures known { IfErr result IsHearing }
         ensures stopped { IsErrOf result FarFault.Stopped → (L.stops self.old.link < L.stops self.new.link) ⊎ SaysBye tag.now self.new.heard.items }
     {
         self.link.send(rest)?;
-        match self.wait(tag, ends)? {
+        match self.wait(tag, ends, uses)? {
             Told::Answer(len, status) => Ok(Answered { len, status }),
             Told::Go(_) => Err(FarFault::Protocol),
         }
@@ -164,11 +187,12 @@ impl<L: Link> Wire<L> {
         ensures outcome { L.honest self.new.link → AsksFor front.now result
             (L.line self.old.link) self.old.heard.items (L.line self.new.link) self.new.heard.items }
         ensures told { IfOk result (λ told. Tells tag.now self.new.heard.items told) }
+        ensures bounded { IsBounded answer_alone (max 4096 (length self.old.heard.items)) self.new.heard.items }
         ensures known { IfErr result IsHearing }
         ensures stopped { IsErrOf result FarFault.Stopped → (L.stops self.old.link < L.stops self.new.link) ⊎ SaysBye tag.now self.new.heard.items }
     {
         self.link.send(front)?;
-        self.wait(tag, false)
+        self.wait(tag, false, Uses::answer_alone())
     }
 
     /// Starts a new connection and hears its greeting, `* OK`. What an earlier connection left is dropped.
@@ -187,7 +211,7 @@ impl<L: Link> Wire<L> {
     {
         self.heard.clear();
         self.link.reconnect()?;
-        let (kind, len) = self.hear(0, tag)?;
+        let (kind, _, len) = self.hear(0, tag, Uses::answer_alone())?;
         match kind {
             Kind::Hello => {
                 self.forget(len);

@@ -7,6 +7,7 @@ use mailcore::side::Side;
 use std::io::Write;
 use stores::channel_box::ChannelBox;
 use stores::fault::{ListFault, StoreFault};
+use stores::stop_cause::StopCause;
 use stores::stores::{BoxLists, Stores};
 
 /// Stores, and the line on a terminal that shows which of their mailboxes is at work.
@@ -36,6 +37,10 @@ impl<S: Stores + Drop, T: Write + Copy> BoxLists for ShownStores<'_, S, T> {
 impl<S: Stores + Drop, T: Write + Copy> Stores for ShownStores<'_, S, T> {
     type Outside = S::Outside;
 
+    fn has_state(&mut self, place: ChannelBox<'_>) -> Result<bool, StoreFault> {
+        self.stores.has_state(place)
+    }
+
     fn make(&mut self, side: Side, place: ChannelBox<'_>) -> Result<(), StoreFault> {
         self.stores.make(side, place)
     }
@@ -45,7 +50,11 @@ impl<S: Stores + Drop, T: Write + Copy> Stores for ShownStores<'_, S, T> {
         self.stores.outside(place)
     }
 
-    fn unread(&mut self) -> Option<String> {
-        self.stores.unread()
+    fn stop_cause(&mut self) -> Option<StopCause> {
+        self.stores.stop_cause()
+    }
+
+    fn left_out(&mut self) -> Vec<String> {
+        self.stores.left_out()
     }
 }

@@ -3,7 +3,8 @@
 use crate::account::account_of;
 use crate::server::{create, link_to, log_in, names_at};
 use crate::told::{make_fault, unlisted, unreached};
-use book::disk_shelf::DiskShelf;
+use book::disk_shelf::{DiskShelf, name_of};
+use book::shelf;
 use book_part::book_part::BookPart;
 use both::both::Both;
 use config::config::{ImapStore, MaildirStore};
@@ -17,18 +18,25 @@ use near_places::boxes::near_boxes;
 use near_places::home::Home;
 use near_places::lock::LockFault;
 use near_places::refusal::Refusal;
+use std::fs;
 use std::fs::File;
+use std::io::ErrorKind;
 use std::net::Net;
 use std::num::NonZeroU32;
 use std::rc::Rc;
-use std::rt::Files;
+use std::rt::{Clock, Files};
 use stores::channel_box::ChannelBox;
 use stores::fault::{ListFault, StoreFault};
-use watched::unread::Unread;
+use watched::watch::Watch;
 use watched::watched_folder::WatchedFolder;
+use watched::watched_link::WatchedLink;
+use watched::watched_shelf::WatchedShelf;
+
+/// A link to the server of a mailbox.
+pub(crate) type RealLink<R> = WatchedLink<TcpLink<R>>;
 
 /// Both sides of a mailbox, and its book, which lies in the folder of the near side.
-pub(crate) type BothSides<R> = Both<TcpLink<R>, WatchedFolder<R>, DiskShelf<R>>;
+pub(crate) type BothSides<R> = Both<RealLink<R>, WatchedFolder<R>, WatchedShelf<R>>;
 
 /// Where the mailboxes of a user are. Nothing of them is open.
 #[derive(Drop)]
@@ -41,7 +49,7 @@ pub(crate) struct Reach<R: Net + Files<File = File> + AllocGlobal + Clone + Drop
     pub(crate) fresh: NonZeroU32,
 }
 
-impl<R: Net + Files<File = File> + AllocGlobal + Clone + Drop> Reach<R> {
+impl<R: Net + Files<File = File> + Clock + AllocGlobal + Clone + Drop> Reach<R> {
     /// The names of the mailboxes at the server of a store.
     pub(crate) fn far_boxes(&self, store: &ImapStore) -> Result<Vec<MailboxName>, ListFault> {
         match names_at(&self.rt, store) {
@@ -60,6 +68,19 @@ impl<R: Net + Files<File = File> + AllocGlobal + Clone + Drop> Reach<R> {
         match log_in(&self.rt, store) {
             Ok(session) => create(session, name).map_err(make_fault),
             Err(fault) => Err(unreached(self.rt.alloc(), store, fault)),
+        }
+    }
+
+    /// Whether the folder of a near mailbox has the state of a former run.
+    pub(crate) fn has_state(&self, place: ChannelBox<'_>) -> Result<bool, LockFault> {
+        let alloc = self.rt.alloc();
+        let folder = self.folder_of(place)?;
+        let name = name_of(shelf::File::State);
+        let path = format!(in alloc; "{folder}/{name}")?;
+        match fs::symlink_metadata(&self.rt, path.as_str()) {
+            Ok(_) => Ok(true),
+            Err(error) if error.kind() == ErrorKind::NotFound => Ok(false),
+            Err(error) => Err(LockFault::Refused(Refusal::at(alloc, path.as_str(), &error))),
         }
     }
 
@@ -83,26 +104,32 @@ impl<R: Net + Files<File = File> + AllocGlobal + Clone + Drop> Reach<R> {
         Ok(self.home.folder_of(alloc, place.of.near_store, place.near)?)
     }
 
-    /// Both sides of a mailbox, over a link that is not connected yet, and a folder that is not read yet. The file of a message that
-    /// cannot be read is noted in `unread`.
+    /// Both sides of a mailbox, over a link that is not connected yet, and a folder that is not read yet. What stops them is noted in
+    /// `watch`.
     pub(crate) fn both_sides(
         &self,
         place: ChannelBox<'_>,
         folder: &str,
-        unread: Rc<Unread>,
+        watch: &Rc<Watch>,
     ) -> Result<BothSides<R>, Refusal> {
         let alloc = self.rt.alloc();
         let near = DiskFolder::new(self.rt.clone()?, folder)?;
+        let near = WatchedFolder::new(near, watch.clone()?);
         let book = DiskShelf::new(self.rt.clone()?, folder)?;
-        let far = self.far_part(place)?;
-        let near = NearPart::new(alloc, WatchedFolder::new(near, unread), self.fresh);
+        let book = WatchedShelf::new(book, watch.clone()?);
+        let far = self.far_part(place, watch.clone()?)?;
+        let near = NearPart::new(alloc, near, self.fresh);
         Ok(Both::new(alloc, far, near, BookPart::new(alloc, book)))
     }
 
     /// The far side of a mailbox.
-    fn far_part(&self, place: ChannelBox<'_>) -> Result<FarPart<TcpLink<R>>, Refusal> {
+    fn far_part(
+        &self,
+        place: ChannelBox<'_>,
+        watch: Rc<Watch>,
+    ) -> Result<FarPart<RealLink<R>>, Refusal> {
         let alloc = self.rt.alloc();
-        let link = link_to(&self.rt, place.of.far_store)?;
+        let link = WatchedLink::new(link_to(&self.rt, place.of.far_store)?, watch);
         match account_of(alloc, place.of.far_store, place.far)? {
             Some(account) => Ok(FarPart::new(alloc, account, link)),
             None => Err(Refusal::cannot_open(alloc, place.of.far_store.name.as_str())),

@@ -1,40 +1,49 @@
 //! A Maildir folder on a disk.
 
-ghost use Rattle.std.specs.Prelude.{◌≡◌, IfOk, is_some};
+ghost use Rattle.std.specs.Prelude.{◌≡◌, IfOk};
 ghost use Rattle.device.specs.Conditions.{disk_at};
-ghost use Rattle.maildir.specs.Names.{uid_in};
 
 use crate::folder::{FileName, Folder, Location, Origin, Place, Source};
-use crate::name::read_name;
+use crate::found_names::FoundNames;
+use crate::kinds::{is_file, is_something};
+use crate::sure_names::sure_names;
 use device::DeviceFault;
 use device::disk::Disk;
-use mailcore::octets::Octets;
+use device::trouble::Trouble;
 use std::alloc::AllocError;
+use std::cell::Cell;
 use std::io::ErrorKind;
 use std::marker::Model;
 use std::path::Path;
-use std::rt::Files;
-use std::{fs, io};
+use std::rt::{Clock, Files};
+use std::{io, mem};
 
 /// The file in the folder that keeps the mailbox's validity and next UID.
-const META: &str = ".uidvalidity";
+pub const META: &str = ".uidvalidity";
 
 /// What the next meta file is written as, before it takes the old one's place.
 const NEXT_META: &str = ".uidvalidity.new";
 
 /// The copy that is being written.
-const COPY: &str = "tmp/mbsync.copy";
+pub const COPY: &str = "tmp/mbsync.copy";
 
-/// A Maildir folder on a disk. A call stops where the system fails, and at a name outside UTF-8.
+/// A Maildir folder on a disk. A call stops where the system fails, and at a message whose name is no UTF-8.
 ///
-/// Messages are files and symlinks to files; what else stands in `new` and `cur` under a name without a UID is left alone.
-/// Names with a UID are listed as they stand, since synchronisers alone give them, and to files; if something else has such a
-/// name, it reads as a file that is gone, and it is neither renamed nor removed. A copy and a meta file are written anew and
+/// Messages are files and symlinks to files; what else stands in `new` and `cur` under a name without a UID is left alone, and so is a
+/// file that waits for a UID and can get none. Names with a UID are listed as they stand, since synchronisers alone give them, and
+/// to files. A call that finds something else under such a name stops; where it was to be read, it is left alone from then on. Names
+/// are listed so that other programs that rename files do not shorten the list. A copy and a meta file are written anew and
 /// synced before they get their names; the names themselves are synced by `sync` alone. Whether a disk gives back what was
 /// written no proof can say: so no contract promises what a real folder stores.
 #[derive(Drop)]
 pub struct DiskFolder<R: Files + AllocGlobal + Clone + Drop> {
     disk: Disk<R>,
+    /// Whether something that is no file was to be read under the name of a message.
+    has_odd: Cell<bool>,
+    /// The files that were left out when the names were listed last, since they cannot get a UID.
+    left_out: Vec<FileName>,
+    /// The message at which the last call stopped since its name is no UTF-8.
+    unreached: Option<FileName>,
 }
 
 impl<R: Files + AllocGlobal + Clone + Drop> Model for DiskFolder<R> {
@@ -50,8 +59,12 @@ impl<R: Files + AllocGlobal + Clone + Drop> DiskFolder<R> {
     pub fn new(rt: R, path: &str) -> Result<Self, AllocError>
         ensures { IfOk result (λ folder. folder ≡ disk_at path.now) }
     {
+        let left_out = Vec::new(rt.alloc());
         Ok(DiskFolder {
             disk: Disk::new(rt, path)?,
+            has_odd: Cell::new(false),
+            left_out,
+            unreached: None,
         })
     }
 
@@ -74,6 +87,26 @@ impl<R: Files + AllocGlobal + Clone + Drop> DiskFolder<R> {
         self.disk.stops()
     }
 
+    /// What the system said where a call stopped since the folder was opened.
+    pub fn trouble(&self) -> Option<Trouble> {
+        self.disk.trouble()
+    }
+
+    /// Takes out the files that cannot get a UID, and were left out when the names were listed last.
+    pub fn take_left_out(&mut self) -> Vec<FileName>
+        ensures { self.new ≡ self.old }
+    {
+        let alloc = self.disk.rt().alloc();
+        mem::replace(&mut self.left_out, Vec::new(alloc))
+    }
+
+    /// Takes out the message at which listing the names stopped since its name is no UTF-8, if there is one.
+    pub fn take_unreached(&mut self) -> Option<FileName>
+        ensures { self.new ≡ self.old }
+    {
+        self.unreached.take()
+    }
+
     fn make(&self) -> io::Result<()> {
         for part in ["cur", "new", "tmp"] {
             self.disk.make_folder(part)?;
@@ -92,66 +125,63 @@ impl<R: Files + AllocGlobal + Clone + Drop> DiskFolder<R> {
 
     // The part of the folder that a file of `new` or `cur` is.
     fn part_of(&self, file: Location<'_>) -> io::Result<String> {
-        let folder = folder_name(file.place);
+        let folder = file.place.folder();
         match str::from_utf8(file.name) {
             Ok(name) => Ok(format!(in self.disk.rt().alloc(); "{folder}/{name}")?),
             Err(_) => Err(io::Error::from(ErrorKind::InvalidFilename)),
         }
     }
 
-    fn listed(&self) -> io::Result<Option<Vec<FileName>>> {
-        if !self.is_there()? {
-            return Ok(None);
+    // Keeps what was found beside the names, and gives these.
+    fn keep(&mut self, found: FoundNames) -> io::Result<Vec<FileName>>
+        ensures { self.new ≡ self.old }
+    {
+        self.left_out = found.left_out;
+        self.unreached = found.unreached;
+        if self.unreached.is_some() {
+            Err(io::Error::from(ErrorKind::InvalidFilename))
+        } else {
+            Ok(found.names)
         }
-        let mut names = Vec::new(self.disk.rt().alloc());
-        self.add_names(Place::New, &mut names)?;
-        self.add_names(Place::Cur, &mut names)?;
-        Ok(Some(names))
-    }
-
-    fn add_names(&self, place: Place, names: &mut Vec<FileName>) -> io::Result<()> {
-        let rt = self.disk.rt();
-        let path = self.disk.at(folder_name(place))?;
-        for entry in fs::read_dir(rt, path.as_str())? {
-            let entry = entry?;
-            let name = entry.file_name();
-            if has_uid(name.as_bytes()) || is_file_still(rt, entry.path())? {
-                let name = Vec::from_slice(rt.alloc(), name.as_bytes())?;
-                names.push(FileName {
-                    place,
-                    name: Octets::from_vec(name),
-                })?;
-            }
-        }
-        Ok(())
     }
 
     fn bytes_of(&self, file: Source<'_>) -> io::Result<Option<Vec<u8>>> {
         match file {
-            Source::Meta => self.disk.read(META),
+            Source::Meta => self.disk.read_own(META),
             Source::Mail(file) => self.mail_bytes(self.part_of(file)?.as_str()),
         }
     }
 
-    // The bytes of a file, or none where no file stands. It is asked before it is opened, since a fifo would not answer.
+    // The bytes of a message, or none where nothing stands. It is asked before it is opened, since a fifo would not answer. Where
+    // something else stands there, names are asked from then on.
     fn mail_bytes(&self, part: &str) -> io::Result<Option<Vec<u8>>> {
-        if self.has_file(part)? {
-            self.disk.read(part)
-        } else {
-            Ok(None)
+        match self.has_file(part) {
+            Ok(true) => self.disk.read(part),
+            Ok(false) => Ok(None),
+            Err(error) => {
+                self.has_odd.set(true);
+                Err(error)
+            }
         }
     }
 
-    // Whether a file or a symlink to a file stands in this part of the folder.
+    // Whether a file or a symlink to a file stands in this part of the folder. `InvalidInput`: something else does.
     fn has_file(&self, part: &str) -> io::Result<bool> {
         let path = self.disk.at(part)?;
-        is_file(self.disk.rt(), Path::new(path.as_str()))
+        let path = Path::new(path.as_str());
+        if is_file(self.disk.rt(), path)? {
+            return Ok(true);
+        }
+        if is_something(self.disk.rt(), path)? {
+            return Err(io::Error::from(ErrorKind::InvalidInput));
+        }
+        Ok(false)
     }
 
-    // Renames a message. What is no file is left alone: an error, as where nothing stands.
-    fn rename_mail(&self, from: &str, to: &str) -> io::Result<()> {
-        if self.has_file(from)? {
-            self.disk.rename(from, to)
+    // Looks whether a message stands there. `NotFound`: nothing does. `InvalidInput`: something else does.
+    fn check_file(&self, part: &str) -> io::Result<()> {
+        if self.has_file(part)? {
+            Ok(())
         } else {
             Err(io::Error::from(ErrorKind::NotFound))
         }
@@ -163,62 +193,38 @@ impl<R: Files + AllocGlobal + Clone + Drop> DiskFolder<R> {
             Origin::Tmp => self.disk.rename(COPY, to.as_str()),
             Origin::Delivered(file) => {
                 let from = self.part_of(file)?;
-                self.rename_mail(from.as_str(), to.as_str())
+                self.check_file(from.as_str())?;
+                self.disk.rename(from.as_str(), to.as_str())
             }
         }
     }
 
     fn take_out(&self, file: Location<'_>) -> io::Result<()> {
-        self.disk.remove(self.part_of(file)?.as_str())
+        let part = self.part_of(file)?;
+        self.check_file(part.as_str())?;
+        self.disk.remove(part.as_str())
     }
 
     // Syncs the names of messages and of the meta file.
     fn sync_names(&self) -> io::Result<()> {
-        self.disk.sync_names_in(folder_name(Place::Cur))?;
-        self.disk.sync_names_in(folder_name(Place::New))?;
+        self.disk.sync_names_in(Place::Cur.folder())?;
+        self.disk.sync_names_in(Place::New.folder())?;
         self.disk.sync_names()
     }
 }
 
-// Whether a name carries a UID, so that its kind is not asked when it is listed: that would be a call of the system a message.
-fn has_uid(name: &[u8]) -> bool
-    ensures { result ≡ is_some (uid_in name.now) }
-{
-    match read_name(name) {
-        Some(name) => name.uid.is_some(),
-        None => false,
-    }
-}
-
-// Whether a file or a symlink to a file stands there. A symlink that leads nowhere is no file.
-fn is_file(rt: &impl Files, path: Path<'_>) -> io::Result<bool> {
-    match fs::metadata(rt, path) {
-        Ok(found) => Ok(found.is_file()),
-        Err(error)
-            if error.kind() == ErrorKind::NotFound || error.kind() == ErrorKind::FilesystemLoop => {
-            Ok(false)
+impl<R: Files + Clock + AllocGlobal + Clone + Drop> DiskFolder<R> {
+    // What stands in both folders, or none where a folder is missing.
+    fn listed(&self) -> io::Result<Option<FoundNames>> {
+        if self.is_there()? {
+            Ok(Some(sure_names(&self.disk, self.has_odd.get())?))
+        } else {
+            Ok(None)
         }
-        Err(error) => Err(error),
     }
 }
 
-// The same of a name that was read just before. Where it is gone the names are not all there: an error.
-fn is_file_still(rt: &impl Files, path: Path<'_>) -> io::Result<bool> {
-    let is_file = is_file(rt, path)?;
-    if !is_file {
-        fs::symlink_metadata(rt, path)?;
-    }
-    Ok(is_file)
-}
-
-fn folder_name(place: Place) -> &'static str {
-    match place {
-        Place::New => "new",
-        Place::Cur => "cur",
-    }
-}
-
-impl<R: Files + AllocGlobal + Clone + Drop> Folder for DiskFolder<R> {
+impl<R: Files + Clock + AllocGlobal + Clone + Drop> Folder for DiskFolder<R> {
     ghost use Rattle.std.specs.Prelude.{false};
     ghost use Rattle.maildir.specs.DiskFolders.{seen_on_disk};
 
@@ -228,7 +234,11 @@ impl<R: Files + AllocGlobal + Clone + Drop> Folder for DiskFolder<R> {
 
     fn names(&mut self) -> Result<Option<Vec<FileName>>, DeviceFault> {
         self.disk.check()?;
-        let answer = self.listed();
+        let answer = match self.listed() {
+            Ok(Some(found)) => self.keep(found).map(Some),
+            Ok(None) => Ok(None),
+            Err(error) => Err(error),
+        };
         self.disk.tell(answer)
     }
 

@@ -14,6 +14,16 @@ pub enum Place {
     Cur,
 }
 
+impl Place {
+    /// The name of the folder.
+    pub fn folder(self) -> &'static str {
+        match self {
+            Place::New => "new",
+            Place::Cur => "cur",
+        }
+    }
+}
+
 /// A file of `new` or `cur` with its bytes.
 #[derive(Drop)]
 pub struct File {

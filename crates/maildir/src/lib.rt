@@ -1,9 +1,13 @@
 //! A Maildir folder: the names of its files, its meta file, and folders in memory and on a disk.
 #![tactic(auto)]
 
+mod changes;
 mod cut;
 pub mod disk_folder;
+mod entries;
 pub mod folder;
+mod found_names;
+mod kinds;
 pub mod laws;
 pub mod letters;
 mod mem_files;
@@ -12,3 +16,5 @@ pub mod meta;
 pub mod name;
 mod name_index;
 mod number;
+pub mod standing;
+mod sure_names;

@@ -4,9 +4,13 @@
 use command_line::read::read_words;
 use command_line::tell::tell;
 use mail_run::run::run_mail;
+use std::fs::File;
 use std::io::{IsTerminal, Stderr, Write};
 use std::process::ExitCode;
-use std::{env, io};
+use std::{env, fs, io};
+
+/// A file in which nothing stands, and to which nothing is written.
+const NOWHERE: &str = "/dev/null";
 
 /// The words of the command line, of which the first is the program's name.
 fn words(rt: &HostRuntime) -> io::Result<Vec<String>> {
@@ -30,7 +34,18 @@ fn terminal(rt: &HostRuntime) -> Option<Stderr> {
     err.is_terminal().then_some(err)
 }
 
+/// What is opened first, as often as a program has standard streams: where one of these is missing, no other file gets its number, so
+/// that nothing is written into a file that was meant for the stream.
+fn standing_in(rt: &HostRuntime) -> io::Result<[File; 3]> {
+    Ok([
+        fs::open(rt, NOWHERE)?,
+        fs::open(rt, NOWHERE)?,
+        fs::open(rt, NOWHERE)?,
+    ])
+}
+
 fn run(rt: HostRuntime) -> u8 {
+    let _standing_in = standing_in(&rt);
     let (mut out, mut err) = (rt.stdout(), rt.stderr());
     let words = match words(&rt) {
         Ok(words) => words,

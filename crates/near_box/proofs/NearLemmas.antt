@@ -1,5 +1,5 @@
 -- What a survey says of the mailbox that stands in the folder.
-use Rattle.std.proofs.Common.{◌≡◌, ◌<◌, ℕ, suc, get_or, Bool, true, false, ltb, List, [], ◌∷◌, map, Option, None, Some, All, refl, sym, ap, subst, ◌∙◌, arith}
+use Rattle.std.proofs.Common.{◌≡◌, ◌<◌, ◌≤◌, ℕ, suc, get_or, Bool, true, false, ltb, List, [], ◌∷◌, map, Option, None, Some, All, refl, sym, ap, subst, ◌∙◌, arith}
 use Rattle.std.specs.Prelude.{find, unwrap_or, Result, Ok, Err, IfOk}
 use Rattle.std.specs.List.{filter_map, cons_option}
 use Rattle.std.specs.Option.{option_map}
@@ -23,9 +23,10 @@ use Rattle.mailcore.specs.Operations.{Shows, ShowsAbove, bytes_among, bytes_of, 
 use Rattle.near_box.specs.Surveys.{Surveys, entry_of}
 use Rattle.near_box.specs.declared.known_mark.KnownMarks.{KnownMarks}
 use Rattle.near_box.specs.KnownMarks.{AreKnown, AreMarksOf}
-use Rattle.near_box.specs.Entries.{message_at, item_at, AreThere, AreRising}
+use Rattle.near_box.specs.Entries.{message_at, item_at, AreThere, AreThereAbove, AreRising, NoneAbove}
 use Rattle.near_box.specs.Sorting.{sorted}
 use Rattle.maildir.proofs.FileLemmas.{at_itself, at_true}
+use Rattle.near_box.proofs.ReadLemmas.{there_above}
 use Rattle.near_box.proofs.SortingLemmas.{sorted_map, sorted_permutes}
 
 -- ---- a file is found where it stands
@@ -131,14 +132,27 @@ items_of_messages from t [] = refl
 items_of_messages from t (e ∷ es) = ap (λ (l : List Item). item_at from t e ∷ l) (items_of_messages from t es)
 
 pub near_shown : (from : ℕ) (survey now : Survey) (fresh : ℕ) (s t : Stored) (es : List Entry) (items : List Item) → Surveys survey fresh s → now ≡ survey → es ≡ now.entries.items → t ≡ s
-    → (AreRising es → AreThere es t → items ≡ map (item_at from t) es)
+    → (AreRising es → AreThereAbove from es t → items ≡ map (item_at from t) es)
     → (items ≡ map (item_above NearSide from) (near_of fresh s).store.messages) × (now.meta.validity ≡ (near_of fresh s).store.validity) × (now.meta.next ≡ (near_of fresh s).store.next)
 near_shown from survey now fresh s t es items surveys same is unchanged shown =
     let hand = at_hand survey now fresh s t es surveys same is unchanged in (
-      shown hand.rising hand.there ∙ items_of_messages from t es ∙ ap (λ (l : List Message). map (item_above NearSide from) l) hand.messages,
+      shown hand.rising (there_above from t es hand.there) ∙ items_of_messages from t es ∙ ap (λ (l : List Message). map (item_above NearSide from) l) hand.messages,
       ap (λ (v : Survey). v.meta.validity) same ∙ sym (near_validity survey fresh s surveys),
       ap (λ (v : Survey). v.meta.next) same ∙ sym (near_next survey fresh s surveys),
     )
+
+-- where the mailbox has no message above a UID, the survey has none
+pub near_known : (from : ℕ) (survey now : Survey) (fresh : ℕ) (s : Stored) (es : List Entry) → Surveys survey fresh s → now ≡ survey → es ≡ now.entries.items
+    → All (λ m. m.uid ≤ from) (near_of fresh s).store.messages → NoneAbove from es
+near_known from survey now fresh s es surveys same is none =
+    subst (NoneAbove from) (sym (is ∙ ap (λ (v : Survey). v.entries.items) same))
+    (unmapped survey.entries.items (subst (λ (l : List Message). All (λ m. m.uid ≤ from) l) (near_messages survey fresh s surveys) none))
+  where
+    unmapped : (es : List Entry) → All (λ m. m.uid ≤ from) (map (message_at s) es) → NoneAbove from es
+    unmapped [] none = All-nil (λ e. e.uid ≤ from)
+    unmapped (e ∷ es) none =
+        All-cons (λ e. e.uid ≤ from) e es (All-head (λ m. m.uid ≤ from) (message_at s e) (map (message_at s) es) none)
+        (unmapped es (All-tail (λ m. m.uid ≤ from) (message_at s e) (map (message_at s) es) none))
 
 pub near_marked : (survey now : Survey) (fresh : ℕ) (s t : Stored) (es : List Entry) (mark : List ℕ) (from : ℕ) (found : Option ℕ) (before after : KnownMarks) → Surveys survey fresh s → now ≡ survey → es ≡ now.entries.items → before ≡ now.marks → t ≡ s
     → (AreThere es t → (next : ℕ) → AreRising es → All (λ e. e.uid < next) es → AreKnown next (map (message_at t) es) before

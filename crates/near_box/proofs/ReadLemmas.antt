@@ -19,7 +19,7 @@ use Rattle.near_box.specs.declared.survey.Entry.{Entry}
 use Rattle.maildir.specs.Folders.{Stored, bytes_at}
 use Rattle.maildir.specs.FlaggedNames.{flags_by_name}
 use Rattle.mailcore.specs.Operations.{bytes_among, is_mark, marked_among}
-use Rattle.near_box.specs.Entries.{AreRising, AreThere, IsThere, message_at, item_at}
+use Rattle.near_box.specs.Entries.{AreRising, AreThere, AreThereAbove, IsThere, IsThereAbove, NoneAbove, message_at, item_at}
 
 -- what is read of a file that stands in the folder
 pub bytes_there : (s : Stored) (es : List Entry) (i : ℕ) (entry : Entry) → i < length es → entry ≡ get_or es i entry → AreThere es s
@@ -30,6 +30,20 @@ bytes_there s es i entry below is there =
 -- the same of a folder that is as it was
 pub entry_there : (s t : Stored) (es : List Entry) (i : ℕ) (entry : Entry) → i < length es → entry ≡ get_or es i entry → AreThere es s → t ≡ s → IsThere t entry
 entry_there s t es i entry below is there same = subst (λ (u : Stored). IsThere u entry) (sym same) (bytes_there s es i entry below is there)
+
+-- and where those above a UID alone are asked
+pub entry_there_above : (from : ℕ) (s t : Stored) (es : List Entry) (i : ℕ) (entry : Entry) → i < length es → entry ≡ get_or es i entry → AreThereAbove from es s → t ≡ s
+    → IsThereAbove from t entry
+entry_there_above from s t es i entry below is there same =
+    subst (λ (u : Stored). IsThereAbove from u entry) (sym same) (subst (λ (e : Entry). IsThereAbove from s e) (sym is) (there i entry below))
+
+-- those that are there are there above any UID
+pub there_above : (from : ℕ) (s : Stored) (es : List Entry) → AreThere es s → AreThereAbove from es s
+there_above from s es there = λ i d below above. there i d below
+
+-- a message of a list with none above a UID is not above it
+pub none_above : (from : ℕ) (es : List Entry) (i : ℕ) (entry : Entry) → i < length es → entry ≡ get_or es i entry → NoneAbove from es → entry.uid ≤ from
+none_above from es i entry below is none = subst (λ (e : Entry). e.uid ≤ from) (sym is) (none i entry below)
 
 -- ---- a message by its UID
 

@@ -1,5 +1,5 @@
 -- The messages that a survey names, and the files that wait.
-use Rattle.std.specs.Prelude.{◌≡◌, ◌<◌, ℕ, List, [], Some, All, AllPairs, unwrap_or}
+use Rattle.std.specs.Prelude.{◌≡◌, ◌<◌, ◌≤◌, ℕ, List, [], Some, All, AllPairs, unwrap_or}
 use Rattle.mailcore.specs.declared.mailbox.Message.{Message}
 use Rattle.mailcore.specs.declared.listing.Item.{Item}
 use Rattle.mailcore.specs.declared.side.Side.TheVariants.{Near}
@@ -29,5 +29,16 @@ IsThere s entry = bytes_at entry.place entry.name s ≡ Some (message_at s entry
 abbrev pub AreThere : List Entry → Stored → Type 0
 AreThere entries s = All (IsThere s) entries
 
+-- the same, asked of those above this UID alone
+abbrev pub IsThereAbove : (from : ℕ) → Stored → Entry → Type 0
+IsThereAbove from s entry = from < entry.uid → IsThere s entry
+
+abbrev pub AreThereAbove : (from : ℕ) → List Entry → Stored → Type 0
+AreThereAbove from entries s = All (IsThereAbove from s) entries
+
 abbrev pub AreRising : List Entry → Type 0
 AreRising entries = AllPairs (λ a b. a.uid < b.uid) entries
+
+-- none has a UID above this one
+abbrev pub NoneAbove : (from : ℕ) → List Entry → Type 0
+NoneAbove from entries = All (λ entry. entry.uid ≤ from) entries

@@ -8,6 +8,7 @@ ghost use Rattle.std.specs.Int.NonZero.{non_zero_u32_get};
 ghost use Rattle.std.specs.Option.{option_map};
 ghost use Rattle.mailcore.specs.FlagSet.{union, minus};
 ghost use Rattle.mailcore.specs.Operations.{Shows, ShowsAbove, bytes_of, expunged, flagged, flags_added, flags_removed, marked_from};
+ghost use Rattle.near_box.specs.Entries.{NoneAbove};
 ghost use Rattle.near_box.specs.FlagChanges.{changed_flags};
 ghost use Rattle.near_box.specs.Mailboxes.{IsMailbox, IsMetaOf, near_of, on_store, delivered, admitted_near, meta_at, waiting_names};
 ghost use Rattle.near_box.specs.NearContracts.{Tells, Changes, ExpungesSome, SetsAside, AdmitsSome};
@@ -115,11 +116,14 @@ impl<F: Folder> NearBox<F> {
         self.list_above(0)
     }
 
-    /// The same, where those up to this UID are said to be fit, and their files are not read.
+    /// The same, where those up to this UID are said to be fit, and their files are not read: where there are no others, the
+    /// folder is not called.
     pub fn list_above(&mut self, from: u32) -> Result<Listing, NearFault>
         ensures shows { F.is_honest ≡ true → IfOk result (λ listing. ShowsAbove Side.Near from (mailbox_of self.old).store listing) }
         ensures numbers { IfOk result (λ listing. (0 < listing.validity) × (0 < listing.next)) }
         ensures keeps { F.is_honest ≡ true → (stored_in self.new ≡ stored_in self.old) × (vec_len self.new.missed ≡ vec_len self.old.missed) }
+        ensures untouched { NoneAbove from self.old.survey.entries.items → self.new.folder ≡ self.old.folder }
+        ensures known { F.is_honest ≡ true → All (λ m. m.uid ≤ from) (mailbox_of self.old).store.messages → self.new.folder ≡ self.old.folder }
         ensures ends { Ends false (box_of self.old) (box_of self.new) result }
     {
         self.begin()?;

@@ -1,12 +1,12 @@
 //! What calls of the near mailbox read of the files of its messages. A file that stood there when the mailbox was opened
 //! and is gone is a fault, so that nothing is taken for removed that was renamed.
 
-ghost use Rattle.std.specs.Prelude.{◌≡◌, ◌≢◌, ◌<◌, ℕ, List, All, true, false, [], ◌∷◌, ◌++◌, ◌⊎◌, map, nat_lt, IfOk, IfErr, OnOk};
+ghost use Rattle.std.specs.Prelude.{◌≡◌, ◌≢◌, ◌<◌, ◌≤◌, ℕ, List, All, true, false, [], ◌∷◌, ◌++◌, ◌⊎◌, map, nat_lt, IfOk, IfErr, OnOk};
 ghost use Rattle.std.specs.List.{list_all};
 ghost use Rattle.mailcore.specs.Content.{mark_of};
 ghost use Rattle.mailcore.specs.Operations.{bytes_among, is_mark, marked_among};
 ghost use Rattle.maildir.specs.Folders.{text_of};
-ghost use Rattle.near_box.specs.Entries.{AreRising, AreThere, IsThere, message_at, item_at};
+ghost use Rattle.near_box.specs.Entries.{AreRising, AreThere, AreThereAbove, IsThere, IsThereAbove, NoneAbove, message_at, item_at};
 ghost use Rattle.near_box.specs.KnownMarks.{AreKnown, AreMarksAmong, AreMarksOfFile, IsMarkAmong, mark_at};
 ghost use Rattle.mailcore.specs.declared.mailbox.Message.{Message};
 ghost use Rattle.near_box.specs.NearCalls.{Reads};
@@ -58,7 +58,7 @@ pub fn find_message<F: Folder>(
     }
 }
 
-/// What the messages list. Those up to this UID are said to be fit, and their files are not read.
+/// What the messages list. Those up to this UID are said to be fit, and their files are not read, nor need they be there.
 pub fn listed<F: Folder>(
     alloc: Global,
     folder: &mut F,
@@ -67,9 +67,10 @@ pub fn listed<F: Folder>(
 ) -> Result<Items, ReadFault>
     ensures reads { Reads (F.seen folder.old) (F.seen folder.new) result }
     ensures keeps { F.is_honest ≡ true → (F.seen folder.new).stored ≡ (F.seen folder.old).stored }
-    ensures shows { F.is_honest ≡ true → AreRising entries.now → AreThere entries.now (F.seen folder.old).stored
+    ensures shows { F.is_honest ≡ true → AreRising entries.now → AreThereAbove from entries.now (F.seen folder.old).stored
         → IfOk result (λ items. items ≡ map (item_at from (F.seen folder.old).stored) entries.now) }
-    ensures there { F.is_honest ≡ true → AreRising entries.now → AreThere entries.now (F.seen folder.old).stored → result ≢ Err ReadFault.Gone }
+    ensures there { F.is_honest ≡ true → AreRising entries.now → AreThereAbove from entries.now (F.seen folder.old).stored → result ≢ Err ReadFault.Gone }
+    ensures untouched { NoneAbove from entries.now → folder.new ≡ folder.old }
 {
     let mut items = Items::new(alloc);
     for entry in entries {
@@ -87,9 +88,10 @@ pub fn listed<F: Folder>(
 fn is_fit<F: Folder>(folder: &mut F, entry: &Entry, from: u32) -> Result<bool, ReadFault>
     ensures reads { Reads (F.seen folder.old) (F.seen folder.new) result }
     ensures keeps { F.is_honest ≡ true → (F.seen folder.new).stored ≡ (F.seen folder.old).stored }
-    ensures fit { F.is_honest ≡ true → IsThere (F.seen folder.old).stored entry.now
+    ensures fit { F.is_honest ≡ true → IsThereAbove from (F.seen folder.old).stored entry.now
         → IfOk result (λ is. is ≡ (item_at from (F.seen folder.old).stored entry.now).fit) }
-    ensures there { F.is_honest ≡ true → IsThere (F.seen folder.old).stored entry.now → result ≢ Err ReadFault.Gone }
+    ensures there { F.is_honest ≡ true → IsThereAbove from (F.seen folder.old).stored entry.now → result ≢ Err ReadFault.Gone }
+    ensures untouched { entry.now.uid ≤ from → folder.new ≡ folder.old }
 {
     if entry.uid.get() <= from {
         return Ok(true);

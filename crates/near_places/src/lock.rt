@@ -6,8 +6,10 @@ ghost use Rattle.near_places.specs.Refusals.{TellsLock, told_of_memory};
 use crate::refusal::Refusal;
 use std::alloc::{AllocError, AllocFailed};
 use std::fs::{File, OpenOptions, TryLockError};
+use std::io::ErrorKind;
 use std::os::unix::fs::OpenOptionsExt;
 use std::rt::Files;
+use std::{fs, io};
 use thiserror::Error;
 
 /// The file of the lock, in the folder of the mailbox. It stays there.
@@ -61,9 +63,7 @@ impl Lock {
         ensures { IfErr result (TellsLock (folder.now ++ codes "/.mbsyncstate.lock")) }
     {
         let path = format!(in rt.alloc(); "{folder}/{LOCK}")?;
-        let mut options = OpenOptions::new();
-        options.write(true).create(true).mode(FILE_MODE);
-        let file = match options.open(rt, path.as_str()) {
+        let file = match lock_file(rt, path.as_str()) {
             Ok(file) => file,
             Err(error) => return Err(refused(rt, path.as_str(), &error)),
         };
@@ -75,7 +75,27 @@ impl Lock {
     }
 }
 
-fn refused<R: AllocGlobal>(rt: &R, path: &str, error: &std::io::Error) -> LockFault
+/// The file of the lock, made if it is not there. No link is followed, and nothing but a file is opened: a fifo would not answer.
+fn lock_file<R: Files<File = File>>(rt: &R, path: &str) -> io::Result<File> {
+    let mut options = OpenOptions::new();
+    options.write(true).create_new(true).mode(FILE_MODE);
+    match options.open(rt, path) {
+        Err(error) if error.kind() == ErrorKind::AlreadyExists => open_lock_file(rt, path),
+        answer => answer,
+    }
+}
+
+/// The file of the lock that is there.
+fn open_lock_file<R: Files<File = File>>(rt: &R, path: &str) -> io::Result<File> {
+    if !fs::symlink_metadata(rt, path)?.is_file() {
+        return Err(io::Error::from(ErrorKind::InvalidInput));
+    }
+    let mut options = OpenOptions::new();
+    options.write(true);
+    options.open(rt, path)
+}
+
+fn refused<R: AllocGlobal>(rt: &R, path: &str, error: &io::Error) -> LockFault
     ensures { TellsLock path.now result }
 {
     LockFault::Refused(Refusal::at(rt.alloc(), path, error))

@@ -3,4 +3,5 @@
 
 pub mod channel_box;
 pub mod fault;
+pub mod stop_cause;
 pub mod stores;

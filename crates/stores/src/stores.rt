@@ -5,6 +5,7 @@ ghost use Rattle.rules.specs.Options.{covers};
 
 use crate::channel_box::ChannelBox;
 use crate::fault::{ListFault, StoreFault};
+use crate::stop_cause::StopCause;
 use config::config::{ImapStore, MaildirStore};
 use mailcore::mailbox_name::MailboxName;
 use mailcore::side::Side;
@@ -25,6 +26,9 @@ pub trait Stores: BoxLists {
     /// Both sides of a mailbox, and its state.
     type Outside: Outside;
 
+    /// Whether the near folder of a mailbox has the state of a former run.
+    fn has_state(&mut self, place: ChannelBox<'_>) -> Result<bool, StoreFault>;
+
     /// Makes this side of a mailbox, which is absent there. Only a side that the channel's Create covers is made.
     fn make(&mut self, side: Side, place: ChannelBox<'_>) -> Result<(), StoreFault>
         requires { covers place.of.channel.now.create side ≡ true };
@@ -33,6 +37,10 @@ pub trait Stores: BoxLists {
     /// until the stores are dropped.
     fn outside(&mut self, place: ChannelBox<'_>) -> Result<&mut Self::Outside, StoreFault>;
 
-    /// The path of the near message that could not be read since the last mailbox was opened, if there is one. It is told once.
-    fn unread(&mut self) -> Option<String>;
+    /// What stopped the run over the mailbox that was opened last, if it was stopped and this is known. It is told once.
+    fn stop_cause(&mut self) -> Option<StopCause>;
+
+    /// The paths of the near files that the run over the mailbox that was opened last left out: they wait for a UID, and their names are no
+    /// UTF-8, or too long with one. They are told once. Where memory is wanting, some may be missing.
+    fn left_out(&mut self) -> Vec<String>;
 }

@@ -11,7 +11,9 @@
 //! | `in BOX LINE` | a line of its world, from `far` to `state` and the entries; one without is empty |
 //! | `stop BOX before CALL k`, `stop BOX after CALL k`, `refuse BOX CALL k` | a call of the mailbox's outside that stops, or is refused |
 //! | `state BOX "BYTES"`, `journal BOX "BYTES"` | the text of its state, or of its journal |
-//! | `unread BOX PATH` | the message of this path cannot be read: it is told where a run is stopped |
+//! | `unread BOX PATH` | this process may not read the message of this path: it is told where a run is stopped |
+//! | `left BOX PATH` | the file of this path cannot get a UID: it is told behind a run |
+//! | `synced BOX` | the near folder has the state of a former run, where the mailbox is absent on a side |
 //! | `locked BOX` | another process holds its lock |
 //! | `shut NAME` | a store of this name does not list its mailboxes, or a mailbox of this name is not lent |
 //! | `barred NAME` | the server of this store does not let its user in, or no longer where a mailbox of this name is lent |

@@ -3,6 +3,7 @@
 use crate::facts::Facts;
 use crate::lent_box::{LentBox, box_named};
 use config::config::{ImapStore, MaildirStore};
+use device::trouble::Trouble;
 use mailcore::mailbox_name::MailboxName;
 use mailcore::side::Side;
 use mem_outside::mem_outside::MemOutside;
@@ -10,6 +11,7 @@ use runner::fault::RunFault;
 use std::alloc::{AllocError, Global};
 use stores::channel_box::ChannelBox;
 use stores::fault::{ListFault, StoreFault};
+use stores::stop_cause::StopCause;
 use stores::stores::{BoxLists, Stores};
 use test_scripts::failure::Failure;
 use test_scripts::told::Told;
@@ -23,8 +25,8 @@ pub(crate) struct MemStores<'a> {
     pub(crate) asked: Told,
     /// The mailboxes that were lent, the last one last.
     pub(crate) boxes: Vec<LentBox>,
-    /// Whether it could still be told which message of the last one cannot be read.
-    is_unread: bool,
+    /// Whether it is still to be told what stopped the run over the last one.
+    is_untold: bool,
     /// Why a mailbox of the case cannot be had.
     pub(crate) failure: Option<Failure>,
 }
@@ -37,7 +39,7 @@ impl<'a> MemStores<'a> {
             facts,
             asked: Told::new(alloc),
             boxes: Vec::new(alloc),
-            is_unread: false,
+            is_untold: false,
             failure: None,
         }
     }
@@ -81,6 +83,17 @@ impl<'a> MemStores<'a> {
                 Err(StoreFault::Box(RunFault::Stopped))
             }
         }
+    }
+
+    /// Adds the file that the run over the last mailbox left out, if there is one.
+    fn add_left_out(&self, paths: &mut Vec<String>) -> Result<(), AllocError> {
+        let Some(last) = self.boxes.last() else {
+            return Ok(());
+        };
+        if let Some(path) = self.facts.of("left", &last.name) {
+            paths.push(String::from_str(self.alloc, path)?)?;
+        }
+        Ok(())
     }
 
     fn add_box(&mut self, name: &str) -> Result<(), Failure> {
@@ -132,6 +145,11 @@ impl BoxLists for MemStores<'_> {
 impl Stores for MemStores<'_> {
     type Outside = MemOutside;
 
+    fn has_state(&mut self, place: ChannelBox<'_>) -> Result<bool, StoreFault> {
+        self.ask("has_state ", place.near.as_str());
+        Ok(self.facts.has("synced", place.far.as_str()))
+    }
+
     fn make(&mut self, side: Side, place: ChannelBox<'_>) -> Result<(), StoreFault> {
         let (question, name) = match side {
             Side::Far => ("make far ", place.far.as_str()),
@@ -145,22 +163,29 @@ impl Stores for MemStores<'_> {
     }
 
     fn outside(&mut self, place: ChannelBox<'_>) -> Result<&mut MemOutside, StoreFault> {
-        self.is_unread = false;
+        self.is_untold = false;
         self.ask("outside ", place.far.as_str());
         self.lend(place.of.far_store.name.as_str(), place.far.as_str())?;
-        self.is_unread = true;
+        self.is_untold = true;
         match self.boxes.last_mut() {
             Some(one) => Ok(&mut one.outside),
             None => Err(StoreFault::Box(RunFault::Stopped)),
         }
     }
 
-    fn unread(&mut self) -> Option<String> {
-        if !self.is_unread {
+    fn stop_cause(&mut self) -> Option<StopCause> {
+        if !self.is_untold {
             return None;
         }
-        self.is_unread = false;
+        self.is_untold = false;
         let path = self.facts.of("unread", &self.boxes.last()?.name)?;
-        String::from_str(self.alloc, path).ok()
+        let path = String::from_str(self.alloc, path).ok()?;
+        Some(StopCause::Disk(path, Trouble::NoPermission))
+    }
+
+    fn left_out(&mut self) -> Vec<String> {
+        let mut paths = Vec::new(self.alloc);
+        let _ = self.add_left_out(&mut paths);
+        paths
     }
 }

@@ -1,1 +1,3 @@
+mod Again
+mod Arrivals
 pub mod PlanReads

@@ -9,6 +9,10 @@ pub is_read_as_book : (opened : Option Opened) → IsBook opened → IsRead open
 is_read_as_book None is = is
 is_read_as_book (Some o) is = tt
 
+pub is_read_before : (opened : Option Opened) (plan : Plan) → TakesPlan opened plan → IsRead opened
+is_read_before None plan takes = absurd takes
+is_read_before (Some o) plan takes = tt
+
 pub is_read_begun : (old new : Option Opened) (plan : Plan) (f : Pending → Pending) → TakesPlan old plan → new ≡ turned f old → IsRead new
 is_read_begun None new plan f takes e = absurd takes
 is_read_begun (Some o) new plan f takes e = subst IsRead (sym e) tt

@@ -1,8 +1,12 @@
-//! What is told of a run while it is at work: how far its plan is, and which message could not be read. An outside over an outside, and
-//! a folder over a folder, which pass each call on.
+//! What is told of a run while it is at work, and what is looked at once more: how far its plan is, what stopped it, and whether a message
+//! that the plan takes to be removed is there. An outside, a folder, a shelf and a link over others, which pass each call on.
 #![tactic(auto)]
 
+mod gone;
+pub mod near_look;
 pub mod progress;
-pub mod unread;
+pub mod watch;
 pub mod watched_folder;
+pub mod watched_link;
 pub mod watched_outside;
+pub mod watched_shelf;

@@ -15,7 +15,9 @@ use rules::plan::Plan;
 use rules::state::SyncState;
 use sync_state::journal::Journal;
 
-/// An outside that passes each call on. Where a plan is read or begun, or one more step of it is logged, it tells how many are.
+/// An outside that passes each call on. It tells of a plan before that is begun, and where a plan is read or begun, or one more step of it
+/// is logged, how many are. Where a far message that is to be copied is not found, the far mailbox is listed and the message asked for
+/// once more: one that is listed and not given is told.
 #[derive(Drop)]
 pub struct WatchedOutside<O, P> {
     outside: O,
@@ -40,6 +42,11 @@ impl<O: Outside, P: Progress> WatchedOutside<O, P> {
                 .tell(logged, journal.plan.steps.as_slice().len());
         }
     }
+}
+
+/// Whether a message is listed.
+fn is_listed(listing: &Listing, uid: Uid) -> bool {
+    listing.items.as_slice().iter().any(|item| item.uid == uid)
 }
 
 impl<O: Outside, P: Progress> Outside for WatchedOutside<O, P> {
@@ -76,8 +83,9 @@ impl<O: Outside, P: Progress> Outside for WatchedOutside<O, P> {
         self.outside.mend()
     }
 
-    #[tactic(auto, using(crate::proofs::PlanReads::is_read_begun))]
+    #[tactic(auto, using(crate::proofs::PlanReads::is_read_before, crate::proofs::PlanReads::is_read_begun))]
     fn begin(&mut self, plan: Plan) -> Result<(), OutsideFault> {
+        self.progress.begins(&plan, self.outside.state());
         self.outside.begin(plan)?;
         self.tell();
         Ok(())
@@ -85,7 +93,14 @@ impl<O: Outside, P: Progress> Outside for WatchedOutside<O, P> {
 
     #[tactic(auto, using(crate::proofs::PlanReads::is_read_logged))]
     fn done(&mut self, step: usize, copy: Option<Uid>) -> Result<(), OutsideFault> {
-        self.outside.done(step, copy)?;
+        let given = copy;
+        let answer = self.outside.done(step, copy);
+        if let Some(uid) = given {
+            if answer == Err(OutsideFault::BadState(0)) {
+                self.progress.given_again(uid);
+            }
+        }
+        answer?;
         self.tell();
         Ok(())
     }
@@ -126,6 +141,7 @@ impl<O: Outside, P: Progress> Outside for WatchedOutside<O, P> {
         self.outside.find_mark(side, mark, from)
     }
 
+    #[tactic(auto, using(crate::proofs::Again::is_open_still))]
     fn carry(
         &mut self,
         direction: Direction,
@@ -133,7 +149,16 @@ impl<O: Outside, P: Progress> Outside for WatchedOutside<O, P> {
         mark: Tuid,
         flags: Flags,
     ) -> Result<Carried, OutsideFault> {
-        self.outside.carry(direction, uid, mark, flags)
+        match (self.outside.carry(direction, uid, mark, flags)?, direction) {
+            (Carried::Absent, Direction::Pull) => {}
+            (carried, _) => return Ok(carried),
+        }
+        let listing = self.outside.list_far()?;
+        let carried = self.outside.carry(direction, uid, mark, flags)?;
+        if carried == Carried::Absent && is_listed(&listing, uid) {
+            self.progress.withheld(uid);
+        }
+        Ok(carried)
     }
 
     fn add_flags(&mut self, side: Side, uid: Uid, flags: Flags) -> Result<(), OutsideFault> {

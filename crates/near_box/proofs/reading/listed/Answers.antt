@@ -2,7 +2,7 @@ use Rattle.std.proofs.Common.{◌≡◌, rules, arith, ap, refl, ◌∙◌}
 use Rattle.std.proofs.lemmas.Result.{err_from_is_err_and}
 use Rattle.maildir.specs.Folders.{Stored}
 use Rattle.near_box.specs.Entries.{item_at}
-use Rattle.near_box.proofs.ReadLemmas.{entry_there, item_read, item_pushed, item_in_order, not_gone}
+use Rattle.near_box.proofs.ReadLemmas.{entry_there_above, item_read, item_pushed, item_in_order, none_above, not_gone}
 use Rattle.near_box.proofs.reading.listed.Goals as goal
 
 pub loop-entry-preserved : goal.loop-entry-preserved
@@ -17,12 +17,14 @@ loop-entry-preserved g c = record {
       let i = c.loop-entry.entry-index in
       let entry = c.entry-item.result in
       let same : t ≡ s = c.loop-entry.invariant.keeps honest in
-      let here = entry_there s t es i entry (omega arith) c.entry-item.is there same in
+      let here = entry_there_above c.args.from s t es i entry (omega arith) c.entry-item.is there same in
       item_pushed c.args.from s es i entry c.loop-entry.items c.push_item.new.items _ (omega arith) c.entry-item.is
       (c.loop-entry.invariant.shown honest rising there)
       (item_read c.args.from s entry c.flags_of.result c.in_ok-is_fit.field-0 c.flags_of.ensures
       (c.in_ok-is_fit.ensures.fit honest here ∙ ap (λ (u : Stored). (item_at c.args.from u entry).fit) same))
       c.in_ok-push_item.ensures.pushed;
+  untouched = λ none. let up = none_above c.args.from c.args.entries.now c.loop-entry.entry-index c.entry-item.result (omega arith) c.entry-item.is none in
+      c.in_ok-is_fit.ensures.untouched up ∙ c.loop-entry.invariant.untouched none;
 }
 
 pub returns-in_err-push_item-clause-there : goal.returns-in_err-push_item-clause-there

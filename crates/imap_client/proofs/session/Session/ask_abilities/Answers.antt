@@ -2,6 +2,7 @@ use Rattle.std.proofs.Common.{◌≡◌, inr, ℕ, ◌+◌, ◌++◌, ◌∷◌,
 use Rattle.std.proofs.lemmas.Result.{err_from_is_err_and}
 use Rattle.imap_session.specs.Answering.{done}
 use Rattle.imap_link.specs.declared.fault.FarFault.{FarFault}
+use Rattle.imap_link.specs.UsedReplies.{abilities_read}
 use Rattle.imap_link.specs.Outcomes.{Outcome, Never}
 use Rattle.imap_client.specs.Tags.{tag_text}
 use Rattle.imap_client.specs.Saying.{HeardOf}
@@ -19,7 +20,7 @@ returns-in_err-len-clause-outcome g c honest =
     let n = c.args.self.now.tags + 1 in
     let heard = c.ask.new.self.wire.heard.items in
     subst (λ (r : Result (Unit {0}) FarFault). Outcome (λ x. Remains) Never Remains r old new) (sym (p.1 ∙ ap Err p.2))
-    (outcome_err ℕ (Unit {0}) (λ len s t. HeardOf (abilities ++ done (tag_text n) ∷ []) (take len heard) × Remains s t) (λ x. Remains) Never Remains old new f
+    (outcome_err ℕ (Unit {0}) (λ len s t. HeardOf abilities_read (abilities ++ done (tag_text n) ∷ []) (take len heard) × Remains s t) (λ x. Remains) Never Remains old new f
     (ability_exchanged n old (Err f) heard new (c.in_err-len.ensures.outcome honest)))
 
 pub returns-then-not-speaks-clause-outcome : goal.returns-then-not-speaks-clause-outcome

@@ -40,14 +40,14 @@ returns-in_err-answered-clause-outcome g c honest command is =
     subst (λ (r : Result ℕ FarFault). Exchanged command r heard old new) (sym (p.1 ∙ ap Err p.2))
     (subst (λ (s : Server). Exchanged command (Err f) heard s new) waits.0
     (exchanged_err command (λ a. Replied command a.status (take a.len heard)) f heard mid new
-    (c.in_err-answered.ensures.outcome honest command c.args.front.now (completes command c.args.tag.now c.args.front.now c.args.rest.now is) waits.1)))
+    (c.in_err-answered.ensures.outcome honest command c.args.front.now (completes command c.args.tag.now c.args.front.now c.args.rest.now is c.answer_alone.result c.answer_alone.ensures) waits.1)))
 
 pub judge-requires-clause-idle : goal.judge-requires-clause-idle
 judge-requires-clause-idle g c honest =
     let one = c.requires.parts in
     let waits = c.in_ok-offer.ensures.outcome (c.in_ok-answered.ensures.was_honest honest) c.args.rest.now one.command one.is in
     still_of (ends_of (g.L.Link.line c.finish.new.self.link) (drop c.in_ok-answered.answered.len c.finish.new.self.heard.items))
-    (c.in_ok-answered.ensures.idle honest one.command c.args.front.now (completes one.command c.args.tag.now c.args.front.now c.args.rest.now one.is) one.is.stays waits.1)
+    (c.in_ok-answered.ensures.idle honest one.command c.args.front.now (completes one.command c.args.tag.now c.args.front.now c.args.rest.now one.is c.answer_alone.result c.answer_alone.ensures) one.is.stays waits.1)
 
 pub returns-clause-outcome : goal.returns-clause-outcome
 returns-clause-outcome g c =
@@ -60,7 +60,7 @@ returns-clause-outcome g c =
     let waits = c.in_ok-offer.ensures.outcome (c.in_ok-answered.ensures.was_honest honest) c.args.rest.now command is in
     subst (λ (s : Server). Exchanged command c.judge.result now s new) waits.0
     (exchanged_of command c.in_ok-answered.answered.status c.in_ok-answered.answered.len c.judge.new.self.is_ready c.judge.result c.finish.new.self.heard.items now mid new c.judge.ensures.judged c.judge.ensures.heard
-    (c.in_ok-answered.ensures.outcome honest command c.args.front.now (completes command c.args.tag.now c.args.front.now c.args.rest.now is) waits.1)))
+    (c.in_ok-answered.ensures.outcome honest command c.args.front.now (completes command c.args.tag.now c.args.front.now c.args.rest.now is c.answer_alone.result c.answer_alone.ensures) waits.1)))
 
 pub returns-clause-idle : goal.returns-clause-idle
 returns-clause-idle g c =
@@ -72,5 +72,5 @@ returns-clause-idle g c =
     let one = c.requires.parts in
     let waits = c.in_ok-offer.ensures.outcome (c.in_ok-answered.ensures.was_honest honest) c.args.rest.now one.command one.is in
     let still = still_of (ends_of (g.L.Link.line c.finish.new.self.link) (drop c.in_ok-answered.answered.len was))
-    (c.in_ok-answered.ensures.idle honest one.command c.args.front.now (completes one.command c.args.tag.now c.args.front.now c.args.rest.now one.is) one.is.stays waits.1) in
+    (c.in_ok-answered.ensures.idle honest one.command c.args.front.now (completes one.command c.args.tag.now c.args.front.now c.args.rest.now one.is c.answer_alone.result c.answer_alone.ensures) one.is.stays waits.1) in
     subst (λ (b : List ℕ). IsStill (ends_of (g.L.Link.line c.finish.new.self.link) b)) (ap (λ (k : ℕ). drop k was) (sym len) ∙ ap (drop n) (sym heard)) still))

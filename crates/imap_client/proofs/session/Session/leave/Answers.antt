@@ -31,7 +31,7 @@ returns-in_err-answered-clause-outcome g c honest =
     let old = (g.L.Link.line c.args.self.now.wire.link).end.server in
     let new = (g.L.Link.line c.finish.new.self.link).end.server in
     let heard = c.finish.new.self.heard.items in
-    let completes = logout_completes command c.requires.logout c.deref.result.now (subst (Written command) (sym c.deref.ensures.value) c.in_ok-text.ensures) in
+    let completes = logout_completes command c.requires.logout c.answer_alone.result c.deref.result.now c.answer_alone.ensures (subst (Written command) (sym c.deref.ensures.value) c.in_ok-text.ensures) in
     let at = idle_of (ends_of (g.L.Link.line c.args.self.now.wire.link) c.args.self.now.wire.heard.items) (c.requires.idle (c.in_err-answered.ensures.was_honest honest)) in
     subst (λ (r : Result (Unit {0}) FarFault). Outcome (λ x. Leaves) Never Leaves r old new) (sym (p.1 ∙ ap Err p.2))
     (outcome_err Answered (Unit {0}) (λ a s t. (a.status ≡ statuses.Ok) × Leaves s t) (λ x. Leaves) Never Leaves old new f
@@ -42,7 +42,7 @@ returns-in-Ok-clause-outcome g c honest =
     let command = c.args.command.now in
     let old = (g.L.Link.line c.args.self.now.wire.link).end.server in
     let new = (g.L.Link.line c.finish.new.self.link).end.server in
-    let completes = logout_completes command c.requires.logout c.deref.result.now (subst (Written command) (sym c.deref.ensures.value) c.in_ok-text.ensures) in
+    let completes = logout_completes command c.requires.logout c.answer_alone.result c.deref.result.now c.answer_alone.ensures (subst (Written command) (sym c.deref.ensures.value) c.in_ok-text.ensures) in
     let at = idle_of (ends_of (g.L.Link.line c.args.self.now.wire.link) c.args.self.now.wire.heard.items) (c.requires.idle (c.in_ok-answered.ensures.was_honest honest)) in
     (left_answered command c.requires.logout old (Ok c.in_ok-answered.answered) c.finish.new.self.heard.items new (c.in_ok-answered.ensures.outcome honest command [] completes at)).1
 
@@ -51,7 +51,7 @@ returns-in-No-clause-outcome g c honest =
     let command = c.args.command.now in
     let old = (g.L.Link.line c.args.self.now.wire.link).end.server in
     let new = (g.L.Link.line c.finish.new.self.link).end.server in
-    let completes = logout_completes command c.requires.logout c.deref.result.now (subst (Written command) (sym c.deref.ensures.value) c.in_ok-text.ensures) in
+    let completes = logout_completes command c.requires.logout c.answer_alone.result c.deref.result.now c.answer_alone.ensures (subst (Written command) (sym c.deref.ensures.value) c.in_ok-text.ensures) in
     let at = idle_of (ends_of (g.L.Link.line c.args.self.now.wire.link) c.args.self.now.wire.heard.items) (c.requires.idle (c.in_ok-answered.ensures.was_honest honest)) in
     no_is_not c.in_ok-answered.answered.status c.in-No.is
     (left_answered command c.requires.logout old (Ok c.in_ok-answered.answered) c.finish.new.self.heard.items new (c.in_ok-answered.ensures.outcome honest command [] completes at)).0
@@ -61,7 +61,7 @@ returns-clause-outcome g c honest =
     let command = c.args.command.now in
     let old = (g.L.Link.line c.args.self.now.wire.link).end.server in
     let new = (g.L.Link.line c.finish.new.self.link).end.server in
-    let completes = logout_completes command c.requires.logout c.deref.result.now (subst (Written command) (sym c.deref.ensures.value) c.in_ok-text.ensures) in
+    let completes = logout_completes command c.requires.logout c.answer_alone.result c.deref.result.now c.answer_alone.ensures (subst (Written command) (sym c.deref.ensures.value) c.in_ok-text.ensures) in
     let at = idle_of (ends_of (g.L.Link.line c.args.self.now.wire.link) c.args.self.now.wire.heard.items) (c.requires.idle (c.in_ok-answered.ensures.was_honest honest)) in
     bad_is_not c.in_ok-answered.answered.status c.in-Bad.is
     (left_answered command c.requires.logout old (Ok c.in_ok-answered.answered) c.finish.new.self.heard.items new (c.in_ok-answered.ensures.outcome honest command [] completes at)).0

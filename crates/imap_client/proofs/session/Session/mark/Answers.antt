@@ -11,7 +11,7 @@ use Rattle.imap_link.specs.Outcomes.{Outcome, Never}
 use Rattle.imap_client.specs.Calls.{from_on}
 use Rattle.std.proofs.Common.{Option}
 use Rattle.mailcore.specs.Operations.{marked_from}
-use Rattle.imap_answers.specs.Markings.{least_marked, uid_found}
+use Rattle.imap_answers.specs.Markings.{mark_found}
 use Rattle.imap_client.proofs.Marks.{finds_mark}
 use Rattle.imap_client.specs.Logins.{Remains}
 use Rattle.imap_answers.specs.Readings.{Tells}
@@ -45,7 +45,7 @@ returns-in_err-found-clause-outcome g c honest m is store range =
     let rs = replies_for m (from_on c.args.from) wanted.Head (tag_text n) in
     let told = fetch_exchanged n old m is (from_on c.args.from) wanted.Head (Ok c.in_ok-len.len) heard new (c.in_ok-len.ensures.outcome honest) in
     subst (λ (r : Result (Option ℕ) FarFault). Outcome (Tells so) Never Remains r old new) (sym (p.1 ∙ ap Err p.2))
-    (reads_err (Option ℕ) (Option ℕ) (λ uid. uid) (uid_found (least_marked c.args.mark c.args.from rs)) (marked_from c.args.mark c.args.from m.store) (finds_mark c.args.mark c.args.from m (tag_text n) store range) old new told.1 f
+    (reads_err (Option ℕ) (Option ℕ) (λ uid. uid) (mark_found c.args.mark c.args.from rs) (marked_from c.args.mark c.args.from m.store) (finds_mark c.args.mark c.args.from m (tag_text n) store range) old new told.1 f
     (c.in_err-found.ensures.told rs told.0))
 
 pub returns-clause-outcome : goal.returns-clause-outcome
@@ -58,7 +58,7 @@ returns-clause-outcome g c =
     let new = (g.L.Link.line c.ask.new.self.wire.link).end.server in
     let rs = replies_for m (from_on c.args.from) wanted.Head (tag_text n) in
     let told = fetch_exchanged n old m is (from_on c.args.from) wanted.Head (Ok c.in_ok-len.len) heard new (c.in_ok-len.ensures.outcome honest) in
-    reads_so (Option ℕ) (Option ℕ) (λ uid. uid) (uid_found (least_marked c.args.mark c.args.from rs)) (marked_from c.args.mark c.args.from m.store) (finds_mark c.args.mark c.args.from m (tag_text n) store range) old new told.1 c.in_ok-found.found
+    reads_so (Option ℕ) (Option ℕ) (λ uid. uid) (mark_found c.args.mark c.args.from rs) (marked_from c.args.mark c.args.from m.store) (finds_mark c.args.mark c.args.from m (tag_text n) store range) old new told.1 c.in_ok-found.found
     (c.in_ok-found.ensures.told rs told.0))
 
 pub returns-in_err-len-clause-remains : goal.returns-in_err-len-clause-remains

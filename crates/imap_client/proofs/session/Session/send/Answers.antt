@@ -26,7 +26,7 @@ returns-in_err-answered-clause-outcome g c honest =
     let command = c.args.command.now in
     let was = c.in_err-answered.ensures.was_honest honest in
     let written = subst (Written command) (sym c.deref.ensures.value) c.in_ok-text.ensures in
-    let completes = plain_completes command c.deref.result.now c.requires.plain written in
+    let completes = plain_completes command c.of.result c.deref.result.now c.of.ensures c.requires.plain written in
     let at = idle_of (ends_of (g.L.Link.line c.args.self.now.wire.link) c.args.self.now.wire.heard.items) (c.requires.idle was) in
     let old = (g.L.Link.line c.args.self.now.wire.link).end.server in
     let new = (g.L.Link.line c.finish.new.self.link).end.server in
@@ -38,7 +38,7 @@ returns-clause-outcome g c honest =
     let command = c.args.command.now in
     let was = c.in_ok-answered.ensures.was_honest honest in
     let written = subst (Written command) (sym c.deref.ensures.value) c.in_ok-text.ensures in
-    let completes = plain_completes command c.deref.result.now c.requires.plain written in
+    let completes = plain_completes command c.of.result c.deref.result.now c.of.ensures c.requires.plain written in
     let at = idle_of (ends_of (g.L.Link.line c.args.self.now.wire.link) c.args.self.now.wire.heard.items) (c.requires.idle was) in
     c.in_ok-answered.ensures.outcome honest command [] completes at
 
@@ -47,6 +47,6 @@ returns-clause-idle g c honest =
     let command = c.args.command.now in
     let was = c.in_ok-answered.ensures.was_honest honest in
     let written = subst (Written command) (sym c.deref.ensures.value) c.in_ok-text.ensures in
-    let completes = plain_completes command c.deref.result.now c.requires.plain written in
+    let completes = plain_completes command c.of.result c.deref.result.now c.of.ensures c.requires.plain written in
     let at = idle_of (ends_of (g.L.Link.line c.args.self.now.wire.link) c.args.self.now.wire.heard.items) (c.requires.idle was) in
     still_of _ (c.in_ok-answered.ensures.idle honest command [] completes c.requires.stays at)

@@ -1,10 +1,13 @@
-use Rattle.std.proofs.Common.{sym, subst, Result}
+use Rattle.std.proofs.Common.{sym, subst, take, Result}
 use Rattle.std.proofs.lemmas.Result.{err_from_is_err_and}
 use Rattle.imap_link.specs.declared.fault.FarFault.{FarFault}
 use Rattle.imap_link.specs.declared.wire.Told.{Told}
 use Rattle.imap_link.specs.Faults.{IsStop}
 use Rattle.imap_link.specs.Exchanges.{AsksFor}
-use Rattle.imap_link.proofs.Exits.{stop_of, at_ok, on_ok, at_err}
+use Rattle.imap_link.proofs.Exits.{stop_of, at_ok, at_err}
+use Rattle.imap_link.specs.Buffers.{IsTold, length_of}
+use Rattle.imap_link.proofs.Passing.{came_at, bounded_first}
+use Rattle.imap_link.specs.UsedReplies.{answer_alone}
 use Rattle.imap_link.proofs.Asked.{unasked, answered_so}
 use Rattle.imap_link.proofs.wire.Wire.ask.Goals as goal
 
@@ -21,7 +24,10 @@ returns-in_err-send-clause-outcome g c honest =
 pub returns-clause-outcome : goal.returns-clause-outcome
 returns-clause-outcome g c honest =
     let was = c.wait.ensures.was_honest honest in
-    answered_so c.args.tag.now c.args.front.now c.wait.result (g.L.Link.line c.args.self.now.link) (g.L.Link.line c.send.new.self) (g.L.Link.line c.wait.new.self.link)
+    answered_so c.answer_alone.result c.args.tag.now c.args.front.now c.wait.result (g.L.Link.line c.args.self.now.link) (g.L.Link.line c.send.new.self) (g.L.Link.line c.wait.new.self.link)
     c.args.self.now.heard.items c.wait.new.self.heard.items (c.in_ok-send.ensures.ok was) (c.wait.ensures.quiet honest)
-    (λ told e. (at_ok _ c.wait.result told c.wait.ensures.told e, on_ok _ c.wait.result told c.wait.ensures.same e honest))
+    (λ told e. came_at c.answer_alone.result (IsTold c.args.tag.now told) (take (length_of told) c.wait.new.self.heard.items) (g.L.Link.honest c.wait.new.self.link) _ (at_ok _ c.wait.result told c.wait.ensures.came e) honest)
     (λ y e expects. at_err _ c.wait.result y c.wait.ensures.fault e honest expects)
+
+pub returns-in_err-send-clause-bounded : goal.returns-in_err-send-clause-bounded
+returns-in_err-send-clause-bounded g c = bounded_first answer_alone c.args.self.now.heard.items

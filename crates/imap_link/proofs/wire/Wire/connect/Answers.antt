@@ -32,12 +32,12 @@ returns-in-Hello-clause-idle g c =
     subst (λ l. g.L.Link.honest l → IsAt [] (ends_of (g.L.Link.line l) c.forget.new.self.heard.items)) (sym c.forget.ensures.link) (λ honest.
     subst (λ (x : List ℕ). IsAt [] (ends_of (g.L.Link.line c.hear.new.self.link) x)) (sym c.forget.ensures.heard)
     (greeted_idle (g.L.Link.line c.args.self.now.link) (g.L.Link.line c.reconnect.new.self) (c.in_ok-reconnect.ensures.ok (c.in_ok-kind.ensures.was_honest honest)) c.args.tag.now c.in_ok-kind.kind
-    (g.L.Link.line c.hear.new.self.link) c.hear.new.self.heard.items c.in_ok-kind.len c.in_ok-kind.ensures.heard
+    (g.L.Link.line c.hear.new.self.link) c.hear.new.self.heard.items c.in_ok-kind.len c.in_ok-kind.ensures.heard.begins
     (subst (λ (x : List ℕ). Keeps (ends_of (g.L.Link.line c.reconnect.new.self) x) (ends_of (g.L.Link.line c.hear.new.self.link) c.hear.new.self.heard.items)) c.clear.ensures.items (c.in_ok-kind.ensures.same honest))))
 
 pub returns-in-Bye-clause-stopped : goal.returns-in-Bye-clause-stopped
 returns-in-Bye-clause-stopped g c stopped =
-    inr (says_bye c.args.tag.now c.hear.new.self.heard.items c.in_ok-kind.len (subst (λ (k : Kind). Begins c.args.tag.now k c.hear.new.self.heard.items c.in_ok-kind.len) c.in-Bye.is c.in_ok-kind.ensures.heard))
+    inr (says_bye c.args.tag.now c.hear.new.self.heard.items c.in_ok-kind.len (subst (λ (k : Kind). Begins c.args.tag.now k c.hear.new.self.heard.items c.in_ok-kind.len) c.in-Bye.is c.in_ok-kind.ensures.heard.begins))
 
 apart : (let r : Result (Unit {0}) FarFault = Err Protocol in r) ≡ Err Stopped → ⊥
 apart e = cc
@@ -50,7 +50,7 @@ returns-in_default g c = record {
   outcome = λ honest.
       absurd (c.in_default.not-Hello
       (greets_so (g.L.Link.line c.args.self.now.link) (g.L.Link.line c.reconnect.new.self) (c.in_ok-reconnect.ensures.ok (c.in_ok-kind.ensures.was_honest honest)) c.args.tag.now c.in_ok-kind.kind
-      (g.L.Link.line c.hear.new.self.link) c.hear.new.self.heard.items c.in_ok-kind.len c.in_ok-kind.ensures.heard
+      (g.L.Link.line c.hear.new.self.link) c.hear.new.self.heard.items c.in_ok-kind.len c.in_ok-kind.ensures.heard.begins
       (subst (λ (x : List ℕ). Keeps (ends_of (g.L.Link.line c.reconnect.new.self) x) (ends_of (g.L.Link.line c.hear.new.self.link) c.hear.new.self.heard.items)) c.clear.ensures.items (c.in_ok-kind.ensures.same honest))));
   idle = tt;
   known = tt;

@@ -1,11 +1,12 @@
-use Rattle.std.proofs.Common.{sym, subst, Result}
+use Rattle.std.proofs.Common.{sym, subst, take, drop, Result}
 use Rattle.std.proofs.lemmas.Result.{err_from_is_err_and}
 use Rattle.imap_link.specs.declared.fault.FarFault.{FarFault}
 use Rattle.imap_link.specs.declared.wire.Answered.{Answered}
 use Rattle.imap_link.specs.Faults.{IsStop}
-use Rattle.imap_link.specs.Buffers.{Tells}
+use Rattle.imap_link.specs.declared.wire.Told.TheVariants as tells
 use Rattle.imap_link.specs.Exchanges.{Exchanges}
 use Rattle.imap_link.proofs.Exits.{stop_of}
+use Rattle.imap_link.proofs.Passing.{came_told, bounded_first}
 use Rattle.imap_link.proofs.Finished.{unsent, unheard, replied, idle, no_go}
 use Rattle.imap_link.proofs.wire.Wire.finish.Goals as goal
 
@@ -16,8 +17,8 @@ returns-in_err-send-clause-outcome g c honest =
     let heard = c.args.self.now.heard.items in
     let p = err_from_is_err_and c.from_residual.result c.from_residual.ensures.1 in
     let stop : IsStop p.0 = subst IsStop (sym p.2) (stop_of c.in_err-send.field-0.0) in
-    subst (λ (r : Result Answered FarFault). Exchanges c.args.tag.now c.args.rest.now r old heard new heard) (sym p.1)
-    (unsent c.args.tag.now c.args.rest.now p.0 old new heard heard stop (c.in_err-send.ensures.err honest))
+    subst (λ (r : Result Answered FarFault). Exchanges c.args.uses c.args.tag.now c.args.rest.now r old heard new heard) (sym p.1)
+    (unsent c.args.uses c.args.tag.now c.args.rest.now p.0 old new heard heard stop (c.in_err-send.ensures.err honest))
 
 pub returns-in_err-len-clause-outcome : goal.returns-in_err-len-clause-outcome
 returns-in_err-len-clause-outcome g c honest =
@@ -28,8 +29,8 @@ returns-in_err-len-clause-outcome g c honest =
     let now = c.wait.new.self.heard.items in
     let p = err_from_is_err_and c.from_residual-in_err-len.result c.from_residual-in_err-len.ensures.1 in
     let was = c.in_err-len.ensures.was_honest honest in
-    subst (λ (r : Result Answered FarFault). Exchanges c.args.tag.now c.args.rest.now r old heard new now) (sym p.1)
-    (unheard c.args.tag.now c.args.rest.now p.0 old mid new heard now (c.in_ok-send.ensures.ok was) (c.in_err-len.ensures.quiet honest)
+    subst (λ (r : Result Answered FarFault). Exchanges c.args.uses c.args.tag.now c.args.rest.now r old heard new now) (sym p.1)
+    (unheard c.args.uses c.args.tag.now c.args.rest.now p.0 old mid new heard now (c.in_ok-send.ensures.ok was) (c.in_err-len.ensures.quiet honest)
     (λ expects. subst IsStop (sym p.2) (c.in_err-len.ensures.fault honest expects)))
 
 pub returns-in-Answer-clause-outcome : goal.returns-in-Answer-clause-outcome
@@ -39,9 +40,10 @@ returns-in-Answer-clause-outcome g c honest command from w at =
     let new = g.L.Link.line c.wait.new.self.link in
     let heard = c.args.self.now.heard.items in
     let now = c.wait.new.self.heard.items in
+    let len = c.in-Answer.len in
     let was = c.in_ok-len.ensures.was_honest honest in
-    let told = subst (Tells c.args.tag.now now) c.in-Answer.is c.in_ok-len.ensures.told in
-    replied command c.args.tag.now from c.args.rest.now w old mid new heard at (c.in_ok-send.ensures.ok was) now c.in-Answer.len c.in-Answer.status told.1 (c.in_ok-len.ensures.same honest)
+    let came = came_told c.args.uses c.args.tag.now _ (tells.Answer len c.in-Answer.status) now (g.L.Link.honest c.wait.new.self.link) mid new heard c.in-Answer.is c.in_ok-len.ensures.came honest in
+    replied command c.args.uses c.args.tag.now from c.args.rest.now w old mid new heard at (c.in_ok-send.ensures.ok was) (take len now) (drop len now) c.in-Answer.status came
 
 pub returns-in-Answer-clause-idle : goal.returns-in-Answer-clause-idle
 returns-in-Answer-clause-idle g c honest command from w stays at =
@@ -50,9 +52,10 @@ returns-in-Answer-clause-idle g c honest command from w stays at =
     let new = g.L.Link.line c.wait.new.self.link in
     let heard = c.args.self.now.heard.items in
     let now = c.wait.new.self.heard.items in
+    let len = c.in-Answer.len in
     let was = c.in_ok-len.ensures.was_honest honest in
-    let told = subst (Tells c.args.tag.now now) c.in-Answer.is c.in_ok-len.ensures.told in
-    idle command c.args.tag.now from c.args.rest.now w old mid new heard at (c.in_ok-send.ensures.ok was) now c.in-Answer.len c.in-Answer.status stays told.1 (c.in_ok-len.ensures.same honest)
+    let came = came_told c.args.uses c.args.tag.now _ (tells.Answer len c.in-Answer.status) now (g.L.Link.honest c.wait.new.self.link) mid new heard c.in-Answer.is c.in_ok-len.ensures.came honest in
+    idle command c.args.uses c.args.tag.now from c.args.rest.now w old mid new heard at (c.in_ok-send.ensures.ok was) (take len now) (drop len now) c.in-Answer.status came stays
 
 pub returns-in-Go-clause-outcome : goal.returns-in-Go-clause-outcome
 returns-in-Go-clause-outcome g c honest command from w at =
@@ -62,5 +65,8 @@ returns-in-Go-clause-outcome g c honest command from w at =
     let heard = c.args.self.now.heard.items in
     let now = c.wait.new.self.heard.items in
     let was = c.in_ok-len.ensures.was_honest honest in
-    let told = subst (Tells c.args.tag.now now) c.in-Go.is c.in_ok-len.ensures.told in
-    no_go command c.args.tag.now from c.args.rest.now w old mid new heard at (c.in_ok-send.ensures.ok was) now _ told.1 (c.in_ok-len.ensures.same honest)
+    let came = came_told c.args.uses c.args.tag.now _ (tells.Go _) now (g.L.Link.honest c.wait.new.self.link) mid new heard c.in-Go.is c.in_ok-len.ensures.came honest in
+    no_go command c.args.uses c.args.tag.now from c.args.rest.now w old mid new heard at (c.in_ok-send.ensures.ok was) _ _ came
+
+pub returns-in_err-send-clause-bounded : goal.returns-in_err-send-clause-bounded
+returns-in_err-send-clause-bounded g c = bounded_first c.args.uses c.args.self.now.heard.items

@@ -2,7 +2,8 @@ use Rattle.std.proofs.Common.{◌∙◌, ap}
 use Rattle.std.specs.Prelude.{Err, vec_len}
 use Rattle.near_box.specs.declared.read_fault.ReadFault.{ReadFault}
 use Rattle.near_box.proofs.CallLemmas.{none_missed}
-use Rattle.near_box.proofs.NearLemmas.{at_hand, near_shown}
+use Rattle.near_box.proofs.NearLemmas.{at_hand, near_known, near_shown}
+use Rattle.near_box.proofs.ReadLemmas.{there_above}
 use Rattle.near_box.proofs.near_box.NearBox.list_above.Goals as goal
 
 pub returns-in-Err-clause-keeps : goal.returns-in-Err-clause-keeps
@@ -12,7 +13,7 @@ returns-in-Err-clause-keeps g c = λ honest.
     let folder = ap (λ f. (g.F.Folder.seen f).stored) c.in_ok-begin.ensures.folder in
     let hand = at_hand old.survey now.survey old.fresh (g.F.Folder.seen old.folder).stored (g.F.Folder.seen now.folder).stored c.deref.result.now (old.surveys c.in_ok-begin.ensures.ready honest) c.in_ok-begin.ensures.same.0 c.deref.ensures.value folder in (
       ap (λ f. (g.F.Folder.seen f).stored) c.failed.ensures.folder ∙ c.listed.ensures.keeps honest ∙ folder,
-      none_missed c.in-Err.fault c.failed.result (vec_len now.missed) (vec_len c.failed.new.self.missed) c.failed.ensures.told (λ e. c.in-Err.ensures.there honest hand.rising hand.there (ap (λ (f : ReadFault). Err f) e))
+      none_missed c.in-Err.fault c.failed.result (vec_len now.missed) (vec_len c.failed.new.self.missed) c.failed.ensures.told (λ e. c.in-Err.ensures.there honest hand.rising (there_above c.args.from (g.F.Folder.seen now.folder).stored c.deref.result.now hand.there) (ap (λ (f : ReadFault). Err f) e))
           ∙ ap (λ v. vec_len v) c.in_ok-begin.ensures.same.2,
     )
 
@@ -25,3 +26,17 @@ returns-clause-shows g c = λ honest.
     (old.surveys c.in_ok-begin.ensures.ready honest) c.in_ok-begin.ensures.same.0 c.deref.ensures.value (ap (λ f. (g.F.Folder.seen f).stored) c.in_ok-begin.ensures.folder)
     (c.in-Ok.ensures.shows honest) in
     record { validity = shown.1; next = shown.2; items = shown.0 }
+
+pub returns-in-Err-clause-known : goal.returns-in-Err-clause-known
+returns-in-Err-clause-known g c = λ honest none.
+    let old = c.args.self.now in
+    let known = near_known c.args.from old.survey c.begin.new.self.survey old.fresh (g.F.Folder.seen old.folder).stored c.deref.result.now
+    (old.surveys c.in_ok-begin.ensures.ready honest) c.in_ok-begin.ensures.same.0 c.deref.ensures.value none in
+    c.failed.ensures.folder ∙ c.listed.ensures.untouched known ∙ c.in_ok-begin.ensures.folder
+
+pub returns-clause-known : goal.returns-clause-known
+returns-clause-known g c = λ honest none.
+    let old = c.args.self.now in
+    let known = near_known c.args.from old.survey c.begin.new.self.survey old.fresh (g.F.Folder.seen old.folder).stored c.deref.result.now
+    (old.surveys c.in_ok-begin.ensures.ready honest) c.in_ok-begin.ensures.same.0 c.deref.ensures.value none in
+    c.listed.ensures.untouched known ∙ c.in_ok-begin.ensures.folder

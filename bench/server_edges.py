@@ -1,0 +1,180 @@
+"""The scenes of edges.py in which the server is not as it should be: it cannot be reached, breaks off, does not give what it lists, or
+says too much."""
+import copy
+import subprocess
+import time
+
+from edge_scene import FOUR, THREE, Edge, far, near, stopped
+from measured import peak_so_far
+from scene import ONE, TWO, near_text
+from scripted_server import BODY, HEAD, LISTING, body_told
+
+UNREACHED = "the server of IMAPStore far cannot be reached: see to its Host and Port, and run again"
+ENDED = "the connection to the server of IMAPStore far ended: run again"
+DISMISSED = "the server of IMAPStore far ended the session: run again"
+# What is told of a message that the server lists and does not give.
+NOT_GIVEN = "the server of IMAPStore far lists the message of UID 2, and does not give it: run again"
+GIVEN_AGAIN = ("the state is sound, but UID %d was given a second time. Keep .mbsyncstate: "
+               'the manual page says what to do under "How to recover"')
+# What is told where more of a message is shown than was asked for.
+LONG_HEADS = "store fault far 3"
+# Notices without an end: how many bytes of them come, how many seconds a run over them may take, and how many MB of memory.
+NOTICE, NOTICES, NOTICE_SECONDS, NOTICE_MEMORY = b"* OK still at work\r\n", 100 * 2 ** 20, 120, 64
+
+
+def not_reached(tally):
+    """The server cannot be reached, at first or once its mailboxes were listed."""
+    with Edge(ONE) as scene:
+        scene.server.stop()
+        tally.same("no server", [scene.run("c"), scene.sides()], [[1, "mbsync: cannot open far"], [{}, far(ONE)]])
+    with Edge(ONE) as scene:
+        scene.server.script = lambda talk, command: command.verb == b"LOGOUT" and scene.server.stop()
+        tally.same("a server that is gone once it was asked", scene.run("c"), stopped(UNREACHED))
+        tally.same("nothing has changed", scene.sides(), [{}, far(ONE)])
+
+
+def broken_off(tally):
+    """The server breaks off where message 2 is fetched."""
+    def in_a_message(talk):
+        talk.stream.sendall(b"* 2 FETCH (UID 2 BODY[] {%d}\r\nSubject: " % len(TWO))
+
+    for name, ends, line in (("ends within a message", in_a_message, ENDED), ("ends before a reply", lambda talk: None, ENDED),
+                             ("says BYE", lambda talk: talk.send(b"* BYE until tomorrow"), DISMISSED)):
+        with Edge(ONE, TWO) as scene:
+            scene.server.script = lambda talk, command, ends=ends: command.asks(BODY, 2) and (ends(talk), talk.hang_up())
+            tally.same(f"a connection that {name}", scene.run("c"), stopped(line))
+            tally.same("three attempts were made", scene.server.counts[b"SELECT"], 3)
+            tally.same("what was done is kept", scene.sides(), [near(ONE), far(ONE, TWO)])
+            scene.server.script = None
+            tally.same("the next run goes on", scene.run("c"), [0, "c:INBOX", "new pull 2 -> 2", "finished"])
+            tally.same("each message is there once", scene.sides(), [near(ONE, TWO), far(ONE, TWO)])
+
+
+def broken_off_once(tally):
+    """The server breaks off once; the next attempt goes on."""
+    with Edge(ONE, TWO) as scene:
+        ended = []
+        scene.server.script = lambda talk, command: command.asks(BODY, 2) and not ended and (ended.append(1), talk.hang_up())
+        tally.same("a connection that ends once", scene.run("c"), [0, "c:INBOX", "new pull 2 -> 2", "finished"])
+        tally.same("each message is there once", scene.sides(), [near(ONE, TWO), far(ONE, TWO)])
+
+
+def not_given(tally):
+    """The server lists message 2, and does not give it."""
+    with Edge(ONE, TWO) as scene:
+        scene.server.script = lambda talk, command: command.asks(BODY, 2) and (talk.done(command), True)
+        for words in (("c",), ("--expunge", "c")):
+            tally.same("a message that is listed and not given is told", scene.run(*words), stopped(NOT_GIVEN))
+            tally.same("it counts as neither copied nor gone", scene.sides(), [near(ONE), far(ONE, TWO)])
+        scene.server.script = None
+        tally.same("once it is given, it is copied", [scene.run("c")[0], scene.sides()], [0, [near(ONE, TWO), far(ONE, TWO)]])
+        tally.same("then nothing to do", scene.run("c"), [0, "c:INBOX", "ran"])
+
+
+def given_at_last(tally):
+    """The server does not give message 2 when it is asked first."""
+    with Edge(ONE, TWO) as scene:
+        asked = []
+        scene.server.script = lambda talk, command: command.asks(BODY, 2) and not asked and (asked.append(1), talk.done(command))
+        told = [0, "c:INBOX", "new pull 1 -> 1", "new pull 2 -> 2", "ran"]
+        tally.same("a message that is given when it is asked for again", scene.run("c"), told)
+        tally.same("it is copied once", scene.sides(), [near(ONE, TWO), far(ONE, TWO)])
+
+
+def gone_meanwhile(tally):
+    """Another program removes message 2 while the run is at work."""
+    def remove(talk, command):
+        if command.asks(BODY, 2) and 2 in talk.box.messages:
+            del talk.box.messages[2]
+            talk.done(command)
+            return True
+        return False
+
+    with Edge(ONE, TWO, THREE) as scene:
+        scene.server.script = remove
+        told = [1, "c:INBOX", "new pull 1 -> 1", "void pull 2", "new pull 3 -> 2", "ran"]
+        tally.same("a message that is gone when it is fetched is void", scene.run("c"), told)
+        tally.same("the others are copied", scene.sides(), [near(ONE, THREE), {1: ("", ONE), 3: ("", THREE)}])
+        tally.same("then nothing to do", scene.run("c"), [0, "c:INBOX", "ran"])
+
+
+def peak_of(scene, *words):
+    """What a run tells, and its greatest memory in MB. A run that takes too long is killed."""
+    with open(scene.path("told"), "wb") as told:
+        process = subprocess.Popen(**scene.words(words, True), stdout=told, stderr=told)
+        peak, end = 0, time.monotonic() + NOTICE_SECONDS
+        while process.poll() is None:
+            peak = peak_so_far(process.pid, peak)
+            time.sleep(0.002)
+            if time.monotonic() > end:
+                process.kill()
+    with open(scene.path("told"), encoding="ascii") as told:
+        return [process.returncode, *told.read().splitlines()], peak
+
+
+def many_notices(tally):
+    """The server says 100 MB of notices before one reply."""
+    def notify(talk, command):
+        if command.asks(LISTING):
+            for _ in range(NOTICES // len(NOTICE) // 1000):
+                talk.stream.sendall(NOTICE * 1000)
+        return False
+
+    with Edge(ONE) as scene:
+        _, usual = peak_of(scene, "c")
+        scene.inbox().add(TWO)
+        scene.server.script = notify
+        start = time.monotonic()
+        got, peak = peak_of(scene, "c")
+        seconds = time.monotonic() - start
+        tally.tell(f"{NOTICES // 2 ** 20} MB of notices: {peak:.1f} MB of memory, else {usual:.1f} MB, and {seconds:.1f} s")
+        tally.same(f"memory stays below {NOTICE_MEMORY} MB", peak < NOTICE_MEMORY, True)
+        tally.same("the run comes to its end", got, [0, "c:INBOX", "new pull 2 -> 2", "ran"])
+        scene.server.script = None
+        tally.same("without them all is copied", [scene.run("c")[0], scene.sides()], [0, [near(ONE, TWO), far(ONE, TWO)]])
+
+
+def long_heads(tally):
+    """The server breaks off behind an APPEND, and tells 1000 bytes then where 22 are asked for."""
+    mine = b"Subject: mine\n\n" + b"Here.\n" * 400
+
+    def tell_more(talk, command):
+        if not command.asks(HEAD):
+            return False
+        for place, (uid, (_, data)) in enumerate(talk.box.messages.items(), 1):
+            talk.stream.sendall(body_told(place, uid, b"BODY[]<0>", (data + b"x" * 1000)[:1000]))
+        talk.done(command)
+        return True
+
+    with Edge(ONE) as scene:
+        scene.near()
+        scene.write("inbox/new/17.mine", mine)
+        scene.server.script = tell_more
+        scene.server.added = lambda talk, command: command.count == 1 and (talk.hang_up(), True)
+        told = [1, "c:INBOX", "mbsync: c:INBOX: " + LONG_HEADS]
+        tally.same("more is shown of a message than was asked for", scene.run("c"), told)
+        scene.server.script = scene.server.added = None
+        tally.same("then the run goes on", scene.run("c")[0], 0)
+        tally.same("the message was sent once", scene.server.counts[b"APPEND"], 1)
+        there = {1: ("", ONE), 2: ("", mine.replace(b"\n", b"\r\n"))}
+        tally.same("each message is there once", scene.sides(), [{1: ("", mine), 2: ("", near_text(ONE))}, there])
+
+
+def earlier_midway(tally):
+    """The server's mailbox is put back to an earlier time while a plan is pending."""
+    with Edge(ONE, TWO) as scene:
+        scene.run("c")
+        earlier = copy.deepcopy(scene.inbox())
+        scene.inbox().add(THREE)
+        scene.run("c")
+        scene.write("inbox/new/17.mine", near_text(FOUR))
+        scene.server.script = lambda talk, command: command.verb == b"APPEND" and (talk.hang_up(), True)
+        tally.same("a run is stopped before it has sent a message", scene.run("c"), stopped(ENDED))
+        state, sides = scene.own()[".mbsyncstate"], [near(ONE, TWO, THREE, FOUR), far(ONE, TWO, FOUR)]
+        scene.server.script, scene.server.boxes["INBOX"] = None, earlier
+        told = [1, "c:INBOX", "mbsync: c:INBOX: bad state 0", "  " + GIVEN_AGAIN % 3]
+        tally.same("a UID that is given again is told", scene.run("c"), told)
+        tally.same("the state stays, and no message is lost", [scene.own()[".mbsyncstate"], scene.sides()], [state, sides])
+
+
+SCENES = [not_reached, broken_off, broken_off_once, not_given, given_at_last, gone_meanwhile, many_notices, long_heads, earlier_midway]

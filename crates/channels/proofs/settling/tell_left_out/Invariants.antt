@@ -1,0 +1,13 @@
+use Rattle.std.specs.Prelude.{◌≡◌, false}
+use Rattle.channels.specs.Streams.{IsQuiet}
+use Rattle.channels.proofs.settling.tell_left_out.Given as goal
+
+abbrev pub invariant-loop-path : goal.invariant-loop-path
+invariant-loop-path g l = record {
+  next : (goal.iterator-loop-path g).can_next l.path-iterator;
+  ends : (goal.iterator-loop-path g).is_finite l.path-iterator;
+  out : l.stores.out ≡ l.initial.stores.out;
+  err : l.stores.err.ghost_name ≡ l.initial.stores.err.ghost_name;
+  quiet : IsQuiet (g.E.Write.contents l.initial.stores.err.now) (g.E.Write.contents l.stores.err.now) l.verdict;
+  going : l.stores.write_failed ≡ false;
+}

@@ -1,0 +1,133 @@
+//! What is told behind a fault: what can be done, on a line that begins with two spaces.
+
+use crate::fault::BoxFault;
+use device::trouble::Trouble;
+use mailcore::side::Side;
+use runner::fault::RunFault;
+use std::io;
+use std::io::Write;
+use stores::stop_cause::StopCause;
+use worlds::plan_lines::StepLine;
+
+/// Tells what can be done where a server does not let its user in. The password is not told.
+pub(crate) fn advise_login<E: Write>(err: &mut E, store: &str) -> io::Result<()> {
+    writeln!(
+        err,
+        "  the server refused the user and the password: mend User or Pass of IMAPStore {store}, and run again"
+    )
+}
+
+/// Tells what can be done, where that is known.
+pub(crate) fn advise<E: Write>(err: &mut E, fault: &BoxFault) -> io::Result<()> {
+    match fault {
+        BoxFault::Absent(side) => advise_create(err, *side),
+        BoxFault::Removed(_) => writeln!(
+            err,
+            "  it was there at the last run, and is not made anew: the manual page says what to do under \"How to recover\""
+        ),
+        BoxFault::LoginRefused(store) => advise_login(err, store.as_str()),
+        BoxFault::Locked => writeln!(
+            err,
+            "  another process synchronises this box: run again when it has ended"
+        ),
+        BoxFault::Refused(number, Some(step)) => writeln!(
+            err,
+            "  step {number} is {}: the server does not take it",
+            StepLine(step)
+        ),
+        BoxFault::Stopped(cause) => advise_stop(err, cause),
+        BoxFault::LeftOut(_) => writeln!(
+            err,
+            "  its name is no UTF-8, or too long to get a UID: give it another one, and run again"
+        ),
+        BoxFault::GivenAgain(uid) => advise_given_again(err, *uid),
+        BoxFault::Run(RunFault::BadState(line)) => advise_state(err, *line),
+        _ => Ok(()),
+    }
+}
+
+/// Tells which side of a mailbox could be made.
+fn advise_create<E: Write>(err: &mut E, side: Side) -> io::Result<()> {
+    let word = match side {
+        Side::Far => "Far",
+        Side::Near => "Near",
+    };
+    writeln!(
+        err,
+        "  Create {word} or Create Both in this channel would make it"
+    )
+}
+
+/// Tells what stopped a run.
+fn advise_stop<E: Write>(err: &mut E, cause: &StopCause) -> io::Result<()> {
+    match cause {
+        StopCause::Unreached(store) => writeln!(
+            err,
+            "  the server of IMAPStore {store} cannot be reached: see to its Host and Port, and run again"
+        ),
+        StopCause::Ended(store) => writeln!(
+            err,
+            "  the connection to the server of IMAPStore {store} ended: run again"
+        ),
+        StopCause::Dismissed(store) => writeln!(
+            err,
+            "  the server of IMAPStore {store} ended the session: run again"
+        ),
+        StopCause::Disk(path, trouble) => writeln!(err, "  {path}: {}", advice_on(*trouble)),
+        StopCause::Anew(store, next, known) => writeln!(
+            err,
+            "  the server of IMAPStore {store} gives UIDs from {next} on, and UID {known} was given before: the manual page says what to do under \"How to recover\""
+        ),
+        StopCause::Standing(path) => writeln!(
+            err,
+            "  {path} is there, and was to count as removed: run again"
+        ),
+        StopCause::Withheld(store, uid) => advise_withheld(err, store.as_str(), *uid),
+        StopCause::GivenAgain(uid) => advise_given_again(err, *uid),
+    }
+}
+
+/// Tells that a server keeps a message back.
+fn advise_withheld<E: Write>(err: &mut E, store: &str, uid: u32) -> io::Result<()> {
+    writeln!(
+        err,
+        "  the server of IMAPStore {store} lists the message of UID {uid}, and does not give it: run again"
+    )
+}
+
+/// Tells that a state is not at fault.
+fn advise_given_again<E: Write>(err: &mut E, uid: u32) -> io::Result<()> {
+    writeln!(
+        err,
+        "  the state is sound, but UID {uid} was given a second time. Keep .mbsyncstate: the manual page says what to do under \"How to recover\""
+    )
+}
+
+/// What the system said, and what can be done.
+fn advice_on(trouble: Trouble) -> &'static str {
+    match trouble {
+        Trouble::NoPermission => "no permission. Let yourself read and write it, and run again",
+        Trouble::DiskFull => "the disk is full. Make room, and run again",
+        Trouble::ReadOnly => "the file system can be read only",
+        Trouble::BadName => "the name is too long, or no UTF-8. Give it another one, and run again",
+        Trouble::NoFile => "this is no file. Take it out of there, and run again",
+        Trouble::Missing => "it is gone. Run again",
+        Trouble::Renamed => "another program renames files all the time. Run again when it rests",
+        Trouble::Other => "the system said no",
+    }
+}
+
+/// Tells what a bad state is. Line 0 comes where its text is not at fault.
+fn advise_state<E: Write>(err: &mut E, line: usize) -> io::Result<()> {
+    if line == 0 {
+        writeln!(
+            err,
+            "  the state is sound. Keep .mbsyncstate: without it each message would come twice"
+        )
+    } else {
+        writeln!(
+            err,
+            "  .mbsyncstate is no state of this program: without it the box starts over, and each message is new on both sides"
+        )
+    }
+}

@@ -1,0 +1,132 @@
+//! What one reading of the names in `new` and `cur` found: messages, files that wait for a UID, and files that can get none.
+
+ghost use Rattle.std.specs.Prelude.{◌≡◌, is_some};
+ghost use Rattle.maildir.specs.Names.{uid_in};
+
+use crate::entries::entries_in;
+use crate::folder::{FileName, Place};
+use crate::kinds::is_file;
+use crate::name::read_name;
+use device::disk::Disk;
+use std::alloc::Global;
+use std::path::Path;
+use std::rt::Files;
+use std::{io, str};
+
+/// The most bytes that the name of a waiting file may have: with a UID of ten digits (`,U=..`), and six flags behind `:2,`, these are 255.
+const WAITING_MAX: usize = 233;
+
+/// What one reading of the names found.
+#[derive(Drop)]
+pub(crate) struct FoundNames {
+    /// The names of messages and of files that wait for a UID.
+    pub(crate) names: Vec<FileName>,
+    /// The names of files that wait for a UID and can get none: they are no UTF-8, or too long with one.
+    pub(crate) left_out: Vec<FileName>,
+    /// A message whose name is no UTF-8, so that it is out of reach.
+    pub(crate) unreached: Option<FileName>,
+}
+
+/// How a name is taken.
+#[derive(Clone, Copy)]
+enum Taken {
+    /// As that of a message, or of a file that waits for a UID.
+    Listed,
+    /// As that of a file that waits for a UID, and can get none.
+    LeftOut,
+    /// As that of a message that is out of reach.
+    Unreached,
+    /// As that of something else.
+    Passed,
+}
+
+impl FoundNames {
+    /// What stands in both folders. Where `asks_all` is false, what has the name of a message is taken to be one: to ask would be a call
+    /// of the system for each message.
+    pub(crate) fn read<R: Files + AllocGlobal + Clone + Drop>(
+        disk: &Disk<R>,
+        asks_all: bool,
+    ) -> io::Result<Self> {
+        let mut found = FoundNames::new(disk.rt().alloc());
+        for place in [Place::New, Place::Cur] {
+            let mut path = disk.at(place.folder())?;
+            path.push('/')?;
+            for name in entries_in(disk.rt(), path.as_str())? {
+                let taken = how_taken(disk, asks_all, path.as_str(), name.as_slice())?;
+                found.add(taken, FileName { place, name })?;
+            }
+        }
+        Ok(found)
+    }
+
+    fn new(alloc: Global) -> Self {
+        FoundNames {
+            names: Vec::new(alloc),
+            left_out: Vec::new(alloc),
+            unreached: None,
+        }
+    }
+
+    fn add(&mut self, taken: Taken, file: FileName) -> io::Result<()> {
+        match taken {
+            Taken::Listed => self.names.push(file)?,
+            Taken::LeftOut => self.left_out.push(file)?,
+            Taken::Unreached => self.unreached = Some(file),
+            Taken::Passed => {}
+        }
+        Ok(())
+    }
+}
+
+/// How a name in the folder at this path, which ends with a slash, is taken.
+fn how_taken<R: Files + AllocGlobal + Clone + Drop>(
+    disk: &Disk<R>,
+    asks_all: bool,
+    folder: &str,
+    bytes: &[u8],
+) -> io::Result<Taken> {
+    let has_uid = has_uid(bytes);
+    let Ok(name) = str::from_utf8(bytes) else {
+        return Ok(how_taken_unread(has_uid, bytes));
+    };
+    if has_uid && !asks_all {
+        return Ok(Taken::Listed);
+    }
+    let path = format!(in disk.rt().alloc(); "{folder}{name}")?;
+    if !is_file(disk.rt(), Path::new(path.as_str()))? {
+        Ok(Taken::Passed)
+    } else if !has_uid && is_waiting(bytes) && bytes.len() > WAITING_MAX {
+        Ok(Taken::LeftOut)
+    } else {
+        Ok(Taken::Listed)
+    }
+}
+
+/// How a name that is no UTF-8 is taken. What it names cannot be asked.
+fn how_taken_unread(has_uid: bool, name: &[u8]) -> Taken {
+    if has_uid {
+        Taken::Unreached
+    } else if is_waiting(name) {
+        Taken::LeftOut
+    } else {
+        Taken::Passed
+    }
+}
+
+/// Whether a name carries a UID.
+fn has_uid(name: &[u8]) -> bool
+    ensures { result ≡ is_some (uid_in name.now) }
+{
+    match read_name(name) {
+        Some(name) => name.uid.is_some(),
+        None => false,
+    }
+}
+
+/// Whether a name is that of a file that waits for a UID.
+fn is_waiting(name: &[u8]) -> bool {
+    match read_name(name) {
+        Some(name) => name.uid.is_none(),
+        None => false,
+    }
+}

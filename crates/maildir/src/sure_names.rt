@@ -1,0 +1,91 @@
+//! The names in a Maildir folder of a disk, read so that no other program that renames files shortens them.
+//!
+//! A folder is read in pieces, and a file that gets another name between two of them, as where a mail reader marks its message as seen,
+//! may be read under neither name. So the times at which the names changed last are taken before and behind. Where they are the
+//! same, and older than the disk's notion of time is fine, nothing was renamed meanwhile.
+
+use crate::changes::{Changes, grain, now};
+use crate::cut::cut;
+use crate::folder::FileName;
+use crate::found_names::FoundNames;
+use device::disk::Disk;
+use std::alloc::Global;
+use std::io::ErrorKind;
+use std::rt::{Clock, Files};
+use std::{io, thread};
+
+/// How often the names are read at most.
+const READINGS: u32 = 10;
+
+/// What stands in both folders. Where a message was read before that a sure reading does not have, as one that was removed just then, it
+/// is sure behind one more such reading.
+///
+/// `ResourceBusy`: names changed in each of ten readings.
+pub(crate) fn sure_names<R: Files + Clock + AllocGlobal + Clone + Drop>(
+    disk: &Disk<R>,
+    asks_all: bool,
+) -> io::Result<FoundNames> {
+    let alloc = disk.rt().alloc();
+    let mut shown = Vec::new(alloc);
+    for _ in 0..READINGS {
+        let Reading { found, is_sure } = Reading::make(disk, asks_all)?;
+        if is_sure {
+            if are_all_among(alloc, &shown, &found.names)? {
+                return Ok(found);
+            }
+            shown.clear();
+        } else {
+            thread::sleep(disk.rt(), grain());
+        }
+        let FoundNames { mut names, .. } = found;
+        shown.append(&mut names)?;
+    }
+    Err(io::Error::from(ErrorKind::ResourceBusy))
+}
+
+/// One reading of the names.
+#[derive(Drop)]
+struct Reading {
+    found: FoundNames,
+    /// Whether no name changed meanwhile.
+    is_sure: bool,
+}
+
+impl Reading {
+    fn make<R: Files + Clock + AllocGlobal + Clone + Drop>(
+        disk: &Disk<R>,
+        asks_all: bool,
+    ) -> io::Result<Self> {
+        let begun = now(disk.rt())?;
+        let before = Changes::of(disk)?;
+        let found = FoundNames::read(disk, asks_all)?;
+        let is_sure = before.would_show_another(begun) && before == Changes::of(disk)?;
+        Ok(Reading { found, is_sure })
+    }
+}
+
+/// Whether each of these messages stands among others, in whatever folder and under whatever flags.
+fn are_all_among(alloc: Global, shown: &[FileName], others: &[FileName]) -> io::Result<bool> {
+    if shown.is_empty() {
+        return Ok(true);
+    }
+    let mut fronts = Vec::new(alloc);
+    for file in others {
+        fronts.push(without_flags(file))?;
+    }
+    fronts.sort_unstable();
+    Ok(
+        shown
+            .iter()
+            .all(|file| fronts.binary_search(&without_flags(file)).is_ok()),
+    )
+}
+
+/// The part of a name that stays where flags change.
+fn without_flags(file: &FileName) -> &[u8] {
+    let name = file.name.as_slice();
+    match cut(name, b':') {
+        Some((front, _)) => front,
+        None => name,
+    }
+}
