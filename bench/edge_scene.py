@@ -10,6 +10,9 @@ from scripted_server import ScriptedServer
 
 THREE = b"Subject: three\r\n\r\nThe third.\r\n"
 FOUR = b"Subject: four\r\n\r\nThe fourth.\r\n"
+# What is told of a mailbox that was put back to an earlier time: its UIDNEXT, and a UID that is known.
+EARLIER = ("the server of IMAPStore far gives UIDs from %d on, and UID %d was given before: "
+           'the manual page says what to do under "How to recover"')
 # How many seconds a run may take that must not wait for anything.
 QUICK = 10
 PAGE = 4096

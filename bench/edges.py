@@ -16,7 +16,7 @@ import socket
 import subprocess
 
 import server_edges
-from edge_scene import FOUR, PAGE, QUICK, THREE, Edge, can_mount, disk, far, near, nobody_can_run, stopped
+from edge_scene import EARLIER, FOUR, PAGE, QUICK, THREE, Edge, can_mount, disk, far, near, nobody_can_run, stopped
 from scene import ONE, TWO, Scene, Tally, near_text
 from scripted_server import Box
 from trial_imapd import TOP, escaped
@@ -24,8 +24,6 @@ from trial_imapd import TOP, escaped
 PROGRAM = os.path.join(TOP, "crates", "mbsync_main", "out", "mbsync_main")
 LEFT_OUT = "  its name is no UTF-8, or too long to get a UID: give it another one, and run again"
 REMOVED = '  it was there at the last run, and is not made anew: the manual page says what to do under "How to recover"'
-EARLIER = ("the server of IMAPStore far gives UIDs from %d on, and UID %d was given before: "
-           'the manual page says what to do under "How to recover"')
 BAD_NAME = "the name is too long, or no UTF-8. Give it another one, and run again"
 NO_FILE = "this is no file. Take it out of there, and run again"
 STANDING = "is there, and was to count as removed: run again"

@@ -4,6 +4,8 @@ import re
 import socket
 import threading
 
+from listening import Listening
+
 ASKED = [
     (re.compile(rb"^(\w+ UID FETCH \S+ )\(UID FLAGS\)\r\n$"), rb"\1(UID FLAGS RFC822.SIZE)\r\n"),
     (re.compile(rb"^(\w+ UID FETCH \S+ )\(BODY\.PEEK\[\]\)\r\n$"), rb"\1(UID BODY.PEEK[])\r\n"),
@@ -14,29 +16,18 @@ TOLD = (b"* CAPABILITY IMAP4rev2\r\n", b"* CAPABILITY IMAP4rev1 IMAP4rev2 UIDPLU
 LITERAL = re.compile(rb"\{(\d+)\+?\}\r\n$")
 
 
-class GoBetween:
-    """Listens at a free port of this machine, and takes each connection on to the server's port."""
+class GoBetween(Listening):
+    """Takes each connection on to the server's port."""
 
     def __init__(self, port):
         self.server_port = port
-        self.listener = socket.create_server(("127.0.0.1", 0))
-        self.port = self.listener.getsockname()[1]
-        threading.Thread(target=self.listen, daemon=True).start()
+        super().__init__()
 
-    def listen(self):
-        while True:
-            try:
-                client, _ = self.listener.accept()
-            except OSError:
-                return
-            server = socket.create_connection(("127.0.0.1", self.server_port))
-            for stream in (client, server):
-                stream.setsockopt(socket.IPPROTO_TCP, socket.TCP_NODELAY, 1)
-            threading.Thread(target=carry, args=(pass_commands, client, server), daemon=True).start()
-            threading.Thread(target=carry, args=(pass_replies, server, client), daemon=True).start()
-
-    def stop(self):
-        self.listener.close()
+    def take(self, stream):
+        server = socket.create_connection(("127.0.0.1", self.server_port))
+        server.setsockopt(socket.IPPROTO_TCP, socket.TCP_NODELAY, 1)
+        threading.Thread(target=carry, args=(pass_commands, stream, server), daemon=True).start()
+        threading.Thread(target=carry, args=(pass_replies, server, stream), daemon=True).start()
 
 
 def carry(work, source, target):

@@ -176,6 +176,10 @@ class Tally:
                     scene(self)
                 except Exception:
                     self.same(f"the scene {scene.__name__} comes to its end", traceback.format_exc(), "")
+        self.end()
+
+    def end(self):
+        """Tells how many checks passed, and ends the program."""
         print(f"{self.passed} passed, {self.failed} failed" + (f", {self.skipped} skipped" if self.skipped else ""))
         sys.exit(1 if self.failed else 0)
 

@@ -4,6 +4,7 @@ import socket
 import threading
 
 from imap_side import IMAP_NAMES, LETTERS
+from listening import Listening
 
 USER, PASSWORD = b"u", b"p"
 COMMAND = re.compile(rb"(\S+) ((?:UID )?\S+) ?(.*)\r\n\Z", re.DOTALL)
@@ -162,7 +163,7 @@ class Talk:
         self.done(command)
 
 
-class ScriptedServer:
+class ScriptedServer(Listening):
     """A server at a free port of this machine.
 
     `script` is called with the connection and each command, and answers in place of the server where it gives a true value; `added` is
@@ -172,19 +173,11 @@ class ScriptedServer:
     def __init__(self, messages=(), name="INBOX"):
         self.boxes, self.counts = {name: Box(messages)}, {}
         self.script = self.added = None
-        self.listener = socket.create_server(("127.0.0.1", 0))
-        self.port = self.listener.getsockname()[1]
-        threading.Thread(target=self.listen, daemon=True).start()
+        super().__init__()
 
-    def listen(self):
-        """Serves each connection in a thread of its own."""
-        while True:
-            try:
-                stream, _ = self.listener.accept()
-            except OSError:
-                return
-            stream.setsockopt(socket.IPPROTO_TCP, socket.TCP_NODELAY, 1)
-            threading.Thread(target=self.talk, args=(stream,), daemon=True).start()
+    def take(self, stream):
+        """Serves a connection in a thread of its own."""
+        threading.Thread(target=self.talk, args=(stream,), daemon=True).start()
 
     def talk(self, stream):
         try:
@@ -192,15 +185,6 @@ class ScriptedServer:
         except (BrokenPipeError, ConnectionResetError):
             # The client was killed, or has ended in the middle.
             stream.close()
-
-    def stop(self):
-        """Takes no connection more."""
-        try:
-            self.listener.shutdown(socket.SHUT_RDWR)
-        except OSError:
-            # It was stopped before.
-            return
-        self.listener.close()
 
 
 def body_told(place, uid, item, data):

@@ -1,10 +1,11 @@
 """The scenes of edges.py in which the server is not as it should be: it cannot be reached, breaks off, does not give what it lists, or
 says too much."""
 import copy
+import os
 import subprocess
 import time
 
-from edge_scene import FOUR, THREE, Edge, far, near, stopped
+from edge_scene import EARLIER, FOUR, THREE, Edge, far, near, stopped
 from measured import peak_so_far
 from scene import ONE, TWO, near_text
 from scripted_server import BODY, HEAD, LISTING, body_told
@@ -164,17 +165,59 @@ def earlier_midway(tally):
     """The server's mailbox is put back to an earlier time while a plan is pending."""
     with Edge(ONE, TWO) as scene:
         scene.run("c")
-        earlier = copy.deepcopy(scene.inbox())
-        scene.inbox().add(THREE)
+        box, earlier = scene.inbox(), copy.deepcopy(scene.inbox())
+        box.add(THREE)
         scene.run("c")
         scene.write("inbox/new/17.mine", near_text(FOUR))
         scene.server.script = lambda talk, command: command.verb == b"APPEND" and (talk.hang_up(), True)
         tally.same("a run is stopped before it has sent a message", scene.run("c"), stopped(ENDED))
-        state, sides = scene.own()[".mbsyncstate"], [near(ONE, TWO, THREE, FOUR), far(ONE, TWO, FOUR)]
         scene.server.script, scene.server.boxes["INBOX"] = None, earlier
-        told = [1, "c:INBOX", "mbsync: c:INBOX: bad state 0", "  " + GIVEN_AGAIN % 3]
+        before = [scene.own(), scene.sides(), scene.server.counts[b"APPEND"]]
+        for words in (("c",), ("--expunge", "c")):
+            tally.same("an earlier server is told in the midst of a plan", scene.run(*words), stopped(EARLIER % (3, 3)))
+            tally.same("nothing is done or sent", [scene.own(), scene.sides(), scene.server.counts[b"APPEND"]], before)
+        scene.server.boxes["INBOX"] = box
+        tally.same("put right, it is taken, and the run goes on", scene.run("c"), [0, "c:INBOX", "new push 4 -> 4", "finished"])
+        tally.same("each message is there once", scene.sides(), [near(ONE, TWO, THREE, FOUR), far(ONE, TWO, THREE, FOUR)])
+
+
+def given_twice(tally):
+    """The near meta file is put back: a copy gets the UID of a message that the state knows."""
+    with Edge(ONE, TWO) as scene:
+        scene.run("c")
+        scene.near().remove(2)
+        scene.set_highest(1)
+        scene.inbox().add(THREE)
+        state = scene.own()[".mbsyncstate"]
+        told = [1, "c:INBOX", "mbsync: c:INBOX: bad state 0", "  " + GIVEN_AGAIN % 2]
         tally.same("a UID that is given again is told", scene.run("c"), told)
-        tally.same("the state stays, and no message is lost", [scene.own()[".mbsyncstate"], scene.sides()], [state, sides])
+        tally.same("the state stays", scene.own()[".mbsyncstate"], state)
+        scene.near().remove(2)
+        scene.set_highest(2)
+        tally.same("without the copy and with a higher UID the run goes on", scene.run("c")[0], 0)
+        sides = [{1: ("", near_text(ONE)), 3: ("", near_text(THREE))}, {1: ("", ONE), 2: ("T", TWO), 3: ("", THREE)}]
+        tally.same("each message is there once", scene.sides(), sides)
 
 
-SCENES = [not_reached, broken_off, broken_off_once, not_given, given_at_last, gone_meanwhile, many_notices, long_heads, earlier_midway]
+def renamed_unread(tally):
+    """A mail reader marks a new near message once it was listed, before it is read."""
+    names = ("new/17.mine,U=1", "cur/17.mine,U=1:2,S")
+
+    def mark(talk, command):
+        if command.asks(LISTING):
+            name, other = names if os.path.exists(scene.path("inbox/" + names[0])) else reversed(names)
+            os.rename(scene.path("inbox/" + name), scene.path("inbox/" + other))
+
+    with Edge() as scene:
+        scene.near()
+        scene.write("inbox/new/17.mine", near_text(ONE))
+        scene.server.script = mark
+        line = f"{scene.path('inbox')}/{names[0]}: it is gone. Run again"
+        tally.same("a message that has another name than was listed stops the run", scene.run("c"), stopped(line))
+        scene.server.script = None
+        tally.same("then it is pushed", scene.run("c"), [0, "c:INBOX", "new push 1 -> 1", "ran"])
+        tally.same("it is there once", scene.sides(), [{1: ("S", near_text(ONE))}, {1: ("S", ONE)}])
+
+
+SCENES = [not_reached, broken_off, broken_off_once, not_given, given_at_last, gone_meanwhile, many_notices, long_heads, earlier_midway,
+          given_twice, renamed_unread]

@@ -1,6 +1,6 @@
 //! A shelf on a disk.
 
-ghost use Rattle.std.specs.Prelude.{◌≡◌, IfOk, false};
+ghost use Rattle.std.specs.Prelude.{◌≡◌, Err, IfOk, false};
 ghost use Rattle.device.specs.Calls.{Rest};
 ghost use Rattle.device.specs.Conditions.{disk_at};
 ghost use Rattle.book.specs.DiskShelves.{seen_on_disk};
@@ -21,7 +21,7 @@ const STATE: &str = ".mbsyncstate";
 const JOURNAL: &str = ".mbsyncstate.journal";
 
 /// What a file is written as before it takes the place of the state or the journal.
-const NEXT: &str = ".mbsyncstate.new";
+pub const NEXT: &str = ".mbsyncstate.new";
 
 /// The files `.mbsyncstate` and `.mbsyncstate.journal` of a folder. A call stops where the system fails.
 ///
@@ -67,11 +67,13 @@ impl<R: Files + AllocGlobal + Clone + Drop> DiskShelf<R> {
     }
 
     /// A call stops over this before it has an effect, as where the system fails.
-    pub fn refuse(&mut self, trouble: Trouble) -> Result<(), DeviceFault>
-        ensures { Rest false (seen_on_disk self.old) (seen_on_disk self.new) result }
+    pub fn refuse(&mut self, trouble: Trouble) -> DeviceFault
+        ensures { Rest {T = Unit {0}} false (seen_on_disk self.old) (seen_on_disk self.new) (Err result) }
     {
-        self.disk.check()?;
-        Err(self.disk.stop(trouble))
+        match self.disk.check() {
+            Ok(()) => self.disk.stop(trouble),
+            Err(fault) => fault,
+        }
     }
 
     // The bytes of a file. A journal is synced before it is relied on, and with its name that of the state.

@@ -13,6 +13,7 @@ use mailcore::tuid::Tuid;
 use mailcore::uid::Uid;
 use maildir::folder::Folder;
 use near_part::near_part::NearPart;
+use outside::far_next::FarNext;
 use outside::fault::OutsideFault;
 use outside::outside::{Carried, Outside};
 use parts::draft::Draft;
@@ -139,6 +140,12 @@ impl<L: Link + Drop, F: Folder + Drop, S: Shelf + Drop> Both<L, F, S> {
     {
         self.near.sync()?;
         self.book.commit()
+    }
+}
+
+impl<L: Link + Drop, F: Folder + Drop, S: Shelf + Drop> FarNext for Both<L, F, S> {
+    fn far_next(&self) -> Option<u32> {
+        self.far.next()
     }
 }
 

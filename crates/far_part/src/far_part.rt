@@ -1,6 +1,6 @@
 //! The far mailbox of an outside.
 
-ghost use Rattle.std.specs.Prelude.{◌≡◌, true, false, Some, Ok, Err, OnOk, IfOk, IfErr};
+ghost use Rattle.std.specs.Prelude.{◌≡◌, true, false, Some, Ok, Err, OnOk, IfOk, IfErr, IfSome, is_some};
 ghost use Rattle.std.proofs.Props.{props};
 ghost use Rattle.imap_client.specs.Logins.{Remains};
 ghost use Rattle.imap_client.specs.Sessions.{server_of, state_of};
@@ -11,7 +11,7 @@ ghost use Rattle.mailcore.specs.Ranges.{AreInRange};
 ghost use Rattle.mailcore.specs.Stores.{IsStore};
 ghost use Rattle.parts.specs.Drafts.{IsDraft, IsSomeDraft};
 ghost use Rattle.far_part.specs.Chosen.{Enters, KeepsMailboxes};
-ghost use Rattle.far_part.specs.Desks.{honest_at, is_there, server_at, state_at, KnowsNext, StandsAt};
+ghost use Rattle.far_part.specs.Desks.{honest_at, is_selected, is_there, server_at, state_at, KnowsNext, StandsAt};
 ghost use Rattle.far_part.specs.FarFaults.{told, told_by};
 ghost use Rattle.far_part.specs.FarStops.{StopsHere, StopsWith};
 
@@ -97,6 +97,20 @@ impl<L: Link + Drop> FarPart<L> {
                 self.desk = Desk::Closed(session);
                 Err(told(fault))
             }
+        }
+    }
+
+    /// The UIDNEXT of the mailbox, where one is selected and nothing has changed since.
+    pub fn next(&self) -> Option<u32>
+        ensures next { honest_of self.now → IfSome result (λ next. next ≡ (store_of self.now).next) }
+        ensures known { self.now.is_fresh ≡ true → is_selected self.now.desk ≡ true → is_some result ≡ true }
+    {
+        if !self.is_fresh {
+            return None;
+        }
+        match &self.desk {
+            Desk::Open(far) => Some(far.next()),
+            Desk::Closed(_) | Desk::Lost(_) | Desk::Moving => None,
         }
     }
 

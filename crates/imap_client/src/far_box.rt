@@ -177,6 +177,14 @@ impl<L: Link> FarBox<L> {
         self.validity
     }
 
+    /// The least UID that the next message can get, as far as it is known: UIDNEXT as it was told when the mailbox was selected
+    /// (RFC 9051, section 2.3.1.1), or one above the UID that was told of a copy since.
+    pub fn next(&self) -> u32
+        ensures { result ≡ self.now.next }
+    {
+        self.next
+    }
+
     /// Gives the session back, without taking memory.
     pub fn into_session(self) -> Session<L>
         ensures { result ≡ self.session }

@@ -1,8 +1,5 @@
 //! The line on a terminal that tells which mailbox is at work, and how far its run is.
 
-use mailcore::uid::Uid;
-use rules::plan::Plan;
-use rules::state::SyncState;
 use std::cell::Cell;
 use std::io;
 use std::io::Write;
@@ -72,12 +69,6 @@ pub(crate) struct Steps<T: Write + Copy> {
 }
 
 impl<T: Write + Copy> Progress for Steps<T> {
-    fn begins(&self, _plan: &Plan, _state: &SyncState) {}
-
-    fn withheld(&self, _uid: Uid) {}
-
-    fn given_again(&self, _uid: Uid) {}
-
     /// Shows behind the name of the mailbox how many steps are logged. Where there is nothing to do, the name stands alone.
     fn tell(&self, logged: usize, steps: usize) {
         if steps == 0 {

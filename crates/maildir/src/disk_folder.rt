@@ -1,7 +1,9 @@
 //! A Maildir folder on a disk.
 
-ghost use Rattle.std.specs.Prelude.{◌≡◌, IfOk};
+ghost use Rattle.std.specs.Prelude.{◌≡◌, Err, IfOk, false};
+ghost use Rattle.device.specs.Calls.{Rest};
 ghost use Rattle.device.specs.Conditions.{disk_at};
+ghost use Rattle.maildir.specs.DiskFolders.{seen_on_disk};
 
 use crate::folder::{FileName, Folder, Location, Origin, Place, Source};
 use crate::found_names::FoundNames;
@@ -22,7 +24,7 @@ use std::{io, mem};
 pub const META: &str = ".uidvalidity";
 
 /// What the next meta file is written as, before it takes the old one's place.
-const NEXT_META: &str = ".uidvalidity.new";
+pub const NEXT_META: &str = ".uidvalidity.new";
 
 /// The copy that is being written.
 pub const COPY: &str = "tmp/mbsync.copy";
@@ -90,6 +92,16 @@ impl<R: Files + AllocGlobal + Clone + Drop> DiskFolder<R> {
     /// What the system said where a call stopped since the folder was opened.
     pub fn trouble(&self) -> Option<Trouble> {
         self.disk.trouble()
+    }
+
+    /// A call stops over this before it has an effect, as where the system fails.
+    pub fn refuse(&mut self, trouble: Trouble) -> DeviceFault
+        ensures { Rest {T = Unit {0}} false (seen_on_disk self.old) (seen_on_disk self.new) (Err result) }
+    {
+        match self.disk.check() {
+            Ok(()) => self.disk.stop(trouble),
+            Err(fault) => fault,
+        }
     }
 
     /// Takes out the files that cannot get a UID, and were left out when the names were listed last.

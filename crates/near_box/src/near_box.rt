@@ -39,8 +39,7 @@ use std::num::NonZeroU32;
 
 /// The mailbox that stands in a folder.
 ///
-/// After `Stopped` and `NoMemory` every call answers `Stopped`, until the folder's `reopen` and a new `open`; after the
-/// other faults it goes on.
+/// After `Stopped` and `NoMemory` every call answers `Stopped`, until the folder's `reopen` and a new `open`; after others it goes on.
 #[derive(Drop)]
 pub struct NearBox<F: Folder> {
     alloc: Global,
@@ -116,8 +115,7 @@ impl<F: Folder> NearBox<F> {
         self.list_above(0)
     }
 
-    /// The same, where those up to this UID are said to be fit, and their files are not read: where there are no others, the
-    /// folder is not called.
+    /// The same, where those up to this UID are said to be fit and are not read: where there are no others, the folder is not called.
     pub fn list_above(&mut self, from: u32) -> Result<Listing, NearFault>
         ensures shows { F.is_honest ≡ true → IfOk result (λ listing. ShowsAbove Side.Near from (mailbox_of self.old).store listing) }
         ensures numbers { IfOk result (λ listing. (0 < listing.validity) × (0 < listing.next)) }
@@ -182,8 +180,7 @@ impl<F: Folder> NearBox<F> {
         self.body.as_slice()
     }
 
-    /// The least UID of at least `from` whose message has the mark: one `read` for each message from there on that was not
-    /// read for its mark before.
+    /// The least UID of at least `from` whose message has the mark: one `read` for each message from there on whose mark is not known.
     pub fn find_mark(&mut self, mark: Tuid, from: u32) -> Result<Option<Uid>, NearFault>
         ensures found { F.is_honest ≡ true → IfOk result (λ found. found ≡ marked_from mark from (mailbox_of self.old).store) }
         ensures keeps { F.is_honest ≡ true → (stored_in self.new ≡ stored_in self.old) × (vec_len self.new.missed ≡ vec_len self.old.missed) }
@@ -266,8 +263,7 @@ impl<F: Folder> NearBox<F> {
         Ok(())
     }
 
-    /// Adds a message with these bytes and flags, and tells its UID: `write_tmp`, `replace_meta` with the next UID one
-    /// higher, and `rename` into `cur`.
+    /// Adds a message with these bytes and flags, and tells its UID: `write_tmp`, `replace_meta` one UID higher, and `rename` into `cur`.
     ///
     /// `UidsExhausted`: there is no UID left.
     pub fn append(&mut self, bytes: &[u8], flags: Flags) -> Result<Uid, NearFault>

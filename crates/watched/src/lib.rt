@@ -2,7 +2,9 @@
 //! that the plan takes to be removed is there. An outside, a folder, a shelf and a link over others, which pass each call on.
 #![tactic(auto)]
 
+mod given;
 mod gone;
+pub mod guard;
 pub mod near_look;
 pub mod progress;
 pub mod watch;

@@ -61,7 +61,7 @@ impl Watch {
         }
     }
 
-    /// Takes out what stopped the run. None: nothing has, or it was the server, or memory was wanting to note it.
+    /// Takes out what stopped the run. None: nothing has, or the server ended the session.
     pub fn take_cause(&self) -> Option<Cause> {
         self.cause.take()
     }
@@ -77,20 +77,22 @@ impl Watch {
         self.cause.set(Some(noted.unwrap_or(cause)));
     }
 
-    /// Notes that the system said this of a message.
+    /// Notes that the system said this of a message, or of the folder where memory is wanting for its name.
     pub(crate) fn note_mail(&self, file: Location<'_>, trouble: Trouble) {
-        if let Ok(file) = self.name_of(file) {
-            self.note(Cause::Disk(Part::Mail(file), trouble));
-        }
+        let part = match self.name_of(file) {
+            Ok(file) => Part::Mail(file),
+            Err(AllocError) => Part::Whole,
+        };
+        self.note(Cause::Disk(part, trouble));
     }
 
-    /// Notes that nothing is to be added to the journal, and why.
+    /// Notes that nothing is to be done, and nothing added to the journal, and why.
     pub(crate) fn refuse(&self, cause: Cause) {
         self.note(cause);
         self.is_refused.set(true);
     }
 
-    /// Whether nothing is to be added to the journal.
+    /// Whether nothing is to be done, and nothing added to the journal.
     pub(crate) fn is_refused(&self) -> bool {
         self.is_refused.get()
     }

@@ -4,15 +4,14 @@ ghost use Rattle.std.specs.Prelude.{◌≡◌};
 
 use crate::watch::{Cause, Part, Watch};
 use device::DeviceFault;
-use maildir::disk_folder::{COPY, DiskFolder, META};
+use device::trouble::Trouble;
+use maildir::disk_folder::{COPY, DiskFolder, META, NEXT_META};
 use maildir::folder::{FileName, Folder, Location, Origin, Source};
 use std::rc::Rc;
 use std::rt::{Clock, Files};
 
-/// What a meta file is written as before it takes its name, in `DiskFolder` too.
-const NEXT_META: &str = ".uidvalidity.new";
-
-/// A folder on a disk that passes each call on, and notes what stopped it, and which files could not get a UID.
+/// A folder on a disk that passes each call on, and notes what stopped it, and which files could not get a UID. Where nothing is to be
+/// done, its names are not listed.
 #[derive(Drop)]
 pub struct WatchedFolder<R: Files + AllocGlobal + Clone + Drop> {
     folder: DiskFolder<R>,
@@ -64,6 +63,9 @@ impl<R: Files + Clock + AllocGlobal + Clone + Drop> Folder for WatchedFolder<R> 
     ghost seen = { λ watched. seen_on_disk watched.folder };
 
     fn names(&mut self) -> Result<Option<Vec<FileName>>, DeviceFault> {
+        if self.watch.is_refused() {
+            return Err(self.folder.refuse(Trouble::Other));
+        }
         let answer = self.folder.names();
         self.note_names();
         answer
@@ -73,6 +75,10 @@ impl<R: Files + Clock + AllocGlobal + Clone + Drop> Folder for WatchedFolder<R> 
         let answer = self.folder.read(file);
         match file {
             Source::Meta => self.note(Part::Own(META)),
+            // A message that is gone stops the mailbox over the folder.
+            Source::Mail(file) if matches!(answer, Ok(None)) => {
+                self.watch.note_mail(file, Trouble::Missing)
+            }
             Source::Mail(file) => self.note_mail(file),
         }
         answer

@@ -3,33 +3,40 @@
 ghost use Rattle.std.specs.Prelude.{◌≡◌};
 ghost use Rattle.outside.specs.Opened.{IsRead};
 
-use crate::progress::Progress;
+use crate::guard::Guard;
 use mailcore::flags::Flags;
 use mailcore::listing::Listing;
 use mailcore::side::{Direction, Side};
 use mailcore::tuid::Tuid;
 use mailcore::uid::Uid;
+use outside::far_next::FarNext;
 use outside::fault::OutsideFault;
 use outside::outside::{Carried, Outside};
 use rules::plan::Plan;
 use rules::state::SyncState;
 use sync_state::journal::Journal;
 
-/// An outside that passes each call on. It tells of a plan before that is begun, and where a plan is read or begun, or one more step of it
-/// is logged, how many are. Where a far message that is to be copied is not found, the far mailbox is listed and the message asked for
-/// once more: one that is listed and not given is told.
+/// An outside that passes each call on. It tells of a book that was read, of the UIDNEXT of a far mailbox that was opened, and of a plan
+/// before that is begun; and where a plan is read or begun, or one more step of it is logged, how many are. Where a far message that is to
+/// be copied is not found, the far mailbox is listed and the message asked for once more: one that is listed and not given is told.
 #[derive(Drop)]
-pub struct WatchedOutside<O, P> {
+pub struct WatchedOutside<O, G> {
     outside: O,
-    progress: P,
+    guard: G,
+    /// What the far mailbox listed when a message was looked for last, since it was opened.
+    listed: Option<Listing>,
 }
 
-impl<O: Outside, P: Progress> WatchedOutside<O, P> {
+impl<O: Outside, G: Guard> WatchedOutside<O, G> {
     /// This outside, and who is told.
-    pub fn new(outside: O, progress: P) -> Self
+    pub fn new(outside: O, guard: G) -> Self
         ensures { result.outside ≡ outside }
     {
-        WatchedOutside { outside, progress }
+        WatchedOutside {
+            outside,
+            guard,
+            listed: None,
+        }
     }
 
     /// Tells how many steps of the plan are logged, if one is pending.
@@ -38,9 +45,15 @@ impl<O: Outside, P: Progress> WatchedOutside<O, P> {
     {
         if let Some(journal) = self.outside.pending() {
             let logged = journal.log.as_slice().len();
-            self.progress
-                .tell(logged, journal.plan.steps.as_slice().len());
+            self.guard.tell(logged, journal.plan.steps.as_slice().len());
         }
+    }
+
+    /// Whether a message was missing when the far mailbox was listed since it was opened. Its UID is not given again.
+    fn is_gone(&self, uid: Uid) -> bool {
+        self.listed
+            .as_ref()
+            .is_some_and(|listing| !is_listed(listing, uid))
     }
 }
 
@@ -49,7 +62,7 @@ fn is_listed(listing: &Listing, uid: Uid) -> bool {
     listing.items.as_slice().iter().any(|item| item.uid == uid)
 }
 
-impl<O: Outside, P: Progress> Outside for WatchedOutside<O, P> {
+impl<O: Outside + FarNext, G: Guard> Outside for WatchedOutside<O, G> {
     ghost honest = { λ watched. O.honest watched.outside };
 
     ghost ours = { O.ours };
@@ -63,6 +76,8 @@ impl<O: Outside, P: Progress> Outside for WatchedOutside<O, P> {
     #[tactic(auto, using(crate::proofs::PlanReads::is_read_as_book))]
     fn open_book(&mut self) -> Result<(), OutsideFault> {
         self.outside.open_book()?;
+        self.guard
+            .reads(self.outside.state(), self.outside.pending());
         self.tell();
         Ok(())
     }
@@ -85,7 +100,7 @@ impl<O: Outside, P: Progress> Outside for WatchedOutside<O, P> {
 
     #[tactic(auto, using(crate::proofs::PlanReads::is_read_before, crate::proofs::PlanReads::is_read_begun))]
     fn begin(&mut self, plan: Plan) -> Result<(), OutsideFault> {
-        self.progress.begins(&plan, self.outside.state());
+        self.guard.begins(&plan);
         self.outside.begin(plan)?;
         self.tell();
         Ok(())
@@ -97,7 +112,7 @@ impl<O: Outside, P: Progress> Outside for WatchedOutside<O, P> {
         let answer = self.outside.done(step, copy);
         if let Some(uid) = given {
             if answer == Err(OutsideFault::BadState(0)) {
-                self.progress.given_again(uid);
+                self.guard.given_again(uid);
             }
         }
         answer?;
@@ -117,7 +132,11 @@ impl<O: Outside, P: Progress> Outside for WatchedOutside<O, P> {
     }
 
     fn open_box(&mut self, side: Side) -> Result<u32, OutsideFault> {
-        self.outside.open_box(side)
+        let validity = self.outside.open_box(side)?;
+        if let (Side::Far, Some(next)) = (side, self.outside.far_next()) {
+            self.guard.opens(next);
+        }
+        Ok(validity)
     }
 
     fn admit(&mut self) -> Result<(), OutsideFault> {
@@ -150,14 +169,15 @@ impl<O: Outside, P: Progress> Outside for WatchedOutside<O, P> {
         flags: Flags,
     ) -> Result<Carried, OutsideFault> {
         match (self.outside.carry(direction, uid, mark, flags)?, direction) {
-            (Carried::Absent, Direction::Pull) => {}
+            (Carried::Absent, Direction::Pull) if !self.is_gone(uid) => {}
             (carried, _) => return Ok(carried),
         }
         let listing = self.outside.list_far()?;
         let carried = self.outside.carry(direction, uid, mark, flags)?;
         if carried == Carried::Absent && is_listed(&listing, uid) {
-            self.progress.withheld(uid);
+            self.guard.withheld(uid);
         }
+        self.listed = Some(listing);
         Ok(carried)
     }
 
@@ -174,6 +194,7 @@ impl<O: Outside, P: Progress> Outside for WatchedOutside<O, P> {
     }
 
     fn reopen(&mut self) {
+        self.listed = None;
         self.outside.reopen();
     }
 }

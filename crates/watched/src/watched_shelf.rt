@@ -3,15 +3,12 @@
 ghost use Rattle.std.specs.Prelude.{◌≡◌};
 
 use crate::watch::{Cause, Part, Watch};
-use book::disk_shelf::{DiskShelf, name_of};
+use book::disk_shelf::{DiskShelf, NEXT, name_of};
 use book::shelf::{File, Shelf};
 use device::DeviceFault;
 use device::trouble::Trouble;
 use std::rc::Rc;
 use std::rt::Files;
-
-/// What a file is written as before it takes its name, in `DiskShelf` too.
-const NEXT: &str = ".mbsyncstate.new";
 
 /// A shelf on a disk that passes each call on, and notes what stopped it. Where a plan was refused, or the line that a step was void, the
 /// call that would write it stops.
@@ -53,7 +50,7 @@ impl<R: Files + AllocGlobal + Clone + Drop> Shelf for WatchedShelf<R> {
 
     fn append(&mut self, file: File, bytes: &[u8]) -> Result<(), DeviceFault> {
         if self.watch.is_refused() {
-            return self.shelf.refuse(Trouble::Other);
+            return Err(self.shelf.refuse(Trouble::Other));
         }
         let answer = self.shelf.append(file, bytes);
         self.note(name_of(file));
