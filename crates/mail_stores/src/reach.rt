@@ -1,7 +1,7 @@
 //! How the mailboxes of a configuration are reached: servers over TCP, and folders of a disk.
 
 use crate::account::account_of;
-use crate::server::{create, link_to, log_in, names_at};
+use crate::server::{ServerLink, create, link_to, log_in, names_at};
 use crate::told::{make_fault, unlisted, unreached};
 use book::disk_shelf::{DiskShelf, name_of};
 use book::shelf;
@@ -10,7 +10,6 @@ use both::both::Both;
 use config::config::{ImapStore, MaildirStore};
 use device::DeviceFault;
 use far_part::far_part::FarPart;
-use imap_client::tcp_link::TcpLink;
 use mailcore::mailbox_name::MailboxName;
 use maildir::disk_folder::DiskFolder;
 use near_part::near_part::NearPart;
@@ -33,7 +32,7 @@ use watched::watched_link::WatchedLink;
 use watched::watched_shelf::WatchedShelf;
 
 /// A link to the server of a mailbox.
-pub(crate) type RealLink<R> = WatchedLink<TcpLink<R>>;
+pub(crate) type RealLink<R> = WatchedLink<ServerLink<R>>;
 
 /// Both sides of a mailbox, and its book, which lies in the folder of the near side.
 pub(crate) type BothSides<R> = Both<RealLink<R>, WatchedFolder<R>, WatchedShelf<R>>;

@@ -7,9 +7,12 @@ use config::config::ImapStore;
 use imap_client::session::Session;
 use imap_client::tcp_link::TcpLink;
 use imap_link::fault::FarFault;
+use link_face::face_link::FaceLink;
+use link_face::words::Words;
 use mailcore::mailbox_name::MailboxName;
 use std::alloc::{AllocError, Global};
 use std::net::Net;
+use std::rc::Rc;
 use wire_strings::line_text::all_text;
 
 /// The greatest number of bytes of a user, a password or the name of a mailbox.
@@ -24,13 +27,19 @@ pub(crate) enum ServerFault {
     Far(FarFault),
 }
 
+/// A link to a server over TCP, from which a client hears only replies that it reads.
+pub(crate) type ServerLink<R> = FaceLink<TcpLink<R>>;
+
 /// A link to the server of a store, which is not connected yet.
 pub(crate) fn link_to<R: Net + AllocGlobal + Clone + Drop>(
     rt: &R,
     store: &ImapStore,
-) -> Result<TcpLink<R>, AllocError> {
-    let address = address_of(rt.alloc(), store)?;
-    TcpLink::new(rt.clone()?, address.as_str())
+) -> Result<ServerLink<R>, AllocError> {
+    let alloc = rt.alloc();
+    let address = address_of(alloc, store)?;
+    let link = TcpLink::new(rt.clone()?, address.as_str())?;
+    let words = Rc::new(alloc, Words::new(alloc))?;
+    Ok(FaceLink::new(alloc, link, words))
 }
 
 /// The address of a store's server: its host and its port. An IPv6 address stands in brackets.
@@ -49,7 +58,7 @@ fn address_of(alloc: Global, store: &ImapStore) -> Result<String, AllocError> {
 pub(crate) fn log_in<R: Net + AllocGlobal + Clone + Drop>(
     rt: &R,
     store: &ImapStore,
-) -> Result<Session<TcpLink<R>>, ServerFault> {
+) -> Result<Session<ServerLink<R>>, ServerFault> {
     let (user, password) = (store.user.as_bytes(), store.pass.as_bytes());
     if !is_word(user) || !is_word(password) {
         return Err(ServerFault::Far(FarFault::Refused));
@@ -64,7 +73,7 @@ pub(crate) fn log_in<R: Net + AllocGlobal + Clone + Drop>(
 fn reach<R: Net + AllocGlobal + Clone + Drop>(
     rt: &R,
     store: &ImapStore,
-) -> Result<Session<TcpLink<R>>, FarFault> {
+) -> Result<Session<ServerLink<R>>, FarFault> {
     let link = link_to(rt, store)?;
     match Session::open(rt.alloc(), link) {
         Ok(session) => Ok(session),
@@ -74,10 +83,10 @@ fn reach<R: Net + AllocGlobal + Clone + Drop>(
 
 /// Logs in.
 fn let_in<R: Net + AllocGlobal + Clone + Drop>(
-    session: Session<TcpLink<R>>,
+    session: Session<ServerLink<R>>,
     user: &[u8],
     password: &[u8],
-) -> Result<Session<TcpLink<R>>, ServerFault>
+) -> Result<Session<ServerLink<R>>, ServerFault>
     requires user { IsWord user.now }
     requires password { IsWord password.now }
 {
@@ -105,7 +114,7 @@ pub(crate) fn names_at<R: Net + AllocGlobal + Clone + Drop>(
 
 /// Makes a mailbox at the server of a session, and ends the session. `Refused`: the server says no, or the name cannot be sent.
 pub(crate) fn create<R: Net + AllocGlobal + Clone + Drop>(
-    session: Session<TcpLink<R>>,
+    session: Session<ServerLink<R>>,
     name: &MailboxName,
 ) -> Result<(), FarFault> {
     let name = name.as_str().as_bytes();

@@ -17,6 +17,7 @@ impl Libraries for Words {
             b"plan" => test_plan::play::run(rt, script),
             b"tokens" => test_wire::play::run_tokens(rt, script),
             b"wire" => test_wire::play::run(rt, script),
+            b"face" => test_face::play::run(rt, script),
             b"config" => test_config::play::run(rt, script),
             b"command_line" => test_config::command_lines::run_words(rt, script),
             _ => Err(Failure::Script),

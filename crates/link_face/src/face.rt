@@ -1,0 +1,158 @@
+//! What came over a link, turned reply by reply.
+
+ghost use Rattle.std.specs.Prelude.{◌≡◌, ◌<◌, ◌≤◌, false, true, [], length, take, Ok, OnOk, IsErrOf};
+ghost use Rattle.link_face.specs.Faces.{IsSpelled};
+ghost use Rattle.link_face.specs.Turning.{IsTurned, Leaves, Unchanged, held_of};
+
+use crate::extent::Extent;
+use crate::incoming::Incoming;
+use crate::ready::Ready;
+use crate::turning::{Turn, turned};
+use crate::words::Words;
+use device::stop_count::StopCount;
+use imap_link::link::LinkFault;
+use std::alloc::{AllocError, Global};
+use std::rc::Rc;
+
+/// What came over a link and was not handed out.
+#[derive(Drop)]
+pub(crate) struct Face {
+    alloc: Global,
+    /// What came and was not turned yet.
+    pub(crate) incoming: Incoming,
+    /// What was turned, and is to be handed out.
+    pub(crate) ready: Ready,
+    /// Whether a reply was replaced or left out, on any connection.
+    pub(crate) changed: bool,
+    /// Whether nothing more is read of this connection.
+    is_lost: bool,
+    /// How often the connection was given up.
+    pub(crate) stops: StopCount,
+    words: Rc<Words>,
+}
+
+impl Face {
+    /// Nothing came. What the server says to people is noted there.
+    pub(crate) fn new(alloc: Global, words: Rc<Words>) -> Face {
+        Face {
+            alloc,
+            incoming: Incoming::new(alloc),
+            ready: Ready::new(alloc),
+            changed: false,
+            is_lost: false,
+            stops: StopCount::new(alloc),
+            words,
+        }
+    }
+
+    /// What came over an earlier connection is dropped.
+    pub(crate) fn clear(&mut self)
+        ensures incoming { self.new.incoming ≡ [] }
+        ensures ready { self.new.ready ≡ [] }
+        ensures changed { self.new.changed ≡ self.old.changed }
+        ensures stops { self.new.stops ≡ self.old.stops }
+    {
+        self.incoming.clear();
+        self.ready.clear();
+        self.is_lost = false;
+    }
+
+    /// Turns replies until one is ready, and tells whether one is: else more has to come.
+    ///
+    /// `Stopped`: a reply is too long or cannot be read, and nothing more is read of this connection. `NoMemory`.
+    pub(crate) fn turn(&mut self) -> Result<bool, LinkFault>
+        ensures unchanged { Unchanged self.old self.new }
+        ensures some { result ≡ Ok true → 0 < length self.new.ready }
+        ensures none { result ≡ Ok false → self.new.ready ≡ [] }
+        ensures ready { OnOk result (Leaves self.old.ready self.new.ready) }
+        ensures counts { self.old.stops ≤ self.new.stops }
+        ensures steady { OnOk result (self.new.stops ≡ self.old.stops) }
+        ensures stopped { IsErrOf result LinkFault.Stopped → self.old.stops < self.new.stops }
+    {
+        if self.is_lost {
+            return Err(self.lose());
+        }
+        for _ in 0..=self.incoming.len() {
+            if !self.ready.is_empty() {
+                return Ok(true);
+            }
+            match self.incoming.look() {
+                Extent::Begun => return Ok(false),
+                Extent::Whole(len) => self.turn_front(len)?,
+                Extent::TooLong => return Err(self.lose()),
+            }
+        }
+        Ok(!self.ready.is_empty())
+    }
+
+    /// Turns the reply of so many bytes at the front of what came.
+    fn turn_front(&mut self, len: usize) -> Result<(), LinkFault>
+        requires within { len ≤ length self.old.incoming }
+        requires none { self.old.ready ≡ [] }
+        ensures unchanged { Unchanged self.old self.new }
+        ensures ready { OnOk result (IsTurned self.new.ready) }
+        ensures counts { self.old.stops ≤ self.new.stops }
+        ensures steady { OnOk result (self.new.stops ≡ self.old.stops) }
+        ensures stopped { IsErrOf result LinkFault.Stopped → self.old.stops < self.new.stops }
+    {
+        match turned(self.alloc, self.incoming.front(len)) {
+            Ok(Turn::Keep) => self.keep(len),
+            Ok(Turn::Replace(bytes)) => self.replace(len, bytes),
+            Ok(Turn::Omit) => self.replace(len, Vec::new(self.alloc)),
+            Ok(Turn::Stop) => Err(self.lose()),
+            Err(AllocError) => Err(LinkFault::NoMemory),
+        }
+    }
+
+    /// The reply of so many bytes at the front is ready, as it came.
+    fn keep(&mut self, len: usize) -> Result<(), LinkFault>
+        requires within { len ≤ length self.old.incoming }
+        requires none { self.old.ready ≡ [] }
+        requires spelled { IsSpelled (take len self.old.incoming) }
+        ensures unchanged { Unchanged self.old self.new }
+        ensures ready { OnOk result (IsTurned self.new.ready) }
+        ensures stops { self.new.stops ≡ self.old.stops }
+        ensures err { IsErrOf result LinkFault.Stopped → ⊥ }
+    {
+        let Ok(raw) = self.incoming.take(len) else {
+            return Err(LinkFault::NoMemory);
+        };
+        self.words.note(&raw);
+        self.ready.fill(raw);
+        Ok(())
+    }
+
+    /// These bytes, a reply or none, are ready in place of the reply of so many bytes at the front.
+    fn replace(&mut self, len: usize, bytes: Vec<u8>) -> Result<(), LinkFault>
+        requires within { len ≤ length self.old.incoming }
+        requires none { self.old.ready ≡ [] }
+        requires turned { IsTurned bytes.items }
+        ensures unchanged { Unchanged self.old self.new }
+        ensures ready { OnOk result (IsTurned self.new.ready) }
+        ensures stops { self.new.stops ≡ self.old.stops }
+        ensures err { IsErrOf result LinkFault.Stopped → ⊥ }
+    {
+        let Ok(raw) = self.incoming.take(len) else {
+            return Err(LinkFault::NoMemory);
+        };
+        self.changed = true;
+        self.words.note(&raw);
+        self.ready.fill(bytes);
+        Ok(())
+    }
+
+    /// Gives the connection up. Gives what the call answers: `NoMemory` where the stop cannot be counted.
+    fn lose(&mut self) -> LinkFault
+        ensures counted { result ≡ LinkFault.Stopped → self.old.stops < self.new.stops }
+        ensures no_less { self.old.stops ≤ self.new.stops }
+        ensures incoming { self.new.incoming ≡ self.old.incoming }
+        ensures ready { self.new.ready ≡ self.old.ready }
+        ensures changed { self.new.changed ≡ self.old.changed }
+    {
+        self.is_lost = true;
+        match self.stops.push() {
+            Ok(()) => LinkFault::Stopped,
+            Err(AllocError) => LinkFault::NoMemory,
+        }
+    }
+}

@@ -1,0 +1,120 @@
+//! A link that hands out only replies of the profile.
+
+ghost use Rattle.std.specs.Prelude.{◌≡◌, ◌<◌, ◌≤◌, ◌+◌, ◌++◌, false, true, length, take, Ok, IfOk, OnOk, OnErr, IsErrOf};
+ghost use Rattle.imap_session.specs.Servers.{Quiet};
+ghost use Rattle.imap_session.specs.Serving.{FeedsSome};
+ghost use Rattle.imap_session.specs.Lines.{Sends, Receives, Starts};
+ghost use Rattle.link_face.specs.Faces.{faced, Keeps};
+ghost use Rattle.link_face.specs.Turning.{Leaves, held_of};
+
+use crate::face::Face;
+use crate::words::Words;
+use imap_link::link::{Link, LinkFault};
+use std::alloc::Global;
+use std::rc::Rc;
+
+/// At most so many bytes are asked of the link at once.
+const PIECE_BYTES: usize = 4096;
+
+/// A link over another, from which a client hears only replies of the profile that it reads.
+///
+/// A reply of the profile is handed out byte for byte. Another is replaced by one that says the same to the client, or left out with
+/// all its octets. A reply whose lines have more than 65536 bytes, or whose literals have more than 16777238 octets, is a stop, and
+/// nothing more is read of that connection. So much is kept of a reply that has not come whole, and no more.
+///
+/// It is honest as long as the other link is, and nothing was replaced or left out.
+#[derive(Drop)]
+pub struct FaceLink<L> {
+    link: L,
+    face: Face,
+}
+
+impl<L: Link> FaceLink<L> {
+    /// A face of this link. What the server says to people is noted there.
+    pub fn new(alloc: Global, link: L, words: Rc<Words>) -> Self
+        ensures { result.link ≡ link }
+    {
+        FaceLink {
+            link,
+            face: Face::new(alloc, words),
+        }
+    }
+
+    /// Takes the next bytes of the link, and tells whether there were any.
+    fn more(&mut self) -> Result<bool, LinkFault>
+        ensures was_honest { L.honest self.new.link → L.honest self.old.link }
+        ensures counts { L.stops self.old.link ≤ L.stops self.new.link }
+        ensures steady { result ≡ Ok true → L.stops self.new.link ≡ L.stops self.old.link }
+        ensures stopped { IsErrOf result LinkFault.Stopped → L.stops self.old.link < L.stops self.new.link }
+        ensures ended { result ≡ Ok false → L.stops self.old.link < L.stops self.new.link }
+        ensures quiet { L.honest self.new.link → Quiet (L.line self.old.link).end.server (L.line self.new.link).end.server }
+        ensures same { OnOk result (L.honest self.new.link
+            → Keeps (faced (held_of self.old.face) (L.line self.old.link)) (faced (held_of self.new.face) (L.line self.new.link))) }
+        ensures ready { self.new.face.ready ≡ self.old.face.ready }
+        ensures changed { self.new.face.changed ≡ self.old.face.changed }
+        ensures own_stops { self.new.face.stops ≡ self.old.face.stops }
+    {
+        let mut piece = [0u8; PIECE_BYTES];
+        let count = self.link.recv(&mut piece)?;
+        match self.face.incoming.push(&piece[..count]) {
+            Ok(()) => Ok(count > 0),
+            Err(_) => Err(LinkFault::NoMemory),
+        }
+    }
+
+    /// Waits until a reply is ready, and tells whether one is: else the bytes ended.
+    fn wait(&mut self) -> Result<bool, LinkFault>
+        ensures was_honest { L.honest self.new.link → L.honest self.old.link }
+        ensures was_unchanged { self.new.face.changed ≡ false → self.old.face.changed ≡ false }
+        ensures counts { L.stops self.old.link + self.old.face.stops ≤ L.stops self.new.link + self.new.face.stops }
+        ensures steady { result ≡ Ok true → L.stops self.new.link + self.new.face.stops ≡ L.stops self.old.link + self.old.face.stops }
+        ensures stopped { IsErrOf result LinkFault.Stopped → L.stops self.old.link + self.old.face.stops < L.stops self.new.link + self.new.face.stops }
+        ensures ended { result ≡ Ok false → L.stops self.old.link + self.old.face.stops < L.stops self.new.link + self.new.face.stops }
+        ensures quiet { L.honest self.new.link → Quiet (L.line self.old.link).end.server (L.line self.new.link).end.server }
+        ensures same { OnOk result (L.honest self.new.link → self.new.face.changed ≡ false
+            → Keeps (faced (held_of self.old.face) (L.line self.old.link)) (faced (held_of self.new.face) (L.line self.new.link))) }
+        ensures some { result ≡ Ok true → 0 < length self.new.face.ready }
+        ensures ready { result ≡ Ok true → Leaves self.old.face.ready self.new.face.ready }
+    {
+        for _ in 0..u64::MAX {
+            if self.face.turn()? {
+                return Ok(true);
+            }
+            if !self.more()? {
+                return Ok(false);
+            }
+        }
+        Err(LinkFault::NoMemory)
+    }
+}
+
+impl<L: Link> Link for FaceLink<L> {
+    ghost use Rattle.std.specs.Prelude.{◌≡◌, ◌+◌, false};
+    ghost use Rattle.link_face.specs.Faces.{faced};
+    ghost use Rattle.link_face.specs.Turning.{held_of};
+
+    ghost honest = { λ f. L.honest f.link × (f.face.changed ≡ false) };
+
+    ghost line = { λ f. faced (held_of f.face) (L.line f.link) };
+
+    ghost stops = { λ f. L.stops f.link + f.face.stops };
+
+    ghost sound = { λ f kept. L.sound f.link kept.0 };
+
+    fn send(&mut self, bytes: &[u8]) -> Result<(), LinkFault> {
+        self.link.send(bytes)
+    }
+
+    fn recv(&mut self, piece: &mut [u8]) -> Result<usize, LinkFault> {
+        if self.wait()? {
+            Ok(self.face.ready.take(piece))
+        } else {
+            Ok(0)
+        }
+    }
+
+    fn reconnect(&mut self) -> Result<(), LinkFault> {
+        self.face.clear();
+        self.link.reconnect()
+    }
+}

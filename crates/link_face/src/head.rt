@@ -1,0 +1,99 @@
+//! How a reply begins (RFC 9051, section 7).
+
+/// What a reply is, by its first words. What stands behind them is lent, with the space and the line end.
+#[derive(Clone, Copy)]
+pub(crate) enum Head<'a> {
+    /// `+`: a continuation request.
+    Continue,
+    /// A status response, tagged or not.
+    Status(Status<'a>),
+    /// CAPABILITY or ENABLED.
+    Names(&'a [u8], &'a [u8]),
+    /// LIST.
+    List(&'a [u8]),
+    /// FLAGS.
+    Flags(&'a [u8]),
+    /// A number, the word behind it, and the rest.
+    Numbered(&'a [u8], &'a [u8], &'a [u8]),
+    /// Anything else.
+    Other,
+}
+
+/// A status response: no literal stands in it (RFC 9051, section 7.1).
+#[derive(Clone, Copy)]
+pub(crate) struct Status<'a> {
+    /// `*` or the tag.
+    pub(crate) tag: &'a [u8],
+    /// OK, NO, BAD, BYE or PREAUTH, in any case.
+    pub(crate) word: &'a [u8],
+    /// The rest of the line.
+    pub(crate) text: &'a [u8],
+}
+
+/// How these bytes begin.
+pub(crate) fn head_of(raw: &[u8]) -> Head<'_> {
+    if raw.starts_with(b"+") {
+        return Head::Continue;
+    }
+    let (tag, rest) = split_word(raw);
+    let (word, text) = split_word(behind_space(rest));
+    let is_untagged = matches!(tag, [b'*']);
+    if is_status_word(word) || (is_untagged && is_greeting_word(word)) {
+        Head::Status(Status { tag, word, text })
+    } else if is_untagged {
+        untagged(word, text)
+    } else {
+        Head::Other
+    }
+}
+
+/// Whether no literal stands in the reply that begins so: it ends with its first line.
+pub(crate) fn is_line(raw: &[u8]) -> bool {
+    matches!(head_of(raw), Head::Continue | Head::Status(_))
+}
+
+/// What an untagged reply is that is no status response.
+fn untagged<'a>(word: &'a [u8], rest: &'a [u8]) -> Head<'a> {
+    if word.eq_ignore_ascii_case(b"CAPABILITY") || word.eq_ignore_ascii_case(b"ENABLED") {
+        Head::Names(word, rest)
+    } else if word.eq_ignore_ascii_case(b"LIST") {
+        Head::List(rest)
+    } else if word.eq_ignore_ascii_case(b"FLAGS") {
+        Head::Flags(rest)
+    } else if is_number(word) {
+        let (event, behind) = split_word(behind_space(rest));
+        Head::Numbered(word, event, behind)
+    } else {
+        Head::Other
+    }
+}
+
+/// The bytes up to the first that is a space or a control, and those from it on.
+fn split_word(bytes: &[u8]) -> (&[u8], &[u8]) {
+    match bytes.iter().position(|b| *b <= b' ') {
+        Some(len) => bytes.split_at_checked(len).unwrap_or((bytes, b"")),
+        None => (bytes, b""),
+    }
+}
+
+/// The bytes behind a space, if one stands at the front.
+pub(crate) fn behind_space(bytes: &[u8]) -> &[u8] {
+    bytes.strip_prefix(b" ").unwrap_or(bytes)
+}
+
+/// Whether the bytes are digits, and at least one.
+pub(crate) fn is_number(word: &[u8]) -> bool {
+    !word.is_empty() && word.iter().all(|b| b.is_ascii_digit())
+}
+
+/// Whether the word is one of those that end a command.
+fn is_status_word(word: &[u8]) -> bool {
+    word.eq_ignore_ascii_case(b"OK")
+        || word.eq_ignore_ascii_case(b"NO")
+        || word.eq_ignore_ascii_case(b"BAD")
+}
+
+/// Whether the word is one of those that begin or end a connection.
+fn is_greeting_word(word: &[u8]) -> bool {
+    word.eq_ignore_ascii_case(b"BYE") || word.eq_ignore_ascii_case(b"PREAUTH")
+}

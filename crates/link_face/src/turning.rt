@@ -1,0 +1,140 @@
+//! What a client hears of a reply.
+
+ghost use Rattle.std.specs.Prelude.{◌≡◌, true, IfOk, IfSome};
+ghost use Rattle.link_face.specs.Faces.{IsSpelled, Turns, IsHeard};
+
+use crate::head::{Head, Status, head_of};
+use crate::heard::is_heard;
+use crate::listed::Listed;
+use crate::plain::{counted, flags_line, names_line};
+use crate::row::Row;
+use imap_replies::reading::read_reply;
+use imap_replies::reply::Reply;
+use std::alloc::{AllocError, Global};
+use wire_reader::answer::{Read, WireFault};
+
+/// What a client hears of a reply.
+#[derive(Drop)]
+pub enum Turn {
+    /// The reply, byte for byte.
+    Keep,
+    /// This one in its place.
+    Replace(Vec<u8>),
+    /// Nothing.
+    Omit,
+    /// Nothing, and the connection is given up: the reply tells of a message and cannot be read.
+    Stop,
+}
+
+/// What a client hears of this reply. It is a reply of the profile, whatever the server sent.
+///
+/// `AllocError`: memory ran out.
+pub fn turned(alloc: Global, raw: &[u8]) -> Result<Turn, AllocError>
+    ensures { IfOk result (λ turn. Turns raw.now turn) }
+{
+    let is_kept = match reply_of(alloc, raw)? {
+        Some(reply) => is_heard(&reply),
+        None => false,
+    };
+    if is_kept {
+        Ok(Turn::Keep)
+    } else {
+        rewritten(alloc, raw)
+    }
+}
+
+/// The reply that these bytes are, if they are one.
+fn reply_of(alloc: Global, bytes: &[u8]) -> Result<Option<Reply<'_>>, AllocError>
+    ensures { IfOk result (λ found. IfSome found (λ _. IsSpelled bytes.now)) }
+{
+    match read_reply(alloc, bytes) {
+        Ok(Read::Whole(reply, len)) => Ok(if len == bytes.len() {
+            Some(reply)
+        } else {
+            None
+        }),
+        Ok(_) => Ok(None),
+        Err(WireFault::NoMemory) => Err(AllocError),
+        Err(_) => Ok(None),
+    }
+}
+
+/// What a client hears in place of this reply.
+fn rewritten(alloc: Global, raw: &[u8]) -> Result<Turn, AllocError>
+    ensures { IfOk result IsHeard }
+{
+    let text = match head_of(raw) {
+        Head::Continue => Some(Vec::from_slice(alloc, b"+ go\r\n")?),
+        Head::Status(status) => return with_status(alloc, status),
+        Head::Names(word, rest) => Some(names_line(alloc, word, rest)?),
+        Head::List(rest) => match Listed::read(rest) {
+            Some(listed) => listed.written(alloc)?,
+            None => None,
+        },
+        Head::Flags(rest) => flags_line(alloc, rest)?,
+        Head::Numbered(number, event, rest) => return numbered(alloc, number, event, rest),
+        Head::Other => None,
+    };
+    replaced(alloc, text)
+}
+
+/// What a client hears of a status response: with its code, if that can be.
+fn with_status(alloc: Global, status: Status<'_>) -> Result<Turn, AllocError>
+    ensures { IfOk result IsHeard }
+{
+    match replaced(alloc, Some(status.with_code(alloc)?))? {
+        Turn::Replace(bytes) => Ok(Turn::Replace(bytes)),
+        _ => replaced(alloc, Some(status.without_code(alloc)?)),
+    }
+}
+
+/// What a client hears of a reply with a number.
+fn numbered(alloc: Global, number: &[u8], event: &[u8], rest: &[u8]) -> Result<Turn, AllocError>
+    ensures { IfOk result IsHeard }
+{
+    if !event.eq_ignore_ascii_case(b"FETCH") {
+        return replaced(alloc, counted(alloc, number, event, rest)?);
+    }
+    match Row::read(rest) {
+        Some(row) => told(alloc, row.written(alloc, number)?),
+        None => Ok(Turn::Stop),
+    }
+}
+
+/// This text, which tells of a message, as what a client hears: never is it left out if it is no reply.
+fn told(alloc: Global, text: Option<Vec<u8>>) -> Result<Turn, AllocError>
+    ensures { IfOk result IsHeard }
+{
+    let Some(bytes) = text else {
+        return Ok(Turn::Omit);
+    };
+    if is_reply(alloc, &bytes)? {
+        Ok(Turn::Replace(bytes))
+    } else {
+        Ok(Turn::Stop)
+    }
+}
+
+/// This text as what a client hears, if it is a reply.
+fn replaced(alloc: Global, text: Option<Vec<u8>>) -> Result<Turn, AllocError>
+    ensures { IfOk result IsHeard }
+{
+    let Some(bytes) = text else {
+        return Ok(Turn::Omit);
+    };
+    if is_reply(alloc, &bytes)? {
+        Ok(Turn::Replace(bytes))
+    } else {
+        Ok(Turn::Omit)
+    }
+}
+
+/// Whether these bytes are a reply.
+fn is_reply(alloc: Global, bytes: &[u8]) -> Result<bool, AllocError>
+    ensures { IfOk result (λ is. is ≡ true → IsSpelled bytes.now) }
+{
+    match reply_of(alloc, bytes)? {
+        Some(_) => Ok(true),
+        None => Ok(false),
+    }
+}
