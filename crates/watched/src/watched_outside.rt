@@ -59,7 +59,11 @@ impl<O: Outside, G: Guard> WatchedOutside<O, G> {
 
 /// Whether a message is listed.
 fn is_listed(listing: &Listing, uid: Uid) -> bool {
-    listing.items.as_slice().iter().any(|item| item.uid == uid)
+    listing
+        .items
+        .as_slice()
+        .binary_search_by_key(&uid.get(), |item| item.uid.get())
+        .is_ok()
 }
 
 impl<O: Outside + FarNext, G: Guard> Outside for WatchedOutside<O, G> {
