@@ -79,9 +79,9 @@ def far(*messages):
     return {uid: ("", data) for uid, data in enumerate(messages, 1)}
 
 
-def stopped(line):
-    """What a run tells that was stopped, with the line behind it."""
-    return [1, "c:INBOX", "mbsync: c:INBOX: stopped", "  " + line]
+def stopped(*lines):
+    """What a run tells that was stopped, with the lines behind it."""
+    return [1, "c:INBOX", "mbsync: c:INBOX: stopped", *("  " + line for line in lines)]
 
 
 def nobody_can_run():

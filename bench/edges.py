@@ -16,6 +16,7 @@ import socket
 import subprocess
 
 import server_edges
+import session_edges
 from edge_scene import EARLIER, FOUR, PAGE, QUICK, THREE, Edge, can_mount, disk, far, near, nobody_can_run, stopped
 from scene import ONE, TWO, Scene, Tally, near_text
 from scripted_server import Box
@@ -383,7 +384,7 @@ def closed_streams(tally):
 
 SCENES = [odd_names, odd_name_with_uid, things_without_uid, things_with_unknown_uid, things_with_known_uid, flags_for_a_thing, in_the_way,
           things_for_our_files, removed_far, removed_near, earlier_server, no_permission, full_disk, read_only_disk, closed_streams,
-          *server_edges.SCENES]
+          *server_edges.SCENES, *session_edges.SCENES]
 
 
 def main():

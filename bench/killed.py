@@ -2,6 +2,7 @@
 """Kills mbsync at random moments, and looks whether the next run brings everything to its end:
 
     bench/killed.py [--program PROGRAM] [--rounds N] [--seed SEED] [--calls]
+    bench/killed.py --server HOST:PORT [--process NAME] [--program PROGRAM] [--rounds N] [--seed SEED]
     bench/killed.py --self-test
 
 A round changes both sides at random (new messages, flags, removals; the far one over raw sockets to trial-imapd, the near one by
@@ -12,11 +13,15 @@ was, and copies have to stand in the order of their sources. Sync and Expunge ar
 round and seed, and ends the script with status 1. PROGRAM is the built mbsync if it is left out; there are 200 rounds. With `--calls`
 a run is killed where a system call begins that is chosen at random, with the help of strace.
 
+With `--server` the far side is the INBOX of a real server, with the user `u` and the password `p`: it is emptied first. With `--process`
+each second kill meets the processes of this name in place of mbsync: those of the server that serve a connection.
+
 `--self-test` tries the judge: on a synchroniser in memory that is right, and on wrong ones, each of which it has to catch."""
 import argparse
 import collections
 import os
 import random
+import re
 import shutil
 import signal
 import subprocess
@@ -29,12 +34,15 @@ from configuration import configured
 from imap_side import ImapSide
 from maildir_side import MaildirSide
 from measured import STRACE_ROW
+from real_side import RealSide
 from soak import Soak
 from stand_ins import WRONG, Right
 from trial_imapd import TOP, Server, build, world
 
 MBSYNC = os.path.join(TOP, "crates", "mbsync_main", "out", "mbsync_main")
 MOST_SECONDS = 120
+# What a run tells whose server was killed.
+SERVER_ENDED = re.compile(r"^mbsync: (soak:INBOX: stopped|cannot open far)$", re.MULTILINE)
 CHANNEL = """Channel soak
 Far :far:
 Near :near:
@@ -50,6 +58,7 @@ class Seconds:
     def __init__(self):
         self.usual = collections.deque([0.2], maxlen=20)
         self.output = ""
+        self.is_servers_turn = False
 
     def run(self, command, share):
         """The status of a run, which is killed behind this share of the time that three of four runs took of late."""
@@ -59,11 +68,29 @@ class Seconds:
         try:
             self.output, _ = process.communicate(timeout=most)
         except subprocess.TimeoutExpired:
-            process.send_signal(signal.SIGKILL)
+            self.kill(process)
             self.output, _ = process.communicate()
         if process.returncode == 0:
             self.usual.append(time.monotonic() - start)
         return process.returncode
+
+    def kill(self, process):
+        process.send_signal(signal.SIGKILL)
+
+
+class EitherEnd(Seconds):
+    """Kills the run, or else the processes of the server that serve a connection, in turn."""
+
+    def __init__(self, name):
+        super().__init__()
+        self.name, self.is_servers_turn = name, False
+
+    def kill(self, process):
+        self.is_servers_turn = not self.is_servers_turn
+        if self.is_servers_turn:
+            subprocess.run(["pkill", "-KILL", "-x", self.name], check=False)
+        else:
+            super().kill(process)
 
 
 class Calls(Seconds):
@@ -94,18 +121,16 @@ class Calls(Seconds):
 
 
 class Programs:
-    """trial-imapd, a Maildir folder, and the program that is tried."""
+    """A server, a Maildir folder, and the program that is tried. `far_side` opens the far side at the server's port."""
 
-    def __init__(self, program, folder, server, moments):
+    def __init__(self, program, folder, port, far_side, moments):
         self.program = program
         self.folder = folder
-        self.server = server
+        self.port = port
+        self.far_side = far_side
         self.near = MaildirSide(os.path.join(folder, "INBOX"))
         self.moments = moments
         self.rng = random.Random(0)
-
-    def far_side(self):
-        return ImapSide(self.server.port)
 
     def near_side(self):
         return self.near
@@ -117,14 +142,15 @@ class Programs:
         """Runs the program, and kills it behind this share of what a run usually takes, or not for none. Meanwhile `deliver` is called."""
         configuration = os.path.join(self.folder, "mbsyncrc")
         with open(configuration, "w", encoding="ascii") as file:
-            file.write(configured(self.server.port, self.folder, CHANNEL % tuple(words)))
+            file.write(configured(self.port, self.folder, CHANNEL % tuple(words)))
         state, delivery = self.state(), threading.Timer(self.rng.random() * 0.1, deliver or int)
         delivery.start()
         status = self.moments.run([self.program, "-c", configuration, "soak"], share)
         delivery.join()
         if status == 0:
             return "ended"
-        return self.standing(state) if status == -signal.SIGKILL and share is not None else "failed"
+        is_killed = status == -signal.SIGKILL or (self.moments.is_servers_turn and SERVER_ENDED.search(self.told()))
+        return self.standing(state) if is_killed and share is not None else "failed"
 
     def told(self):
         return self.moments.output
@@ -141,9 +167,10 @@ class Programs:
         return "before the first step" if done == 0 and steps else "between steps" if done < steps else "behind the last step"
 
 
-def soak(place, seed, rounds):
+def soak(place, seed, rounds, is_usual=False):
     """Rounds up to the first with something wrong; gives their number, how killed runs stood, and what is wrong."""
     trial, stood = Soak(place, seed), collections.Counter()
+    trial.changes.is_usual = is_usual
     for number in range(1, rounds + 1):
         told = trial.round()
         stood.update(told.kills)
@@ -166,6 +193,7 @@ def self_test(seed, rounds):
 
 
 def try_program(program, seed, rounds, moments):
+    """Rounds over trial-imapd."""
     build()
     with tempfile.TemporaryDirectory() as folder:
         file = os.path.join(folder, "empty.world")
@@ -174,16 +202,29 @@ def try_program(program, seed, rounds, moments):
         server = Server(file, 65535)
         try:
             server.connect().logout()
-            number, stood, wrong = soak(Programs(program, folder, server, moments), seed, rounds)
-            print("killed runs: " + ", ".join(f"{count} {how}" for how, count in stood.most_common()))
-            for line in wrong:
-                print(f"seed {seed}, round {number}: {line}")
-            if wrong:
-                kept = tempfile.mkdtemp(prefix="killed-")
-                subprocess.run(["cp", "-a", folder, kept], check=True)
-                print(f"the near side is kept in {kept}")
+            return try_over(Programs(program, folder, server.port, lambda: ImapSide(server.port), moments), seed, rounds)
         finally:
             server.stop()
+
+
+def try_real(program, address, seed, rounds, moments):
+    """Rounds over a real server."""
+    with RealSide(address) as far:
+        far.empty()
+    with tempfile.TemporaryDirectory() as folder:
+        return try_over(Programs(program, folder, address[1], lambda: RealSide(address), moments), seed, rounds, True)
+
+
+def try_over(programs, seed, rounds, is_usual=False):
+    """Rounds over these programs; gives the exit status."""
+    number, stood, wrong = soak(programs, seed, rounds, is_usual)
+    print("killed runs: " + ", ".join(f"{count} {how}" for how, count in stood.most_common()))
+    for line in wrong:
+        print(f"seed {seed}, round {number}: {line}")
+    if wrong:
+        kept = tempfile.mkdtemp(prefix="killed-")
+        subprocess.run(["cp", "-a", programs.folder, kept], check=True)
+        print(f"the near side is kept in {kept}")
     print(f"seed {seed}: {number} rounds, " + ("something is wrong" if wrong else "nothing lost, doubled or revived"))
     return 1 if wrong else 0
 
@@ -194,6 +235,8 @@ def main():
     words.add_argument("--rounds", type=int, default=200)
     words.add_argument("--seed", type=int, default=int(time.time()))
     words.add_argument("--calls", action="store_true")
+    words.add_argument("--server")
+    words.add_argument("--process")
     words.add_argument("--self-test", action="store_true")
     words = words.parse_args()
     if words.self_test:
@@ -202,6 +245,10 @@ def main():
         sys.exit(f"{words.program} is not built")
     if words.calls and shutil.which("strace") is None:
         sys.exit("strace is not installed")
+    if words.server:
+        host, port = words.server.rsplit(":", 1)
+        moments = EitherEnd(words.process) if words.process else Seconds()
+        sys.exit(try_real(words.program, (host, int(port)), words.seed, words.rounds, moments))
     moments = Calls(random.Random(words.seed)) if words.calls else Seconds()
     sys.exit(try_program(words.program, words.seed, words.rounds, moments))
 

@@ -27,13 +27,15 @@ def random_flags(rng):
 
 
 class Changes:
-    """Makes messages with names of their own, and changes a place."""
+    """Makes messages with names of their own, and changes a place. Where `is_usual` is set the lines of each message end as its side has
+    them: servers in use refuse others."""
 
     def __init__(self, place, judge, seed):
         self.place = place
         self.judge = judge
         self.rng = random.Random(seed)
         self.count = 0
+        self.is_usual = False
 
     def message(self, side):
         """The name of a new message, and its bytes: mostly as stores have them, sometimes with odd line ends and mark lines."""
@@ -46,9 +48,9 @@ class Changes:
         if self.rng.random() < 0.1:
             lines += [b"X-TUID: of the text", "caf\u00e9".encode(), b"\xe9"]
         usual = b"\r\n" if side == "far" else b"\n"
-        ends = [usual if self.rng.random() < 0.97 else self.rng.choice([b"\n", b"\r\n", b"\r\r\n"]) for _ in lines]
+        ends = [usual if self.is_usual or self.rng.random() < 0.97 else self.rng.choice([b"\n", b"\r\n", b"\r\r\n"]) for _ in lines]
         data = b"".join(line + end for line, end in zip(lines, ends))
-        return name, data if self.rng.random() < 0.9 else data + b"no line end"
+        return name, data if self.is_usual or self.rng.random() < 0.9 else data + b"no line end"
 
     def new(self, side):
         """A message that is to be added: name, bytes, flags, and whether it can be copied."""

@@ -15,7 +15,7 @@ import subprocess
 import time
 
 import trial_imapd
-from scene import CONFIG, ONE, TWO, Scene, Tally, mode_of, near_text
+from scene import ONE, TWO, Scene, Tally, configuration, mode_of, near_text
 
 LONGEST = "x" * 200 + "/" + "x" * 54
 
@@ -116,7 +116,7 @@ def absent_boxes(tally):
 def the_walk(tally):
     with Scene() as scene:
         scene.make_far("Spam", "a")
-        scene.configure(CONFIG % {"port": scene.server.port, "password": "p", "patterns": "* !Sp%", "create": "None"})
+        scene.configure(configuration(scene.server.port, "* !Sp%"))
         for folder in ("mail/a", "mail/b/c", "inbox"):
             scene.near(folder)
         tally.same("patterns choose of either side", scene.run("-l", "all"), [0, "all:a", "all:b/c"])
@@ -129,7 +129,8 @@ def the_walk(tally):
         os.makedirs(os.path.join(os.fsencode(scene.path("mail")), b"\xff/cur"))
         scene.write("mail/file", b"")
         wanted = ["INBOX/sub", "a", "b/c", "link/d", LONGEST]
-        tally.same("the folders that are mailboxes", scene.run("-l", "all"), [0, *("all:" + name for name in wanted)])
+        skipped = [f"mbsync: skipped for its name: near:{name}" for name in ("50%", LONGEST + "y")]
+        tally.same("the folders that are mailboxes", scene.run("-l", "all"), [0, *("all:" + name for name in wanted), *skipped])
         os.rename(scene.path("mail"), scene.path("else"))
         tally.same("a Path that is not there", scene.run("-l", "all"), [0, "all:a"])
         scene.write("mail", b"")
@@ -183,10 +184,10 @@ def what_does_not_open(tally):
         got = scene.run("c")
         tally.same("a wrong password", got[:2], [1, "mbsync: cannot open far"])
         advice = "  the server refused the user and the password: mend User or Pass of IMAPStore far, and run again"
-        tally.same("what to do about it", got[2:], [advice])
+        tally.same("what to do about it, and what the server said", got[2:], [advice, "  the server said: [AUTHENTICATIONFAILED] login"])
         tally.same("it is not told", any("not so" in str(line) for line in got), False)
     with Scene(ONE) as scene:
-        scene.configure(CONFIG.replace("~/inbox", "~/locked/inbox") % {"port": scene.server.port, "password": "p", "patterns": "*", "create": "None"})
+        scene.configure(configuration(scene.server.port, "*").replace("~/inbox", "~/locked/inbox"))
         scene.write("locked", b"")
         tally.same("no folder can be made", scene.run("c")[:2], [1, f"mbsync: cannot open {scene.path('locked/inbox')}"])
 
@@ -257,8 +258,10 @@ def a_terminal(tally):
         lines = [b"all:INBOX", b"new pull 1 -> 1", b"ran", b"all:a", b"ran"]
         tally.same("standard output is as ever", open(out, "rb").read().splitlines(), lines)
         os.remove(scene.path("inbox/.uidvalidity"))
-        told = b"mbsync: c:INBOX: store fault near 4\r\n"
-        tally.same("a fault stands in a line of its own", scene.run_on_terminal("c", out=out), [1, wipe + b"c:INBOX" + keep + wipe + told])
+        advice = (b'  .uidvalidity is damaged, too low, or missing beside files with UIDs: '
+                  b'the manual page says what to do under "How to recover"\r\n')
+        told = b"mbsync: c:INBOX: store fault near 4\r\n" + advice
+        tally.same("a fault and its advice stand in lines of their own", scene.run_on_terminal("c", out=out), [1, wipe + b"c:INBOX" + keep + wipe + told])
 
 
 SCENES = [first_pull, changes_both_ways, gone, only_what_is_asked, several_boxes, absent_boxes, the_walk, the_lock, usage,

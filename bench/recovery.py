@@ -72,9 +72,9 @@ class Place:
         check(name, told[0] == 1 and told[2] == f"mbsync: box:{box}: {text}", told)
 
     def works(self, name, *lines):
-        """A run that ends well with these lines."""
-        told = self.run()
-        check(name, told == (0, "".join(line + "\n" for line in ("box:INBOX", *lines)), ""), told)
+        """A run that comes to its end with these lines. One with a void step has status 1."""
+        told, status = self.run(), int(any(line.startswith("void ") for line in lines))
+        check(name, told == (status, "".join(line + "\n" for line in ("box:INBOX", *lines)), ""), told)
 
     def path(self, name):
         return os.path.join(self.near.path, name)

@@ -17,17 +17,21 @@ TWO = b"Subject: two\r\n\r\nThe second.\r\n"
 NOBODY = 65534
 MARK = re.compile(rb"\AX-TUID: [A-Za-z0-9_-]{12}\r?\n")
 
-CONFIG = """\
-IMAPStore far
+FAR_STORE = """\
+IMAPStore %s
 Host 127.0.0.1
-Port %(port)d
+Port %d
 User u
-Pass %(password)s
+Pass %s
 
+"""
+NEAR_STORE = """\
 MaildirStore near
 Path ~/mail/
 Inbox ~/inbox
 
+"""
+CHANNELS = """\
 Channel c
 Far :far:
 Near :near:
@@ -36,9 +40,14 @@ Create Near
 Channel all
 Far :far:
 Near :near:
-Patterns %(patterns)s
-Create %(create)s
+Patterns %s
+Create %s
 """
+
+
+def configuration(port, patterns, create="None", password="p"):
+    """A configuration with one mailbox in channel `c`, and those of these patterns in `all`."""
+    return FAR_STORE % ("far", port, password) + NEAR_STORE + CHANNELS % (patterns, create)
 
 
 class Scene:
@@ -50,7 +59,7 @@ class Scene:
     def __init__(self, *messages, patterns="* INBOX", create="None", password="p"):
         self.home = tempfile.mkdtemp(prefix="mbsync-")
         self.server = self.serve(messages)
-        self.configure(CONFIG % {"port": self.server.port, "password": password, "patterns": patterns, "create": create})
+        self.configure(configuration(self.server.port, patterns, create, password))
 
     def __enter__(self):
         return self

@@ -75,7 +75,8 @@ class Talk:
 
     def serve(self):
         """Answers each command, unless the script of the server does."""
-        self.send(b"* OK ready")
+        self.server.connections += 1
+        self.send(self.server.greeting)
         while found := COMMAND.match(self.file.readline()):
             verb = found[2].upper()
             self.server.counts[verb] = self.server.counts.get(verb, 0) + 1
@@ -104,7 +105,7 @@ class Talk:
         self.done(command)
 
     def names(self, command):
-        self.send(*(b'* LIST () "/" "%s"' % name.encode() for name in self.server.boxes))
+        self.send(*(b'* LIST () "/" %s' % quoted(name.encode()) for name in self.server.boxes))
         self.done(command)
 
     def create(self, command):
@@ -168,11 +169,12 @@ class ScriptedServer(Listening):
 
     `script` is called with the connection and each command, and answers in place of the server where it gives a true value; `added` is
     called so where a message was appended and the reply is due. `boxes` are the mailboxes by name; `counts` says how often each command
-    came."""
+    came, and `connections` how many were made; `greeting` begins each."""
 
     def __init__(self, messages=(), name="INBOX"):
         self.boxes, self.counts = {name: Box(messages)}, {}
         self.script = self.added = None
+        self.connections, self.greeting = 0, b"* OK ready"
         super().__init__()
 
     def take(self, stream):
@@ -198,6 +200,11 @@ def names_of(letters):
 
 def letters_of(names):
     return frozenset(LETTERS[name.lower()] for name in names.split())
+
+
+def quoted(name):
+    """The word that says this."""
+    return b'"%s"' % re.sub(rb'(["\\])', rb"\\\1", name)
 
 
 def plain(word):

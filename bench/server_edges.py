@@ -10,7 +10,7 @@ from measured import peak_so_far
 from scene import ONE, TWO, near_text
 from scripted_server import BODY, HEAD, LISTING, body_told
 
-UNREACHED = "the server of IMAPStore far cannot be reached: see to its Host and Port, and run again"
+UNREACHED = "the server of IMAPStore far cannot be reached (connection refused): see to its Host and Port, and run again"
 ENDED = "the connection to the server of IMAPStore far ended: run again"
 DISMISSED = "the server of IMAPStore far ended the session: run again"
 # What is told of a message that the server lists and does not give.
@@ -19,6 +19,7 @@ GIVEN_AGAIN = ("the state is sound, but UID %d was given a second time. Keep .mb
                'the manual page says what to do under "How to recover"')
 # What is told where more of a message is shown than was asked for.
 LONG_HEADS = "store fault far 3"
+NO_ANSWER = "the server's answer is none that mbsync knows"
 # Notices without an end: how many bytes of them come, how many seconds a run over them may take, and how many MB of memory.
 NOTICE, NOTICES, NOTICE_SECONDS, NOTICE_MEMORY = b"* OK still at work\r\n", 100 * 2 ** 20, 120, 64
 
@@ -27,9 +28,9 @@ def not_reached(tally):
     """The server cannot be reached, at first or once its mailboxes were listed."""
     with Edge(ONE) as scene:
         scene.server.stop()
-        tally.same("no server", [scene.run("c"), scene.sides()], [[1, "mbsync: cannot open far"], [{}, far(ONE)]])
+        tally.same("no server", [scene.run("c"), scene.sides()], [[1, "mbsync: cannot open far", "  " + UNREACHED], [{}, far(ONE)]])
     with Edge(ONE) as scene:
-        scene.server.script = lambda talk, command: command.verb == b"LOGOUT" and scene.server.stop()
+        scene.server.script = lambda talk, command: command.verb == b"SELECT" and (scene.server.stop(), talk.hang_up())
         tally.same("a server that is gone once it was asked", scene.run("c"), stopped(UNREACHED))
         tally.same("nothing has changed", scene.sides(), [{}, far(ONE)])
 
@@ -39,11 +40,11 @@ def broken_off(tally):
     def in_a_message(talk):
         talk.stream.sendall(b"* 2 FETCH (UID 2 BODY[] {%d}\r\nSubject: " % len(TWO))
 
-    for name, ends, line in (("ends within a message", in_a_message, ENDED), ("ends before a reply", lambda talk: None, ENDED),
-                             ("says BYE", lambda talk: talk.send(b"* BYE until tomorrow"), DISMISSED)):
+    for name, ends, lines in (("ends within a message", in_a_message, [ENDED]), ("ends before a reply", lambda talk: None, [ENDED]),
+                              ("says BYE", lambda talk: talk.send(b"* BYE until tomorrow"), [DISMISSED, "the server said: until tomorrow"])):
         with Edge(ONE, TWO) as scene:
             scene.server.script = lambda talk, command, ends=ends: command.asks(BODY, 2) and (ends(talk), talk.hang_up())
-            tally.same(f"a connection that {name}", scene.run("c"), stopped(line))
+            tally.same(f"a connection that {name}", scene.run("c"), stopped(*lines))
             tally.same("three attempts were made", scene.server.counts[b"SELECT"], 3)
             tally.same("what was done is kept", scene.sides(), [near(ONE), far(ONE, TWO)])
             scene.server.script = None
@@ -152,7 +153,7 @@ def long_heads(tally):
         scene.write("inbox/new/17.mine", mine)
         scene.server.script = tell_more
         scene.server.added = lambda talk, command: command.count == 1 and (talk.hang_up(), True)
-        told = [1, "c:INBOX", "mbsync: c:INBOX: " + LONG_HEADS]
+        told = [1, "c:INBOX", "mbsync: c:INBOX: " + LONG_HEADS, "  " + NO_ANSWER]
         tally.same("more is shown of a message than was asked for", scene.run("c"), told)
         scene.server.script = scene.server.added = None
         tally.same("then the run goes on", scene.run("c")[0], 0)

@@ -200,9 +200,6 @@ def pull(tally, programs):
         if status != 0:
             tally.tell(told[-2000:])
     theirs, ours = programs.near("isync"), programs.near("mbsync")
-    beyond = sorted(name for name in theirs if not name.isascii())
-    tally.tell(f"beyond the limits of names, and so not taken: {', '.join(beyond)}")
-    theirs = {name: messages for name, messages in theirs.items() if name.isascii()}
     tally.tell(f"isync: {len(theirs)} mailboxes, {sum(map(len, theirs.values()))} messages; "
                f"mbsync: {len(ours)} mailboxes, {sum(map(len, ours.values()))} messages")
     tally.same("both have the same mailboxes", sorted(ours), sorted(theirs))
@@ -223,8 +220,7 @@ def change(tally, programs, account):
     for turn in range(2):
         status, told, _ = programs.run("mbsync")
         tally.same(f"changes go both ways ({turn + 1})", [status, told if status else ""], [0, ""])
-    names = [name for name in account.listed() if plain(name).isascii()]
-    far = {plain(name): [(word, is_seen) for word, (is_seen, _, _) in account.messages(name)] for name in names}
+    far = {plain(name): [(word, is_seen) for word, (is_seen, _, _) in account.messages(name)] for name in account.listed()}
     tally.same("both sides have the same", programs.near("mbsync"), far)
 
 
@@ -234,6 +230,7 @@ def rest(tally, programs):
     for name in ("isync", "mbsync"):
         status, told, counted = programs.run(name)
         calls = system_calls(programs.command(name))
+        programs.between.taken()
         tally.same(f"{name} has nothing to do", [status, "new " in told], [0, False])
         tally.tell(f"{name}, nothing to do: {counted[0]} connections, {counted[1]} commands, {sum(calls.values()) if calls else '?'} calls")
 

@@ -1,12 +1,14 @@
 -- Streams that are written to several times.
-use Rattle.std.proofs.Common.{◌≡◌, ℕ, zero, suc, ◌≤◌, List, [], ◌∷◌, length, take, Option, None, Some, refl, ap, sym, ◌∙◌, ◌+◌, ◌<◌, ◌++◌, get_or, append_assoc, append-nil, subst, arith}
+use Rattle.std.proofs.Common.{◌≡◌, ℕ, zero, suc, ◌≤◌, List, [], ◌∷◌, length, take, Option, None, Some, Result, Ok, Err, IfOk, refl, ap, sym, ◌∙◌, ◌+◌, ◌<◌, ◌++◌, get_or, append_assoc, append-nil, subst, arith}
 use Rattle.std.proofs.lemmas.Grind.{flat_map-append}
 use Rattle.std.proofs.lemmas.List.{length-take, take_all, take_more}
 use Rattle.std.specs.List.{flat_map}
-use Rattle.std.specs.Io.KnownBytes.{Appends, Keeps}
+use Rattle.std.specs.Io.KnownBytes.{Appends}
+use Rattle.stores.specs.declared.notice.Notice.{Notice}
 use Rattle.channels.specs.declared.verdict.Verdict.{Verdict}
 use Rattle.channels.specs.declared.verdict.Verdict.TheVariants.{Clean, Faulty, Over}
-use Rattle.channels.specs.Streams.{Extends, IsQuiet}
+use Rattle.channels.specs.Lines.{notice_line}
+use Rattle.channels.specs.Streams.{Extends, HasNotices, IsQuiet}
 use Rattle.channels.specs.Verdicts.{both}
 
 front : {X : Type 0} (m n : ℕ) (xs : List X) → m ≤ n → take m (take n xs) ≡ take m xs
@@ -34,15 +36,33 @@ Extends-more (Some xs) (Some ys) None h k = absurd k
 Extends-more (Some xs) (Some ys) (Some zs) h k =
     sym (front (length xs) (length ys) zs (no_longer xs ys h)) ∙ ap (take (length xs)) k ∙ h
 
-pub Keeps-same : (known : Option (List ℕ)) → Keeps known known
-Keeps-same None = tt
-Keeps-same (Some xs) = refl
+Appends-none : (known : Option (List ℕ)) → Appends known known []
+Appends-none None = tt
+Appends-none (Some xs) = sym (append-nil xs)
 
-pub Keeps-more : (first then last : Option (List ℕ)) → Keeps first then → Keeps then last → Keeps first last
-Keeps-more None then last h k = tt
-Keeps-more (Some xs) None last h k = absurd h
-Keeps-more (Some xs) (Some ys) None h k = absurd k
-Keeps-more (Some xs) (Some ys) (Some zs) h k = k ∙ h
+Appends-more : (first then last : Option (List ℕ)) (bs cs : List ℕ) → Appends first then bs → Appends then last cs → Appends first last (bs ++ cs)
+Appends-more None then last bs cs h k = tt
+Appends-more (Some xs) None last bs cs h k = absurd h
+Appends-more (Some xs) (Some ys) None bs cs h k = absurd k
+Appends-more (Some xs) (Some ys) (Some zs) bs cs h k = k ∙ ap (λ s. s ++ cs) h ∙ append_assoc xs bs cs
+
+-- nothing was written
+pub HasNotices-same : (known : Option (List ℕ)) → HasNotices known known
+HasNotices-same known = record { notices = []; lines = Appends-none known }
+
+-- the line of one notice was written
+pub HasNotices-one : (old new : Option (List ℕ)) (notice : Notice) → Appends old new (notice_line notice) → HasNotices old new
+HasNotices-one old new notice h =
+    record { notices = notice ∷ []; lines = subst (λ bs. Appends old new bs) (sym (append-nil (notice_line notice))) h }
+
+-- nothing but notices was written, and then again
+pub HasNotices-more : (first then last : Option (List ℕ)) → HasNotices first then → HasNotices then last → HasNotices first last
+HasNotices-more first then last h k =
+    record {
+      notices = h.notices ++ k.notices;
+      lines = subst (λ bs. Appends first last bs) (sym (flat_map-append notice_line h.notices k.notices))
+          (Appends-more first then last _ _ h.lines k.lines);
+    }
 
 abbrev WasTold : Verdict → Type 0
 WasTold Clean = ⊥
@@ -53,8 +73,40 @@ told_is_told : (verdict : Verdict) → WasTold verdict → verdict ≡ Clean →
 told_is_told verdict h e = subst WasTold e h
 
 pub IsQuiet-more : (first then last : Option (List ℕ)) (verdict later : Verdict) → IsQuiet first then verdict → IsQuiet then last later → IsQuiet first last (both verdict later)
-IsQuiet-more first then last verdict Clean h k = λ e. Keeps-more first then last (h e) (k refl)
+IsQuiet-more first then last verdict Clean h k = λ e. HasNotices-more first then last (h e) (k refl)
 IsQuiet-more first then last verdict Faulty h k = λ e. absurd (told_is_told Faulty tt e)
 IsQuiet-more first then last verdict Over h k = λ e. absurd (told_is_told Over tt e)
 
-pub ruleset stream_steps = (Extends-same, Extends-more, Keeps-same, Keeps-more, IsQuiet-more)
+-- a verdict is that of both
+pub IsQuiet-both : (first then last : Option (List ℕ)) (verdict later all : Verdict) → all ≡ both verdict later → IsQuiet first then verdict → IsQuiet then last later → IsQuiet first last all
+IsQuiet-both first then last verdict later all e h k =
+    subst (λ v. IsQuiet first last v) (sym e) (IsQuiet-more first then last verdict later h k)
+
+-- notices before what was told
+IsQuiet-before : (first then last : Option (List ℕ)) (verdict : Verdict) → HasNotices first then → IsQuiet then last verdict → IsQuiet first last verdict
+IsQuiet-before first then last verdict h k = λ e. HasNotices-more first then last h (k e)
+
+-- the same of a verdict that a call gave
+pub IfOk-before : {E : Type 0} (first then last : Option (List ℕ)) (result : Result Verdict E) → HasNotices first then → IfOk result (λ v. IsQuiet then last v) → IfOk result (λ v. IsQuiet first last v)
+IfOk-before first then last (Ok v) h k = IsQuiet-before first then last v h k
+IfOk-before first then last (Err e) h k = tt
+
+-- notices behind what was told
+pub IsQuiet-behind : (first then last : Option (List ℕ)) (verdict : Verdict) → IsQuiet first then verdict → HasNotices then last → IsQuiet first last verdict
+IsQuiet-behind first then last verdict h k = λ e. HasNotices-more first then last (h e) k
+
+-- the same stream under another name
+pub HasNotices-from : (other first last : Option (List ℕ)) → other ≡ first → HasNotices other last → HasNotices first last
+HasNotices-from other first last e h = subst (λ known. HasNotices known last) e h
+
+pub IsQuiet-from : (other first last : Option (List ℕ)) (verdict : Verdict) → other ≡ first → IsQuiet other last verdict → IsQuiet first last verdict
+IsQuiet-from other first last verdict e h = subst (λ known. IsQuiet known last verdict) e h
+
+-- what is printed several times
+pub ruleset stream_steps = (Extends-same, Extends-more)
+
+-- the lines of notices, several times
+pub ruleset notice_steps = (HasNotices-same, HasNotices-one, HasNotices-more)
+
+-- what is told several times
+pub ruleset quiet_steps = (HasNotices-same, IsQuiet-more)

@@ -1,8 +1,11 @@
 -- What is written where, of streams whose bytes are known.
 use Rattle.std.specs.Prelude.{◌≡◌, ℕ, ⊤, Bool, true, List, length, take, Option, None, Some, Result, MatchResult}
-use Rattle.std.specs.Io.KnownBytes.{Keeps}
+use Rattle.std.specs.Io.KnownBytes.{Appends}
+use Rattle.std.specs.List.{flat_map}
+use Rattle.stores.specs.declared.notice.Notice.{Notice}
 use Rattle.channels.specs.declared.verdict.Verdict.{Verdict}
 use Rattle.channels.specs.declared.verdict.Verdict.TheVariants.{Clean}
+use Rattle.channels.specs.Lines.{notice_line}
 
 -- all that was to be written stands behind what was there: so it is only where no write failed
 abbrev pub Extends : Option (List ℕ) → Option (List ℕ) → Type 0
@@ -14,9 +17,14 @@ Extends (Some xs) (Some ys) = take (length xs) ys ≡ xs
 abbrev pub IsTold : Verdict → Type 0
 IsTold verdict = verdict ≡ Clean → ⊥
 
--- nothing was written to standard error, unless a fault was told
+-- nothing but the lines of these notices was written
+pub record HasNotices (old new : Option (List ℕ)) : Type 0 where
+  pub notices : List Notice
+  pub lines : Appends old new (flat_map notice_line notices)
+
+-- nothing but notices was written to standard error, unless a fault was told
 abbrev pub IsQuiet : (old new : Option (List ℕ)) → Verdict → Type 0
-IsQuiet old new verdict = verdict ≡ Clean → Keeps old new
+IsQuiet old new verdict = verdict ≡ Clean → HasNotices old new
 
 -- whether a write has failed so far, before a write and behind it
 abbrev pub Notes : {T E : Type 0} → (before after : Bool) → Result T E → Type 0

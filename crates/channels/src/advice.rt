@@ -1,21 +1,13 @@
 //! What is told behind a fault: what can be done, on a line that begins with two spaces.
 
 use crate::fault::BoxFault;
+use crate::run_advice::{advise_refused, advise_run};
+use crate::server_advice::advise_server;
 use device::trouble::Trouble;
 use mailcore::side::Side;
-use runner::fault::RunFault;
 use std::io;
 use std::io::Write;
 use stores::stop_cause::StopCause;
-use worlds::plan_lines::StepLine;
-
-/// Tells what can be done where a server does not let its user in. The password is not told.
-pub(crate) fn advise_login<E: Write>(err: &mut E, store: &str) -> io::Result<()> {
-    writeln!(
-        err,
-        "  the server refused the user and the password: mend User or Pass of IMAPStore {store}, and run again"
-    )
-}
 
 /// Tells what can be done, where that is known.
 pub(crate) fn advise<E: Write>(err: &mut E, fault: &BoxFault) -> io::Result<()> {
@@ -25,24 +17,20 @@ pub(crate) fn advise<E: Write>(err: &mut E, fault: &BoxFault) -> io::Result<()> 
             err,
             "  it was there at the last run, and is not made anew: the manual page says what to do under \"How to recover\""
         ),
-        BoxFault::LoginRefused(store) => advise_login(err, store.as_str()),
+        BoxFault::CannotOpen(_) => Ok(()),
+        BoxFault::Server(store, why) => advise_server(err, store.as_str(), *why),
         BoxFault::Locked => writeln!(
             err,
             "  another process synchronises this box: run again when it has ended"
         ),
-        BoxFault::Refused(number, Some(step)) => writeln!(
-            err,
-            "  step {number} is {}: the server does not take it",
-            StepLine(step)
-        ),
+        BoxFault::Refused(number, step) => advise_refused(err, *number, step.as_ref()),
         BoxFault::Stopped(cause) => advise_stop(err, cause),
         BoxFault::LeftOut(_) => writeln!(
             err,
             "  its name is no UTF-8, or too long to get a UID: give it another one, and run again"
         ),
         BoxFault::GivenAgain(uid) => advise_given_again(err, *uid),
-        BoxFault::Run(RunFault::BadState(line)) => advise_state(err, *line),
-        _ => Ok(()),
+        BoxFault::Run(fault) => advise_run(err, *fault),
     }
 }
 
@@ -61,18 +49,7 @@ fn advise_create<E: Write>(err: &mut E, side: Side) -> io::Result<()> {
 /// Tells what stopped a run.
 fn advise_stop<E: Write>(err: &mut E, cause: &StopCause) -> io::Result<()> {
     match cause {
-        StopCause::Unreached(store) => writeln!(
-            err,
-            "  the server of IMAPStore {store} cannot be reached: see to its Host and Port, and run again"
-        ),
-        StopCause::Ended(store) => writeln!(
-            err,
-            "  the connection to the server of IMAPStore {store} ended: run again"
-        ),
-        StopCause::Dismissed(store) => writeln!(
-            err,
-            "  the server of IMAPStore {store} ended the session: run again"
-        ),
+        StopCause::Server(store, why) => advise_server(err, store.as_str(), *why),
         StopCause::Disk(path, trouble) => writeln!(err, "  {path}: {}", advice_on(*trouble)),
         StopCause::Anew(store, next, known) => writeln!(
             err,
@@ -114,20 +91,5 @@ fn advice_on(trouble: Trouble) -> &'static str {
         Trouble::Missing => "it is gone. Run again",
         Trouble::Renamed => "another program renames files all the time. Run again when it rests",
         Trouble::Other => "the system said no",
-    }
-}
-
-/// Tells what a bad state is. Line 0 comes where its text is not at fault.
-fn advise_state<E: Write>(err: &mut E, line: usize) -> io::Result<()> {
-    if line == 0 {
-        writeln!(
-            err,
-            "  the state is sound. Keep .mbsyncstate: without it each message would come twice"
-        )
-    } else {
-        writeln!(
-            err,
-            "  .mbsyncstate is no state of this program: without it the box starts over, and each message is new on both sides"
-        )
     }
 }

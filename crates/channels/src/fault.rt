@@ -3,7 +3,7 @@
 use mailcore::side::Side;
 use rules::plan::Step;
 use runner::fault::RunFault;
-use stores::fault::StoreFault;
+use stores::fault::{ServerFault, StoreFault};
 use stores::stop_cause::StopCause;
 
 /// Why a mailbox was not synchronised.
@@ -13,10 +13,10 @@ pub(crate) enum BoxFault {
     Absent(Side),
     /// It is absent on this side, and the near folder has the state of a former run: it was there.
     Removed(Side),
-    /// A store does not open.
+    /// The file or the folder of this path does not open.
     CannotOpen(String),
-    /// The server of this IMAP store does not let its user in.
-    LoginRefused(String),
+    /// The server of the IMAP store of this name does not open.
+    Server(String, ServerFault),
     /// Another process holds its lock.
     Locked,
     /// The server said no to a step: its number, counted from 1, and the step, if it could be read again.
@@ -31,11 +31,37 @@ pub(crate) enum BoxFault {
     Run(RunFault),
 }
 
+impl BoxFault {
+    /// Whether an answer of a server can be the cause.
+    pub(crate) fn is_of_server(&self) -> bool {
+        match self {
+            BoxFault::Server(..) | BoxFault::Refused(..) => true,
+            BoxFault::Stopped(cause) => matches!(
+                cause,
+                StopCause::Server(..) | StopCause::Anew(..) | StopCause::Withheld(..)
+            ),
+            BoxFault::Run(fault) => matches!(
+                fault,
+                RunFault::Stopped
+                    | RunFault::Refused(_)
+                    | RunFault::ValidityChanged(Side::Far)
+                    | RunFault::StoreFault(Side::Far, _)
+            ),
+            BoxFault::Absent(_)
+            | BoxFault::Removed(_)
+            | BoxFault::CannotOpen(_)
+            | BoxFault::Locked
+            | BoxFault::GivenAgain(_)
+            | BoxFault::LeftOut(_) => false,
+        }
+    }
+}
+
 impl From<StoreFault> for BoxFault {
     fn from(fault: StoreFault) -> BoxFault {
         match fault {
             StoreFault::CannotOpen(name) => BoxFault::CannotOpen(name),
-            StoreFault::LoginRefused(store) => BoxFault::LoginRefused(store),
+            StoreFault::Server(store, why) => BoxFault::Server(store, why),
             StoreFault::Locked => BoxFault::Locked,
             StoreFault::Box(fault) => BoxFault::Run(fault),
         }

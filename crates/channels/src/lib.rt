@@ -8,6 +8,8 @@ mod finding;
 mod lent;
 mod listing;
 pub mod run;
+mod run_advice;
+mod server_advice;
 mod settling;
 mod telling;
 mod told_stores;

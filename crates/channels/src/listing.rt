@@ -21,7 +21,7 @@ use stores::fault::ListFault;
 use stores::stores::BoxLists;
 
 /// Prints a channel's mailboxes. A channel without patterns opens no store for that.
-#[tactic(auto, using(crate::proofs::StreamLemmas::stream_steps))]
+#[tactic(auto, using(crate::proofs::StreamLemmas::stream_steps, crate::proofs::StreamLemmas::quiet_steps))]
 pub(crate) fn list_channel<S: BoxLists, O: Write, E: Write>(
     alloc: Global,
     of: ChannelStores<'_>,
@@ -41,11 +41,8 @@ pub(crate) fn list_channel<S: BoxLists, O: Write, E: Write>(
             Ok(Verdict::Clean)
         }
         Boxes::Matching(patterns) => match matching(alloc, of, patterns, stores) {
-            Ok(boxes) => {
-                print_boxes(stores, of.channel, &boxes)?;
-                Ok(Verdict::Clean)
-            }
-            Err(fault) => stores.tell_list(&fault),
+            Ok(boxes) => list_boxes(stores, of.channel, &boxes),
+            Err(fault) => stores.tell_unlisted(&fault),
         },
     }
 }
@@ -64,7 +61,26 @@ fn matching<S: BoxLists, O: Write, E: Write>(
     found.matching(alloc, patterns)
 }
 
-#[tactic(auto, using(crate::proofs::StreamLemmas::stream_steps))]
+/// Prints these mailboxes of a channel, behind what its stores tell beside.
+#[tactic(auto, using(crate::proofs::StreamLemmas::stream_steps, crate::proofs::StreamLemmas::quiet_steps))]
+fn list_boxes<S: BoxLists, O: Write, E: Write>(
+    stores: &mut ToldStores<'_, S, O, E>,
+    channel: &Channel,
+    boxes: &[MailboxName],
+) -> io::Result<Verdict>
+    requires going { stores.old.write_failed ≡ false }
+    ensures out { stores.new.out.ghost_name ≡ stores.old.out.ghost_name }
+    ensures err { stores.new.err.ghost_name ≡ stores.old.err.ghost_name }
+    ensures quiet { IfOk result (IsQuiet (E.contents stores.old.err.now) (E.contents stores.new.err.now)) }
+    ensures whole { OnOk result (Extends (O.contents stores.old.out.now) (O.contents stores.new.out.now)) }
+    ensures failed { Notes false stores.new.write_failed result }
+{
+    stores.tell_notices()?;
+    print_boxes(stores, channel, boxes)?;
+    Ok(Verdict::Clean)
+}
+
+#[tactic(auto, using(crate::proofs::StreamLemmas::stream_steps, crate::proofs::StreamLemmas::quiet_steps))]
 fn print_boxes<S: BoxLists, O: Write, E: Write>(
     stores: &mut ToldStores<'_, S, O, E>,
     channel: &Channel,

@@ -1,10 +1,9 @@
 //! What a command line asks for, over any stores.
 
 ghost use Rattle.std.specs.Prelude.{◌≡◌, ◌≤◌, ◌<◌, true, false, IsSome, IfOk, OnOk};
-ghost use Rattle.std.specs.Io.KnownBytes.{Keeps};
 ghost use Rattle.choosing.specs.Chosen.{unknown_among};
 ghost use Rattle.channels.specs.Refusals.{IsRefused};
-ghost use Rattle.channels.specs.Streams.{Extends, IsQuiet, Notes};
+ghost use Rattle.channels.specs.Streams.{Extends, HasNotices, IsQuiet, Notes};
 
 use crate::course::{Course, course_of};
 use crate::listing::list_channel;
@@ -32,7 +31,8 @@ struct LineWork<'a> {
 
 /// Does what a command line asks for: lists the mailboxes of the channels that it names, or synchronises them one after another, and
 /// prints to `out` what it does (docs/FORMATS.md, "Lines of `mbsync`"). Faults are told on `err`, and the next mailbox follows. It gives
-/// the exit status: 0 where no fault was told, else 1. After a failed write nothing more is done, and the status is 1.
+/// the exit status: 0 where no fault was told, else 1; notices leave it as it is. After a failed write nothing more is done, and the
+/// status is 1.
 ///
 /// Status 2: a name is neither a channel nor a group, or the words of Sync are refused; then no store was opened.
 pub fn run_config<S: Stores, R: Rng, O: Write, E: Write>(
@@ -45,7 +45,7 @@ pub fn run_config<S: Stores, R: Rng, O: Write, E: Write>(
     err: &mut E,
 ) -> u8
     ensures status { result ≤ 2 }
-    ensures clean { result ≡ 0 → Keeps (E.contents err.old) (E.contents err.new) }
+    ensures clean { result ≡ 0 → HasNotices (E.contents err.old) (E.contents err.new) }
     ensures whole { result ≡ 0 → Extends (O.contents out.old) (O.contents out.new) }
     ensures usage { result ≡ 2 → IsRefused config.now request.now }
     ensures refused { IsRefused config.now request.now → (0 < result) × (stores.new ≡ stores.old) × (rng.new ≡ rng.old) × (out.new ≡ out.old) }
@@ -76,18 +76,21 @@ fn run_told<S: Stores, R: Rng, O: Write, E: Write>(
     ensures out { stores.new.out.ghost_name ≡ stores.old.out.ghost_name }
     ensures err { stores.new.err.ghost_name ≡ stores.old.err.ghost_name }
     ensures status { result ≤ 1 }
-    ensures clean { result ≡ 0 → Keeps (E.contents stores.old.err.now) (E.contents stores.new.err.now) }
+    ensures clean { result ≡ 0 → HasNotices (E.contents stores.old.err.now) (E.contents stores.new.err.now) }
     ensures whole { result ≡ 0 → Extends (O.contents stores.old.out.now) (O.contents stores.new.out.now) }
     ensures unwritten { stores.new.write_failed ≡ true → result ≡ 1 }
 {
     match run_course(work, course, stores, rng) {
-        Ok(verdict) => verdict.status(),
+        Ok(verdict) => {
+            stores.end();
+            verdict.status()
+        }
         Err(_) => 1,
     }
 }
 
 /// Lists or synchronises the mailboxes of these channels, one channel after another.
-#[tactic(auto, using(crate::proofs::StreamLemmas::stream_steps))]
+#[tactic(auto, using(crate::proofs::StreamLemmas::stream_steps, crate::proofs::StreamLemmas::quiet_steps))]
 fn run_course<S: Stores, R: Rng, O: Write, E: Write>(
     work: LineWork<'_>,
     course: &Course,

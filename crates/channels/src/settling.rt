@@ -49,8 +49,11 @@ pub(crate) fn settle_channel<S: Stores, R: Rng, O: Write, E: Write>(
     ensures failed { Notes false stores.new.write_failed result }
 {
     match Found::of(work.of, stores) {
-        Ok(found) => settle_found(work, &found, stores, rng),
-        Err(fault) => stores.tell_list(&fault),
+        Ok(found) => {
+            stores.tell_notices()?;
+            settle_found(work, &found, stores, rng)
+        }
+        Err(fault) => stores.tell_unlisted(&fault),
     }
 }
 
@@ -85,7 +88,7 @@ fn settle_found<S: Stores, R: Rng, O: Write, E: Write>(
 }
 
 /// Synchronises these mailboxes, whose names are the same on both sides, until a store does not open.
-#[tactic(auto, using(crate::proofs::StreamLemmas::stream_steps))]
+#[tactic(auto, using(crate::proofs::StreamLemmas::stream_steps, crate::proofs::StreamLemmas::quiet_steps))]
 fn settle_boxes<S: Stores, R: Rng, O: Write, E: Write>(
     work: ChannelWork<'_>,
     found: &Found,
@@ -116,8 +119,7 @@ fn settle_boxes<S: Stores, R: Rng, O: Write, E: Write>(
     Ok(verdict)
 }
 
-/// Synchronises a mailbox, which is made first on the sides on which it is absent.
-#[tactic(auto, using(crate::proofs::StreamLemmas::stream_steps))]
+/// Synchronises a mailbox, and tells then what the stores have to tell beside.
 fn settle_box<S: Stores, R: Rng, O: Write, E: Write>(
     work: ChannelWork<'_>,
     place: ChannelBox<'_>,
@@ -132,9 +134,51 @@ fn settle_box<S: Stores, R: Rng, O: Write, E: Write>(
     ensures whole { OnOk result (Extends (O.contents stores.old.out.now) (O.contents stores.new.out.now)) }
     ensures failed { Notes false stores.new.write_failed result }
 {
-    if let Err(fault) = make_absent(place, absent, stores) {
-        return stores.tell(place, &fault);
+    let verdict = make_and_run(work, place, absent, stores, rng)?;
+    stores.tell_notices()?;
+    Ok(verdict)
+}
+
+/// Synchronises a mailbox, which is made first on the sides on which it is absent.
+#[tactic(auto, using(crate::proofs::StreamLemmas::stream_steps))]
+fn make_and_run<S: Stores, R: Rng, O: Write, E: Write>(
+    work: ChannelWork<'_>,
+    place: ChannelBox<'_>,
+    absent: Sides,
+    stores: &mut ToldStores<'_, S, O, E>,
+    rng: &mut R,
+) -> io::Result<Verdict>
+    requires going { stores.old.write_failed ≡ false }
+    ensures out { stores.new.out.ghost_name ≡ stores.old.out.ghost_name }
+    ensures err { stores.new.err.ghost_name ≡ stores.old.err.ghost_name }
+    ensures quiet { IfOk result (IsQuiet (E.contents stores.old.err.now) (E.contents stores.new.err.now)) }
+    ensures whole { OnOk result (Extends (O.contents stores.old.out.now) (O.contents stores.new.out.now)) }
+    ensures failed { Notes false stores.new.write_failed result }
+{
+    match make_absent(place, absent, stores) {
+        Ok(()) => {
+            stores.tell_notices()?;
+            run_box(work, place, stores, rng)
+        }
+        Err(fault) => stores.tell(place, &fault),
     }
+}
+
+/// Makes a run over a mailbox.
+#[tactic(auto, using(crate::proofs::StreamLemmas::stream_steps, crate::proofs::StreamLemmas::quiet_steps))]
+fn run_box<S: Stores, R: Rng, O: Write, E: Write>(
+    work: ChannelWork<'_>,
+    place: ChannelBox<'_>,
+    stores: &mut ToldStores<'_, S, O, E>,
+    rng: &mut R,
+) -> io::Result<Verdict>
+    requires going { stores.old.write_failed ≡ false }
+    ensures out { stores.new.out.ghost_name ≡ stores.old.out.ghost_name }
+    ensures err { stores.new.err.ghost_name ≡ stores.old.err.ghost_name }
+    ensures quiet { IfOk result (IsQuiet (E.contents stores.old.err.now) (E.contents stores.new.err.now)) }
+    ensures whole { OnOk result (Extends (O.contents stores.old.out.now) (O.contents stores.new.out.now)) }
+    ensures failed { Notes false stores.new.write_failed result }
+{
     stores.print_box(place.of.channel, place.far)?;
     match stores.settle(work.alloc, place, work.options, rng) {
         Ok(pass) => {
@@ -187,7 +231,7 @@ fn first_of(sides: Sides) -> Option<Side> {
 }
 
 /// Tells which near files a run left out.
-#[tactic(auto, using(crate::proofs::StreamLemmas::stream_steps))]
+#[tactic(auto, using(crate::proofs::StreamLemmas::stream_steps, crate::proofs::StreamLemmas::quiet_steps))]
 fn tell_left_out<S: Stores, O: Write, E: Write>(
     place: ChannelBox<'_>,
     stores: &mut ToldStores<'_, S, O, E>,
@@ -206,7 +250,7 @@ fn tell_left_out<S: Stores, O: Write, E: Write>(
 }
 
 /// Prints the answer of a run. A step that was void is a fault that the answer tells.
-#[tactic(auto, using(crate::proofs::StreamLemmas::stream_steps))]
+#[tactic(auto, using(crate::proofs::StreamLemmas::stream_steps, crate::proofs::StreamLemmas::quiet_steps))]
 fn print_answer<S: Stores, O: Write, E: Write>(
     alloc: Global,
     place: ChannelBox<'_>,

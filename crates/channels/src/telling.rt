@@ -2,11 +2,12 @@
 
 ghost use Rattle.std.specs.Prelude.{◌≡◌, IfOk, OnOk, string_bytes};
 ghost use Rattle.std.specs.Io.KnownBytes.{Appends};
-ghost use Rattle.channels.specs.Lines.{box_line};
+ghost use Rattle.channels.specs.Lines.{box_line, notice_line};
 ghost use Rattle.channels.specs.Streams.{Extends, IsTold};
 
-use crate::advice::{advise, advise_login};
+use crate::advice::advise;
 use crate::fault::BoxFault;
+use crate::server_advice::advise_server;
 use crate::verdict::Verdict;
 use config::config::Channel;
 use mailcore::mailbox_name::MailboxName;
@@ -17,6 +18,7 @@ use std::io::Write;
 use std::{fmt, io};
 use stores::channel_box::ChannelBox;
 use stores::fault::ListFault;
+use stores::notice::Notice;
 use worlds::plan_lines::side_word;
 
 /// Prints which mailbox is listed, or synchronised from now on.
@@ -40,14 +42,27 @@ pub(crate) fn print_text<O: Write>(out: &mut O, text: &str) -> io::Result<()>
     out.flush()
 }
 
-/// Tells why the mailboxes of a channel are not listed, and on a second line what can be done, where that is known.
-pub(crate) fn tell_list<E: Write>(err: &mut E, fault: &ListFault) -> io::Result<Verdict>
+/// Tells what is no fault.
+pub(crate) fn tell_notice<E: Write>(err: &mut E, notice: &Notice) -> io::Result<()>
+    ensures { OnOk result (Appends (E.contents err.old) (E.contents err.new) (notice_line notice.now)) }
+{
+    writeln!(err, "{}", NoticeText(notice))
+}
+
+/// Tells why the mailboxes of a channel are not listed; on a second line what can be done, where that is known; and then what the server
+/// said, if it said something.
+pub(crate) fn tell_list<E: Write>(
+    err: &mut E,
+    fault: &ListFault,
+    words: Option<&str>,
+) -> io::Result<Verdict>
     ensures { IfOk result IsTold }
 {
     writeln!(err, "mbsync: {fault}")?;
-    if let ListFault::LoginRefused(store) = fault {
-        advise_login(err, store.as_str())?;
+    if let ListFault::Server(store, why) = fault {
+        advise_server(err, store.as_str(), *why)?;
     }
+    tell_words(err, words)?;
     Ok(Verdict::Over)
 }
 
@@ -59,23 +74,41 @@ pub(crate) fn tell_no_channel<E: Write>(err: &mut E) -> io::Result<Verdict>
     Ok(Verdict::Over)
 }
 
-/// Tells why a mailbox was not synchronised, and on a second line what can be done, where that is known.
+/// Tells why a mailbox was not synchronised; on a second line what can be done, where that is known; and then what the server said, if
+/// it said something.
 pub(crate) fn tell<E: Write>(
     err: &mut E,
     place: ChannelBox<'_>,
     fault: &BoxFault,
+    words: Option<&str>,
 ) -> io::Result<Verdict>
     ensures { IfOk result IsTold }
 {
-    if let BoxFault::CannotOpen(name) | BoxFault::LoginRefused(name) = fault {
+    let verdict = tell_fault(err, place, fault)?;
+    advise(err, fault)?;
+    tell_words(err, words)?;
+    Ok(verdict)
+}
+
+/// Tells why a mailbox was not synchronised, on one line.
+fn tell_fault<E: Write>(err: &mut E, place: ChannelBox<'_>, fault: &BoxFault) -> io::Result<Verdict>
+    ensures { IfOk result IsTold }
+{
+    if let BoxFault::CannotOpen(name) | BoxFault::Server(name, _) = fault {
         writeln!(err, "mbsync: cannot open {name}")?;
-        advise(err, fault)?;
         return Ok(Verdict::Over);
     }
     let (channel, far) = (place.of.channel.name.as_str(), place.far.as_str());
     writeln!(err, "mbsync: {channel}:{far}: {}", BoxFaultText(fault))?;
-    advise(err, fault)?;
     Ok(Verdict::Faulty)
+}
+
+/// Tells what a server said, if it said something.
+fn tell_words<E: Write>(err: &mut E, words: Option<&str>) -> io::Result<()> {
+    match words {
+        Some(words) => writeln!(err, "  the server said: {words}"),
+        None => Ok(()),
+    }
 }
 
 /// Why a mailbox was not synchronised, as a text without an end of line.
@@ -88,7 +121,7 @@ impl fmt::Display for BoxFaultText<'_> {
             BoxFault::Absent(side) | BoxFault::Removed(side) => {
                 write!(f, "absent {}", side_word(*side))
             }
-            BoxFault::CannotOpen(name) | BoxFault::LoginRefused(name) => {
+            BoxFault::CannotOpen(name) | BoxFault::Server(name, _) => {
                 write!(f, "cannot open {name}")
             }
             BoxFault::Locked => f.write_str("locked"),
@@ -97,6 +130,30 @@ impl fmt::Display for BoxFaultText<'_> {
             BoxFault::GivenAgain(_) => write!(f, "{}", FaultText(RunFault::BadState(0))),
             BoxFault::LeftOut(path) => write!(f, "left out {path}"),
             BoxFault::Run(fault) => write!(f, "{}", FaultText(*fault)),
+        }
+    }
+}
+
+/// What is no fault, as a text without an end of line.
+#[derive(Drop)]
+struct NoticeText<'a>(&'a Notice);
+
+impl fmt::Display for NoticeText<'_> {
+    ghost use Rattle.std.specs.Prelude.{Some};
+    ghost use Rattle.channels.specs.Lines.{notice_text};
+
+    ghost output = { λ n. Some (notice_text n.0.now) };
+
+    fn fmt<W: fmt::Write>(&self, f: &mut fmt::Formatter<W>) -> fmt::Result {
+        match self.0 {
+            Notice::Skipped(store, name) => {
+                let (store, name) = (store.as_str(), name.as_str());
+                write!(f, "mbsync: skipped for its name: {store}:{name}")
+            }
+            Notice::Alert(store, text) => {
+                let (store, text) = (store.as_str(), text.as_str());
+                write!(f, "mbsync: alert from {store}: {text}")
+            }
         }
     }
 }

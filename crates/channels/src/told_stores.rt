@@ -4,7 +4,7 @@ ghost use Rattle.std.specs.Prelude.{◌≡◌, false, true, IfOk, OnOk, string_b
 ghost use Rattle.std.specs.Io.KnownBytes.{Appends};
 ghost use Rattle.rules.specs.Options.{covers};
 ghost use Rattle.channels.specs.Lines.{box_line};
-ghost use Rattle.channels.specs.Streams.{Extends, IsTold, Notes};
+ghost use Rattle.channels.specs.Streams.{Extends, HasNotices, IsTold, Notes};
 
 use crate::fault::BoxFault;
 use crate::lent::settle_lent;
@@ -22,6 +22,7 @@ use std::io;
 use std::io::Write;
 use stores::channel_box::ChannelBox;
 use stores::fault::{ListFault, StoreFault};
+use stores::notice::Notice;
 use stores::stop_cause::StopCause;
 use stores::stores::{BoxLists, Stores};
 
@@ -95,16 +96,68 @@ impl<'a, S: BoxLists, O: Write, E: Write> ToldStores<'a, S, O, E> {
         written
     }
 
-    /// Tells why the mailboxes of a channel are not listed.
-    pub(crate) fn tell_list(&mut self, fault: &ListFault) -> io::Result<Verdict>
+    /// Tells what is to be told beside faults of what was asked of the stores.
+    #[tactic(auto, using(crate::proofs::StreamLemmas::notice_steps))]
+    pub(crate) fn tell_notices(&mut self) -> io::Result<()>
+        requires going { self.old.write_failed ≡ false }
+        ensures out { self.new.out ≡ self.old.out }
+        ensures err { self.new.err.ghost_name ≡ self.old.err.ghost_name }
+        ensures notices { OnOk result (HasNotices (E.contents self.old.err.now) (E.contents self.new.err.now)) }
+        ensures failed { Notes false self.new.write_failed result }
+    {
+        for notice in self.stores.notices() {
+            self.tell_notice(&notice)?;
+        }
+        Ok(())
+    }
+
+    /// Tells what is no fault.
+    #[tactic(auto, using(crate::proofs::StreamLemmas::notice_steps))]
+    fn tell_notice(&mut self, notice: &Notice) -> io::Result<()>
         ensures others { self.new ≡ record self.old { err = self.new.err; write_failed = self.new.write_failed } }
+        ensures err { self.new.err.ghost_name ≡ self.old.err.ghost_name }
+        ensures notices { OnOk result (HasNotices (E.contents self.old.err.now) (E.contents self.new.err.now)) }
+        ensures failed { Notes self.old.write_failed self.new.write_failed result }
+    {
+        let written = telling::tell_notice(self.err, notice);
+        self.write_failed |= written.is_err();
+        written
+    }
+
+    /// What the server said of a fault that an answer of it can have caused. Of another fault it said nothing, nor of one that comes later.
+    fn words_on(&mut self, is_of_server: bool) -> Option<String>
+        requires going { self.old.write_failed ≡ false }
+        ensures { self.new ≡ record self.old { stores = self.new.stores } }
+    {
+        let words = self.stores.server_words();
+        if is_of_server { words } else { None }
+    }
+
+    /// Tells why the mailboxes of a channel are not listed, and what the server said of it.
+    pub(crate) fn tell_list(&mut self, fault: &ListFault) -> io::Result<Verdict>
+        requires going { self.old.write_failed ≡ false }
+        ensures others { self.new ≡ record self.old { stores = self.new.stores; err = self.new.err; write_failed = self.new.write_failed } }
         ensures err { self.new.err.ghost_name ≡ self.old.err.ghost_name }
         ensures told { IfOk result IsTold }
         ensures failed { Notes self.old.write_failed self.new.write_failed result }
     {
-        let written = telling::tell_list(self.err, fault);
+        let words = self.words_on(matches!(fault, ListFault::Server(..)));
+        let written = telling::tell_list(self.err, fault, words.as_deref());
         self.write_failed |= written.is_err();
         written
+    }
+
+    /// Tells why the mailboxes of a channel are not listed, and then what is to be told beside.
+    pub(crate) fn tell_unlisted(&mut self, fault: &ListFault) -> io::Result<Verdict>
+        requires going { self.old.write_failed ≡ false }
+        ensures out { self.new.out ≡ self.old.out }
+        ensures err { self.new.err.ghost_name ≡ self.old.err.ghost_name }
+        ensures told { IfOk result IsTold }
+        ensures failed { Notes false self.new.write_failed result }
+    {
+        let verdict = self.tell_list(fault)?;
+        self.tell_notices()?;
+        Ok(verdict)
     }
 
     /// Tells that a channel or a store of it is not in the configuration.
@@ -119,14 +172,16 @@ impl<'a, S: BoxLists, O: Write, E: Write> ToldStores<'a, S, O, E> {
         written
     }
 
-    /// Tells why a mailbox was not synchronised.
+    /// Tells why a mailbox was not synchronised, and what the server said of it.
     pub(crate) fn tell(&mut self, place: ChannelBox<'_>, fault: &BoxFault) -> io::Result<Verdict>
-        ensures others { self.new ≡ record self.old { err = self.new.err; write_failed = self.new.write_failed } }
+        requires going { self.old.write_failed ≡ false }
+        ensures others { self.new ≡ record self.old { stores = self.new.stores; err = self.new.err; write_failed = self.new.write_failed } }
         ensures err { self.new.err.ghost_name ≡ self.old.err.ghost_name }
         ensures told { IfOk result IsTold }
         ensures failed { Notes self.old.write_failed self.new.write_failed result }
     {
-        let written = telling::tell(self.err, place, fault);
+        let words = self.words_on(fault.is_of_server());
+        let written = telling::tell(self.err, place, fault, words.as_deref());
         self.write_failed |= written.is_err();
         written
     }
@@ -156,6 +211,14 @@ impl<S: Stores, O: Write, E: Write> ToldStores<'_, S, O, E> {
         ensures { self.new ≡ record self.old { stores = self.new.stores } }
     {
         self.stores.left_out()
+    }
+
+    /// Ends what stands at servers: nothing more is asked.
+    pub(crate) fn end(&mut self)
+        requires going { self.old.write_failed ≡ false }
+        ensures { self.new ≡ record self.old { stores = self.new.stores } }
+    {
+        self.stores.end();
     }
 
     /// Makes one run over a mailbox. Where it is known what stopped it, the fault tells it.

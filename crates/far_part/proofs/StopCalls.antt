@@ -13,7 +13,8 @@ use Rattle.imap_client.specs.Tags.{tag_text}
 use Rattle.outside.specs.declared.fault.OutsideFault.{OutsideFault}
 use Rattle.outside.specs.declared.fault.OutsideFault.TheVariants as outside
 use Rattle.far_part.specs.declared.desk.Desk.{Desk}
-use Rattle.far_part.specs.declared.desk.Desk.TheVariants.{Closed, Open, Lost}
+use Rattle.far_part.specs.declared.logged_in.LoggedIn.{LoggedIn}
+use Rattle.far_part.specs.declared.desk.Desk.TheVariants.{Closed, Ready, Open, Lost}
 use Rattle.far_part.specs.Desks.{state_at}
 use Rattle.far_part.specs.FarFaults.{told, told_by}
 use Rattle.far_part.specs.FarStops.{FarCause, Failed, Broken, Bye, UsedUp, StopsHere, StopsWith, renewed}
@@ -136,6 +137,11 @@ module _ {L : Type 0} {links : link.Ghosts L} where
   pub again_stops : {B : Type 0} (desk : Desk L links) (box : FarBox L links) (session : Session L links) (answer : Result B (FarFault × Session L links))
       → desk ≡ Open box → session ≡ box.session → Left (sessions.state_of session) answer → Left (state_at desk) answer
   again_stops desk box session answer is same stops = subst (λ (s : State). Left s answer) (ap sessions.state_of same ∙ sym (ap state_at is)) stops
+
+  -- the same where the user has logged in
+  pub ready_stops : {B : Type 0} (desk : Desk L links) (logged_in : LoggedIn L links) (session : Session L links) (answer : Result B (FarFault × Session L links))
+      → desk ≡ Ready logged_in → session ≡ logged_in.session → Left (sessions.state_of session) answer → Left (state_at desk) answer
+  ready_stops desk logged_in session answer is same stops = subst (λ (s : State). Left s answer) (ap sessions.state_of same ∙ sym (ap state_at is)) stops
 
   -- the same over a new connection
   pub anew_stops : {B : Type 0} (desk : Desk L links) (old session : Session L links) (answer : Result B (FarFault × Session L links))

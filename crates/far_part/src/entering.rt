@@ -8,21 +8,26 @@ ghost use Rattle.far_part.specs.Chosen.{Enters, KeepsMailboxes, LogsIn};
 ghost use Rattle.far_part.specs.FarFaults.{told, told_by};
 ghost use Rattle.far_part.specs.FarStops.{StopsHere, StopsWith, renewed};
 
-use crate::account::Account;
 use imap_client::far_box::FarBox;
 use imap_client::session::Session;
 use imap_link::fault::FarFault;
 use imap_link::link::Link;
 
 /// Connects anew, and logs in.
-pub(crate) fn log_in<L: Link>(account: &Account, session: &mut Session<L>) -> Result<(), FarFault>
+pub(crate) fn log_in<L: Link>(
+    user: &[u8],
+    password: &[u8],
+    session: &mut Session<L>,
+) -> Result<(), FarFault>
+    requires user { IsWord user.now }
+    requires password { IsWord password.now }
     ensures was_honest { L.honest session.new.wire.link → L.honest session.old.wire.link }
     ensures ok { OnOk result (L.honest session.new.wire.link → LogsIn (server_of session.old) (server_of session.new)) }
     ensures err { OnErr result (L.honest session.new.wire.link → KeepsMailboxes (server_of session.old) (server_of session.new)) }
     ensures stops { StopsHere (renewed (state_of session.old)) (state_of session.new) (told_by result) }
 {
     session.reconnect()?;
-    session.login(&account.user, &account.password)
+    session.login(user, password)
 }
 
 /// Selects the mailbox of this name. Beside a fault the session comes back.

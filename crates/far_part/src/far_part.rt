@@ -13,11 +13,12 @@ ghost use Rattle.parts.specs.Drafts.{IsDraft, IsSomeDraft};
 ghost use Rattle.far_part.specs.Chosen.{Enters, KeepsMailboxes};
 ghost use Rattle.far_part.specs.Desks.{honest_at, is_selected, is_there, server_at, state_at, KnowsNext, StandsAt};
 ghost use Rattle.far_part.specs.FarFaults.{told, told_by};
-ghost use Rattle.far_part.specs.FarStops.{StopsHere, StopsWith};
+ghost use Rattle.far_part.specs.FarStops.{StopsHere, StopsWith, standing_in};
 
 use crate::account::Account;
 use crate::desk::Desk;
 use crate::entering::{log_in, select};
+use crate::logged_in::LoggedIn;
 use crate::told::{told, told_by};
 use imap_client::far_box::FarBox;
 use imap_client::session::Session;
@@ -75,7 +76,24 @@ impl<L: Link + Drop> FarPart<L> {
         }
     }
 
-    /// Connects, logs in and selects the mailbox; where one is selected, it is selected again. Tells its UIDVALIDITY.
+    /// The part over a session of the account's user. No mailbox of the part is selected.
+    pub fn over(alloc: Global, account: Account, session: LoggedIn<L>) -> Self
+        ensures store { store_of result ≡ store_at account.mailbox.items (server_of session.session).mailboxes }
+        ensures was_honest { honest_of result → L.honest session.session.wire.link }
+        ensures honest { L.honest session.session.wire.link → honest_of result }
+        ensures standing { standing_of result ≡ standing_in (state_of session.session) }
+        ensures closed { is_open result ≡ false }
+    {
+        FarPart {
+            alloc,
+            account,
+            desk: Desk::Ready(session),
+            is_fresh: false,
+        }
+    }
+
+    /// Connects and logs in, unless that is done, and selects the mailbox; where one is selected, it is selected again. Tells its
+    /// UIDVALIDITY.
     pub fn open(&mut self) -> Result<u32, OutsideFault>
         ensures open { OnOk result (is_open self.new ≡ true) }
         ensures was_honest { honest_of self.new → honest_of self.old }
@@ -110,7 +128,7 @@ impl<L: Link + Drop> FarPart<L> {
         }
         match &self.desk {
             Desk::Open(far) => Some(far.next()),
-            Desk::Closed(_) | Desk::Lost(_) | Desk::Moving => None,
+            Desk::Closed(_) | Desk::Ready(_) | Desk::Lost(_) | Desk::Moving => None,
         }
     }
 
@@ -293,6 +311,27 @@ impl<L: Link + Drop> FarPart<L> {
         let FarPart { desk, .. } = self;
         session_of(desk).into_link()
     }
+
+    /// Gives the session back, if its user has logged in and it goes on.
+    pub fn into_session(self) -> Option<LoggedIn<L>>
+        ensures was_honest { IfSome result (λ s. L.honest s.session.wire.link → honest_of self) }
+        ensures server { IfSome result (λ s. server_of s.session ≡ server_at self.desk) }
+        ensures standing { IfSome result (λ s. (s.session.is_ready ≡ true) × (L.stops s.session.wire.link ≡ (standing_of self).stops)) }
+    {
+        let FarPart { desk, .. } = self;
+        let session = match desk {
+            Desk::Ready(session) => session,
+            Desk::Open(far) => LoggedIn {
+                session: far.into_session(),
+            },
+            Desk::Closed(_) | Desk::Lost(_) | Desk::Moving => return None,
+        };
+        if session.is_ready() {
+            Some(session)
+        } else {
+            None
+        }
+    }
 }
 
 /// The session, by itself.
@@ -304,12 +343,13 @@ fn session_of<L: Link + Drop>(desk: Desk<L>) -> Session<L>
 {
     match desk {
         Desk::Closed(session) | Desk::Lost(session) => session,
+        Desk::Ready(session) => session.into_session(),
         Desk::Open(far) => far.into_session(),
         Desk::Moving => unreachable!(),
     }
 }
 
-/// Selects the mailbox of the account, over a new connection where none is selected. Beside a fault the session comes back.
+/// Selects the mailbox of the account, over a new connection where nobody has logged in. Beside a fault the session comes back.
 fn enter<L: Link + Drop>(
     account: &Account,
     desk: Desk<L>,
@@ -325,9 +365,10 @@ fn enter<L: Link + Drop>(
 {
     let session = match desk {
         Desk::Open(far) => far.into_session(),
+        Desk::Ready(logged_in) => logged_in.into_session(),
         Desk::Closed(session) | Desk::Lost(session) => {
             let mut session = session;
-            if let Err(fault) = log_in(account, &mut session) {
+            if let Err(fault) = log_in(&account.user, &account.password, &mut session) {
                 return Err((fault, session));
             }
             session

@@ -5,4 +5,5 @@ pub mod account;
 mod desk;
 mod entering;
 pub mod far_part;
+pub mod logged_in;
 mod told;

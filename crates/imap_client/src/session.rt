@@ -98,6 +98,13 @@ impl<L: Link> Session<L> {
         Ok(())
     }
 
+    /// Whether it goes on: it was connected, and no call has failed since but with `Refused` or `ReadOnly`.
+    pub fn is_ready(&self) -> bool
+        ensures { result ≡ self.now.is_ready }
+    {
+        self.is_ready
+    }
+
     /// Gives the link back, without taking memory.
     pub fn into_link(self) -> L
         ensures { result ≡ self.wire.link }

@@ -5,8 +5,13 @@ ghost use Rattle.std.specs.Prelude.{◌≡◌, ◌<◌, ◌≤◌};
 use device::stop_count::StopCount;
 use imap_link::link::{Link, LinkFault};
 use std::alloc::AllocError;
-use std::io::{Read, Write};
+use std::cell::Cell;
+use std::io::{ErrorKind, Read, Write};
 use std::net::{Net, TcpStream};
+use std::rc::Rc;
+
+/// What the system said when a server could not be reached. A link notes it, and who holds the link asks for it.
+pub type Unreached = Rc<Cell<Option<ErrorKind>>>;
 
 /// A link over TCP, without encryption, to a server at an address `host:port`.
 ///
@@ -18,6 +23,7 @@ pub struct TcpLink<R: Net + AllocGlobal + Clone + Drop> {
     address: String,
     stream: Option<R::Stream>,
     stops: StopCount,
+    unreached: Unreached,
 }
 
 impl<R: Net + AllocGlobal + Clone + Drop> TcpLink<R> {
@@ -25,6 +31,12 @@ impl<R: Net + AllocGlobal + Clone + Drop> TcpLink<R> {
     ///
     /// `AllocError`: memory ran out.
     pub fn new(rt: R, address: &str) -> Result<Self, AllocError> {
+        let unreached = Rc::new(rt.alloc(), Cell::new(None))?;
+        TcpLink::noting(rt, address, unreached)
+    }
+
+    /// The same, where what the system says is noted there.
+    pub fn noting(rt: R, address: &str, unreached: Unreached) -> Result<Self, AllocError> {
         let address = String::from_str(rt.alloc(), address)?;
         let stops = StopCount::new(rt.alloc());
         Ok(TcpLink {
@@ -32,6 +44,7 @@ impl<R: Net + AllocGlobal + Clone + Drop> TcpLink<R> {
             address,
             stream: None,
             stops,
+            unreached,
         })
     }
 
@@ -85,7 +98,10 @@ impl<R: Net + AllocGlobal + Clone + Drop> Link for TcpLink<R> {
                 self.stream = Some(stream);
                 Ok(())
             }
-            Err(_) => Err(self.stopped()),
+            Err(error) => {
+                self.unreached.set(Some(error.kind()));
+                Err(self.stopped())
+            }
         }
     }
 }

@@ -1,2 +1,13 @@
 pub mod Searching
 pub mod Pieces
+pub mod Utf8Names
+pub mod NameLemmas
+pub mod Cuts
+pub mod SentLemmas
+pub mod Feeding
+pub mod OneToOne
+pub mod ProfileLemmas
+pub mod TakenLemmas
+pub mod Utf16Back
+pub mod RunsBack
+pub mod NamesBack

@@ -1,3 +1,9 @@
+pub mod Commands
 pub mod Extents
 pub mod Faces
+pub mod Hearing
+pub mod Listing
+pub mod Names
+pub mod Profile
+pub mod Reading
 pub mod Turning

@@ -1,18 +1,25 @@
 //! What came over a link, turned reply by reply.
 
-ghost use Rattle.std.specs.Prelude.{◌≡◌, ◌<◌, ◌≤◌, false, true, [], length, take, Ok, OnOk, IsErrOf};
+ghost use Rattle.std.specs.Prelude.{◌≡◌, ◌<◌, ◌≤◌, false, true, [], None, length, take, Ok, IfOk, OnOk, OnErr, IsErrOf, MatchOption};
+ghost use Rattle.wire_reader.specs.Scanning.{start, scanned, owed_in};
+ghost use Rattle.link_face.specs.Commands.{GoesAsItIs, IsRenamed};
 ghost use Rattle.link_face.specs.Faces.{IsSpelled};
 ghost use Rattle.link_face.specs.Turning.{IsTurned, Leaves, Unchanged, held_of};
 
+use crate::command::with_far_name;
 use crate::extent::Extent;
 use crate::incoming::Incoming;
 use crate::ready::Ready;
+use crate::sent::Sent;
 use crate::turning::{Turn, turned};
 use crate::words::Words;
 use device::stop_count::StopCount;
 use imap_link::link::LinkFault;
 use std::alloc::{AllocError, Global};
 use std::rc::Rc;
+
+/// So many bytes of a reply that is not read are told at most.
+const UNREAD_MAX: usize = 200;
 
 /// What came over a link and was not handed out.
 #[derive(Drop)]
@@ -22,7 +29,9 @@ pub(crate) struct Face {
     pub(crate) incoming: Incoming,
     /// What was turned, and is to be handed out.
     pub(crate) ready: Ready,
-    /// Whether a reply was replaced or left out, on any connection.
+    /// What was sent over this connection.
+    pub(crate) sent: Sent,
+    /// Whether a reply was replaced or left out, or a command was sent otherwise, on any connection.
     pub(crate) changed: bool,
     /// Whether nothing more is read of this connection.
     is_lost: bool,
@@ -38,6 +47,7 @@ impl Face {
             alloc,
             incoming: Incoming::new(alloc),
             ready: Ready::new(alloc),
+            sent: Sent::new(),
             changed: false,
             is_lost: false,
             stops: StopCount::new(alloc),
@@ -45,16 +55,42 @@ impl Face {
         }
     }
 
-    /// What came over an earlier connection is dropped.
+    /// What came over an earlier connection is dropped, and nothing was sent over the new one.
     pub(crate) fn clear(&mut self)
         ensures incoming { self.new.incoming ≡ [] }
         ensures ready { self.new.ready ≡ [] }
+        ensures sent { self.new.sent.scanner ≡ start }
         ensures changed { self.new.changed ≡ self.old.changed }
         ensures stops { self.new.stops ≡ self.old.stops }
     {
         self.incoming.clear();
         self.ready.clear();
+        self.sent = Sent::new();
         self.is_lost = false;
+    }
+
+    /// What is sent in place of these bytes: a command with the name of its mailbox in UTF-8. None: they are sent as they are, as the
+    /// octets of a literal always are.
+    ///
+    /// `AllocError`: memory ran out.
+    pub(crate) fn to_send(&mut self, bytes: &[u8]) -> Result<Option<Vec<u8>>, AllocError>
+        ensures literal { 0 < owed_in self.old.sent.scanner.phase → result ≡ Ok None }
+        ensures command { owed_in self.old.sent.scanner.phase ≡ 0
+            → IfOk result (λ found. MatchOption found (GoesAsItIs bytes.now) (λ turned. IsRenamed bytes.now turned.items)) }
+        ensures sent { self.new.sent.scanner ≡ scanned self.old.sent.scanner bytes.now }
+        ensures changed { IfOk result (λ found. MatchOption found (self.new.changed ≡ self.old.changed) (λ _. self.new.changed ≡ true)) }
+        ensures err { OnErr result (self.new.changed ≡ self.old.changed) }
+        ensures held { held_of self.new ≡ held_of self.old }
+        ensures stops { self.new.stops ≡ self.old.stops }
+    {
+        let is_octets = self.sent.is_within_literal();
+        self.sent.note(bytes);
+        if is_octets {
+            return Ok(None);
+        }
+        let turned = with_far_name(self.alloc, bytes)?;
+        self.changed = self.changed || turned.is_some();
+        Ok(turned)
     }
 
     /// Turns replies until one is ready, and tells whether one is: else more has to come.
@@ -149,6 +185,9 @@ impl Face {
         ensures ready { self.new.ready ≡ self.old.ready }
         ensures changed { self.new.changed ≡ self.old.changed }
     {
+        if !self.is_lost {
+            self.words.note_unread(self.incoming.first(UNREAD_MAX));
+        }
         self.is_lost = true;
         match self.stops.push() {
             Ok(()) => LinkFault::Stopped,

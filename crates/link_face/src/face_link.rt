@@ -10,7 +10,7 @@ ghost use Rattle.link_face.specs.Turning.{Leaves, held_of};
 use crate::face::Face;
 use crate::words::Words;
 use imap_link::link::{Link, LinkFault};
-use std::alloc::Global;
+use std::alloc::{AllocError, Global};
 use std::rc::Rc;
 
 /// At most so many bytes are asked of the link at once.
@@ -22,7 +22,10 @@ const PIECE_BYTES: usize = 4096;
 /// all its octets. A reply whose lines have more than 65536 bytes, or whose literals have more than 16777238 octets, is a stop, and
 /// nothing more is read of that connection. So much is kept of a reply that has not come whole, and no more.
 ///
-/// It is honest as long as the other link is, and nothing was replaced or left out.
+/// The names of mailboxes are in modified UTF-7 for the client, and in UTF-8 for the server (RFC 9051, section 5.1): a LIST reply
+/// whose name is another in modified UTF-7 is replaced, and a command that names a mailbox so is sent with the name in UTF-8.
+///
+/// It is honest as long as the other link is, and nothing was replaced or left out, or sent otherwise.
 #[derive(Drop)]
 pub struct FaceLink<L> {
     link: L,
@@ -38,6 +41,13 @@ impl<L: Link> FaceLink<L> {
             link,
             face: Face::new(alloc, words),
         }
+    }
+
+    /// The link below.
+    pub fn link(&self) -> &L
+        ensures { result.now ≡ self.now.link }
+    {
+        &self.link
     }
 
     /// Takes the next bytes of the link, and tells whether there were any.
@@ -101,8 +111,13 @@ impl<L: Link> Link for FaceLink<L> {
 
     ghost sound = { λ f kept. L.sound f.link kept.0 };
 
+    #[tactic(auto, using(crate::proofs::Feeding::nothing_fed))]
     fn send(&mut self, bytes: &[u8]) -> Result<(), LinkFault> {
-        self.link.send(bytes)
+        match self.face.to_send(bytes) {
+            Ok(None) => self.link.send(bytes),
+            Ok(Some(turned)) => self.link.send(&turned),
+            Err(AllocError) => Err(LinkFault::NoMemory),
+        }
     }
 
     fn recv(&mut self, piece: &mut [u8]) -> Result<usize, LinkFault> {

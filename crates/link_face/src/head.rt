@@ -15,8 +15,10 @@ pub(crate) enum Head<'a> {
     Flags(&'a [u8]),
     /// A number, the word behind it, and the rest.
     Numbered(&'a [u8], &'a [u8], &'a [u8]),
-    /// Anything else.
+    /// Another reply, or an empty line.
     Other,
+    /// Anything else: neither `*` nor `+` nor the status of a command begins it, as in no reply.
+    NoReply,
 }
 
 /// A status response: no literal stands in it (RFC 9051, section 7.1).
@@ -42,8 +44,10 @@ pub(crate) fn head_of(raw: &[u8]) -> Head<'_> {
         Head::Status(Status { tag, word, text })
     } else if is_untagged {
         untagged(word, text)
-    } else {
+    } else if raw.trim_ascii().is_empty() {
         Head::Other
+    } else {
+        Head::NoReply
     }
 }
 

@@ -75,6 +75,11 @@ impl Incoming {
         &self.bytes[..len]
     }
 
+    /// The first bytes, so many at most.
+    pub(crate) fn first(&self, most: usize) -> &[u8] {
+        self.bytes.get(..most).unwrap_or(&self.bytes)
+    }
+
     /// Takes the first so many bytes out. `AllocError`: memory ran out, and they stay.
     pub(crate) fn take(&mut self, len: usize) -> Result<Vec<u8>, AllocError>
         requires { len ≤ length self.old }

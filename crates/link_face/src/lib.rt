@@ -2,16 +2,22 @@
 //! refuses is written anew by a table of rules, or left out with all its octets.
 #![tactic(auto)]
 
+mod command;
 mod extent;
 mod face;
 pub mod face_link;
 mod head;
 mod heard;
 mod incoming;
+pub mod laws;
 mod listed;
+mod modified_utf7;
+pub mod names;
 mod plain;
 mod ready;
 mod row;
+mod run;
+mod sent;
 mod status;
 mod token;
 pub mod turning;

@@ -1,11 +1,19 @@
 //! LIST replies (RFC 9051, section 7.3.1), written anew.
 
+ghost use Rattle.std.specs.Prelude.{IfOk, IfSome};
+ghost use Rattle.link_face.specs.Listing.{IsNearName};
+
 use crate::head::behind_space;
+use crate::names::to_near;
 use crate::token::{Token, read_list, read_token};
+use box_patterns::box_name::is_box_name;
 use std::alloc::{AllocError, Global};
 use wire_strings::line_text::all_text;
 use wire_strings::string_writing::write_quoted;
 use wire_tokens::appending::append;
+
+/// The most bytes of a name that is handed out, and of one that is told.
+const NAME_MAX: usize = 255;
 
 /// A mailbox that a server lists.
 #[derive(Clone, Copy)]
@@ -31,14 +39,16 @@ impl<'a> Listed<'a> {
         })
     }
 
-    /// The reply with the name quoted. None: nothing can be selected there, or the name has other bytes than 32 to 126.
+    /// The reply with the name quoted, in modified UTF-7. None: nothing can be selected there, or the name is not handed out.
     ///
     /// `AllocError`: memory ran out.
     pub(crate) fn written(&self, alloc: Global) -> Result<Option<Vec<u8>>, AllocError> {
-        let name = self.name.value(alloc)?;
-        if self.is_hidden() || name.is_empty() || !name.is_ascii() || !all_text(&name) {
+        if self.is_hidden() {
             return Ok(None);
         }
+        let Some(name) = self.near_name(alloc)? else {
+            return Ok(None);
+        };
         let mut out = Vec::new(alloc);
         append(b"* LIST () ", &mut out)?;
         self.append_delimiter(alloc, &mut out)?;
@@ -46,6 +56,36 @@ impl<'a> Listed<'a> {
         write_quoted(&name, &mut out)?;
         append(b"\r\n", &mut out)?;
         Ok(Some(out))
+    }
+
+    /// The name in modified UTF-7. None: it is not UTF-8, has a control character, is empty, or has more than 255 bytes then.
+    fn near_name(&self, alloc: Global) -> Result<Option<Vec<u8>>, AllocError>
+        ensures { IfOk result (λ found. IfSome found (λ name. IsNearName name.items)) }
+    {
+        let far = self.name.value(alloc)?;
+        let Some(name) = to_near(alloc, &far)? else {
+            return Ok(None);
+        };
+        let is_fit = 0 < name.len() && name.len() <= NAME_MAX && all_text(&name);
+        Ok(if is_fit { Some(name) } else { None })
+    }
+
+    /// The name, of at most 255 bytes, if a mailbox can be selected under it that is not synchronised: its name is not handed out,
+    /// or is beyond the limits of the names of mailboxes.
+    ///
+    /// `AllocError`: memory ran out.
+    pub(crate) fn skipped_name(&self, alloc: Global) -> Result<Option<Vec<u8>>, AllocError> {
+        if self.is_hidden() {
+            return Ok(None);
+        }
+        if let Some(name) = self.near_name(alloc)?
+            && is_box_name(&name)
+        {
+            return Ok(None);
+        }
+        let mut far = self.name.value(alloc)?;
+        far.truncate(NAME_MAX);
+        Ok(Some(far))
     }
 
     /// Whether no mailbox can be selected under the name.

@@ -1,7 +1,13 @@
 //! What a client hears of a reply.
 
-ghost use Rattle.std.specs.Prelude.{◌≡◌, true, IfOk, IfSome};
+ghost use Rattle.std.specs.Prelude.{◌≡◌, ◌≤◌, true, None, Some, IfOk, IfSome, IsErr};
+ghost use Rattle.wire_reader.specs.Lexical.{outside};
+ghost use Rattle.imap_replies.specs.declared.reply.Reply.{Reply};
+ghost use Rattle.imap_replies.specs.Replies.{ReplyText};
+ghost use Rattle.link_face.specs.declared.turning.Turn.TheVariants.{Keep};
 ghost use Rattle.link_face.specs.Faces.{IsSpelled, Turns, IsHeard};
+ghost use Rattle.wire_reader.specs.declared.answer.WireFault.TheVariants.{NoMemory};
+ghost use Rattle.link_face.specs.Hearing.{IsPassed, whole_in};
 
 use crate::head::{Head, Status, head_of};
 use crate::heard::is_heard;
@@ -22,40 +28,66 @@ pub enum Turn {
     Replace(Vec<u8>),
     /// Nothing.
     Omit,
-    /// Nothing, and the connection is given up: the reply tells of a message and cannot be read.
+    /// Nothing, and the connection is given up: the reply tells of a message and cannot be read, or is none.
     Stop,
 }
 
-/// What a client hears of this reply. It is a reply of the profile, whatever the server sent.
+/// What a client hears of this reply. It is a reply of the profile, whatever the server sent. One that the server of the profile
+/// says passes byte for byte (`laws::the_profile_is_heard`).
 ///
 /// `AllocError`: memory ran out.
 pub fn turned(alloc: Global, raw: &[u8]) -> Result<Turn, AllocError>
-    ensures { IfOk result (λ turn. Turns raw.now turn) }
+    ensures turns { IfOk result (λ turn. Turns raw.now turn) }
+    ensures passes { IsPassed raw.now → IfOk result (λ turn. turn ≡ Keep) }
 {
-    let is_kept = match reply_of(alloc, raw)? {
-        Some(reply) => is_heard(&reply),
-        None => false,
-    };
-    if is_kept {
+    if is_kept(alloc, raw)? {
         Ok(Turn::Keep)
     } else {
         rewritten(alloc, raw)
     }
 }
 
+/// Whether a client hears this reply as it came.
+fn is_kept(alloc: Global, raw: &[u8]) -> Result<bool, AllocError>
+    ensures spelled { IfOk result (λ is. is ≡ true → IsSpelled raw.now) }
+    ensures passes { IsPassed raw.now → IfOk result (λ is. is ≡ true) }
+{
+    match reply_of(alloc, raw)? {
+        Some(reply) => Ok(is_heard(&reply)),
+        None => Ok(false),
+    }
+}
+
 /// The reply that these bytes are, if they are one.
+#[tactic(auto, using(crate::proofs::TakenLemmas::found_whole, crate::proofs::TakenLemmas::spelled_whole, crate::proofs::TakenLemmas::memory_alone))]
 fn reply_of(alloc: Global, bytes: &[u8]) -> Result<Option<Reply<'_>>, AllocError>
-    ensures { IfOk result (λ found. IfSome found (λ _. IsSpelled bytes.now)) }
+    ensures spelled { IfOk result (λ found. IfSome found (λ _. IsSpelled bytes.now)) }
+    ensures found { (reply : Reply) → ReplyText reply bytes.now → outside bytes.now ≤ 65536 → IfOk result (λ found. found ≡ Some reply) }
 {
     match read_reply(alloc, bytes) {
-        Ok(Read::Whole(reply, len)) => Ok(if len == bytes.len() {
-            Some(reply)
-        } else {
-            None
-        }),
-        Ok(_) => Ok(None),
-        Err(WireFault::NoMemory) => Err(AllocError),
-        Err(_) => Ok(None),
+        Ok(read) => Ok(whole(read, bytes.len())),
+        Err(fault) => no_reply(fault),
+    }
+}
+
+/// The reply that was read, if it has so many bytes.
+fn whole(read: Read<Reply<'_>>, len: usize) -> Option<Reply<'_>>
+    ensures { result ≡ whole_in read.entry len }
+{
+    match read {
+        Read::Whole(reply, used) if used == len => Some(reply),
+        _ => None,
+    }
+}
+
+/// No reply, where bytes are none or memory ran out.
+fn no_reply<'a>(fault: WireFault) -> Result<Option<Reply<'a>>, AllocError>
+    ensures none { IfOk result (λ found. found ≡ None) }
+    ensures memory { fault ≡ NoMemory → IsErr result }
+{
+    match fault {
+        WireFault::NoMemory => Err(AllocError),
+        _ => Ok(None),
     }
 }
 
@@ -74,6 +106,7 @@ fn rewritten(alloc: Global, raw: &[u8]) -> Result<Turn, AllocError>
         Head::Flags(rest) => flags_line(alloc, rest)?,
         Head::Numbered(number, event, rest) => return numbered(alloc, number, event, rest),
         Head::Other => None,
+        Head::NoReply => return Ok(Turn::Stop),
     };
     replaced(alloc, text)
 }

@@ -1,6 +1,7 @@
 //! What a server says to people (RFC 9051, sections 7.1.2 to 7.1.5, and the code ALERT of section 7.1).
 
 use crate::head::{Head, Status, head_of};
+use crate::listed::Listed;
 use std::alloc::{AllocError, Global};
 use std::cell::Cell;
 
@@ -10,6 +11,9 @@ const TEXT_MAX: usize = 200;
 /// The most alerts that are kept.
 const ALERTS_MAX: usize = 16;
 
+/// The most names of mailboxes that are kept.
+const SKIPPED_MAX: usize = 100;
+
 /// What a server said to people. A link notes it, and who holds the link asks for it. It is as the server sent it, with any bytes:
 /// escape it before it is printed.
 #[derive(Drop)]
@@ -17,6 +21,8 @@ pub struct Words {
     alloc: Global,
     last: Cell<Option<Vec<u8>>>,
     alerts: Cell<Vec<Vec<u8>>>,
+    skipped: Cell<Vec<Vec<u8>>>,
+    unread: Cell<Option<Vec<u8>>>,
 }
 
 impl Words {
@@ -26,6 +32,8 @@ impl Words {
             alloc,
             last: Cell::new(None),
             alerts: Cell::new(Vec::new(alloc)),
+            skipped: Cell::new(Vec::new(alloc)),
+            unread: Cell::new(None),
         }
     }
 
@@ -41,11 +49,65 @@ impl Words {
         self.alerts.replace(Vec::new(self.alloc))
     }
 
+    /// Takes out the names of mailboxes that the server listed, that can be selected, and that are not synchronised: their names
+    /// are beyond the limits of the names of mailboxes (1 to 255 printable ASCII characters in modified UTF-7, without `*`, `%`,
+    /// `"` and `\`, and between slashes neither nothing nor `.` nor `..`). They stand as the server wrote them, of at most 255 bytes
+    /// each, each once, in the order in which they came. Behind 100 of them no others are noted until they are taken out.
+    pub fn take_skipped(&self) -> Vec<Vec<u8>> {
+        self.skipped.replace(Vec::new(self.alloc))
+    }
+
+    /// Takes out the front of the last reply over which a connection was given up, up to the end of its first line, of at most 200
+    /// bytes. None: none was given up since it was taken out last, or memory was wanting to note it.
+    pub fn take_unread(&self) -> Option<Vec<u8>> {
+        self.unread.take()
+    }
+
+    /// Whether a connection was given up over a reply since that was taken out last.
+    pub fn is_unread(&self) -> bool {
+        let unread = self.unread.take();
+        let is_unread = unread.is_some();
+        self.unread.set(unread);
+        is_unread
+    }
+
     /// Notes what a reply says to people, if it does. Where memory is wanting it is not noted.
     pub(crate) fn note(&self, raw: &[u8]) {
-        if let Head::Status(status) = head_of(raw) {
-            let _ = self.note_status(status);
+        let _ = match head_of(raw) {
+            Head::Status(status) => self.note_status(status),
+            Head::List(rest) => self.note_listed(rest),
+            _ => Ok(()),
+        };
+    }
+
+    /// Notes the front of a reply over which the connection is given up. Where memory is wanting it is not noted.
+    pub(crate) fn note_unread(&self, raw: &[u8]) {
+        let line = raw.split(|b| *b == b'\n').next().unwrap_or(raw);
+        if let Ok(text) = Vec::from_slice(self.alloc, front(line.trim_ascii_end())) {
+            self.unread.set(Some(text));
         }
+    }
+
+    fn note_listed(&self, rest: &[u8]) -> Result<(), AllocError> {
+        let Some(listed) = Listed::read(rest) else {
+            return Ok(());
+        };
+        match listed.skipped_name(self.alloc)? {
+            Some(name) => self.note_skipped(name),
+            None => Ok(()),
+        }
+    }
+
+    fn note_skipped(&self, name: Vec<u8>) -> Result<(), AllocError> {
+        let mut skipped = self.take_skipped();
+        let is_new = !skipped.iter().any(|noted| *noted == name);
+        let noted = if is_new && skipped.len() < SKIPPED_MAX {
+            skipped.push(name).map_err(AllocError::from)
+        } else {
+            Ok(())
+        };
+        self.skipped.set(skipped);
+        noted
     }
 
     fn note_status(&self, status: Status<'_>) -> Result<(), AllocError> {

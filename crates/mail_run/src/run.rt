@@ -8,6 +8,7 @@ use chacha_generator::generator;
 use channels::run::run_config;
 use config::config::Config;
 use mail_stores::mail_stores::MailStores;
+use mail_stores::notes::Notes;
 use near_places::home::Home;
 use request::request::Request;
 use std::alloc::Global;
@@ -25,6 +26,7 @@ struct Start {
     home: Home,
     seed: [u8; 32],
     fresh: NonZeroU32,
+    notes: Notes,
 }
 
 /// Reads what a run needs: HOME, the configuration, 32 random bytes and the clock, in this order.
@@ -39,6 +41,7 @@ fn start_of<R: Files + Env + Clock + AllocGlobal>(
         home: Home::new(home),
         seed: read_seed(rt)?,
         fresh: read_fresh(rt)?,
+        notes: Notes::new(rt.alloc())?,
     })
 }
 
@@ -78,6 +81,7 @@ fn run_start<
         home,
         seed,
         fresh,
+        notes,
     } = start;
     let work = Work {
         alloc: rt.alloc(),
@@ -85,7 +89,7 @@ fn run_start<
         request,
         seed,
     };
-    let stores = MailStores::new(rt, home, fresh, screen.steps());
+    let stores = MailStores::new(rt, home, fresh, notes, screen.steps());
     run_over(work, stores, screen, out, err)
 }
 

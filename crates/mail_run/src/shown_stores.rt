@@ -7,6 +7,7 @@ use mailcore::side::Side;
 use std::io::Write;
 use stores::channel_box::ChannelBox;
 use stores::fault::{ListFault, StoreFault};
+use stores::notice::Notice;
 use stores::stop_cause::StopCause;
 use stores::stores::{BoxLists, Stores};
 
@@ -32,6 +33,14 @@ impl<S: Stores + Drop, T: Write + Copy> BoxLists for ShownStores<'_, S, T> {
     fn near_boxes(&mut self, store: &MaildirStore) -> Result<Vec<MailboxName>, ListFault> {
         self.stores.near_boxes(store)
     }
+
+    fn notices(&mut self) -> Vec<Notice> {
+        self.stores.notices()
+    }
+
+    fn server_words(&mut self) -> Option<String> {
+        self.stores.server_words()
+    }
 }
 
 impl<S: Stores + Drop, T: Write + Copy> Stores for ShownStores<'_, S, T> {
@@ -56,5 +65,9 @@ impl<S: Stores + Drop, T: Write + Copy> Stores for ShownStores<'_, S, T> {
 
     fn left_out(&mut self) -> Vec<String> {
         self.stores.left_out()
+    }
+
+    fn end(&mut self) {
+        self.stores.end();
     }
 }

@@ -2,7 +2,12 @@
 #![tactic(auto)]
 
 mod account;
+mod asked;
 pub mod mail_stores;
+mod names;
+pub mod notes;
+mod notices;
 mod reach;
 mod server;
+mod sessions;
 mod told;

@@ -1,8 +1,8 @@
 //! How the mailboxes of a configuration are reached: servers over TCP, and folders of a disk.
 
 use crate::account::account_of;
-use crate::server::{ServerLink, create, link_to, log_in, names_at};
-use crate::told::{make_fault, unlisted, unreached};
+use crate::notes::Notes;
+use crate::server::{AskFault, RealLink, link_to, log_in};
 use book::disk_shelf::{DiskShelf, name_of};
 use book::shelf;
 use book_part::book_part::BookPart;
@@ -10,10 +10,10 @@ use both::both::Both;
 use config::config::{ImapStore, MaildirStore};
 use device::DeviceFault;
 use far_part::far_part::FarPart;
-use mailcore::mailbox_name::MailboxName;
+use far_part::logged_in::LoggedIn;
 use maildir::disk_folder::DiskFolder;
 use near_part::near_part::NearPart;
-use near_places::boxes::near_boxes;
+use near_places::boxes::{NearBoxes, near_boxes};
 use near_places::home::Home;
 use near_places::lock::LockFault;
 use near_places::refusal::Refusal;
@@ -22,17 +22,10 @@ use std::fs::File;
 use std::io::ErrorKind;
 use std::net::Net;
 use std::num::NonZeroU32;
-use std::rc::Rc;
 use std::rt::{Clock, Files};
 use stores::channel_box::ChannelBox;
-use stores::fault::{ListFault, StoreFault};
-use watched::watch::Watch;
 use watched::watched_folder::WatchedFolder;
-use watched::watched_link::WatchedLink;
 use watched::watched_shelf::WatchedShelf;
-
-/// A link to the server of a mailbox.
-pub(crate) type RealLink<R> = WatchedLink<ServerLink<R>>;
 
 /// Both sides of a mailbox, and its book, which lies in the folder of the near side.
 pub(crate) type BothSides<R> = Both<RealLink<R>, WatchedFolder<R>, WatchedShelf<R>>;
@@ -46,28 +39,19 @@ pub(crate) struct Reach<R: Net + Files<File = File> + AllocGlobal + Clone + Drop
     pub(crate) home: Home,
     /// The UIDVALIDITY of near mailboxes that have none yet.
     pub(crate) fresh: NonZeroU32,
+    /// What is noted while servers and folders are asked.
+    pub(crate) notes: Notes,
 }
 
 impl<R: Net + Files<File = File> + Clock + AllocGlobal + Clone + Drop> Reach<R> {
-    /// The names of the mailboxes at the server of a store.
-    pub(crate) fn far_boxes(&self, store: &ImapStore) -> Result<Vec<MailboxName>, ListFault> {
-        match names_at(&self.rt, store) {
-            Ok(names) => Ok(names),
-            Err(fault) => Err(unlisted(self.rt.alloc(), store, fault)),
-        }
+    /// A new session at the server of a store.
+    pub(crate) fn log_in(&self, store: &ImapStore) -> Result<LoggedIn<RealLink<R>>, AskFault> {
+        log_in(&self.rt, store, &self.notes)
     }
 
-    /// The names of the mailboxes in the folders of a store.
-    pub(crate) fn near_boxes(&self, store: &MaildirStore) -> Result<Vec<MailboxName>, Refusal> {
+    /// The mailboxes in the folders of a store.
+    pub(crate) fn near_boxes(&self, store: &MaildirStore) -> Result<NearBoxes, Refusal> {
         near_boxes(&self.rt, &self.home, store)
-    }
-
-    /// Makes a mailbox at the server of a store.
-    pub(crate) fn make_far(&self, store: &ImapStore, name: &MailboxName) -> Result<(), StoreFault> {
-        match log_in(&self.rt, store) {
-            Ok(session) => create(session, name).map_err(make_fault),
-            Err(fault) => Err(unreached(self.rt.alloc(), store, fault)),
-        }
     }
 
     /// Whether the folder of a near mailbox has the state of a former run.
@@ -103,20 +87,21 @@ impl<R: Net + Files<File = File> + Clock + AllocGlobal + Clone + Drop> Reach<R> 
         Ok(self.home.folder_of(alloc, place.of.near_store, place.near)?)
     }
 
-    /// Both sides of a mailbox, over a link that is not connected yet, and a folder that is not read yet. What stops them is noted in
-    /// `watch`.
+    /// Both sides of a mailbox, over this session, or else a link that is not connected yet; and a folder that is not read yet. What stops
+    /// them is noted.
     pub(crate) fn both_sides(
         &self,
         place: ChannelBox<'_>,
         folder: &str,
-        watch: &Rc<Watch>,
+        session: Option<LoggedIn<RealLink<R>>>,
     ) -> Result<BothSides<R>, Refusal> {
         let alloc = self.rt.alloc();
+        let watch = &self.notes.watch;
         let near = DiskFolder::new(self.rt.clone()?, folder)?;
         let near = WatchedFolder::new(near, watch.clone()?);
         let book = DiskShelf::new(self.rt.clone()?, folder)?;
         let book = WatchedShelf::new(book, watch.clone()?);
-        let far = self.far_part(place, watch.clone()?)?;
+        let far = self.far_part(place, session)?;
         let near = NearPart::new(alloc, near, self.fresh);
         Ok(Both::new(alloc, far, near, BookPart::new(alloc, book)))
     }
@@ -125,13 +110,19 @@ impl<R: Net + Files<File = File> + Clock + AllocGlobal + Clone + Drop> Reach<R> 
     fn far_part(
         &self,
         place: ChannelBox<'_>,
-        watch: Rc<Watch>,
+        session: Option<LoggedIn<RealLink<R>>>,
     ) -> Result<FarPart<RealLink<R>>, Refusal> {
         let alloc = self.rt.alloc();
-        let link = WatchedLink::new(link_to(&self.rt, place.of.far_store)?, watch);
-        match account_of(alloc, place.of.far_store, place.far)? {
-            Some(account) => Ok(FarPart::new(alloc, account, link)),
-            None => Err(Refusal::cannot_open(alloc, place.of.far_store.name.as_str())),
+        let store = place.of.far_store;
+        let Some(account) = account_of(alloc, store, place.far)? else {
+            return Err(Refusal::cannot_open(alloc, store.name.as_str()));
+        };
+        match session {
+            Some(session) => Ok(FarPart::over(alloc, account, session)),
+            None => {
+                let link = link_to(&self.rt, store, &self.notes)?;
+                Ok(FarPart::new(alloc, account, link))
+            }
         }
     }
 }

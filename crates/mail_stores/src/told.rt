@@ -1,6 +1,6 @@
 //! How the faults of places and servers are told of stores, and what stopped a run.
 
-use crate::server::ServerFault;
+use crate::notes::Notes;
 use config::config::ImapStore;
 use imap_link::fault::FarFault;
 use mailcore::side::Side;
@@ -9,7 +9,7 @@ use near_places::lock::LockFault;
 use near_places::refusal::Refusal;
 use runner::fault::RunFault;
 use std::alloc::{AllocError, Global};
-use stores::fault::{ListFault, StoreFault};
+use stores::fault::{ListFault, ServerFault, StoreFault};
 use stores::stop_cause::StopCause;
 use texts::escape::push_escaped;
 use watched::watch::{Cause, Part};
@@ -38,24 +38,19 @@ pub(crate) fn lock_fault(fault: LockFault) -> StoreFault {
     }
 }
 
-/// A far store that is not listed, since its server cannot be asked: the name of the store is told.
-pub(crate) fn unlisted(alloc: Global, store: &ImapStore, fault: ServerFault) -> ListFault {
-    match String::from_str(alloc, store.name.as_str()) {
-        Ok(name) => match fault {
-            ServerFault::LoginRefused => ListFault::LoginRefused(name),
-            ServerFault::Far(FarFault::NoMemory) => ListFault::NoMemory,
-            ServerFault::Far(_) => ListFault::CannotOpen(name),
-        },
-        Err(AllocError) => ListFault::NoMemory,
+/// A far store that is not listed, since its server cannot be asked: the name of the store is told, and why. None: memory is wanting.
+pub(crate) fn unlisted(alloc: Global, store: &ImapStore, why: Option<ServerFault>) -> ListFault {
+    match (String::from_str(alloc, store.name.as_str()), why) {
+        (Ok(name), Some(why)) => ListFault::Server(name, why),
+        _ => ListFault::NoMemory,
     }
 }
 
-/// A far mailbox that is not made, since its server cannot be asked: the name of the store is told.
-pub(crate) fn unreached(alloc: Global, store: &ImapStore, fault: ServerFault) -> StoreFault {
-    match unlisted(alloc, store, fault) {
-        ListFault::CannotOpen(name) => StoreFault::CannotOpen(name),
-        ListFault::LoginRefused(name) => StoreFault::LoginRefused(name),
-        ListFault::NoMemory => StoreFault::Box(RunFault::NoMemory),
+/// A far mailbox that is not made, since its server cannot be asked: the name of the store is told, and why. None: memory is wanting.
+pub(crate) fn unreached(alloc: Global, store: &ImapStore, why: Option<ServerFault>) -> StoreFault {
+    match (String::from_str(alloc, store.name.as_str()), why) {
+        (Ok(name), Some(why)) => StoreFault::Server(name, why),
+        _ => StoreFault::Box(RunFault::NoMemory),
     }
 }
 
@@ -99,11 +94,9 @@ pub(crate) fn cause_text(
     alloc: Global,
     store: &str,
     folder: &str,
-    cause: Option<Cause>,
+    notes: &Notes,
 ) -> Result<StopCause, AllocError> {
-    match cause {
-        Some(Cause::Unreached) => Ok(StopCause::Unreached(String::from_str(alloc, store)?)),
-        Some(Cause::Ended) => Ok(StopCause::Ended(String::from_str(alloc, store)?)),
+    match notes.watch.take_cause() {
         Some(Cause::Disk(part, trouble)) => {
             Ok(StopCause::Disk(part_text(alloc, folder, &part)?, trouble))
         }
@@ -115,7 +108,7 @@ pub(crate) fn cause_text(
             Ok(StopCause::Withheld(String::from_str(alloc, store)?, uid))
         }
         Some(Cause::GivenAgain(uid)) => Ok(StopCause::GivenAgain(uid)),
-        None => Ok(StopCause::Dismissed(String::from_str(alloc, store)?)),
+        cause => Ok(StopCause::Server(String::from_str(alloc, store)?, notes.end_of(cause))),
     }
 }
 

@@ -1,4 +1,4 @@
-//! Reads a trial from standard input, makes its run, and prints what it came to: `mbtrial [--tcp]`.
+//! Reads a trial from standard input, makes its run, and prints what it came to: `mbtrial [--tcp|--face]`.
 #![tactic(auto)]
 
 use run_trial::run::{Request, run_trial};
@@ -7,7 +7,7 @@ use std::process::ExitCode;
 
 /// What the arguments ask for; argument 0 is the program's name. No memory is asked for: a word that does not fit is another one.
 fn request_of(rt: &HostRuntime) -> Request {
-    let mut word = [0; 5];
+    let mut word = [0; 6];
     let first = rt.arg(1, &mut word);
     let second = rt.arg(2, &mut []);
     match (first, second) {
@@ -18,9 +18,12 @@ fn request_of(rt: &HostRuntime) -> Request {
 }
 
 /// What this argument of so many bytes asks for.
-fn named(length: usize, word: &[u8; 5]) -> Request {
-    if length == 5 && word == b"--tcp" {
+fn named(length: usize, word: &[u8; 6]) -> Request {
+    let word = word.get(..length).unwrap_or(b"");
+    if word == b"--tcp".as_slice() {
         Request::Loopback
+    } else if word == b"--face".as_slice() {
+        Request::Face
     } else {
         Request::Unknown
     }

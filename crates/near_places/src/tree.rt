@@ -9,9 +9,13 @@ use std::io::ErrorKind;
 use std::os::unix::fs::MetadataExt;
 use std::rt::Files;
 use std::{fs, io};
+use texts::escape::push_escaped;
 
 /// The folders that make a folder a mailbox.
 const PARTS: [&str; 3] = ["cur", "new", "tmp"];
+
+/// How many bytes a name has at most below which folders are looked for.
+const LONGEST: usize = 255;
 
 /// Whether a mailbox stands in this folder. `CannotOpen`: the system does not say so.
 pub(crate) fn is_mailbox<R: Files + AllocGlobal + Clone + Drop>(
@@ -34,23 +38,41 @@ fn has_parts<R: Files + AllocGlobal + Clone + Drop>(rt: &R, folder: &str) -> io:
     Ok(true)
 }
 
-/// The names of the mailboxes under a folder whose path ends with a slash: the way from it to theirs. None where it is not there.
+/// The names of the mailboxes under a folder: the way from it to theirs.
+#[derive(Drop)]
+pub(crate) struct FolderNames {
+    /// Those within the limits.
+    pub(crate) within: Vec<String>,
+    /// Those beyond them, escaped.
+    pub(crate) beyond: Vec<String>,
+}
+
+/// The names of the mailboxes under a folder whose path ends with a slash. None where it is not there.
 ///
-/// Names beyond the limits are left out, and so is INBOX, which stands elsewhere. A symlink is what it leads to; one that leads to a
-/// folder above itself is left out. `CannotOpen`: a folder cannot be read.
+/// INBOX is left out, which stands elsewhere, and so is what stands below a name of more than 255 bytes. A symlink is what it leads to;
+/// one that leads to a folder above itself is left out. `CannotOpen`: a folder cannot be read; one whose name is beyond the limits comes
+/// to nothing then.
 pub(crate) fn boxes_under<'a, R: Files + AllocGlobal + Clone + Drop>(
     rt: &'a R,
     root: &'a str,
-) -> Result<Vec<String>, Refusal> {
+) -> Result<FolderNames, Refusal> {
     let mut walk = Walk::new(rt, root);
     walk.begin()?;
     for _ in 0..u64::MAX {
         let Some(folder) = walk.ahead.pop() else {
             break;
         };
-        walk.read(&folder)?;
+        unless_beyond(folder.is_within, walk.read(&folder))?;
     }
     Ok(walk.names)
+}
+
+/// An answer of the system, but nothing of a folder that is left out because of its name keeps the others from being listed.
+fn unless_beyond(is_within: bool, answer: Result<(), Refusal>) -> Result<(), Refusal> {
+    match answer {
+        Err(Refusal::CannotOpen(_)) if !is_within => Ok(()),
+        answer => answer,
+    }
 }
 
 /// Which folder of the system it is, by whatever path.
@@ -67,6 +89,8 @@ struct Folder {
     way: String,
     /// The folders on this way, and itself.
     above: Vec<Identity>,
+    /// Whether its name is within the limits, or it is the root.
+    is_within: bool,
 }
 
 /// A walk through the folders under a root.
@@ -75,7 +99,7 @@ struct Walk<'a, R: Files + AllocGlobal + Clone + Drop> {
     rt: &'a R,
     root: &'a str,
     ahead: Vec<Folder>,
-    names: Vec<String>,
+    names: FolderNames,
 }
 
 impl<'a, R: Files + AllocGlobal + Clone + Drop> Walk<'a, R> {
@@ -85,7 +109,10 @@ impl<'a, R: Files + AllocGlobal + Clone + Drop> Walk<'a, R> {
             rt,
             root,
             ahead: Vec::new(alloc),
-            names: Vec::new(alloc),
+            names: FolderNames {
+                within: Vec::new(alloc),
+                beyond: Vec::new(alloc),
+            },
         }
     }
 
@@ -96,7 +123,11 @@ impl<'a, R: Files + AllocGlobal + Clone + Drop> Walk<'a, R> {
             let mut above = Vec::new(alloc);
             above.push(identity)?;
             let way = String::new(alloc);
-            self.ahead.push(Folder { way, above })?;
+            self.ahead.push(Folder {
+                way,
+                above,
+                is_within: true,
+            })?;
         }
         Ok(())
     }
@@ -113,7 +144,7 @@ impl<'a, R: Files + AllocGlobal + Clone + Drop> Walk<'a, R> {
         for entry in entries {
             match entry {
                 Ok(entry) => self.look(folder, entry.file_name())?,
-                // A name outside UTF-8 is beyond the limits.
+                // A name outside UTF-8 is beyond the limits, and cannot be had.
                 Err(error) if error.kind() == ErrorKind::InvalidFilename => {}
                 Err(error) => return Err(Refusal::at(self.rt.alloc(), path.as_str(), &error)),
             }
@@ -128,33 +159,56 @@ impl<'a, R: Files + AllocGlobal + Clone + Drop> Walk<'a, R> {
         }
         let mut name = folder.way.clone()?;
         name.push_str(part)?;
-        if !is_box_name(name.as_bytes()) {
-            return Ok(());
-        }
+        let is_within = is_box_name(name.as_bytes());
+        unless_beyond(is_within, self.visit(folder, name, is_within))
+    }
+
+    /// Looks at what stands at the end of this way, below a folder.
+    fn visit(&mut self, above: &Folder, name: String, is_within: bool) -> Result<(), Refusal> {
         let path = self.path_of(name.as_str())?;
         match self.folder_at(path.as_str())? {
-            Some(identity) if !folder.above.contains(&identity) => {
-                self.enter(folder, name, identity, path.as_str())
+            Some(identity) if !above.above.contains(&identity) => {
+                self.keep(above, name.as_str(), identity, is_within)?;
+                self.note(name, is_within, path.as_str())
             }
             _ => Ok(()),
         }
     }
 
-    /// Tells a folder, if it is a mailbox, and keeps it to be read.
-    fn enter(
+    /// Keeps a folder to be read, if its name is not too long: links could make the ways below it too many.
+    fn keep(
         &mut self,
         above: &Folder,
-        name: String,
+        name: &str,
         identity: Identity,
-        path: &str,
+        is_within: bool,
     ) -> Result<(), Refusal> {
-        let mut way = name.clone()?;
+        if name.len() > LONGEST {
+            return Ok(());
+        }
+        let mut way = String::from_str(self.rt.alloc(), name)?;
         way.push('/')?;
         let mut all = above.above.clone()?;
         all.push(identity)?;
-        self.ahead.push(Folder { way, above: all })?;
-        if name.as_str() != INBOX && is_mailbox(self.rt, path)? {
-            self.names.push(name)?;
+        self.ahead.push(Folder {
+            way,
+            above: all,
+            is_within,
+        })?;
+        Ok(())
+    }
+
+    /// Notes the name of a folder, if it is a mailbox.
+    fn note(&mut self, name: String, is_within: bool, path: &str) -> Result<(), Refusal> {
+        if name.as_str() == INBOX || !is_mailbox(self.rt, path)? {
+            return Ok(());
+        }
+        if is_within {
+            self.names.within.push(name)?;
+        } else {
+            let mut text = String::new(self.rt.alloc());
+            push_escaped(&mut text, name.as_bytes())?;
+            self.names.beyond.push(text)?;
         }
         Ok(())
     }

@@ -1,18 +1,24 @@
 //! The program `mbtrial`, over readers and writers.
 
 ghost use Rattle.std.specs.Prelude.{◌≡◌, ◌≤◌, IfOk, IsErr};
+ghost use Rattle.imap_server.specs.Boxes.{AreServed};
 
 use crate::devices::Devices;
 use crate::failure::Failure;
 use crate::server::TrialLink;
 use crate::setting::{FarSetting, Setting, setting_of};
+use imap_server::server::Server;
+use link_face::face_link::FaceLink;
+use link_face::words::Words;
 use mem_link::loop_link::LoopLink;
 use mem_link::mem_link::MemLink;
+use mem_link::schedule::Schedule;
 use rules::options::Options;
-use std::alloc::Global;
+use std::alloc::{AllocError, Global};
 use std::io;
 use std::io::{Read, Write};
 use std::net::Net;
+use std::rc::Rc;
 use trial::read::read_trial;
 use trial::trial::Trial;
 
@@ -21,6 +27,8 @@ use trial::trial::Trial;
 pub enum Request {
     /// A trial whose far mailbox is reached in memory: there are no arguments.
     Memory,
+    /// The same behind a face, as `mbsync` hears real servers: `--face`.
+    Face,
     /// One whose far mailbox is reached over a loopback connection: `--tcp`.
     Loopback,
     /// Nothing: there are other arguments.
@@ -91,21 +99,44 @@ fn told_of_trial<R: Net + AllocGlobal + Clone + Drop>(
     let tries = trial.course.tries;
     let Setting { far, folder, shelf } = setting_of(alloc, trial)?;
     let FarSetting { server, schedule } = far;
-    if request == Request::Loopback {
-        let devices = Devices {
-            link: LoopLink::new(rt, server, schedule),
-            folder,
-            shelf,
-        };
-        told_of(alloc, devices, &options, tries)
-    } else {
-        let devices = Devices {
-            link: MemLink::new(alloc, server, schedule),
-            folder,
-            shelf,
-        };
-        told_of(alloc, devices, &options, tries)
+    match request {
+        Request::Loopback => {
+            let devices = Devices {
+                link: LoopLink::new(rt, server, schedule),
+                folder,
+                shelf,
+            };
+            told_of(alloc, devices, &options, tries)
+        }
+        Request::Face => {
+            let devices = Devices {
+                link: face_of(alloc, server, schedule)?,
+                folder,
+                shelf,
+            };
+            told_of(alloc, devices, &options, tries)
+        }
+        Request::Memory | Request::Unknown => {
+            let devices = Devices {
+                link: MemLink::new(alloc, server, schedule),
+                folder,
+                shelf,
+            };
+            told_of(alloc, devices, &options, tries)
+        }
     }
+}
+
+/// A link in memory behind a face.
+fn face_of(
+    alloc: Global,
+    server: Server,
+    schedule: Schedule,
+) -> Result<FaceLink<MemLink>, AllocError>
+    requires { AreServed server.server.mailboxes }
+{
+    let words = Rc::new(alloc, Words::new(alloc))?;
+    Ok(FaceLink::new(alloc, MemLink::new(alloc, server, schedule), words))
 }
 
 /// Makes the run over these devices.

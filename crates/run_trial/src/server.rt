@@ -8,6 +8,7 @@ use far_part::account::Account;
 use imap_link::link::Link;
 use imap_server::served::are_served;
 use imap_server::server::Server;
+use link_face::face_link::FaceLink;
 use mailcore::mailbox::Mailbox;
 use mem_link::loop_link::LoopLink;
 use mem_link::mem_link::MemLink;
@@ -58,6 +59,17 @@ impl TrialLink for MemLink {
 
     fn server(&self) -> &Server {
         self.server()
+    }
+}
+
+/// Behind a face, as `mbsync` hears real servers. Over this server the face stops by itself nowhere.
+impl<L: TrialLink> TrialLink for FaceLink<L> {
+    fn stops(&self) -> usize {
+        self.link().stops()
+    }
+
+    fn server(&self) -> &Server {
+        self.link().server()
     }
 }
 

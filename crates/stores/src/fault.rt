@@ -1,17 +1,39 @@
 //! Why mailboxes are not listed, made or lent.
 
 use runner::fault::RunFault;
+use std::io::ErrorKind;
 use thiserror::Error;
+
+/// Why the server of an IMAP store does not open.
+#[derive(Clone, Copy, Debug, PartialEq, Eq)]
+pub enum ServerFault {
+    /// It cannot be reached. What the system says, where that is known.
+    Unreached(Option<ErrorKind>),
+    /// The connection to it ended.
+    Ended,
+    /// It ended the session, or did not begin one (`* BYE`: RFC 9051, section 7.1.5).
+    Dismissed,
+    /// What it sends is no IMAP, or no answer to what was asked.
+    NoAnswer,
+    /// It does not offer IMAP4rev2.
+    NoRev2,
+    /// It says no to the user and the password.
+    LoginRefused,
+    /// It says no to what was asked behind the login.
+    Refused,
+    /// User or password cannot be sent: more than 1024 bytes, or others than 32 to 126.
+    Unsendable,
+}
 
 /// Why the mailboxes of a store are not listed.
 #[derive(Debug, Drop, Error)]
 pub enum ListFault {
-    /// The store does not open, or stops before all are listed. What is told: the name of an IMAP store, or the path of a file.
+    /// The store does not open, or stops before all are listed. What is told: the path of a file.
     #[error("cannot open {0}")]
     CannotOpen(String),
-    /// The server of the IMAP store of this name does not let its user in: it says no to the user and the password.
+    /// The same of the server of the IMAP store of this name.
     #[error("cannot open {0}")]
-    LoginRefused(String),
+    Server(String, ServerFault),
     /// A growth was refused.
     #[error("no memory")]
     NoMemory,
@@ -20,13 +42,12 @@ pub enum ListFault {
 /// Why a side of a mailbox is not made, or the mailbox not lent to be synchronised.
 #[derive(Debug, Drop, Error)]
 pub enum StoreFault {
-    /// A store does not open, and so no other mailbox of the channel is tried. What is told: the name of an IMAP store, or the path of
-    /// a file.
+    /// A store does not open, and so no other mailbox of the channel is tried. What is told: the path of a file.
     #[error("cannot open {0}")]
     CannotOpen(String),
-    /// The same: the server of the IMAP store of this name does not let its user in.
+    /// The same of the server of the IMAP store of this name.
     #[error("cannot open {0}")]
-    LoginRefused(String),
+    Server(String, ServerFault),
     /// Another process holds the lock of the near mailbox.
     #[error("locked")]
     Locked,

@@ -3,5 +3,6 @@
 
 pub mod channel_box;
 pub mod fault;
+pub mod notice;
 pub mod stop_cause;
 pub mod stores;

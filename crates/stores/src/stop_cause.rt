@@ -1,16 +1,13 @@
 //! What stopped a run, where it is known.
 
+use crate::fault::ServerFault;
 use device::trouble::Trouble;
 
 /// What stopped a run.
 #[derive(Drop)]
 pub enum StopCause {
-    /// The server of the IMAP store of this name cannot be reached.
-    Unreached(String),
-    /// The connection to it ended.
-    Ended(String),
-    /// It ended the session (`* BYE`, RFC 9051, section 7.1.5).
-    Dismissed(String),
+    /// The server of the IMAP store of this name: `Unreached`, `Ended` or `Dismissed`.
+    Server(String, ServerFault),
     /// The system said this of what stands at this path.
     Disk(String, Trouble),
     /// The server of the IMAP store of this name is to give UIDs of a mailbox from the first number on, and has given the second one before:

@@ -5,6 +5,7 @@ ghost use Rattle.rules.specs.Options.{covers};
 
 use crate::channel_box::ChannelBox;
 use crate::fault::{ListFault, StoreFault};
+use crate::notice::Notice;
 use crate::stop_cause::StopCause;
 use config::config::{ImapStore, MaildirStore};
 use mailcore::mailbox_name::MailboxName;
@@ -13,12 +14,21 @@ use outside::outside::Outside;
 
 /// Stores whose mailboxes can be listed, and nothing else: through this trait no mailbox is made or synchronised.
 pub trait BoxLists {
-    /// The names of the mailboxes of a far store, INBOX among them if it is there. Names beyond the limits are left out: 1 to 255
-    /// printable ASCII characters without `* % " \`, and no empty part, `.` or `..` between slashes.
+    /// The names of the mailboxes of a far store, INBOX among them if it is there. Names beyond the limits are left out, and noted: 1 to
+    /// 255 printable ASCII characters without `* % " \`, and no empty part, `.` or `..` between slashes.
     fn far_boxes(&mut self, store: &ImapStore) -> Result<Vec<MailboxName>, ListFault>;
 
     /// The names of the mailboxes of a near store, INBOX among them if it is there, within the same limits.
     fn near_boxes(&mut self, store: &MaildirStore) -> Result<Vec<MailboxName>, ListFault>;
+
+    /// What is to be told beside faults of the calls before. Each is told once, and each mailbox that is left out once in a run. Where
+    /// memory is wanting, some may be missing.
+    fn notices(&mut self) -> Vec<Notice>;
+
+    /// What the server that was asked last said in its last NO, BAD or BYE, or the front of what it sent where that is no answer: one
+    /// line of at most 200 bytes, of which those that are no plain characters stand as a backslash and two digits. It is told once. None:
+    /// it said nothing, or memory is wanting.
+    fn server_words(&mut self) -> Option<String>;
 }
 
 /// Stores whose mailboxes can be synchronised.
@@ -43,4 +53,7 @@ pub trait Stores: BoxLists {
     /// The paths of the near files that the run over the mailbox that was opened last left out: they wait for a UID, and their names are no
     /// UTF-8, or too long with one. They are told once. Where memory is wanting, some may be missing.
     fn left_out(&mut self) -> Vec<String>;
+
+    /// Ends what stands at servers: nothing more is asked.
+    fn end(&mut self);
 }

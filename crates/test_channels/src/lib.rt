@@ -12,12 +12,16 @@
 //! | `stop BOX before CALL k`, `stop BOX after CALL k`, `refuse BOX CALL k` | a call of the mailbox's outside that stops, or is refused |
 //! | `state BOX "BYTES"`, `journal BOX "BYTES"` | the text of its state, or of its journal |
 //! | `unread BOX PATH` | this process may not read the message of this path: it is told where a run is stopped |
+//! | `cut BOX STORE WHY` | a stop of its run is the server's of this store: `unreached`, `connection_refused`, `ended` or `dismissed` |
 //! | `left BOX PATH` | the file of this path cannot get a UID: it is told behind a run |
 //! | `synced BOX` | the near folder has the state of a former run, where the mailbox is absent on a side |
 //! | `locked BOX` | another process holds its lock |
 //! | `shut NAME` | a store of this name does not list its mailboxes, or a mailbox of this name is not lent |
-//! | `barred NAME` | the server of this store does not let its user in, or no longer where a mailbox of this name is lent |
+//! | `barred NAME WHY` | the server of this store does not open, or no longer where a mailbox of this name is lent: the words behind `cut`, or `no_answer`, `no_rev2`, `login` (it does not let its user in), `refused`, `unsendable` |
+//! | `fault BOX FAULT` | it is not lent, for this fault: `stopped`, `marks repeat`, `no memory`, or `far N` or `near N`, one of its side |
 //! | `unmade BOX` | the server says no where this mailbox is to be made |
+//! | `skipped STORE NAME..` | mailboxes of these names are left out each time that this store is listed |
+//! | `alert NAME TEXT`, `words NAME TEXT` | what the server says to its users, or in its last answer, where a store of this name is listed, or a mailbox of this name is lent, or not made |
 //! | `show BOX` | what it is when the run has ended is told behind the exit status, if it was lent |
 //! | `run WORDS` | the command line: `-a`, `-l`, `--expunge`, the flags of Sync, and names |
 //! | `each break` | the run is made again with a standard output, and then a standard error, that fails behind each count of bytes: it is told how many mailboxes were lent, wherever that changes, and how many runs had another status than 1, or wrote or asked something else before (`others`) |
@@ -30,4 +34,6 @@ mod lent_box;
 mod mem_stores;
 pub mod play;
 mod run_line;
+mod said;
+mod server_faults;
 mod work;

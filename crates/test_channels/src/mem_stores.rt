@@ -2,6 +2,8 @@
 
 use crate::facts::Facts;
 use crate::lent_box::{LentBox, box_named};
+use crate::said::Said;
+use crate::server_faults::{run_fault, server_fault};
 use config::config::{ImapStore, MaildirStore};
 use device::trouble::Trouble;
 use mailcore::mailbox_name::MailboxName;
@@ -10,7 +12,8 @@ use mem_outside::mem_outside::MemOutside;
 use runner::fault::RunFault;
 use std::alloc::{AllocError, Global};
 use stores::channel_box::ChannelBox;
-use stores::fault::{ListFault, StoreFault};
+use stores::fault::{ListFault, ServerFault, StoreFault};
+use stores::notice::Notice;
 use stores::stop_cause::StopCause;
 use stores::stores::{BoxLists, Stores};
 use test_scripts::failure::Failure;
@@ -27,6 +30,8 @@ pub(crate) struct MemStores<'a> {
     pub(crate) boxes: Vec<LentBox>,
     /// Whether it is still to be told what stopped the run over the last one.
     is_untold: bool,
+    /// What is to be told beside faults.
+    said: Said,
     /// Why a mailbox of the case cannot be had.
     pub(crate) failure: Option<Failure>,
 }
@@ -40,6 +45,7 @@ impl<'a> MemStores<'a> {
             asked: Told::new(alloc),
             boxes: Vec::new(alloc),
             is_untold: false,
+            said: Said::new(alloc),
             failure: None,
         }
     }
@@ -51,10 +57,14 @@ impl<'a> MemStores<'a> {
     }
 
     /// The names of the mailboxes of a store.
-    fn list(&self, side: &str, store: &str) -> Result<Vec<MailboxName>, ListFault> {
-        let is_barred = self.facts.has("barred", store);
-        if is_barred || self.facts.has("shut", store) {
-            return Err(list_fault(self.alloc, store, is_barred));
+    fn list(&mut self, side: &str, store: &str) -> Result<Vec<MailboxName>, ListFault> {
+        self.said.hear(self.facts, store, store);
+        if self.facts.has("barred", store) {
+            let why = self.why_barred(store);
+            return Err(server_list_fault(self.alloc, store, why));
+        }
+        if self.facts.has("shut", store) {
+            return Err(shut_list_fault(self.alloc, store));
         }
         match names_in(self.alloc, self.facts.of(side, store)) {
             Ok(names) => Ok(names),
@@ -62,21 +72,42 @@ impl<'a> MemStores<'a> {
         }
     }
 
+    /// Why the server does not open where a store or a mailbox of this name is asked for.
+    fn why_barred(&mut self, name: &str) -> ServerFault {
+        match server_fault(self.facts.of("barred", name).unwrap_or("")) {
+            Some(why) => why,
+            None => {
+                self.failure = Some(Failure::Script);
+                ServerFault::Ended
+            }
+        }
+    }
+
     /// Lends a mailbox, which is the last one then, or tells why it is not lent.
     fn lend(&mut self, store: &str, name: &str) -> Result<(), StoreFault> {
+        self.said.hear(self.facts, store, name);
         if self.facts.has("locked", name) {
             return Err(StoreFault::Locked);
         }
         if self.facts.has("barred", name) {
-            return Err(store_fault(self.alloc, store, true));
+            let why = self.why_barred(name);
+            return Err(server_store_fault(self.alloc, store, why));
         }
         if self.facts.has("shut", name) {
-            return Err(store_fault(self.alloc, name, false));
+            return Err(shut_store_fault(self.alloc, name));
+        }
+        self.add_box(name)
+    }
+
+    /// Adds a mailbox that is lent, or tells which fault it has.
+    fn add_box(&mut self, name: &str) -> Result<(), StoreFault> {
+        if let Some(fault) = self.facts.of("fault", name).and_then(run_fault) {
+            return Err(StoreFault::Box(fault));
         }
         if !self.facts.has("box", name) {
             return Err(StoreFault::Box(RunFault::Stopped));
         }
-        match self.add_box(name) {
+        match self.push_box(name) {
             Ok(()) => Ok(()),
             Err(failure) => {
                 self.failure = Some(failure);
@@ -96,25 +127,51 @@ impl<'a> MemStores<'a> {
         Ok(())
     }
 
-    fn add_box(&mut self, name: &str) -> Result<(), Failure> {
+    fn push_box(&mut self, name: &str) -> Result<(), Failure> {
         let lent = box_named(self.alloc, self.facts, name)?;
         Ok(self.boxes.push(lent)?)
     }
+
+    /// What stopped the run over the last mailbox: a file that cannot be read, or the server of a store.
+    fn cause(&self) -> Option<StopCause> {
+        let name = self.boxes.last()?.name.as_str();
+        if let Some(path) = self.facts.of("unread", name) {
+            let path = String::from_str(self.alloc, path).ok()?;
+            return Some(StopCause::Disk(path, Trouble::NoPermission));
+        }
+        let (store, why) = self.facts.of("cut", name)?.split_once(' ')?;
+        let store = String::from_str(self.alloc, store).ok()?;
+        Some(StopCause::Server(store, server_fault(why)?))
+    }
 }
 
-/// That a store of this name is not listed: its server does not let its user in, or it does not open.
-fn list_fault(alloc: Global, store: &str, is_barred: bool) -> ListFault {
+/// That the server of the store of this name does not open.
+fn server_list_fault(alloc: Global, store: &str, why: ServerFault) -> ListFault {
     match String::from_str(alloc, store) {
-        Ok(store) if is_barred => ListFault::LoginRefused(store),
-        Ok(store) => ListFault::CannotOpen(store),
+        Ok(store) => ListFault::Server(store, why),
         Err(AllocError) => ListFault::NoMemory,
     }
 }
 
-/// The same where a mailbox is not lent.
-fn store_fault(alloc: Global, name: &str, is_barred: bool) -> StoreFault {
+/// That what has this name does not open.
+fn shut_list_fault(alloc: Global, name: &str) -> ListFault {
     match String::from_str(alloc, name) {
-        Ok(name) if is_barred => StoreFault::LoginRefused(name),
+        Ok(name) => ListFault::CannotOpen(name),
+        Err(AllocError) => ListFault::NoMemory,
+    }
+}
+
+/// That the server of the store of this name does not open where a mailbox is to be lent.
+fn server_store_fault(alloc: Global, store: &str, why: ServerFault) -> StoreFault {
+    match String::from_str(alloc, store) {
+        Ok(store) => StoreFault::Server(store, why),
+        Err(AllocError) => StoreFault::Box(RunFault::NoMemory),
+    }
+}
+
+/// That what has this name does not open where a mailbox is to be lent.
+fn shut_store_fault(alloc: Global, name: &str) -> StoreFault {
+    match String::from_str(alloc, name) {
         Ok(name) => StoreFault::CannotOpen(name),
         Err(AllocError) => StoreFault::Box(RunFault::NoMemory),
     }
@@ -140,6 +197,14 @@ impl BoxLists for MemStores<'_> {
         self.ask("near_boxes ", &store.name);
         self.list("near", &store.name)
     }
+
+    fn notices(&mut self) -> Vec<Notice> {
+        self.said.notices()
+    }
+
+    fn server_words(&mut self) -> Option<String> {
+        self.said.words()
+    }
 }
 
 impl Stores for MemStores<'_> {
@@ -157,6 +222,8 @@ impl Stores for MemStores<'_> {
         };
         self.ask(question, name);
         if self.facts.has("unmade", name) {
+            self.said
+                .hear(self.facts, place.of.far_store.name.as_str(), name);
             return Err(StoreFault::Box(RunFault::StoreFault(side, 2)));
         }
         Ok(())
@@ -178,14 +245,16 @@ impl Stores for MemStores<'_> {
             return None;
         }
         self.is_untold = false;
-        let path = self.facts.of("unread", &self.boxes.last()?.name)?;
-        let path = String::from_str(self.alloc, path).ok()?;
-        Some(StopCause::Disk(path, Trouble::NoPermission))
+        self.cause()
     }
 
     fn left_out(&mut self) -> Vec<String> {
         let mut paths = Vec::new(self.alloc);
         let _ = self.add_left_out(&mut paths);
         paths
+    }
+
+    fn end(&mut self) {
+        self.ask("end", "");
     }
 }

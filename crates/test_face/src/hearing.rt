@@ -22,6 +22,10 @@ pub struct Hearing {
     pub last: Option<Vec<u8>>,
     /// Its alerts.
     pub alerts: Vec<Vec<u8>>,
+    /// The names of mailboxes that are not synchronised.
+    pub skipped: Vec<Vec<u8>>,
+    /// The front of the reply over which the link gave up.
+    pub unread: Option<Vec<u8>>,
 }
 
 impl Hearing {
@@ -36,6 +40,8 @@ impl Hearing {
             gave_up,
             last: words.take_last(),
             alerts: words.take_alerts(),
+            skipped: words.take_skipped(),
+            unread: words.take_unread(),
         })
     }
 }

@@ -1,15 +1,20 @@
-//! What a client hears of replies over a link that hands out only those of the profile, as scripts ask for it.
+//! What a client hears of replies over a link that hands out only those of the profile, and what a server gets of commands, as
+//! scripts ask for it.
 //!
 //! The lines of a script of `face`. Bytes stand in both scripts as worlds have them (docs/FORMATS.md, "Worlds").
 //!
 //! ```text
 //! reply "* 1 RECENT\0d\0a"     these bytes come, and then the end: what is handed out, and whether the link gave up
 //! line * OK still here         the same of a line, with its end
+//! send "A1 NOOP\0d\0a"         these bytes are sent over the connection of this case: what the server gets
+//! connect                      a new connection is made for those that are sent next
 //! ```
 //!
-//! The bytes come whole, and in pieces of 1 and 7 bytes; and cut at each place. Where other bytes are handed out then, it is told.
+//! The bytes of replies come whole, and in pieces of 1 and 7 bytes; and cut at each place. Where other bytes are handed out then, it is told.
 #![tactic(auto)]
 
 mod bytes_link;
 mod hearing;
 pub mod play;
+mod sending;
+mod taking_link;

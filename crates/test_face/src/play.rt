@@ -1,6 +1,7 @@
 //! Who plays the scripts.
 
 use crate::hearing::Hearing;
+use crate::sending::Sending;
 use std::alloc::Global;
 use test_scripts::failure::Failure;
 use test_scripts::play::{Player, play_all};
@@ -16,7 +17,10 @@ const CUT_MAX: usize = 2000;
 
 /// Plays the lines of a script of `face`.
 pub fn run(rt: &HostRuntime, script: &mut Script<'_>) -> Result<(), Failure> {
-    let mut faces = Faces { alloc: rt.alloc() };
+    let mut faces = Faces {
+        alloc: rt.alloc(),
+        sending: Sending::new(rt.alloc())?,
+    };
     play_all(rt, &mut faces, script)
 }
 
@@ -24,10 +28,24 @@ pub fn run(rt: &HostRuntime, script: &mut Script<'_>) -> Result<(), Failure> {
 #[derive(Drop)]
 struct Faces {
     alloc: Global,
+    /// The face of this case, over which bytes are sent.
+    sending: Sending,
+}
+
+impl Faces {
+    /// Sends these bytes, and tells what the server gets.
+    fn tell_sent(&mut self, bytes: &[u8], told: &mut Told) -> Result<(), Failure> {
+        let sent = self.sending.send(bytes)?;
+        for line in sent.split(|b| *b == b'\n') {
+            tell_line(told, "", line);
+        }
+        Ok(())
+    }
 }
 
 impl Player for Faces {
     fn begin(&mut self) -> Result<(), Failure> {
+        self.sending = Sending::new(self.alloc)?;
         Ok(())
     }
 
@@ -39,6 +57,11 @@ impl Player for Faces {
                 bytes.extend_from_slice(b"\r\n")?;
                 bytes
             }
+            "send" => {
+                let bytes = line.bytes(self.alloc)?;
+                return self.tell_sent(&bytes, &mut script.told);
+            }
+            "connect" => return self.sending.reconnect(),
             _ => return Err(Failure::Script),
         };
         tell_heard(self.alloc, &bytes, &mut script.told)
@@ -60,6 +83,12 @@ fn tell_heard(alloc: Global, bytes: &[u8], told: &mut Told) -> Result<(), Failur
     }
     if heard.gave_up {
         told.answer("gives up");
+    }
+    if let Some(text) = &heard.unread {
+        tell_line(told, "cannot read ", text);
+    }
+    for name in &heard.skipped {
+        tell_line(told, "skips ", name);
     }
     if let Some(text) = &heard.last {
         tell_line(told, "says ", text);

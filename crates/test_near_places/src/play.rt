@@ -99,10 +99,11 @@ impl Scene<'_> {
 
     fn tell_boxes(&self, told: &mut Told) -> Result<(), Failure> {
         match near_boxes(&self.rt, &self.home, &self.store) {
-            Ok(names) => {
-                for name in &names {
+            Ok(boxes) => {
+                for name in &boxes.names {
                     told.answer(name.as_str());
                 }
+                tell_skipped(told, &boxes.skipped);
                 Ok(())
             }
             Err(refusal) => tell_refusal(told, refusal),
@@ -128,6 +129,16 @@ impl Scene<'_> {
                 Ok(())
             }
         }
+    }
+}
+
+/// Tells which mailboxes are left out because of their names.
+fn tell_skipped(told: &mut Told, skipped: &[String]) {
+    for name in skipped {
+        told.begin();
+        told.text("skipped ");
+        told.text(name.as_str());
+        told.end();
     }
 }
 

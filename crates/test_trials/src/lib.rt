@@ -6,8 +6,10 @@
 //! | `trial` | the text of a trial up to a line `.`, which the lines behind it play |
 //! | `play` | the trial is played, and the far mailbox is reached in memory |
 //! | `play over loopback` | the same, and the far mailbox is reached over a loopback connection |
+//! | `play behind a face` | the same, and the far mailbox is reached in memory behind a face, as `mbsync` hears real servers |
 //! | `play for each B from N to M` | the trial is played once for each number from N to M, in place of each word `B` of its text: where all numbers of a range have the same answer, it is told once behind the range |
 //! | `play for each B from N to M over loopback` | the same over loopback connections |
+//! | `play for each B from N to M behind a face` | the same behind faces |
 #![tactic(auto)]
 
 mod numbered;

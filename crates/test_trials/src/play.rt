@@ -48,12 +48,17 @@ impl Trials<'_> {
         Ok(self.text.extend_from_slice(text)?)
     }
 
-    /// `over loopback`, or `for each B from N to M`, behind which that may stand.
+    /// `over loopback`, `behind a face`, or `for each B from N to M`, behind which these may stand.
     fn play_as(&self, line: &mut Words<'_>, told: &mut Told) -> Result<(), Failure> {
         match line.word() {
             "over" => {
                 expect(line, "loopback");
                 self.play_text(Request::Loopback, told)
+            }
+            "behind" => {
+                expect(line, "a");
+                expect(line, "face");
+                self.play_text(Request::Face, told)
             }
             "for" => {
                 expect(line, "each");
@@ -122,14 +127,26 @@ fn expect(line: &mut Words<'_>, word: &str) {
     }
 }
 
-/// `over loopback`, or nothing: how the far mailbox is reached.
+/// `over loopback`, `behind a face`, or nothing: how the far mailbox is reached.
 fn link_of(line: &mut Words<'_>) -> Request {
     if line.is_over() {
         return Request::Memory;
     }
-    expect(line, "over");
-    expect(line, "loopback");
-    Request::Loopback
+    match line.word() {
+        "over" => {
+            expect(line, "loopback");
+            Request::Loopback
+        }
+        "behind" => {
+            expect(line, "a");
+            expect(line, "face");
+            Request::Face
+        }
+        _ => {
+            line.refuse();
+            Request::Memory
+        }
+    }
 }
 
 /// An answer for each line of a text, behind a word.

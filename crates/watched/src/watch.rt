@@ -61,6 +61,12 @@ impl Watch {
         }
     }
 
+    /// Notes that nothing has stopped, and that no file was left out: another mailbox is opened.
+    pub fn renew(&self) {
+        self.forget();
+        self.left_out.set(Vec::new(self.alloc));
+    }
+
     /// Takes out what stopped the run. None: nothing has, or the server ended the session.
     pub fn take_cause(&self) -> Option<Cause> {
         self.cause.take()

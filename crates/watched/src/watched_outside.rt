@@ -57,6 +57,15 @@ impl<O: Outside, G: Guard> WatchedOutside<O, G> {
     }
 }
 
+impl<O: Outside, G: Guard + Drop> WatchedOutside<O, G> {
+    /// The outside below.
+    pub fn into_outside(self) -> O
+        ensures { result ≡ self.outside }
+    {
+        self.outside
+    }
+}
+
 /// Whether a message is listed.
 fn is_listed(listing: &Listing, uid: Uid) -> bool {
     listing

@@ -1,0 +1,140 @@
+#!/usr/bin/env python3
+"""Puts replies that mbsync does not ask for, and damaged ones, into its sessions:
+
+    bench/odd_replies.py [--program PROGRAM] [--damaged N] [--seed SEED]
+
+PROGRAM is the built mbsync if it is left out. Each of REPLIES is said before the answer to the list of mailboxes, to that of the messages,
+and to one message: the run has to come to its end, with each message there once. Each of STOPS may end a run, which has to tell that; the
+next run, without it, has to come to its end. Then N lines of real servers (10,000 if it is left out), each damaged at a few places, are
+said in the same places: each run has to end, with little memory. The server is scripted_server.py. The last line is `N passed, M failed`;
+the status is 1 if one failed."""
+import argparse
+import os
+import random
+import re
+
+from edge_scene import Edge, far, near
+from scene import ONE, TWO, Scene, Tally
+from scripted_server import BODY, LISTING
+from server_edges import peak_of
+from trial_imapd import TOP
+
+PROGRAM = os.path.join(TOP, "crates", "mbsync_main", "out", "mbsync_main")
+REAL_LINES = os.path.join(os.path.dirname(os.path.abspath(__file__)), "real-lines.txt")
+REPLIES = [
+    b"* OK still\there\r\n", b"* OK\r\n", b"* OK [\r\n", b"* OK bare\n", b"\r\n", b"* OK spaces behind   \r\n", b"* OK \xff\x00\r\n",
+    b"* OK [UNSEEN 1]\r\n", b"* OK [HIGHESTMODSEQ 90060115194045001] ok\r\n", b"* OK [MAILBOXID (e90f7)] ok\r\n",
+    b"* OK [URLMECH INTERNAL] ok\r\n", b"* OK [ALERT] back at noon\r\n", b"* NO [ALERT] the disk is nearly full\r\n", b"* NO\r\n",
+    b"* BAD what\r\n", b"* CAPABILITY IMAP4rev1 IMAP4rev2 FOO=]\r\n", b"* CAPABILITY IMAP4rev2 " + b"X" * 300 + b"\r\n",
+    b"* ENABLED CONDSTORE\r\n", b"* FLAGS (\\Seen foo]bar)\r\n", b"* FLAGS (\\Recent $Junk \\Seen)\r\n", b"* 0 RECENT\r\n",
+    b"* 2 EXISTS \r\n", b"* STATUS INBOX (MESSAGES 3)\r\n", b"* STATUS {5}\r\nINBOX (MESSAGES 3)\r\n",
+    b'* ESEARCH (TAG "A4") UID ALL 1:3\r\n', b"* VANISHED (EARLIER) 41,43:116\r\n", b'* METADATA "" (/shared/comment {4}\r\nabcd)\r\n',
+    b'* ID ("name" "Cyrus" "version" {3}\r\n1.0)\r\n', b"* ID NIL\r\n", b'* QUOTA "" (STORAGE 10 512)\r\n', b'* QUOTAROOT INBOX ""\r\n',
+    b"* ACL INBOX u lrswipkxtecda\r\n", b'* NAMESPACE (("" "/")) NIL NIL\r\n', b"* THREAD (2)(3 6)\r\n", b"* SEARCH 2 3\r\n",
+    b"* LANGUAGE (EN)\r\n", b'* XLIST (\\Inbox) "/" "INBOX"\r\n', b'* LSUB () "/" INBOX\r\n', b"* 1 FETCH (FLAGS (\\Seen))\r\n",
+    b"* 1 FETCH (FLAGS (\\Recent a]b) UID 1)\r\n", b"* 1 FETCH (UID 1)\r\n", b"* 1 FETCH (UID 1 MODSEQ (5))\r\n",
+    b"* 1 FETCH (X-GM-MSGID 1278455344230334865 UID 1)\r\n", b"* 1 FETCH (BINARY[] {3}\r\nabc UID 1)\r\n",
+    b'* 1 FETCH (ENVELOPE (NIL "x]" {2}\r\nab NIL) UID 1)\r\n', b'* LIST (\\Noselect) "/" "nothing"\r\n',
+    b'* LIST (\\NonExistent) "/" gone\r\n', b'* LIST () "/" x]y\r\n', b"* LIST () NIL [Gmail]\r\n",
+    b'* LIST () "/" {9}\r\nEntw\xc3\xbcrfe\r\n', b'* LIST () "/" "New" ("OLDNAME" ("Old"))\r\n',
+]
+STOPS = [b"* PREAUTH hello\r\n", b"* BYE until tomorrow\r\n", b"+ idling\r\n", b"* 1 FETCH (UID 1 FLAGS () RFC822.SIZE 99999999999)\r\n",
+         b"* 1 FETCH (UID x\r\n", b"* OK " + b"x" * 70000 + b"\r\n", b"* METADATA {99999999}\r\n"]
+PLACES = {"the mailboxes": lambda command: command.verb == b"LIST", "the messages": lambda command: command.asks(LISTING),
+          "a message": lambda command: command.asks(BODY, 2)}
+PULLED = ["c:INBOX", "new pull 1 -> 1", "new pull 2 -> 2", "ran"]
+# How many damaged lines are said in one run, and how many MB of memory it may take.
+LINES, MEMORY = 50, 64
+
+
+def saying(text, place):
+    """A script by which the server says this before its answer there."""
+    return lambda talk, command: place(command) and talk.stream.sendall(text)
+
+
+def without_notices(told):
+    return [line for line in told if not str(line).startswith(("mbsync: alert from", "mbsync: skipped for"))]
+
+
+def odd(tally):
+    """Replies that nobody asked for."""
+    for reply in REPLIES:
+        for name, place in PLACES.items():
+            with Edge(ONE, TWO) as scene:
+                scene.server.script = saying(reply, place)
+                got = [without_notices(scene.run("c")), scene.sides()]
+                tally.same(f"{reply[:60]!r} before {name}", got, [[0, *PULLED], [near(ONE, TWO), far(ONE, TWO)]])
+
+
+def stops(tally):
+    """Replies that may end a run."""
+    for reply in STOPS:
+        for name, place in PLACES.items():
+            with Edge(ONE, TWO) as scene:
+                scene.server.script = saying(reply, place)
+                told = scene.run("c")
+                is_told = told[0] == 0 or any(str(line).startswith("mbsync: ") for line in told)
+                tally.same(f"{reply[:60]!r} before {name}: it ends, or tells why not", is_told, True)
+                scene.server.script = None
+                tally.same("then all is there", [scene.run("c")[0], scene.sides()], [0, [near(ONE, TWO), far(ONE, TWO)]])
+
+
+def real_lines():
+    """What the servers say in real-lines.txt."""
+    with open(REAL_LINES, encoding="ascii") as lines:
+        found = [line[2:].rstrip("\n") for line in lines if line.startswith("r ")]
+    return [re.sub(rb"\\([0-9a-f]{2})", lambda it: bytes([int(it[1], 16)]), line.encode()) for line in found]
+
+
+def damaged(line, chance):
+    """The line with a few bytes changed, left out, said twice, or put in."""
+    line = bytearray(line)
+    for _ in range(chance.randint(1, 4)):
+        at = chance.randrange(len(line) + 1)
+        kind = chance.randrange(4)
+        if kind == 0:
+            line[at:at + 1] = bytes([chance.randrange(256)])
+        elif kind == 1:
+            del line[at:at + chance.randint(1, 5)]
+        elif kind == 2:
+            line[at:at] = line[max(0, at - chance.randint(1, 9)):at]
+        else:
+            line[at:at] = chance.choice([b"{", b"}", b'"', b"(", b")", b"]", b"{7}\r\n", b"{0}\r\n", b"\r", b"\n", b"\\", b" "])
+    return bytes(line)
+
+
+def broken(tally, count, seed):
+    """Damaged lines."""
+    chance, lines = random.Random(seed), real_lines()
+    most = ended = 0
+    places = list(PLACES.values())
+    for run in range(count // LINES):
+        text = b"".join(damaged(chance.choice(lines), chance) for _ in range(LINES))
+        with Edge(ONE, TWO) as scene:
+            scene.server.script = saying(text, places[run % len(places)])
+            told, peak = peak_of(scene, "c")
+            most = max(most, peak)
+            ended += told[0] in (0, 1)
+    tally.tell(f"{count} damaged lines, seed {seed}: at most {most:.1f} MB")
+    tally.same("each run has ended", ended, count // LINES)
+    tally.same(f"memory stays below {MEMORY} MB", most < MEMORY, True)
+
+
+def main():
+    words = argparse.ArgumentParser(description="Puts odd replies into the sessions of mbsync.")
+    words.add_argument("--program", default=PROGRAM)
+    words.add_argument("--damaged", type=int, default=10000)
+    words.add_argument("--seed", type=int, default=1)
+    words = words.parse_args()
+    Scene.program = os.path.abspath(words.program)
+    if not os.access(Scene.program, os.X_OK):
+        raise SystemExit(f"{Scene.program} is not built")
+    tally = Tally()
+    odd(tally)
+    stops(tally)
+    broken(tally, words.damaged, words.seed)
+    tally.end()
+
+
+if __name__ == "__main__":
+    main()

@@ -1,0 +1,25 @@
+use Rattle.std.proofs.Common.{arith}
+use Rattle.std.proofs.lemmas.Grind.{common_steps}
+use Rattle.channels.proofs.StreamLemmas.{HasNotices-more}
+use Rattle.channels.proofs.told_stores.ToldStores.tell_notices.Goals as goal
+
+-- the line of one more notice was written
+pub loop-notice-preserved-in_ok-tell_notice : goal.loop-notice-preserved-in_ok-tell_notice
+loop-notice-preserved-in_ok-tell_notice g c = record {
+  next = tt;
+  ends = tt;
+  out = grind (arith, common_steps);
+  err = grind (arith, common_steps);
+  notices = HasNotices-more _ _ _ c.loop-notice.invariant.notices c.in_ok-tell_notice.ensures.notices;
+  going = grind (arith, common_steps);
+}
+
+pub loop-notice-preserved : goal.loop-notice-preserved
+loop-notice-preserved g c = record {
+  next = tt;
+  ends = tt;
+  out = grind (arith, common_steps);
+  err = grind (arith, common_steps);
+  notices = HasNotices-more _ _ _ c.loop-notice.invariant.notices c.in_ok-tell_notice.ensures.notices;
+  going = grind (arith, common_steps);
+}

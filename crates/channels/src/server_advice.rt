@@ -1,0 +1,58 @@
+//! What is told behind a fault of an IMAP server, on a line that begins with two spaces.
+
+use std::io;
+use std::io::{ErrorKind, Write};
+use stores::fault::ServerFault;
+
+/// Tells why the server of this IMAP store does not open or ended a run, and what can be done. The password is not told.
+pub(crate) fn advise_server<E: Write>(
+    err: &mut E,
+    store: &str,
+    why: ServerFault,
+) -> io::Result<()> {
+    match why {
+        ServerFault::Unreached(kind) => advise_unreached(err, store, kind),
+        ServerFault::Ended => writeln!(
+            err,
+            "  the connection to the server of IMAPStore {store} ended: run again"
+        ),
+        ServerFault::Dismissed => writeln!(
+            err,
+            "  the server of IMAPStore {store} ended the session: run again"
+        ),
+        ServerFault::NoAnswer => writeln!(
+            err,
+            "  the server of IMAPStore {store} sent what is no answer: is an IMAP server at its Host and Port?"
+        ),
+        ServerFault::NoRev2 => writeln!(
+            err,
+            "  the server of IMAPStore {store} does not offer IMAP4rev2, which mbsync needs"
+        ),
+        ServerFault::LoginRefused => writeln!(
+            err,
+            "  the server refused the user and the password: mend User or Pass of IMAPStore {store}, and run again"
+        ),
+        ServerFault::Refused => writeln!(
+            err,
+            "  the server of IMAPStore {store} says no to what mbsync asked after the login"
+        ),
+        ServerFault::Unsendable => writeln!(
+            err,
+            "  User or Pass of IMAPStore {store} has more than 1024 bytes, or characters that cannot be sent"
+        ),
+    }
+}
+
+/// Tells that a server cannot be reached, and what the system says of it.
+fn advise_unreached<E: Write>(err: &mut E, store: &str, kind: Option<ErrorKind>) -> io::Result<()> {
+    match kind {
+        Some(kind) => writeln!(
+            err,
+            "  the server of IMAPStore {store} cannot be reached ({kind}): see to its Host and Port, and run again"
+        ),
+        None => writeln!(
+            err,
+            "  the server of IMAPStore {store} cannot be reached: see to its Host and Port, and run again"
+        ),
+    }
+}

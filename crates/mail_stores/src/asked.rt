@@ -1,0 +1,67 @@
+//! Which server was asked last, and what it said.
+
+use config::config::ImapStore;
+use link_face::words::Words;
+use std::alloc::{AllocError, Global};
+use texts::escape::push_escaped;
+
+/// The store whose server was asked last.
+#[derive(Drop)]
+pub(crate) struct Asked {
+    /// Its name.
+    pub(crate) store: String,
+    /// The password that it was sent, which is never told.
+    password: String,
+}
+
+impl Asked {
+    /// This store.
+    pub(crate) fn new(alloc: Global, store: &ImapStore) -> Result<Self, AllocError> {
+        Ok(Asked {
+            store: String::from_str(alloc, store.name.as_str())?,
+            password: String::from_str(alloc, store.pass.as_str())?,
+        })
+    }
+
+    /// What its server said last, or the front of what it sent where that is no answer. None where it repeats the password.
+    pub(crate) fn words(&self, alloc: Global, words: &Words) -> Option<String> {
+        let said = words.take_last();
+        let unread = words.take_unread();
+        let text = said.or(unread)?;
+        self.shown(alloc, &text)
+    }
+
+    /// A text of its server as it is told. None where it repeats the password, or is empty, or memory is wanting.
+    pub(crate) fn shown(&self, alloc: Global, text: &[u8]) -> Option<String> {
+        if text.is_empty() || has_word(text, self.password.as_bytes()) {
+            return None;
+        }
+        escaped(alloc, text).ok()
+    }
+}
+
+/// These bytes, of which those that are no plain character stand as a backslash and two digits.
+pub(crate) fn escaped(alloc: Global, bytes: &[u8]) -> Result<String, AllocError> {
+    let mut text = String::new(alloc);
+    push_escaped(&mut text, bytes)?;
+    Ok(text)
+}
+
+/// Whether a word stands somewhere in a text, with no letter and no digit before it or behind it.
+fn has_word(text: &[u8], word: &[u8]) -> bool {
+    !word.is_empty() && (0..text.len()).any(|start| stands_at(text, start, word))
+}
+
+/// Whether it stands there.
+fn stands_at(text: &[u8], start: usize, word: &[u8]) -> bool {
+    let (before, rest) = text.split_at_checked(start).unwrap_or((text, b""));
+    match rest.strip_prefix(word) {
+        Some(behind) => !ends_inside(before.last()) && !ends_inside(behind.first()),
+        None => false,
+    }
+}
+
+/// Whether the byte beside a word belongs to a longer one.
+fn ends_inside(beside: Option<&u8>) -> bool {
+    beside.is_some_and(|b| b.is_ascii_alphanumeric())
+}

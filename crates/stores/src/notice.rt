@@ -1,0 +1,12 @@
+//! What is told beside faults.
+
+/// What is told beside faults, on a line of standard error. It is no fault: the exit status stays.
+///
+/// In a name or a text of a server or a disk, a byte that is no plain character stands as a backslash and two digits.
+#[derive(Drop)]
+pub enum Notice {
+    /// A mailbox is left out, since its name is beyond the limits: the name of its store, and its own.
+    Skipped(String, String),
+    /// The server of the IMAP store of this name says this to its users (the code ALERT: RFC 9051, section 7.1).
+    Alert(String, String),
+}

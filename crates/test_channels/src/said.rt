@@ -1,0 +1,65 @@
+//! What stores in memory tell beside faults.
+
+use crate::facts::Facts;
+use std::alloc::{AllocError, Global};
+use std::mem;
+use stores::notice::Notice;
+
+/// What is to be told beside faults, and what a server said last.
+#[derive(Drop)]
+pub(crate) struct Said {
+    alloc: Global,
+    notices: Vec<Notice>,
+    words: Option<String>,
+}
+
+impl Said {
+    /// Nothing.
+    pub(crate) fn new(alloc: Global) -> Said {
+        Said {
+            alloc,
+            notices: Vec::new(alloc),
+            words: None,
+        }
+    }
+
+    /// Adds what a store says where this name is asked for: its own, or that of a mailbox. Where memory is wanting, some of it is missing.
+    pub(crate) fn hear(&mut self, facts: &Facts, store: &str, name: &str) {
+        let _ = self.add(facts, store, name);
+    }
+
+    fn add(&mut self, facts: &Facts, store: &str, name: &str) -> Result<(), AllocError> {
+        self.add_skipped(store, facts.of("skipped", name).unwrap_or(""))?;
+        let alloc = self.alloc;
+        if let Some(text) = facts.of("alert", name) {
+            let (store, text) = (
+                String::from_str(alloc, store)?,
+                String::from_str(alloc, text)?,
+            );
+            self.notices.push(Notice::Alert(store, text))?;
+        }
+        if let Some(text) = facts.of("words", name) {
+            self.words = Some(String::from_str(alloc, text)?);
+        }
+        Ok(())
+    }
+
+    fn add_skipped(&mut self, store: &str, names: &str) -> Result<(), AllocError> {
+        for name in names.split_whitespace() {
+            let store = String::from_str(self.alloc, store)?;
+            let name = String::from_str(self.alloc, name)?;
+            self.notices.push(Notice::Skipped(store, name))?;
+        }
+        Ok(())
+    }
+
+    /// What is to be told beside faults, once.
+    pub(crate) fn notices(&mut self) -> Vec<Notice> {
+        mem::replace(&mut self.notices, Vec::new(self.alloc))
+    }
+
+    /// What a server said last, once.
+    pub(crate) fn words(&mut self) -> Option<String> {
+        self.words.take()
+    }
+}
