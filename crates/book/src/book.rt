@@ -158,6 +158,52 @@ impl<S: Shelf> Book<S> {
         }
     }
 
+    /// A book over this shelf that is not open: of its calls `enter` and `reopen` alone do anything.
+    pub fn closed(alloc: Global, shelf: S) -> Book<S>
+        ensures shelf { result.shelf ≡ shelf }
+        ensures closed { result.is_ready ≡ false }
+    {
+        let state = SyncState::none(alloc);
+        let pending = Pending::Missing;
+        let highest = Highest::taken(state.entries.as_slice(), &pending);
+        Book {
+            alloc,
+            shelf,
+            state,
+            pending,
+            highest,
+            is_ready: false,
+        }
+    }
+
+    /// Opens the book, anew where it is open: reads both files and changes nothing. The faults are those of `open`.
+    pub fn enter(&mut self) -> Result<(), BookFault>
+        ensures files { S.is_honest ≡ true → (S.seen self.new.shelf).stored ≡ (S.seen self.old.shelf).stored }
+        ensures ready { OnOk result (self.new.is_ready ≡ true) }
+        ensures failed { OnErr result (self.new.is_ready ≡ false) }
+        ensures held { OnOk result (S.is_honest ≡ true → Holds (S.seen self.new.shelf).stored self.new.state self.new.pending) }
+        ensures unstopped { OnOk result (IsUnstopped (S.seen self.old.shelf) (S.seen self.new.shelf)) }
+        ensures refused { IfErr result (λ fault. S.is_honest ≡ true → TellsOpen (S.seen self.new.shelf).stored fault) }
+        ensures told { IfErr result (λ fault. StopsTold fault (S.seen self.old.shelf) (S.seen self.new.shelf)) }
+    {
+        self.is_ready = false;
+        let (state, pending) = read_files(self.alloc, &mut self.shelf)?;
+        self.highest = Highest::taken(state.entries.as_slice(), &pending);
+        self.state = state;
+        self.pending = pending;
+        self.is_ready = true;
+        Ok(())
+    }
+
+    /// Closes the book, and opens its shelf again.
+    pub fn reopen(&mut self)
+        ensures closed { self.new.is_ready ≡ false }
+        ensures shelf { S.seen self.new.shelf ≡ record (S.seen self.old.shelf) { is_broken = false } }
+    {
+        self.is_ready = false;
+        self.shelf.reopen();
+    }
+
     /// The state of the last run.
     pub fn state(&self) -> &SyncState
         ensures state { result.now ≡ self.now.state }

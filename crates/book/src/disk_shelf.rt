@@ -1,6 +1,6 @@
 //! A shelf on a disk.
 
-ghost use Rattle.std.specs.Prelude.{◌≡◌, Err, IfOk, false};
+ghost use Rattle.std.specs.Prelude.{◌≡◌, ◌<◌, ◌^◌, Err, IfOk, false};
 ghost use Rattle.device.specs.Calls.{Rest};
 ghost use Rattle.device.specs.Conditions.{disk_at};
 ghost use Rattle.book.specs.DiskShelves.{seen_on_disk};
@@ -54,9 +54,9 @@ impl<R: Files + AllocGlobal + Clone + Drop> DiskShelf<R> {
         })
     }
 
-    /// How many calls have stopped.
+    /// How many calls have stopped, up to the top of its type.
     pub fn stops(&self) -> usize
-        ensures { result ≡ self.now.condition.stops }
+        ensures { self.now.condition.stops < 2 ^ 64 → result ≡ self.now.condition.stops }
     {
         self.disk.stops()
     }

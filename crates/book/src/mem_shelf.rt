@@ -1,6 +1,6 @@
 //! A shelf in memory, whose calls stop where a schedule says so.
 
-ghost use Rattle.std.specs.Prelude.{◌≡◌, ◌++◌, [], false, IfOk, OnOk, OnErr, Some, unwrap_or};
+ghost use Rattle.std.specs.Prelude.{◌≡◌, ◌<◌, ◌^◌, ◌++◌, [], false, IfOk, OnOk, OnErr, Some, unwrap_or};
 ghost use Rattle.book.specs.Shelves.{bytes_of};
 
 use crate::shelf::{File, Shelf};
@@ -43,7 +43,7 @@ impl MemShelf {
             alloc,
             state: None,
             journal: None,
-            stopping: Scheduled::new(alloc, schedule),
+            stopping: Scheduled::new(schedule),
         }
     }
 
@@ -68,9 +68,9 @@ impl MemShelf {
         bytes.map(|bytes| bytes.as_slice())
     }
 
-    /// How many calls have stopped.
+    /// How many calls have stopped, up to the top of its type.
     pub fn stops(&self) -> usize
-        ensures { result ≡ (seen_of self.now).stops }
+        ensures { (seen_of self.now).stops < 2 ^ 64 → result ≡ (seen_of self.now).stops }
     {
         self.stopping.stop_count()
     }

@@ -1,4 +1,5 @@
 pub mod BookFaults
 pub mod BookParts
-pub mod Desks
 pub mod Kept
+pub mod PartCalls
+pub mod Stops

@@ -2,10 +2,8 @@
 
 ghost use Rattle.std.specs.Prelude.{◌≡◌, true, false, None, Some, OnOk, IfOk, IfErr};
 ghost use Rattle.std.specs.Option.{option_map};
-ghost use Rattle.book_part.specs.Desks.{goes_on, is_there, seen_at};
 
-use crate::desk::Desk;
-use crate::told::{told, told_by};
+use crate::told::told_by;
 use book::book::Book;
 use book::shelf::Shelf;
 use mailcore::uid::Uid;
@@ -15,12 +13,11 @@ use rules::state::SyncState;
 use std::alloc::Global;
 use sync_state::journal::Journal;
 
-/// A shelf, and the book over it once it was read. A fault leaves it as it is: the caller makes no more calls until `reopen`.
+/// A book over a shelf: closed, or open once it was read. A fault leaves it as it is: the caller makes no more calls until `reopen`.
 #[derive(Drop)]
 pub struct BookPart<S: Shelf> {
-    alloc: Global,
-    desk: Desk<S>,
-    pub ghost there: { is_there desk ≡ true },
+    book: Book<S>,
+    is_open: bool,
 }
 
 impl<S: Shelf + Drop> BookPart<S> {
@@ -30,9 +27,9 @@ impl<S: Shelf + Drop> BookPart<S> {
     ghost use Rattle.book.specs.BookLogs.{begun, as_done, logged_more};
     ghost use Rattle.book.specs.Commits.{CommitsHalf, CommitsTo};
     ghost use Rattle.outside.specs.Calls.{FromBook, FromShelf};
-    ghost use Rattle.parts.specs.PartCalls.{Part, PartChanges};
+    ghost use Rattle.book_part.specs.PartCalls.{Part, PartChanges};
     ghost use Rattle.book_part.specs.Kept.{AreCommitted, FromLog, IsBook, IsHeld, IsRead, LeavesUnread, OfKept, ReadsFiles, TakesCommit, TakesLog, TakesPlan, journal_of, state_of, turned};
-    ghost use Rattle.parts.specs.Stops.{standing_at};
+    ghost use Rattle.book_part.specs.Stops.{standing_at};
     ghost use Rattle.book_part.specs.BookParts.{Stops, files_of, kept_of, seen_of, standing_of};
 
     /// The part over this shelf. No book is open.
@@ -42,8 +39,8 @@ impl<S: Shelf + Drop> BookPart<S> {
         ensures kept { kept_of result ≡ None }
     {
         BookPart {
-            alloc,
-            desk: Desk::Closed(shelf),
+            book: Book::closed(alloc, shelf),
+            is_open: false,
         }
     }
 
@@ -51,8 +48,7 @@ impl<S: Shelf + Drop> BookPart<S> {
     pub fn into_shelf(self) -> S
         ensures { S.seen result ≡ seen_of self }
     {
-        let mut desk = self.desk;
-        take(&mut desk)
+        self.book.into_shelf()
     }
 
     /// Reads the shelf. `BadState` and `BadJournal`: its files hold no book, and this is the first line that shows it.
@@ -62,17 +58,10 @@ impl<S: Shelf + Drop> BookPart<S> {
         ensures stops { Stops self.old self.new result }
         ensures part { Part (S.is_honest ≡ true) (λ _. ReadsFiles (kept_of self.new)) LeavesUnread (files_of self.old) (files_of self.new) result }
     {
-        let shelf = take(&mut self.desk);
-        match Book::open(self.alloc, shelf) {
-            Ok(book) => {
-                self.desk = Desk::Open(book);
-                Ok(())
-            }
-            Err(refused) => {
-                self.desk = Desk::Closed(refused.shelf);
-                Err(told(refused.fault))
-            }
-        }
+        self.is_open = false;
+        told_by(self.book.enter())?;
+        self.is_open = true;
+        Ok(())
     }
 
     /// What the last run recorded.
@@ -81,10 +70,7 @@ impl<S: Shelf + Drop> BookPart<S> {
         ensures state { state_of (kept_of self.now) ≡ Some result.now }
         ensures sound { IsSound result.now }
     {
-        match &self.desk {
-            Desk::Open(book) => book.state(),
-            _ => unreachable!(),
-        }
+        self.book.state()
     }
 
     /// The plan of the next run and which of its steps are logged, if it is pending.
@@ -92,10 +78,7 @@ impl<S: Shelf + Drop> BookPart<S> {
         requires read { IsRead (kept_of self.now) }
         ensures { option_map (λ journal. journal.now) result ≡ journal_of (kept_of self.now) }
     {
-        match &self.desk {
-            Desk::Open(book) => book.pending(),
-            _ => None,
-        }
+        self.book.pending()
     }
 
     /// Removes the journal, if there is one.
@@ -107,10 +90,7 @@ impl<S: Shelf + Drop> BookPart<S> {
         ensures part { PartChanges (S.is_honest ≡ true) (λ _. OfKept (λ p. Turns p Missing) (kept_of self.old))
             (OfKept (λ p. TurnsHalf p Missing) (kept_of self.old)) (files_of self.old) (files_of self.new) result }
     {
-        let Desk::Open(book) = &mut self.desk else {
-            unreachable!()
-        };
-        told_by(book.discard())
+        told_by(self.book.discard())
     }
 
     /// Takes a torn last line off the journal, if there is one.
@@ -122,10 +102,7 @@ impl<S: Shelf + Drop> BookPart<S> {
         ensures part { PartChanges (S.is_honest ≡ true) (λ _. OfKept (λ p. Turns p (mended p)) (kept_of self.old))
             (OfKept (λ p. TurnsHalf p p) (kept_of self.old)) (files_of self.old) (files_of self.new) result }
     {
-        let Desk::Open(book) = &mut self.desk else {
-            unreachable!()
-        };
-        told_by(book.mend())
+        told_by(self.book.mend())
     }
 
     /// Writes the whole plan of the next run, of which no step is logged.
@@ -137,10 +114,7 @@ impl<S: Shelf + Drop> BookPart<S> {
         ensures part { PartChanges (S.is_honest ≡ true) (λ _. OfKept (λ _. Turns Missing (begun plan)) (kept_of self.old))
             (OfKept (λ _. TurnsHalf Missing Useless) (kept_of self.old)) (files_of self.old) (files_of self.new) result }
     {
-        let Desk::Open(book) = &mut self.desk else {
-            unreachable!()
-        };
-        told_by(book.begin(plan))
+        told_by(self.book.begin(plan))
     }
 
     /// Logs the step of this number, counted from 1, as done. A new message has a copy, whose UID this is.
@@ -154,10 +128,7 @@ impl<S: Shelf + Drop> BookPart<S> {
         ensures part { PartChanges (S.is_honest ≡ true) (λ _. OfKept (λ p. Turns p (logged_more p (as_done copy))) (kept_of self.old))
             (OfKept (λ p. TurnsHalf p (torn p)) (kept_of self.old)) (files_of self.old) (files_of self.new) result }
     {
-        let Desk::Open(book) = &mut self.desk else {
-            unreachable!()
-        };
-        told_by(book.done(step, copy))
+        told_by(self.book.done(step, copy))
     }
 
     /// Logs the step of this number, counted from 1, as void.
@@ -169,10 +140,7 @@ impl<S: Shelf + Drop> BookPart<S> {
         ensures part { PartChanges (S.is_honest ≡ true) (λ _. OfKept (λ p. Turns p (logged_more p Void)) (kept_of self.old))
             (OfKept (λ p. TurnsHalf p (torn p)) (kept_of self.old)) (files_of self.old) (files_of self.new) result }
     {
-        let Desk::Open(book) = &mut self.desk else {
-            unreachable!()
-        };
-        told_by(book.void(step))
+        told_by(self.book.void(step))
     }
 
     /// Puts the state that the finished plan makes in place of the old one, and then removes the journal.
@@ -185,10 +153,7 @@ impl<S: Shelf + Drop> BookPart<S> {
         ensures part { PartChanges (S.is_honest ≡ true) (λ _. OfKept CommitsTo (kept_of self.old)) (OfKept CommitsHalf (kept_of self.old))
             (files_of self.old) (files_of self.new) result }
     {
-        let Desk::Open(book) = &mut self.desk else {
-            unreachable!()
-        };
-        told_by(book.commit())
+        told_by(self.book.commit())
     }
 
     /// Closes the book, if one is open, and opens the shelf again.
@@ -197,21 +162,7 @@ impl<S: Shelf + Drop> BookPart<S> {
         ensures standing { standing_of self.new ≡ record (standing_of self.old) { is_ready = true } }
         ensures kept { kept_of self.new ≡ None }
     {
-        let mut shelf = take(&mut self.desk);
-        shelf.reopen();
-        self.desk = Desk::Closed(shelf);
-    }
-}
-
-/// Takes the shelf, closed. What is left is to be replaced.
-fn take<S: Shelf + Drop>(desk: &mut Desk<S>) -> S
-    requires there { is_there desk.old ≡ true }
-    ensures seen { S.seen result ≡ seen_at desk.old }
-    ensures whole { goes_on desk.old ≡ true → (S.seen result).is_broken ≡ false }
-{
-    match std::mem::replace(desk, Desk::Moving) {
-        Desk::Closed(shelf) => shelf,
-        Desk::Open(book) => book.into_shelf(),
-        Desk::Moving => unreachable!(),
+        self.is_open = false;
+        self.book.reopen();
     }
 }

@@ -2,5 +2,4 @@
 #![tactic(auto)]
 
 pub mod book_part;
-mod desk;
 mod told;

@@ -16,7 +16,7 @@ use Rattle.outside.specs.Calls.{Call, FromShelf, LeavesBy, Writes}
 use Rattle.outside.specs.Devices.{Device}
 use Rattle.outside.specs.Opened as opened
 use Rattle.parts.specs.Devices.{every, seen_with}
-use Rattle.parts.specs.PartCalls.{Part, PartChanges}
+use Rattle.book_part.specs.PartCalls.{Part, PartChanges}
 use Rattle.parts.specs.Tallies.{Counts, Ended}
 use Rattle.parts.proofs.PartCalls.{Lacks, changed_along, lacks_changes, part_call}
 use Rattle.book_part.specs.Kept.{Kept, AreCommitted, FromLog, IsBook, IsHeld, IsRead, LeavesUnread, OfKept, ReadsFiles, TakesCommit, TakesLog, TakesPlan, turned}

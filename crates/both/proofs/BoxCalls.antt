@@ -17,7 +17,7 @@ use Rattle.outside.specs.Calls.{Call, FromBox, LeavesBy}
 use Rattle.outside.specs.Devices.{Device}
 use Rattle.outside.specs.Opened as opened
 use Rattle.parts.specs.Devices.{every, seen_with}
-use Rattle.parts.specs.PartCalls.{Part, PartChanges}
+use Rattle.book_part.specs.PartCalls.{Part, PartChanges}
 use Rattle.parts.specs.Tallies.{Counts, Ended}
 use Rattle.parts.proofs.PartCalls.{changed_along, lacks_changes, lacks_reads, part_call, read_along}
 use Rattle.book_part.specs.Kept.{Kept}

@@ -16,7 +16,7 @@ use Rattle.outside.specs.BoxCalls.{Carry, SetsAside}
 use Rattle.outside.specs.Calls.{LeavesBy}
 use Rattle.outside.specs.Devices.{Device}
 use Rattle.parts.specs.Drafts.{IsText}
-use Rattle.parts.specs.PartCalls.{LeavesSome}
+use Rattle.book_part.specs.PartCalls.{LeavesSome}
 use Rattle.far_part.specs.Adding.{Adds}
 use Rattle.near_part.specs.NearParts.{Delivers}
 use Rattle.both.proofs.BoxCalls.{device_with}

@@ -3,7 +3,7 @@ use Rattle.std.proofs.Common.{◌≡◌, inl, inr, sym, subst, ◌∙◌, ℕ, R
 use Rattle.std.specs.Prelude.{IsErrAnd, IsErrOf}
 use Rattle.outside.specs.declared.fault.OutsideFault.{OutsideFault}
 use Rattle.outside.specs.declared.fault.OutsideFault.TheVariants as fault
-use Rattle.parts.specs.Stops.{Standing, StopsFor}
+use Rattle.book_part.specs.Stops.{Standing, StopsFor}
 use Rattle.parts.specs.Tallies.{Counts, Ended}
 
 -- the fault that a part told

@@ -15,8 +15,8 @@ use Rattle.outside.specs.Calls.{Call, Changes, LeavesBy, Reads, Seen, Writes}
 use Rattle.outside.specs.Devices.{Device}
 use Rattle.outside.specs.Opened.{Opened}
 use Rattle.parts.specs.Devices.{every, seen_with}
-use Rattle.parts.specs.PartCalls.{Part}
-use Rattle.parts.specs.Stops.{HasCause}
+use Rattle.book_part.specs.PartCalls.{Part}
+use Rattle.book_part.specs.Stops.{HasCause}
 use Rattle.book_part.specs.BookParts as book
 use Rattle.book_part.specs.BookParts.{files_of, kept_of}
 use Rattle.far_part.specs.FarParts as far

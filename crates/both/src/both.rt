@@ -41,7 +41,7 @@ impl<L: Link + Drop, F: Folder + Drop, S: Shelf + Drop> Both<L, F, S> {
     ghost use Rattle.outside.specs.BoxCalls.{Carry, SetsAside};
     ghost use Rattle.outside.specs.Opened.{AreCommitted, IsHeld, IsOpen, TakesCommit, TakesPlan, turned};
     ghost use Rattle.parts.specs.Devices.{seen_with};
-    ghost use Rattle.parts.specs.PartCalls.{Part};
+    ghost use Rattle.book_part.specs.PartCalls.{Part};
     ghost use Rattle.parts.specs.Tallies.{untouched};
     ghost use Rattle.far_part.specs.FarParts as fars;
     ghost use Rattle.near_part.specs.NearParts as nears;

@@ -1,11 +1,10 @@
 //! Whether a device goes on, and how many of its calls have stopped.
 
-ghost use Rattle.std.specs.Prelude.{◌≡◌, ◌+◌, ◌≤◌, true, false, OnOk, IfErr};
+ghost use Rattle.std.specs.Prelude.{◌≡◌, ◌+◌, ◌<◌, ◌^◌, true, false, OnOk, IfErr};
 ghost use Rattle.device.specs.Conditions.{whole};
 
 use crate::DeviceFault;
 use crate::stop_count::StopCount;
-use std::alloc::Global;
 use std::marker::Model;
 
 /// Whether a device goes on, and how many of its calls have stopped.
@@ -25,18 +24,18 @@ impl Model for Condition {
 
 impl Condition {
     /// That of a device that was just made.
-    pub fn new(alloc: Global) -> Self
+    pub fn new() -> Self
         ensures { result ≡ whole }
     {
         Condition {
             is_broken: false,
-            stops: StopCount::new(alloc),
+            stops: StopCount::new(),
         }
     }
 
-    /// How many calls have stopped.
+    /// How many calls have stopped, up to the top of its type.
     pub fn stops(&self) -> usize
-        ensures { result ≡ self.now.stops }
+        ensures { self.now.stops < 2 ^ 64 → result ≡ self.now.stops }
     {
         self.stops.get()
     }
@@ -53,18 +52,15 @@ impl Condition {
         }
     }
 
-    /// The call stops, and from now on each call does. Gives what the call answers: `NoMemory` where its stop cannot be counted.
+    /// The call stops, and from now on each call does. Gives what the call answers.
     pub fn stop(&mut self) -> DeviceFault
+        ensures fault { result ≡ DeviceFault.Stopped }
         ensures broken { self.new.is_broken ≡ true }
-        ensures counted { result ≡ DeviceFault.Stopped → self.new.stops ≡ self.old.stops + 1 }
-        ensures uncounted { result ≡ DeviceFault.NoMemory → self.new.stops ≡ self.old.stops }
-        ensures no_less { self.old.stops ≤ self.new.stops }
+        ensures counted { self.new.stops ≡ self.old.stops + 1 }
     {
         self.is_broken = true;
-        match self.stops.push() {
-            Ok(()) => DeviceFault::Stopped,
-            Err(_) => DeviceFault::NoMemory,
-        }
+        self.stops.push();
+        DeviceFault::Stopped
     }
 
     /// The call finds no memory, and from now on each call stops. Gives what the call answers.

@@ -1,6 +1,6 @@
 //! A folder of a disk as a device: its files, and what the system's faults are to it.
 
-ghost use Rattle.std.specs.Prelude.{◌≡◌, ◌+◌, ◌≤◌, true, false, OnOk, OnErr, IfOk, IfErr};
+ghost use Rattle.std.specs.Prelude.{◌≡◌, ◌+◌, ◌<◌, ◌^◌, ◌≤◌, true, false, OnOk, OnErr, IfOk, IfErr};
 ghost use Rattle.device.specs.Conditions.{disk_at};
 
 use crate::DeviceFault;
@@ -48,18 +48,17 @@ impl<R: Files + AllocGlobal + Clone + Drop> Disk<R> {
         ensures { IfOk result (λ disk. disk ≡ disk_at path.now) }
     {
         let path = String::from_str(rt.alloc(), path)?;
-        let condition = Condition::new(rt.alloc());
         Ok(Disk {
             rt,
             path,
-            condition,
+            condition: Condition::new(),
             trouble: None,
         })
     }
 
-    /// How many calls have stopped.
+    /// How many calls have stopped, up to the top of its type.
     pub fn stops(&self) -> usize
-        ensures { result ≡ self.now.condition.stops }
+        ensures { self.now.condition.stops < 2 ^ 64 → result ≡ self.now.condition.stops }
     {
         self.condition.stops()
     }
@@ -95,11 +94,10 @@ impl<R: Files + AllocGlobal + Clone + Drop> Disk<R> {
 
     /// A call stops over this, and from now on each call does. Gives what the call answers.
     pub fn stop(&mut self, trouble: Trouble) -> DeviceFault
+        ensures fault { result ≡ DeviceFault.Stopped }
         ensures path { self.new.path ≡ self.old.path }
         ensures broken { self.new.condition.is_broken ≡ true }
-        ensures counted { result ≡ DeviceFault.Stopped → self.new.condition.stops ≡ self.old.condition.stops + 1 }
-        ensures uncounted { result ≡ DeviceFault.NoMemory → self.new.condition.stops ≡ self.old.condition.stops }
-        ensures no_less { self.old.condition.stops ≤ self.new.condition.stops }
+        ensures counted { self.new.condition.stops ≡ self.old.condition.stops + 1 }
     {
         self.trouble = Some(trouble);
         self.condition.stop()

@@ -8,6 +8,7 @@
 
 pub mod condition;
 pub mod disk;
+pub mod history;
 pub mod schedule;
 pub mod stop_count;
 pub mod trouble;

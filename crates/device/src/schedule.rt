@@ -1,11 +1,10 @@
 //! The stops of a device in memory, which come where a schedule says so.
 
-ghost use Rattle.std.specs.Prelude.{◌≡◌, ◌+◌, ◌≤◌, true, false, OnOk, IfErr};
+ghost use Rattle.std.specs.Prelude.{◌≡◌, ◌+◌, ◌<◌, ◌^◌, true, false, OnOk, IfErr};
 ghost use Rattle.device.specs.Conditions.{whole};
 
 use crate::DeviceFault;
 use crate::condition::Condition;
-use std::alloc::Global;
 use std::marker::Model;
 
 /// Where a call stops.
@@ -49,18 +48,18 @@ impl<C> Model for Scheduled<C> {
 
 impl<C: Copy + PartialEq> Scheduled<C> {
     /// A device of which no call was made, and whose calls stop as the schedule says.
-    pub fn new(alloc: Global, schedule: Vec<Stop<C>>) -> Self
+    pub fn new(schedule: Vec<Stop<C>>) -> Self
         ensures { result ≡ whole }
     {
         Scheduled {
-            condition: Condition::new(alloc),
+            condition: Condition::new(),
             stops: schedule,
         }
     }
 
-    /// How many calls have stopped.
+    /// How many calls have stopped, up to the top of its type.
     pub fn stop_count(&self) -> usize
-        ensures { result ≡ self.now.stops }
+        ensures { self.now.stops < 2 ^ 64 → result ≡ self.now.stops }
     {
         self.condition.stops()
     }
@@ -92,12 +91,11 @@ impl<C: Copy + PartialEq> Scheduled<C> {
         met
     }
 
-    /// The call stops, and from now on each call does. Gives what the call answers: `NoMemory` where its stop cannot be counted.
+    /// The call stops, and from now on each call does. Gives what the call answers.
     pub fn stop(&mut self) -> DeviceFault
+        ensures fault { result ≡ DeviceFault.Stopped }
         ensures broken { self.new.is_broken ≡ true }
-        ensures counted { result ≡ DeviceFault.Stopped → self.new.stops ≡ self.old.stops + 1 }
-        ensures uncounted { result ≡ DeviceFault.NoMemory → self.new.stops ≡ self.old.stops }
-        ensures no_less { self.old.stops ≤ self.new.stops }
+        ensures counted { self.new.stops ≡ self.old.stops + 1 }
     {
         self.condition.stop()
     }

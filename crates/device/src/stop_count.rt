@@ -1,15 +1,19 @@
 //! How many calls of a device have stopped.
 
-ghost use Rattle.std.specs.Prelude.{◌≡◌, ◌+◌, OnOk, OnErr};
+ghost use Rattle.std.specs.Prelude.{◌≡◌, ◌+◌, ◌<◌, ◌≤◌, ◌^◌, length};
 
-use std::alloc::{AllocError, Global};
+use crate::history::History;
 use std::marker::Model;
 
-/// How many calls of a device have stopped. No number is the greatest: a stop that is counted takes memory.
+/// How many calls of a device have stopped. To contracts no number is the greatest.
 #[derive(Drop)]
 pub struct StopCount {
-    /// An element for each stop.
-    stops: Vec<u8>,
+    /// An item for each stop.
+    stops: History<()>,
+    // The same number, up to the top of its type.
+    shown: usize,
+    pub ghost same: { length stops.items < 2 ^ 64 → shown ≡ length stops.items },
+    pub ghost most: { 2 ^ 64 ≤ length stops.items → shown + 1 ≡ 2 ^ 64 },
 }
 
 impl Model for StopCount {
@@ -22,27 +26,27 @@ impl Model for StopCount {
 
 impl StopCount {
     /// None.
-    pub fn new(alloc: Global) -> Self
+    pub fn new() -> Self
         ensures { result ≡ 0 }
     {
         StopCount {
-            stops: Vec::new(alloc),
+            stops: History::new(),
+            shown: 0,
         }
     }
 
-    /// Counts a stop. `AllocError`: memory ran out, and it is not counted.
-    pub fn push(&mut self) -> Result<(), AllocError>
-        ensures counted { OnOk result (self.new ≡ self.old + 1) }
-        ensures err { OnErr result (self.new ≡ self.old) }
+    /// Counts a stop.
+    pub fn push(&mut self)
+        ensures { self.new ≡ self.old + 1 }
     {
-        self.stops.push(0)?;
-        Ok(())
+        self.stops = self.stops.and(&());
+        self.shown = self.shown.saturating_add(1);
     }
 
-    /// The number.
+    /// The number, up to the top of its type.
     pub fn get(&self) -> usize
-        ensures { result ≡ self.now }
+        ensures { self.now < 2 ^ 64 → result ≡ self.now }
     {
-        self.stops.len()
+        self.shown
     }
 }

@@ -9,7 +9,7 @@ use Rattle.imap_session.specs.Mailboxes.{FarMailbox}
 use Rattle.imap_session.specs.Servers.{Server, selected, with_selected}
 use Rattle.exchange_laws.specs.Ends.{MayHave}
 use Rattle.imap_client.specs.Boxes.{Becomes}
-use Rattle.parts.specs.PartCalls.{DoesSome, LeavesSome, PartChanges}
+use Rattle.book_part.specs.PartCalls.{DoesSome, LeavesSome, PartChanges}
 use Rattle.far_part.specs.Chosen.{IsChosen, store_at}
 use Rattle.far_part.specs.FarFaults.{told, told_by}
 use Rattle.far_part.proofs.Mailboxes.{selected_is, changed_chosen, changed_store}

@@ -27,12 +27,12 @@ use Rattle.imap_client.specs.Sessions.{server_of}
 use Rattle.imap_client.proofs.Flagging.{selected_same, stored_is_flagged}
 use Rattle.imap_client.proofs.Removing.{swept_is_deleted}
 use Rattle.outside.specs.BoxCalls.{Tells, may_go, removed}
-use Rattle.parts.specs.PartCalls.{DoesSome, LeavesSome, Part, PartChanges}
+use Rattle.book_part.specs.PartCalls.{DoesSome, LeavesSome, Part, PartChanges}
 use Rattle.far_part.specs.declared.desk.Desk.{Desk}
 use Rattle.far_part.specs.declared.desk.Desk.TheVariants.{Open}
 use Rattle.far_part.specs.Adding.{Adds}
 use Rattle.far_part.specs.Chosen.{HasChosen, IsChosen, store_at}
-use Rattle.far_part.specs.Desks.{StandsAt, KnowsNext, server_at}
+use Rattle.far_part.specs.Desks.{StandsAt, KnowsNext, is_entered, server_at}
 use Rattle.far_part.specs.FarFaults.{told, told_by}
 use Rattle.far_part.proofs.Mailboxes.{has_chosen, selected_is, changed_chosen, changed_store, chosen_of, sound_there, store_is}
 
@@ -47,6 +47,9 @@ module _ {L : Type 0} {links : link.Ghosts L} where
 
   pub next_open : (name : List ℕ) (desk : Desk L links) (box : FarBox L links) → desk ≡ Open box → KnowsNext name desk → links.honest box.session.wire.link → box.next ≡ (store_at name (server_of box.session).mailboxes).next
   next_open name desk box e k h = subst (KnowsNext name) e k refl h
+
+  pub entered_open : (desk : Desk L links) (box : FarBox L links) → desk ≡ Open box → is_entered desk ≡ true → box.is_selected ≡ true
+  entered_open desk box e h = subst (λ (d : Desk L links). is_entered d ≡ true) e h
 
 -- ---- a call that reads
 

@@ -60,6 +60,14 @@ module _ {L : Type 0} {links : link.Ghosts L} where
   is_selected (Lost session) = false
   is_selected Moving = false
 
+  -- where a far box is there, its mailbox is selected
+  abbrev pub is_entered : Desk L links → Bool
+  is_entered (Closed session) = true
+  is_entered (Ready logged_in) = true
+  is_entered (Open far) = far.is_selected
+  is_entered (Lost session) = true
+  is_entered Moving = true
+
   -- the next UID that the far box knows of
   abbrev pub next_at : Desk L links → ℕ
   next_at (Closed session) = 0

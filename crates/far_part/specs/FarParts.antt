@@ -4,7 +4,7 @@ use Rattle.mailcore.specs.Stores.{Store}
 use Rattle.imap_link.specs.declared.link.Link as link
 use Rattle.imap_client.specs.States.{State}
 use Rattle.outside.specs.declared.fault.OutsideFault.{OutsideFault}
-use Rattle.parts.specs.Stops.{Standing}
+use Rattle.book_part.specs.Stops.{Standing}
 use Rattle.far_part.specs.declared.far_part.FarPart.{FarPart}
 use Rattle.far_part.specs.Chosen.{store_at}
 use Rattle.far_part.specs.FarStops.{StopsHere, standing_in}

@@ -4,7 +4,7 @@ use Rattle.imap_link.specs.Buffers.{SaysBye}
 use Rattle.imap_client.specs.States.{State}
 use Rattle.imap_client.specs.Tags.{LAST_TAG}
 use Rattle.outside.specs.declared.fault.OutsideFault.{OutsideFault}
-use Rattle.parts.specs.Stops.{Standing, StopsFor}
+use Rattle.book_part.specs.Stops.{Standing, StopsFor}
 
 -- The part had failed before; or a call of the link was stopped, or met the end of the bytes; or the server has said `* BYE`, which stands
 -- in the buffer; or the tags are used up.

@@ -41,6 +41,7 @@ pub(crate) fn select<L: Link>(
         × (L.honest b.session.wire.link → Enters name.now b.validity b.next (server_of session) (server_of b.session))) }
     ensures err { IfErr result (λ e. (L.honest e.1.wire.link → L.honest session.wire.link)
         × (L.honest e.1.wire.link → KeepsMailboxes (server_of session) (server_of e.1))) }
+    ensures selected { IfOk result (λ b. b.is_selected ≡ true) }
     ensures goes_on { IfOk result (λ b. StopsWith (state_of session) (state_of b.session) (Ok tt)) }
     ensures stops { IfErr result (λ e. StopsWith (state_of session) (state_of e.1) (Err (told e.0))) }
 {

@@ -11,7 +11,7 @@ ghost use Rattle.mailcore.specs.Ranges.{AreInRange};
 ghost use Rattle.mailcore.specs.Stores.{IsStore};
 ghost use Rattle.parts.specs.Drafts.{IsDraft, IsSomeDraft};
 ghost use Rattle.far_part.specs.Chosen.{Enters, KeepsMailboxes};
-ghost use Rattle.far_part.specs.Desks.{honest_at, is_selected, is_there, server_at, state_at, KnowsNext, StandsAt};
+ghost use Rattle.far_part.specs.Desks.{honest_at, is_entered, is_selected, is_there, server_at, state_at, KnowsNext, StandsAt};
 ghost use Rattle.far_part.specs.FarFaults.{told, told_by};
 ghost use Rattle.far_part.specs.FarStops.{StopsHere, StopsWith, standing_in};
 
@@ -43,6 +43,7 @@ pub struct FarPart<L: Link> {
     // Nothing has changed since the mailbox was selected, so that its next UID is known.
     is_fresh: bool,
     pub ghost there: { is_there desk ≡ true },
+    pub ghost entered: { is_entered desk ≡ true },
     // where a mailbox is selected, it is that of the account
     pub ghost stands: { StandsAt account.mailbox.items desk } by { Prim.hlevel props },
     pub ghost fresh: { is_fresh ≡ true → KnowsNext account.mailbox.items desk } by { Prim.hlevel props },
@@ -54,7 +55,7 @@ impl<L: Link + Drop> FarPart<L> {
     ghost use Rattle.outside.specs.BoxCalls.{HasNumbers, removed};
     ghost use Rattle.mailcore.specs.declared.side.Side.TheVariants.{Far};
     ghost use Rattle.outside.specs.Calls.{FromBox};
-    ghost use Rattle.parts.specs.PartCalls.{Part, PartChanges};
+    ghost use Rattle.book_part.specs.PartCalls.{Part, PartChanges};
     ghost use Rattle.far_part.specs.Chosen.{store_at};
     ghost use Rattle.imap_commands.specs.Messages.{IsMessage};
     ghost use Rattle.far_part.specs.Adding.{Adds};
@@ -360,6 +361,7 @@ fn enter<L: Link + Drop>(
         × (L.honest b.session.wire.link → Enters account.now.mailbox.items b.validity b.next (server_at desk) (server_of b.session))) }
     ensures err { IfErr result (λ e. (L.honest e.1.wire.link → honest_at desk)
         × (L.honest e.1.wire.link → KeepsMailboxes (server_at desk) (server_of e.1))) }
+    ensures entered { IfOk result (λ b. b.is_selected ≡ true) }
     ensures goes_on { IfOk result (λ b. StopsWith (state_at desk) (state_of b.session) (Ok tt)) }
     ensures stops { IfErr result (λ e. StopsWith (state_at desk) (state_of e.1) (Err (told e.0))) }
 {
@@ -387,6 +389,7 @@ fn draft_in<L: Link + Drop>(
 ) -> Result<Draft, FarFault>
     ensures was_honest { L.honest far.new.session.wire.link → L.honest far.old.session.wire.link }
     ensures next { far.new.next ≡ far.old.next }
+    ensures selected { far.new.is_selected ≡ far.old.is_selected }
     ensures stops { StopsHere (state_of far.old.session) (state_of far.new.session) (told_by result) }
     ensures remains { L.honest far.new.session.wire.link → (m : FarMailbox) → selected (server_of far.old.session) ≡ Some m
         → Remains (server_of far.old.session) (server_of far.new.session) }

@@ -43,6 +43,7 @@ impl<L: Link> Session<L> {
         requires begun { self.old.is_ready ≡ false }
         requires idle { L.honest self.old.wire.link → IsStill (ends_of (L.line self.old.wire.link) self.old.wire.heard.items) }
         ensures was_honest { L.honest self.new.wire.link → L.honest self.old.wire.link }
+        ensures counts { L.stops self.old.wire.link ≤ L.stops self.new.wire.link }
         ensures tags { self.new.tags ≡ self.old.tags }
         ensures sent { SentSo tag.now (state_of self.old) (state_of self.new) result }
         ensures outcome { L.honest self.new.wire.link → (rest : List ℕ) (c : Command) → InTwo tag.now front.now rest c
@@ -67,6 +68,7 @@ impl<L: Link> Session<L> {
         requires begun { self.old.is_ready ≡ false }
         requires idle { L.honest self.old.wire.link → IsStill (ends_of (L.line self.old.wire.link) self.old.wire.heard.items) }
         ensures was_honest { L.honest self.new.wire.link → L.honest self.old.wire.link }
+        ensures counts { L.stops self.old.wire.link ≤ L.stops self.new.wire.link }
         ensures tags { self.new.tags ≡ self.old.tags }
         ensures sent { SentSo tag.now (state_of self.old) (state_of self.new) result }
         ensures outcome { L.honest self.new.wire.link → (c : Command) → InTwo tag.now front.now rest.now c
@@ -86,6 +88,7 @@ impl<L: Link> Session<L> {
     fn ask_to_add(&mut self, addition: &Addition<'_>) -> Result<usize, FarFault>
         requires { CanAdd addition.now }
         ensures was_honest { L.honest self.new.wire.link → L.honest self.old.wire.link }
+        ensures counts { L.stops self.old.wire.link ≤ L.stops self.new.wire.link }
         ensures stuck { self.old.is_ready ≡ false → self.new ≡ self.old }
         ensures asked { AskedSo (state_of self.old) (state_of self.new) result }
         ensures outcome { L.honest self.new.wire.link → Exchanged (command_at (self.old.tags + 1) (request_to_add addition.now)) result
@@ -122,6 +125,7 @@ impl<L: Link> Session<L> {
     ) -> Result<Option<Uid>, FarFault>
         requires { CanAdd addition.now }
         ensures was_honest { L.honest self.new.wire.link → L.honest self.old.wire.link }
+        ensures counts { L.stops self.old.wire.link ≤ L.stops self.new.wire.link }
         ensures stuck { self.old.is_ready ≡ false → self.new ≡ self.old }
         ensures ends { EndsSo 1 (state_of self.old) (state_of self.new) result }
         ensures outcome { L.honest self.new.wire.link → IsSelected addition.now.name.now validity next (server_of self.old)
@@ -148,12 +152,15 @@ impl<L: Link> FarBox<L> {
     pub fn append(&mut self, bytes: &[u8], flags: Flags) -> Result<Option<Uid>, FarFault>
         requires { IsMessage bytes.now }
         ensures was_honest { L.honest self.new.session.wire.link → L.honest self.old.session.wire.link }
+        ensures counts { L.stops self.old.session.wire.link ≤ L.stops self.new.session.wire.link }
         ensures stuck { self.old.session.is_ready ≡ false → self.new.session ≡ self.old.session }
         ensures ends { EndsSo 1 (state_of self.old.session) (state_of self.new.session) result }
-        ensures same { (self.new.name ≡ self.old.name) × (self.new.validity ≡ self.old.validity) }
+        ensures same { (self.new.name ≡ self.old.name) × (self.new.validity ≡ self.old.validity)
+            × (self.new.is_selected ≡ self.old.is_selected) }
         ensures next { IfOk result (λ told. self.new.next ≡ next_known self.old.next told) }
         ensures unknown { OnErr result (self.new.next ≡ self.old.next) }
-        ensures outcome { L.honest self.new.session.wire.link → (m : FarMailbox) → selected (server_of self.old.session) ≡ Some m
+        ensures outcome { L.honest self.new.session.wire.link → self.old.is_selected ≡ true
+            → (m : FarMailbox) → selected (server_of self.old.session) ≡ Some m
             → Outcome (Adds m flags bytes.now) (NoUidLeft m) (AddsSome m flags bytes.now) result (server_of self.old.session)
             (server_of self.new.session) }
     {

@@ -43,6 +43,7 @@ impl<L: Link> Session<L> {
     /// The bytes of a message of the selected mailbox, or none where it is not there.
     pub(crate) fn body(&mut self, uid: Uid) -> Result<Option<Vec<u8>>, FarFault>
         ensures was_honest { L.honest self.new.wire.link → L.honest self.old.wire.link }
+        ensures counts { L.stops self.old.wire.link ≤ L.stops self.new.wire.link }
         ensures stuck { self.old.is_ready ≡ false → self.new ≡ self.old }
         ensures ends { EndsSo 1 (state_of self.old) (state_of self.new) result }
         ensures remains { L.honest self.new.wire.link → (m : FarMailbox) → selected (server_of self.old) ≡ Some m
@@ -73,7 +74,8 @@ impl<L: Link> FarBox<L> {
             (λ after. (L.honest after.session.wire.link → L.honest self.old.session.wire.link)
             × (self.old.session.is_ready ≡ false → after.session ≡ self.old.session)
             × EndsSo 1 (state_of self.old.session) (state_of after.session) result
-            × ((after.name ≡ self.old.name) × (after.validity ≡ self.old.validity) × (after.next ≡ self.old.next))
+            × ((after.name ≡ self.old.name) × (after.validity ≡ self.old.validity) × (after.next ≡ self.old.next)
+            × (after.is_selected ≡ self.old.is_selected))
             × (L.honest after.session.wire.link → (m : FarMailbox) → selected (server_of self.old.session) ≡ Some m
             → Remains (server_of self.old.session) (server_of after.session))
             × (L.honest after.session.wire.link → (m : FarMailbox) → selected (server_of self.old.session) ≡ Some m → IsStore m.store
@@ -91,9 +93,11 @@ impl<L: Link> FarBox<L> {
     /// Fetches the bytes of a message, which `body` then lends, and says whether it is there.
     pub fn load(&mut self, uid: Uid) -> Result<bool, FarFault>
         ensures was_honest { L.honest self.new.session.wire.link → L.honest self.old.session.wire.link }
+        ensures counts { L.stops self.old.session.wire.link ≤ L.stops self.new.session.wire.link }
         ensures stuck { self.old.session.is_ready ≡ false → self.new.session ≡ self.old.session }
         ensures ends { EndsSo 1 (state_of self.old.session) (state_of self.new.session) result }
-        ensures same { (self.new.name ≡ self.old.name) × (self.new.validity ≡ self.old.validity) × (self.new.next ≡ self.old.next) }
+        ensures same { (self.new.name ≡ self.old.name) × (self.new.validity ≡ self.old.validity) × (self.new.next ≡ self.old.next)
+            × (self.new.is_selected ≡ self.old.is_selected) }
         ensures remains { L.honest self.new.session.wire.link → (m : FarMailbox) → selected (server_of self.old.session) ≡ Some m
             → Remains (server_of self.old.session) (server_of self.new.session) }
         ensures outcome { L.honest self.new.session.wire.link → (m : FarMailbox) → selected (server_of self.old.session) ≡ Some m

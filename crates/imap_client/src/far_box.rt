@@ -1,20 +1,23 @@
-//! A far mailbox: a session in which it is selected.
+//! A far mailbox: a session, and the mailbox that is selected in it.
 
-ghost use Rattle.std.specs.Prelude.{◌≡◌, ◌<◌, ◌≤◌, true, false, List, Some, length, take, IfOk, IfErr, Ok, Err};
+ghost use Rattle.std.specs.Prelude.{◌≡◌, ◌<◌, ◌≤◌, true, false, List, Some, length, take, IfOk, IfErr, IsErrOf, OnErr, OnOk, Ok, Err};
 ghost use Rattle.imap_commands.specs.declared.command.StoreMode.TheVariants as modes;
 ghost use Rattle.imap_replies.specs.declared.reply.Reply.{Reply};
 ghost use Rattle.imap_session.specs.Heard.{AreReplies};
 ghost use Rattle.imap_session.specs.Mailboxes.{FarMailbox};
-ghost use Rattle.imap_session.specs.Servers.{Server, is_logged_in, selected, with_selected};
+ghost use Rattle.imap_session.specs.Servers.{Server, is_before_login, is_logged_in, selected, with_selected};
 ghost use Rattle.imap_session.specs.NamedMessages.{stored, swept};
+ghost use Rattle.imap_link.specs.Exchanges.{Restarts};
 ghost use Rattle.imap_link.specs.Outcomes.{Outcome, Never};
 ghost use Rattle.mailcore.specs.Stores.{Store};
 ghost use Rattle.imap_client.specs.Calls.{CanAsk, each_one};
 ghost use Rattle.imap_client.specs.Boxes.{IsSelected, Selects, Chooses, NoMailbox, Becomes, Changing, one_uid, commands_for};
 ghost use Rattle.imap_answers.specs.Openings.{opening_of, IsPositive};
+ghost use Rattle.imap_client.specs.Logins.{Authenticates, Rejects};
 ghost use Rattle.imap_client.specs.Requests.{IsWord};
 ghost use Rattle.imap_answers.specs.Spoken.{Speaks};
-ghost use Rattle.imap_client.specs.States.{EndsSo};
+ghost use Rattle.imap_client.specs.States.{EndsSo, Opened, SendStops};
+ghost use Rattle.imap_client.specs.Tags.{tag_text};
 ghost use Rattle.std.proofs.Props.{props};
 
 use crate::call::Call;
@@ -27,13 +30,14 @@ use imap_link::link::Link;
 use mailcore::flags::Flags;
 use mailcore::uid::Uid;
 
-/// A far mailbox: a session in which it is selected.
+/// A far mailbox: a session, and the mailbox that is selected in it. It is closed where none is.
 ///
-/// After `Refused` it goes on. After every other fault each call answers `Stopped` and sends nothing: `into_session`
-/// gives the session back, which can be connected anew.
+/// After `Refused` it goes on. After every other fault each call answers `Stopped` and sends nothing, until `reconnect`.
 #[derive(Drop)]
 pub struct FarBox<L: Link> {
     pub(crate) session: Session<L>,
+    // The mailbox is selected. Where it is not, what follows says nothing.
+    pub(crate) is_selected: bool,
     pub(crate) name: Vec<u8>,
     pub(crate) validity: u32,
     // A UID that is above those of all messages of which the server has told: those that were there when the mailbox was
@@ -42,7 +46,7 @@ pub struct FarBox<L: Link> {
     // The bytes of the message that was fetched last.
     pub(crate) body: Vec<u8>,
     pub ghost named: { IsWord name.items },
-    pub ghost selected: { session.is_ready ≡ true → L.honest session.wire.link
+    pub ghost selected: { is_selected ≡ true → session.is_ready ≡ true → L.honest session.wire.link
         → IsSelected name.items validity next (L.line session.wire.link).end.server } by { Prim.hlevel props },
     pub ghost numbers: { (0 < validity) × (0 < next) },
 }
@@ -69,6 +73,8 @@ impl<L: Link> Session<L> {
         ensures still_honest { IfErr result (λ e. L.honest e.1.wire.link → L.honest self.wire.link) }
         ensures ok { IfOk result (λ b. EndsSo 1 (state_of self) (state_of b.session) (Ok b)) }
         ensures err { IfErr result (λ e. EndsSo {T = FarBox L L.Link} 1 (state_of self) (state_of e.1) (Err e.0)) }
+        ensures selected { IfOk result (λ b. b.is_selected ≡ true) }
+        ensures name { IfOk result (λ b. b.name.items ≡ name.now) }
         ensures selects { IfOk result (λ b. L.honest b.session.wire.link
             → Selects name.now b.validity b.next (server_of self) (server_of b.session)) }
         ensures fails { IfErr result (λ e. L.honest e.1.wire.link → is_logged_in (server_of self).condition ≡ true
@@ -85,6 +91,7 @@ impl<L: Link> Session<L> {
                 let body = Vec::new(session.wire.alloc);
                 Ok(FarBox {
                     session,
+                    is_selected: true,
                     name,
                     validity,
                     next,
@@ -99,6 +106,7 @@ impl<L: Link> Session<L> {
     fn choose(&mut self, name: &[u8]) -> Result<Chosen, FarFault>
         requires { IsWord name.now }
         ensures was_honest { L.honest self.new.wire.link → L.honest self.old.wire.link }
+        ensures counts { L.stops self.old.wire.link ≤ L.stops self.new.wire.link }
         ensures stuck { self.old.is_ready ≡ false → self.new ≡ self.old }
         ensures ends { EndsSo 1 (state_of self.old) (state_of self.new) result }
         ensures name { IfOk result (λ c. c.name.items ≡ name.now) }
@@ -156,6 +164,7 @@ impl<L: Link> Session<L> {
     pub(crate) fn change(&mut self, call: &Call<'_>) -> Result<(), FarFault>
         requires { CanAsk call.now }
         ensures was_honest { L.honest self.new.wire.link → L.honest self.old.wire.link }
+        ensures counts { L.stops self.old.wire.link ≤ L.stops self.new.wire.link }
         ensures stuck { self.old.is_ready ≡ false → self.new ≡ self.old }
         ensures ends { EndsSo 1 (state_of self.old) (state_of self.new) result }
         ensures outcome { L.honest self.new.wire.link → (m : FarMailbox) → selected (server_of self.old) ≡ Some m → (change : Store → Store)
@@ -169,6 +178,93 @@ impl<L: Link> Session<L> {
 
 impl<L: Link> FarBox<L> {
     ghost use Rattle.imap_client.specs.Sessions.{state_of, server_of};
+
+    /// A box over this session that is closed: no mailbox is selected through it.
+    pub fn closed(session: Session<L>) -> Self
+        ensures session { result.session ≡ session }
+        ensures closed { result.is_selected ≡ false }
+    {
+        let alloc = session.wire.alloc;
+        FarBox {
+            session,
+            is_selected: false,
+            name: Vec::new(alloc),
+            validity: 1,
+            next: 1,
+            body: Vec::new(alloc),
+        }
+    }
+
+    /// Starts a new connection, as `Session::reconnect` does. The box is closed then.
+    pub fn reconnect(&mut self) -> Result<(), FarFault>
+        ensures was_honest { L.honest self.new.session.wire.link → L.honest self.old.session.wire.link }
+        ensures closed { self.new.is_selected ≡ false }
+        ensures ready { OnOk result (Opened (L.stops self.old.session.wire.link) (state_of self.new.session)) }
+        ensures outcome { L.honest self.new.session.wire.link
+            → Outcome (λ _. Restarts) Never Restarts result (server_of self.old.session) (server_of self.new.session) }
+        ensures failed { OnErr result (self.new.session.is_ready ≡ false) }
+        ensures counts { L.stops self.old.session.wire.link ≤ L.stops self.new.session.wire.link }
+        ensures stopped { IsErrOf result FarFault.Stopped
+            → SendStops (tag_text 1) (state_of self.old.session) (state_of self.new.session) }
+    {
+        self.is_selected = false;
+        self.session.reconnect()
+    }
+
+    /// Logs in, as `Session::login` does. The box is closed then.
+    pub fn login(&mut self, user: &[u8], password: &[u8]) -> Result<(), FarFault>
+        requires user { IsWord user.now }
+        requires password { IsWord password.now }
+        ensures was_honest { L.honest self.new.session.wire.link → L.honest self.old.session.wire.link }
+        ensures counts { L.stops self.old.session.wire.link ≤ L.stops self.new.session.wire.link }
+        ensures stuck { self.old.session.is_ready ≡ false → self.new.session ≡ self.old.session }
+        ensures closed { self.new.is_selected ≡ false }
+        ensures ends { EndsSo 3 (state_of self.old.session) (state_of self.new.session) result }
+        ensures outcome { L.honest self.new.session.wire.link → is_before_login (server_of self.old.session).condition ≡ true
+            → Outcome (λ _. Authenticates user.now password.now) (Rejects user.now password.now) (Authenticates user.now password.now) result
+            (server_of self.old.session) (server_of self.new.session) }
+    {
+        self.is_selected = false;
+        self.session.login(user, password)
+    }
+
+    /// Selects the mailbox of this name, over the session as it stands. Behind a fault the box is closed.
+    ///
+    /// Faults: as those of `Session::select`.
+    pub fn enter(&mut self, name: &[u8]) -> Result<(), FarFault>
+        requires { IsWord name.now }
+        ensures was_honest { L.honest self.new.session.wire.link → L.honest self.old.session.wire.link }
+        ensures counts { L.stops self.old.session.wire.link ≤ L.stops self.new.session.wire.link }
+        ensures stuck { self.old.session.is_ready ≡ false → self.new.session ≡ self.old.session }
+        ensures selected { OnOk result (self.new.is_selected ≡ true) }
+        ensures closed { OnErr result (self.new.is_selected ≡ false) }
+        ensures name { OnOk result (self.new.name.items ≡ name.now) }
+        ensures ends { EndsSo 1 (state_of self.old.session) (state_of self.new.session) result }
+        ensures selects { OnOk result (L.honest self.new.session.wire.link
+            → Selects name.now self.new.validity self.new.next (server_of self.old.session) (server_of self.new.session)) }
+        ensures outcome { L.honest self.new.session.wire.link → is_logged_in (server_of self.old.session).condition ≡ true
+            → Outcome (λ _. Selects name.now self.new.validity self.new.next) (NoMailbox name.now) (Chooses name.now) result
+            (server_of self.old.session) (server_of self.new.session) }
+    {
+        self.is_selected = false;
+        let Chosen {
+            name,
+            validity,
+            next,
+        } = self.session.choose(name)?;
+        self.name = name;
+        self.validity = validity;
+        self.next = next;
+        self.is_selected = true;
+        Ok(())
+    }
+
+    /// Whether the session goes on.
+    pub fn is_ready(&self) -> bool
+        ensures { result ≡ self.now.session.is_ready }
+    {
+        self.session.is_ready()
+    }
 
     /// The UIDVALIDITY that was told when the mailbox was selected.
     pub fn validity(&self) -> u32
@@ -196,9 +292,11 @@ impl<L: Link> FarBox<L> {
     /// Sets these flags of a message. A message that is not there is passed over.
     pub fn add_flags(&mut self, uid: Uid, flags: Flags) -> Result<(), FarFault>
         ensures was_honest { L.honest self.new.session.wire.link → L.honest self.old.session.wire.link }
+        ensures counts { L.stops self.old.session.wire.link ≤ L.stops self.new.session.wire.link }
         ensures stuck { self.old.session.is_ready ≡ false → self.new.session ≡ self.old.session }
         ensures ends { EndsSo 1 (state_of self.old.session) (state_of self.new.session) result }
-        ensures same { (self.new.name ≡ self.old.name) × (self.new.validity ≡ self.old.validity) × (self.new.next ≡ self.old.next) }
+        ensures same { (self.new.name ≡ self.old.name) × (self.new.validity ≡ self.old.validity) × (self.new.next ≡ self.old.next)
+            × (self.new.is_selected ≡ self.old.is_selected) }
         ensures outcome { L.honest self.new.session.wire.link → (m : FarMailbox) → selected (server_of self.old.session) ≡ Some m
             → Outcome (λ _. Becomes (stored modes.Add flags (one_uid uid))) Never (Becomes (stored modes.Add flags (one_uid uid))) result
             (server_of self.old.session) (server_of self.new.session) }
@@ -210,9 +308,11 @@ impl<L: Link> FarBox<L> {
     /// Clears these flags of a message, as `add_flags` sets them.
     pub fn remove_flags(&mut self, uid: Uid, flags: Flags) -> Result<(), FarFault>
         ensures was_honest { L.honest self.new.session.wire.link → L.honest self.old.session.wire.link }
+        ensures counts { L.stops self.old.session.wire.link ≤ L.stops self.new.session.wire.link }
         ensures stuck { self.old.session.is_ready ≡ false → self.new.session ≡ self.old.session }
         ensures ends { EndsSo 1 (state_of self.old.session) (state_of self.new.session) result }
-        ensures same { (self.new.name ≡ self.old.name) × (self.new.validity ≡ self.old.validity) × (self.new.next ≡ self.old.next) }
+        ensures same { (self.new.name ≡ self.old.name) × (self.new.validity ≡ self.old.validity) × (self.new.next ≡ self.old.next)
+            × (self.new.is_selected ≡ self.old.is_selected) }
         ensures outcome { L.honest self.new.session.wire.link → (m : FarMailbox) → selected (server_of self.old.session) ≡ Some m
             → Outcome (λ _. Becomes (stored modes.Remove flags (one_uid uid))) Never (Becomes (stored modes.Remove flags (one_uid uid))) result
             (server_of self.old.session) (server_of self.new.session) }
@@ -225,9 +325,11 @@ impl<L: Link> FarBox<L> {
     pub fn expunge(&mut self, uids: &[Uid]) -> Result<(), FarFault>
         requires { length uids.now ≤ 5000 }
         ensures was_honest { L.honest self.new.session.wire.link → L.honest self.old.session.wire.link }
+        ensures counts { L.stops self.old.session.wire.link ≤ L.stops self.new.session.wire.link }
         ensures stuck { self.old.session.is_ready ≡ false → self.new.session ≡ self.old.session }
         ensures ends { EndsSo (commands_for uids.now) (state_of self.old.session) (state_of self.new.session) result }
-        ensures same { (self.new.name ≡ self.old.name) × (self.new.validity ≡ self.old.validity) × (self.new.next ≡ self.old.next) }
+        ensures same { (self.new.name ≡ self.old.name) × (self.new.validity ≡ self.old.validity) × (self.new.next ≡ self.old.next)
+            × (self.new.is_selected ≡ self.old.is_selected) }
         ensures outcome { L.honest self.new.session.wire.link → (m : FarMailbox) → selected (server_of self.old.session) ≡ Some m
             → Outcome (λ _. Becomes (swept (each_one uids.now))) Never (Becomes (swept (each_one uids.now))) result
             (server_of self.old.session) (server_of self.new.session) }

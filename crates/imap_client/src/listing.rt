@@ -1,6 +1,6 @@
 //! What the selected mailbox lists (RFC 9051, section 6.4.5).
 
-ghost use Rattle.std.specs.Prelude.{◌≡◌, ◌≤◌, ◌<◌, List, Some, false, length, take, map, IfOk, IfErr};
+ghost use Rattle.std.specs.Prelude.{◌≡◌, ◌≤◌, ◌<◌, List, Some, true, false, length, take, map, IfOk, IfErr};
 ghost use Rattle.imap_replies.specs.declared.reply.Reply.{Reply};
 ghost use Rattle.imap_session.specs.Heard.{AreReplies};
 ghost use Rattle.imap_session.specs.Mailboxes.{FarMailbox};
@@ -48,6 +48,7 @@ impl<L: Link> Session<L> {
     /// The messages of the selected mailbox.
     pub(crate) fn items(&mut self) -> Result<Items, FarFault>
         ensures was_honest { L.honest self.new.wire.link → L.honest self.old.wire.link }
+        ensures counts { L.stops self.old.wire.link ≤ L.stops self.new.wire.link }
         ensures stuck { self.old.is_ready ≡ false → self.new ≡ self.old }
         ensures ends { EndsSo 1 (state_of self.old) (state_of self.new) result }
         ensures remains { L.honest self.new.wire.link → (m : FarMailbox) → selected (server_of self.old) ≡ Some m
@@ -72,17 +73,19 @@ impl<L: Link> FarBox<L> {
     /// `Protocol`: a message is told without its flags or its size, or under 4294967295, too.
     pub fn list(&mut self) -> Result<Listing, FarFault>
         ensures was_honest { L.honest self.new.session.wire.link → L.honest self.old.session.wire.link }
+        ensures counts { L.stops self.old.session.wire.link ≤ L.stops self.new.session.wire.link }
         ensures stuck { self.old.session.is_ready ≡ false → self.new.session ≡ self.old.session }
         ensures ends { EndsSo 1 (state_of self.old.session) (state_of self.new.session) result }
-        ensures same { (self.new.name ≡ self.old.name) × (self.new.validity ≡ self.old.validity) × (self.new.next ≡ self.old.next) }
+        ensures same { (self.new.name ≡ self.old.name) × (self.new.validity ≡ self.old.validity) × (self.new.next ≡ self.old.next)
+            × (self.new.is_selected ≡ self.old.is_selected) }
         ensures remains { L.honest self.new.session.wire.link → (m : FarMailbox) → selected (server_of self.old.session) ≡ Some m
             → Remains (server_of self.old.session) (server_of self.new.session) }
         ensures numbers { IfOk result (λ listing. (0 < listing.validity) × (0 < listing.next)) }
-        ensures outcome { L.honest self.new.session.wire.link → (m : FarMailbox) → selected (server_of self.old.session) ≡ Some m
-            → IsStore m.store → AreInRange m.store.messages
+        ensures outcome { L.honest self.new.session.wire.link → self.old.is_selected ≡ true
+            → (m : FarMailbox) → selected (server_of self.old.session) ≡ Some m → IsStore m.store → AreInRange m.store.messages
             → Outcome (Tells (ListsFrom self.old.next m.store)) Never Remains result (server_of self.old.session) (server_of self.new.session) }
-        ensures shows { L.honest self.new.session.wire.link → (m : FarMailbox) → selected (server_of self.old.session) ≡ Some m
-            → IsStore m.store → AreInRange m.store.messages
+        ensures shows { L.honest self.new.session.wire.link → self.old.is_selected ≡ true
+            → (m : FarMailbox) → selected (server_of self.old.session) ≡ Some m → IsStore m.store → AreInRange m.store.messages
             → self.old.next ≡ m.store.next → IfOk result (λ listing. Shows Far m.store listing) }
     {
         let items = self.session.items()?;

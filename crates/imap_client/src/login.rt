@@ -31,6 +31,7 @@ impl<L: Link> Session<L> {
         requires user { IsWord user.now }
         requires password { IsWord password.now }
         ensures was_honest { L.honest self.new.wire.link → L.honest self.old.wire.link }
+        ensures counts { L.stops self.old.wire.link ≤ L.stops self.new.wire.link }
         ensures stuck { self.old.is_ready ≡ false → self.new ≡ self.old }
         ensures ends { EndsSo 3 (state_of self.old) (state_of self.new) result }
         ensures outcome { L.honest self.new.wire.link → is_before_login (server_of self.old).condition ≡ true
@@ -45,6 +46,7 @@ impl<L: Link> Session<L> {
     // Asks what the server can do.
     fn ask_abilities(&mut self) -> Result<(), FarFault>
         ensures was_honest { L.honest self.new.wire.link → L.honest self.old.wire.link }
+        ensures counts { L.stops self.old.wire.link ≤ L.stops self.new.wire.link }
         ensures stuck { self.old.is_ready ≡ false → self.new ≡ self.old }
         ensures ends { EndsSo 1 (state_of self.old) (state_of self.new) result }
         ensures outcome { L.honest self.new.wire.link → Outcome (λ _. Remains) Never Remains result (server_of self.old) (server_of self.new) }
@@ -74,6 +76,7 @@ impl<L: Link> Session<L> {
         requires user { IsWord user.now }
         requires password { IsWord password.now }
         ensures was_honest { L.honest self.new.wire.link → L.honest self.old.wire.link }
+        ensures counts { L.stops self.old.wire.link ≤ L.stops self.new.wire.link }
         ensures stuck { self.old.is_ready ≡ false → self.new ≡ self.old }
         ensures ends { EndsSo 1 (state_of self.old) (state_of self.new) result }
         ensures outcome { L.honest self.new.wire.link → is_before_login (server_of self.old).condition ≡ true
@@ -88,6 +91,7 @@ impl<L: Link> Session<L> {
     // Enables IMAP4rev2.
     fn enable(&mut self) -> Result<(), FarFault>
         ensures was_honest { L.honest self.new.wire.link → L.honest self.old.wire.link }
+        ensures counts { L.stops self.old.wire.link ≤ L.stops self.new.wire.link }
         ensures stuck { self.old.is_ready ≡ false → self.new ≡ self.old }
         ensures ends { EndsSo 1 (state_of self.old) (state_of self.new) result }
         ensures outcome { L.honest self.new.wire.link → is_logged_in (server_of self.old).condition ≡ true

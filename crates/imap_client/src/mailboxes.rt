@@ -31,6 +31,7 @@ impl<L: Link> Session<L> {
     pub fn create(&mut self, name: &[u8]) -> Result<(), FarFault>
         requires { IsWord name.now }
         ensures was_honest { L.honest self.new.wire.link → L.honest self.old.wire.link }
+        ensures counts { L.stops self.old.wire.link ≤ L.stops self.new.wire.link }
         ensures stuck { self.old.is_ready ≡ false → self.new ≡ self.old }
         ensures ends { EndsSo 1 (state_of self.old) (state_of self.new) result }
         ensures outcome { L.honest self.new.wire.link → is_logged_in (server_of self.old).condition ≡ true
@@ -46,6 +47,7 @@ impl<L: Link> Session<L> {
     /// `Refused`: the server tells none.
     pub fn list(&mut self) -> Result<Vec<MailboxName>, FarFault>
         ensures was_honest { L.honest self.new.wire.link → L.honest self.old.wire.link }
+        ensures counts { L.stops self.old.wire.link ≤ L.stops self.new.wire.link }
         ensures stuck { self.old.is_ready ≡ false → self.new ≡ self.old }
         ensures ends { EndsSo 1 (state_of self.old) (state_of self.new) result }
         ensures limits { IfOk result (λ names. list_all is_name names.items ≡ true) }

@@ -43,6 +43,7 @@ impl<L: Link> Session<L> {
     /// Where the mark stands in the selected mailbox, from this UID on.
     pub(crate) fn mark(&mut self, mark: Tuid, from: u32) -> Result<Option<Uid>, FarFault>
         ensures was_honest { L.honest self.new.wire.link → L.honest self.old.wire.link }
+        ensures counts { L.stops self.old.wire.link ≤ L.stops self.new.wire.link }
         ensures stuck { self.old.is_ready ≡ false → self.new ≡ self.old }
         ensures ends { EndsSo 1 (state_of self.old) (state_of self.new) result }
         ensures remains { L.honest self.new.wire.link → (m : FarMailbox) → selected (server_of self.old) ≡ Some m
@@ -67,9 +68,11 @@ impl<L: Link> FarBox<L> {
     /// `Protocol`: the server shows more than 22 octets of a message, or tells the mark under 4294967295, too.
     pub fn find_mark(&mut self, mark: Tuid, from: u32) -> Result<Option<Uid>, FarFault>
         ensures was_honest { L.honest self.new.session.wire.link → L.honest self.old.session.wire.link }
+        ensures counts { L.stops self.old.session.wire.link ≤ L.stops self.new.session.wire.link }
         ensures stuck { self.old.session.is_ready ≡ false → self.new.session ≡ self.old.session }
         ensures ends { EndsSo 1 (state_of self.old.session) (state_of self.new.session) result }
-        ensures same { (self.new.name ≡ self.old.name) × (self.new.validity ≡ self.old.validity) × (self.new.next ≡ self.old.next) }
+        ensures same { (self.new.name ≡ self.old.name) × (self.new.validity ≡ self.old.validity) × (self.new.next ≡ self.old.next)
+            × (self.new.is_selected ≡ self.old.is_selected) }
         ensures remains { L.honest self.new.session.wire.link → (m : FarMailbox) → selected (server_of self.old.session) ≡ Some m
             → Remains (server_of self.old.session) (server_of self.new.session) }
         ensures outcome { L.honest self.new.session.wire.link → (m : FarMailbox) → selected (server_of self.old.session) ≡ Some m

@@ -163,6 +163,7 @@ impl<L: Link> Session<L> {
         requires begun { self.old.is_ready ≡ false }
         requires idle { L.honest self.old.wire.link → IsStill (ends_of (L.line self.old.wire.link) self.old.wire.heard.items) }
         ensures was_honest { L.honest self.new.wire.link → L.honest self.old.wire.link }
+        ensures counts { L.stops self.old.wire.link ≤ L.stops self.new.wire.link }
         ensures tags { self.new.tags ≡ self.old.tags }
         ensures sent { SentSo command.now.tag (state_of self.old) (state_of self.new) result }
         ensures outcome { L.honest self.new.wire.link → AnsweredSo command.now result self.new.wire.heard.items (server_of self.old)
@@ -207,6 +208,7 @@ impl<L: Link> Session<L> {
         requires begun { self.old.is_ready ≡ false }
         requires idle { L.honest self.old.wire.link → IsStill (ends_of (L.line self.old.wire.link) self.old.wire.heard.items) }
         ensures was_honest { L.honest self.new.wire.link → L.honest self.old.wire.link }
+        ensures counts { L.stops self.old.wire.link ≤ L.stops self.new.wire.link }
         ensures asked { ExchangedSo (state_of self.old) (state_of self.new) result }
         ensures outcome { L.honest self.new.wire.link → AnsweredSo (command_at (self.old.tags + 1) request) result self.new.wire.heard.items
             (server_of self.old) (server_of self.new) }
@@ -224,6 +226,7 @@ impl<L: Link> Session<L> {
     pub(crate) fn ask_status(&mut self, call: &Call<'_>) -> Result<Answered, FarFault>
         requires { CanAsk call.now }
         ensures was_honest { L.honest self.new.wire.link → L.honest self.old.wire.link }
+        ensures counts { L.stops self.old.wire.link ≤ L.stops self.new.wire.link }
         ensures stuck { self.old.is_ready ≡ false → self.new ≡ self.old }
         ensures asked { AskedSo (state_of self.old) (state_of self.new) result }
         ensures outcome { L.honest self.new.wire.link → AnsweredSo (command_at (self.old.tags + 1) (request_of call.now)) result
@@ -242,6 +245,7 @@ impl<L: Link> Session<L> {
     pub(crate) fn ask(&mut self, call: &Call<'_>) -> Result<usize, FarFault>
         requires { CanAsk call.now }
         ensures was_honest { L.honest self.new.wire.link → L.honest self.old.wire.link }
+        ensures counts { L.stops self.old.wire.link ≤ L.stops self.new.wire.link }
         ensures stuck { self.old.is_ready ≡ false → self.new ≡ self.old }
         ensures asked { AskedSo (state_of self.old) (state_of self.new) result }
         ensures outcome { L.honest self.new.wire.link → Exchanged (command_at (self.old.tags + 1) (request_of call.now)) result

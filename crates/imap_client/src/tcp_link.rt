@@ -1,6 +1,6 @@
 //! A link over TCP.
 
-ghost use Rattle.std.specs.Prelude.{◌≡◌, ◌<◌, ◌≤◌};
+ghost use Rattle.std.specs.Prelude.{◌≡◌, ◌<◌};
 
 use device::stop_count::StopCount;
 use imap_link::link::{Link, LinkFault};
@@ -38,26 +38,23 @@ impl<R: Net + AllocGlobal + Clone + Drop> TcpLink<R> {
     /// The same, where what the system says is noted there.
     pub fn noting(rt: R, address: &str, unreached: Unreached) -> Result<Self, AllocError> {
         let address = String::from_str(rt.alloc(), address)?;
-        let stops = StopCount::new(rt.alloc());
         Ok(TcpLink {
             rt,
             address,
             stream: None,
-            stops,
+            stops: StopCount::new(),
             unreached,
         })
     }
 
     // Counts a stop.
     fn stopped(&mut self) -> LinkFault
-        ensures counted { result ≡ LinkFault.Stopped → self.old.stops < self.new.stops }
-        ensures no_less { self.old.stops ≤ self.new.stops }
+        ensures fault { result ≡ LinkFault.Stopped }
+        ensures counted { self.old.stops < self.new.stops }
     {
         self.stream = None;
-        match self.stops.push() {
-            Ok(()) => LinkFault::Stopped,
-            Err(_) => LinkFault::NoMemory,
-        }
+        self.stops.push();
+        LinkFault::Stopped
     }
 }
 

@@ -50,7 +50,7 @@ impl Face {
             sent: Sent::new(),
             changed: false,
             is_lost: false,
-            stops: StopCount::new(alloc),
+            stops: StopCount::new(),
             words,
         }
     }
@@ -177,10 +177,10 @@ impl Face {
         Ok(())
     }
 
-    /// Gives the connection up. Gives what the call answers: `NoMemory` where the stop cannot be counted.
+    /// Gives the connection up. Gives what the call answers.
     fn lose(&mut self) -> LinkFault
-        ensures counted { result ≡ LinkFault.Stopped → self.old.stops < self.new.stops }
-        ensures no_less { self.old.stops ≤ self.new.stops }
+        ensures fault { result ≡ LinkFault.Stopped }
+        ensures counted { self.old.stops < self.new.stops }
         ensures incoming { self.new.incoming ≡ self.old.incoming }
         ensures ready { self.new.ready ≡ self.old.ready }
         ensures changed { self.new.changed ≡ self.old.changed }
@@ -189,9 +189,7 @@ impl Face {
             self.words.note_unread(self.incoming.first(UNREAD_MAX));
         }
         self.is_lost = true;
-        match self.stops.push() {
-            Ok(()) => LinkFault::Stopped,
-            Err(AllocError) => LinkFault::NoMemory,
-        }
+        self.stops.push();
+        LinkFault::Stopped
     }
 }

@@ -1,6 +1,6 @@
 //! A Maildir folder on a disk.
 
-ghost use Rattle.std.specs.Prelude.{◌≡◌, Err, IfOk, false};
+ghost use Rattle.std.specs.Prelude.{◌≡◌, ◌<◌, ◌^◌, Err, IfOk, false};
 ghost use Rattle.device.specs.Calls.{Rest};
 ghost use Rattle.device.specs.Conditions.{disk_at};
 ghost use Rattle.maildir.specs.DiskFolders.{seen_on_disk};
@@ -82,9 +82,9 @@ impl<R: Files + AllocGlobal + Clone + Drop> DiskFolder<R> {
         Ok(folder)
     }
 
-    /// How many calls have stopped.
+    /// How many calls have stopped, up to the top of its type.
     pub fn stops(&self) -> usize
-        ensures { result ≡ self.now.condition.stops }
+        ensures { self.now.condition.stops < 2 ^ 64 → result ≡ self.now.condition.stops }
     {
         self.disk.stops()
     }
@@ -237,12 +237,15 @@ impl<R: Files + Clock + AllocGlobal + Clone + Drop> DiskFolder<R> {
 }
 
 impl<R: Files + Clock + AllocGlobal + Clone + Drop> Folder for DiskFolder<R> {
-    ghost use Rattle.std.specs.Prelude.{false};
+    ghost use Rattle.std.specs.Prelude.{false, true};
     ghost use Rattle.maildir.specs.DiskFolders.{seen_on_disk};
 
     ghost is_honest = { false };
 
     ghost seen = { seen_on_disk };
+
+    // No contract can say what a disk outlives.
+    ghost is_synced = { λ _. true };
 
     fn names(&mut self) -> Result<Option<Vec<FileName>>, DeviceFault> {
         self.disk.check()?;

@@ -1,6 +1,6 @@
 //! A Maildir folder as a device whose calls may stop.
 
-ghost use Rattle.std.specs.Prelude.{◌≡◌, Bool, false};
+ghost use Rattle.std.specs.Prelude.{◌≡◌, Bool, false, true, OnOk};
 
 use device::DeviceFault;
 use mailcore::octets::Octets;
@@ -86,6 +86,9 @@ pub trait Folder {
     /// What is stored, whether a call has stopped since the folder was opened, and how many calls have stopped.
     ghost seen: { Self → Seen Stored };
 
+    /// What was renamed, removed and replaced so far outlives a loss of power.
+    ghost is_synced: { Self → Bool };
+
     /// The names of files in `new` and `cur`, in any order, or none where `new`, `cur` or `tmp` is missing.
     fn names(&mut self) -> Result<Option<Vec<FileName>>, DeviceFault>
         ensures { Read is_honest (λ names. Lists (listed names)) (seen self.old) (seen self.new) result };
@@ -100,19 +103,23 @@ pub trait Folder {
 
     /// Gives a file another name, in `new` or `cur`. A file that has that name already goes.
     fn rename(&mut self, from: Origin<'_>, to: Location<'_>) -> Result<(), DeviceFault>
-        ensures { Call is_honest (Renames from.entry to.entry) Nothing (seen self.old) (seen self.new) result };
+        ensures synced { is_honest ≡ true → OnOk result (is_synced self.new ≡ false) }
+        ensures call { Call is_honest (Renames from.entry to.entry) Nothing (seen self.old) (seen self.new) result };
 
     /// Removes a file. One that is not there is none that was removed, so the call stops.
     fn remove(&mut self, file: Location<'_>) -> Result<(), DeviceFault>
-        ensures { Call is_honest (Removes file.entry) Nothing (seen self.old) (seen self.new) result };
+        ensures synced { is_honest ≡ true → OnOk result (is_synced self.new ≡ false) }
+        ensures call { Call is_honest (Removes file.entry) Nothing (seen self.old) (seen self.new) result };
 
     /// Puts this text in place of the meta file's.
     fn replace_meta(&mut self, text: &[u8]) -> Result<(), DeviceFault>
-        ensures { Call is_honest (λ s s'. s' ≡ with_meta text.now s) Nothing (seen self.old) (seen self.new) result };
+        ensures synced { is_honest ≡ true → OnOk result (is_synced self.new ≡ false) }
+        ensures call { Call is_honest (λ s s'. s' ≡ with_meta text.now s) Nothing (seen self.old) (seen self.new) result };
 
     /// Makes what was renamed, removed and replaced so far outlive a loss of power.
     fn sync(&mut self) -> Result<(), DeviceFault>
-        ensures { Rest is_honest (seen self.old) (seen self.new) result };
+        ensures synced { OnOk result (is_synced self.new ≡ true) }
+        ensures call { Rest is_honest (seen self.old) (seen self.new) result };
 
     /// Opens the folder again, so that calls are answered again.
     fn reopen(&mut self)

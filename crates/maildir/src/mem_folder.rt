@@ -1,6 +1,6 @@
 //! A folder in memory, whose calls stop where a schedule says so.
 
-ghost use Rattle.std.specs.Prelude.{◌≡◌, true, map, IfOk, OnOk, OnErr, None, false, is_some};
+ghost use Rattle.std.specs.Prelude.{◌≡◌, ◌<◌, ◌^◌, true, map, IfOk, OnOk, OnErr, None, false, is_some};
 ghost use Rattle.std.specs.Option.{option_map};
 ghost use Rattle.maildir.specs.Folders.{name_of_file, is_there, renamed, bytes_of, text_of};
 
@@ -38,6 +38,8 @@ pub struct MemFolder {
     files: MemFiles,
     copy: Option<Octets>,
     meta: Option<Octets>,
+    /// Whether nothing was renamed, removed or replaced since the last sync.
+    is_synced: bool,
     stopping: Scheduled<FolderCall>,
 }
 
@@ -55,7 +57,8 @@ impl MemFolder {
             files: MemFiles::new(alloc),
             copy: None,
             meta: None,
-            stopping: Scheduled::new(alloc, schedule),
+            is_synced: true,
+            stopping: Scheduled::new(schedule),
         }
     }
 
@@ -99,9 +102,9 @@ impl MemFolder {
         self.meta.as_ref().map(|text| text.as_slice())
     }
 
-    /// How many calls have stopped.
+    /// How many calls have stopped, up to the top of its type.
     pub fn stops(&self) -> usize
-        ensures { result ≡ (seen_of self.now).stops }
+        ensures { (seen_of self.now).stops < 2 ^ 64 → result ≡ (seen_of self.now).stops }
     {
         self.stopping.stop_count()
     }
@@ -135,7 +138,7 @@ impl MemFolder {
         requires { is_there from (stored_in self.old) ≡ true }
         ensures ok { OnOk result (stored_in self.new ≡ renamed from.entry to.entry (stored_in self.old)) }
         ensures err { OnErr result (stored_in self.new ≡ stored_in self.old) }
-        ensures stopping { self.new.stopping ≡ self.old.stopping }
+        ensures stopping { (self.new.stopping ≡ self.old.stopping) × (self.new.is_synced ≡ self.old.is_synced) }
     {
         match from {
             Origin::Tmp => self.place_copy(to),
@@ -157,7 +160,7 @@ impl MemFolder {
         requires { is_some self.old.copy ≡ true }
         ensures ok { OnOk result (stored_in self.new ≡ renamed Origin.Tmp to.entry (stored_in self.old)) }
         ensures err { OnErr result (stored_in self.new ≡ stored_in self.old) }
-        ensures stopping { self.new.stopping ≡ self.old.stopping }
+        ensures stopping { (self.new.stopping ≡ self.old.stopping) × (self.new.is_synced ≡ self.old.is_synced) }
     {
         let name = copy_of(self.alloc, to.name)?;
         let key = self.files.make_room(to.name)?;
@@ -181,6 +184,8 @@ impl Folder for MemFolder {
     ghost is_honest = { true };
 
     ghost seen = { seen_of };
+
+    ghost is_synced = { λ folder. folder.is_synced };
 
     fn names(&mut self) -> Result<Option<Vec<FileName>>, DeviceFault> {
         if self.stopping.begin(FolderCall::Names)?.is_some() {
@@ -227,6 +232,7 @@ impl Folder for MemFolder {
         if stops_before(moment) || !self.has(from) {
             return Err(self.stopping.stop());
         }
+        self.is_synced = false;
         if self.move_file(from, to).is_err() {
             return Err(self.stopping.lack());
         }
@@ -241,6 +247,7 @@ impl Folder for MemFolder {
         if stops_before(moment) || !self.files.has(file) {
             return Err(self.stopping.stop());
         }
+        self.is_synced = false;
         self.files.remove(file);
         if moment.is_some() {
             return Err(self.stopping.stop());
@@ -256,6 +263,7 @@ impl Folder for MemFolder {
         let Ok(copy) = copy_of(self.alloc, text) else {
             return Err(self.stopping.lack());
         };
+        self.is_synced = false;
         self.meta = Some(copy);
         if moment.is_some() {
             return Err(self.stopping.stop());
@@ -267,6 +275,7 @@ impl Folder for MemFolder {
         if self.stopping.begin(FolderCall::Sync)?.is_some() {
             return Err(self.stopping.stop());
         }
+        self.is_synced = true;
         Ok(())
     }
 

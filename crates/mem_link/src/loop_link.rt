@@ -1,6 +1,6 @@
 //! A link to a server over a loopback connection.
 
-ghost use Rattle.std.specs.Prelude.{◌≡◌, ◌<◌, ◌≤◌, OnOk, Err};
+ghost use Rattle.std.specs.Prelude.{◌≡◌, ◌^◌, ◌<◌, ◌≤◌, OnOk, Err};
 ghost use Rattle.imap_server.specs.Boxes.{AreServed};
 
 use crate::mem_link::{MemLink, PIECE_BYTES};
@@ -75,9 +75,9 @@ impl<R: Net + AllocGlobal + Clone + Drop> LoopLink<R> {
         }
     }
 
-    /// How many calls have stopped.
+    /// How many calls have stopped, up to the top of its type.
     pub fn stops(&self) -> usize
-        ensures { result ≡ stops_of self.now.far }
+        ensures { stops_of self.now.far < 2 ^ 64 → result ≡ stops_of self.now.far }
     {
         self.far.stops()
     }

@@ -1,6 +1,6 @@
 //! A link to a server in memory.
 
-ghost use Rattle.std.specs.Prelude.{◌≡◌, ◌<◌, ◌≤◌, true, None, length, take, IsOk, IfOk, IfErr, OnOk, OnErr, IsErrOf, IfSome, Ok, Err};
+ghost use Rattle.std.specs.Prelude.{◌≡◌, ◌<◌, ◌≤◌, ◌^◌, true, None, length, take, IsOk, IfOk, IfErr, OnOk, OnErr, IsErrOf, IfSome, Ok, Err};
 ghost use Rattle.imap_session.specs.Serving.{FeedsSome};
 ghost use Rattle.imap_session.specs.Servers.{Quiet};
 ghost use Rattle.imap_session.specs.Lines.{Sends, Receives, Starts};
@@ -51,7 +51,7 @@ impl MemLink {
             schedule,
             piece: PIECE_BYTES,
             is_open: false,
-            stops: StopCount::new(alloc),
+            stops: StopCount::new(),
         }
     }
 
@@ -66,9 +66,9 @@ impl MemLink {
         link
     }
 
-    /// How many calls have stopped.
+    /// How many calls have stopped, up to the top of its type.
     pub fn stops(&self) -> usize
-        ensures { result ≡ stops_of self.now }
+        ensures { stops_of self.now < 2 ^ 64 → result ≡ stops_of self.now }
     {
         self.stops.get()
     }
@@ -100,18 +100,16 @@ impl MemLink {
         self.is_open = false;
     }
 
-    /// The link stops. Gives what the call answers: `NoMemory` where the stop cannot be counted.
+    /// The link stops. Gives what the call answers.
     pub(crate) fn stop(&mut self) -> LinkFault
+        ensures fault { result ≡ LinkFault.Stopped }
         ensures server { self.new.server.server ≡ self.old.server.server }
-        ensures counted { result ≡ LinkFault.Stopped → self.old.stops < self.new.stops }
-        ensures no_less { self.old.stops ≤ self.new.stops }
+        ensures counted { self.old.stops < self.new.stops }
         ensures loses_nothing { LosesNothing self.old → LosesNothing self.new }
     {
         self.break_off();
-        match self.stops.push() {
-            Ok(()) => LinkFault::Stopped,
-            Err(AllocError) => LinkFault::NoMemory,
-        }
+        self.stops.push();
+        LinkFault::Stopped
     }
 
     /// The link finds no memory, and stops. Gives what the call answers.

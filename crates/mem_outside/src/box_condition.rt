@@ -1,12 +1,11 @@
 //! Whether calls of the outside are answered, which calls of a mailbox stop or are refused, and how many have.
 
-ghost use Rattle.std.specs.Prelude.{◌≡◌, ◌+◌, true, false, OnOk, IfErr};
+ghost use Rattle.std.specs.Prelude.{◌≡◌, ◌<◌, ◌^◌, ◌+◌, true, false, OnOk, IfErr};
 ghost use Rattle.outside.specs.BoxCalls.{copies_made};
 ghost use Rattle.mem_outside.specs.BookFaults.{BookEnded, BookFails};
 ghost use Rattle.mem_outside.specs.BoxConditions.{Halts, ComesBehind, untouched};
 
 use crate::book_faults::told;
-use device::DeviceFault;
 use device::schedule::{Moment, Scheduled, Stop};
 use device::stop_count::StopCount;
 use outside::fault::OutsideFault;
@@ -62,21 +61,21 @@ impl Model for BoxCondition {
 impl BoxCondition {
     /// Of mailboxes of which no call was made: these calls stop, and these are refused, at whatever moment. Of a call that is in
     /// both, the refusal acts.
-    pub fn new(alloc: Global, stops: Vec<Stop<BoxCall>>, refusals: Vec<Stop<BoxCall>>) -> Self
+    pub fn new(stops: Vec<Stop<BoxCall>>, refusals: Vec<Stop<BoxCall>>) -> Self
         ensures { result ≡ untouched }
     {
         BoxCondition {
             is_broken: false,
-            stopping: Scheduled::new(alloc, stops),
-            refusing: Scheduled::new(alloc, refusals),
-            stops: StopCount::new(alloc),
-            copies: StopCount::new(alloc),
+            stopping: Scheduled::new(stops),
+            refusing: Scheduled::new(refusals),
+            stops: StopCount::new(),
+            copies: StopCount::new(),
         }
     }
 
-    /// How many calls have stopped, those of the book as well.
+    /// How many calls have stopped, those of the book as well, up to the top of its type.
     pub fn stops(&self) -> usize
-        ensures { result ≡ self.now.stops }
+        ensures { self.now.stops < 2 ^ 64 → result ≡ self.now.stops }
     {
         self.stops.get()
     }
@@ -114,15 +113,15 @@ impl BoxCondition {
         Ok(())
     }
 
-    /// Ends a call that may have made a copy. `NoMemory`: it could not be counted.
+    /// Ends a call that may have made a copy.
     pub(crate) fn end_carry(&mut self, stops: bool, carried: &Carried) -> Result<(), OutsideFault>
         requires whole { self.old.is_broken ≡ false }
         ensures counted { OnOk result (self.new ≡ record self.old { copies = self.old.copies + copies_made carried.now }) }
         ensures behind { IfErr result ComesBehind }
         ensures halted { IfErr result (λ fault. Halts fault self.old self.new) }
     {
-        if matches!(carried, Carried::Made(_)) && self.copies.push().is_err() {
-            return Err(self.lack());
+        if matches!(carried, Carried::Made(_)) {
+            self.copies.push();
         }
         if stops {
             return Err(self.stop());
@@ -140,7 +139,7 @@ impl BoxCondition {
         OutsideFault::NoMemory
     }
 
-    /// Ends a call of the book. Where it has a fault, each later call stops. `NoMemory`: its stop could not be counted, too.
+    /// Ends a call of the book. Where it has a fault, each later call stops.
     pub(crate) fn end_book(&mut self, answer: Result<(), BookFault>) -> Result<(), OutsideFault>
         ensures { BookEnded answer result self.old self.new }
     {
@@ -150,15 +149,14 @@ impl BoxCondition {
         }
     }
 
-    /// A call of the book has this fault, and from now on each call stops. Gives what it answers: `NoMemory` where its stop cannot be
-    /// counted.
+    /// A call of the book has this fault, and from now on each call stops. Gives what it answers.
     pub(crate) fn fail_book(&mut self, fault: BookFault) -> OutsideFault
         ensures { BookFails fault result self.old self.new }
     {
         self.break_off();
         let told = told(fault);
-        if told == OutsideFault::Stopped && self.stops.push().is_err() {
-            return OutsideFault::NoMemory;
+        if told == OutsideFault::Stopped {
+            self.stops.push();
         }
         told
     }
@@ -185,28 +183,24 @@ impl BoxCondition {
         self.is_broken
     }
 
-    /// The call stops. Gives what it answers: `NoMemory` where its stop cannot be counted.
+    /// The call stops. Gives what it answers.
     fn stop(&mut self) -> OutsideFault
         requires whole { self.old.is_broken ≡ false }
         ensures behind { ComesBehind result }
         ensures halted { Halts result self.old self.new }
     {
         self.break_off();
-        match self.stops.push() {
-            Ok(()) => OutsideFault::Stopped,
-            Err(_) => OutsideFault::NoMemory,
-        }
+        self.stops.push();
+        OutsideFault::Stopped
     }
 
-    /// The call is refused. Gives what it answers: `NoMemory` where its refusal cannot be counted.
+    /// The call is refused. Gives what it answers.
     fn refuse(&mut self) -> OutsideFault
         requires whole { self.old.is_broken ≡ false }
         ensures halted { Halts result self.old self.new }
     {
         self.break_off();
-        match self.refusing.stop() {
-            DeviceFault::Stopped => OutsideFault::Refused,
-            DeviceFault::NoMemory => OutsideFault::NoMemory,
-        }
+        self.refusing.stop();
+        OutsideFault::Refused
     }
 }

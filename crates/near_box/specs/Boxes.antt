@@ -1,5 +1,5 @@
 -- A box and its folder as the clauses of its calls name them.
-use Rattle.std.specs.Prelude.{Result, vec_len}
+use Rattle.std.specs.Prelude.{Result, length}
 use Rattle.device.specs.Calls.{Effect, Seen}
 use Rattle.maildir.specs.declared.folder.Folder as folder
 use Rattle.maildir.specs.Folders.{Stored}
@@ -21,7 +21,7 @@ module _ {F : Type 0} {folders : folder.Ghosts F} where
 
   -- the box between two calls
   abbrev pub box_of : NearBox F folders → Box
-  box_of near = record { is_ready = near.is_ready; fresh = near.fresh; missed = vec_len near.missed; folder = seen_in near }
+  box_of near = record { is_ready = near.is_ready; fresh = near.fresh; missed = length near.missed.items; folder = seen_in near }
 
   -- the mailbox that stands in its folder
   abbrev pub mailbox_of : NearBox F folders → Near

@@ -33,15 +33,9 @@ Reads old new (Err Gone) = Answers old new
 Reads old new (Err (Device DeviceStopped)) = (old.is_broken ≡ false → old.stops < new.stops) × (new.is_broken ≡ true)
 Reads old new (Err (Device DeviceNoMemory)) = old.stops ≤ new.stops
 
--- what a fault in reading is to the caller, with the files that the box has missed: one that is gone counts, if memory
--- suffices, and is told as a stop
+-- what a fault in reading is to the caller, with how many files the box has missed: one that is gone counts, and is told as a stop
 abbrev pub Told : ReadFault → (old new : ℕ) → NearFault → Type 0
-Told Gone old new Stopped = old < new
-Told Gone old new NoMemory = new ≡ old
-Told Gone old new Absent = ⊥
-Told Gone old new TwoWithOneUid = ⊥
-Told Gone old new BadMeta = ⊥
-Told Gone old new UidsExhausted = ⊥
+Told Gone old new told = (told ≡ Stopped) × (new ≡ old + 1)
 Told (Device fault) old new told = (told ≡ near_fault fault) × (new ≡ old)
 
 -- ---- the box

@@ -23,6 +23,11 @@ abbrev pub Tells : {B F : Type 0} → (fresh : ℕ) → Stored → Result B (Nea
 Tells fresh s (Ok box) = IsMailbox fresh s
 Tells fresh s (Err fault) = TellsWhy fresh s fault.0
 
+-- the same of a box that has its folder already
+abbrev pub TellsOf : {T : Type 0} → (fresh : ℕ) → Stored → Result T NearFault → Type 0
+TellsOf fresh s (Ok answer) = IsMailbox fresh s
+TellsOf fresh s (Err fault) = TellsWhy fresh s fault
+
 -- ---- calls that write
 
 -- with the effect where the answer is Ok, else without it, or with it, or with a part of it

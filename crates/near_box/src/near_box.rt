@@ -3,7 +3,7 @@
 ghost use Rattle.std.specs.Prelude.{◌≡◌, ◌≢◌, ◌↔◌, ◌<◌, ◌≤◌, ◌+◌, ◌^◌, ◌++◌, ◌∷◌, [], true, false, length, vec_len, slice_get, is_some, IsTrue};
 ghost use Rattle.std.specs.Prelude.{All, Some, None, IsErrOf, if◌then◌else◌, IfErr, IfOk, OnOk};
 ghost use Rattle.near_box.specs.declared.survey.Entry.{Entry};
-ghost use Rattle.device.specs.Calls.{Nothing};
+ghost use Rattle.device.specs.Calls.{Nothing, Reopens};
 ghost use Rattle.std.specs.Int.NonZero.{non_zero_u32_get};
 ghost use Rattle.std.specs.Option.{option_map};
 ghost use Rattle.mailcore.specs.FlagSet.{union, minus};
@@ -11,12 +11,12 @@ ghost use Rattle.mailcore.specs.Operations.{Shows, ShowsAbove, bytes_of, expunge
 ghost use Rattle.near_box.specs.Entries.{NoneAbove};
 ghost use Rattle.near_box.specs.FlagChanges.{changed_flags};
 ghost use Rattle.near_box.specs.Mailboxes.{IsMailbox, IsMetaOf, near_of, on_store, delivered, admitted_near, meta_at, waiting_names};
-ghost use Rattle.near_box.specs.NearContracts.{Tells, Changes, ExpungesSome, SetsAside, AdmitsSome};
+ghost use Rattle.near_box.specs.NearContracts.{Tells, TellsOf, Changes, ExpungesSome, SetsAside, AdmitsSome};
 ghost use Rattle.maildir.specs.Folders.{renamed_file, with_meta};
 ghost use Rattle.maildir.specs.Metas.{meta_text};
 ghost use Rattle.near_box.specs.NearEffects.{flagged_files, without_uids, RemovesSome, Admits, AdmitsIf, AppendsPart, admitted, appended};
 ghost use Rattle.near_box.specs.NearEffects.{copy_name as copy_name_of, file_of, name_flagged, raised, set_name};
-ghost use Rattle.near_box.specs.NearCalls.{Part, Told, Ends, Opens, Keeps};
+ghost use Rattle.near_box.specs.NearCalls.{Part, Told, Ends, Looks, Opens, Keeps};
 ghost use Rattle.near_box.specs.Surveys.{Surveys, Extends, entries_from, entry_at};
 ghost use Rattle.std.proofs.Props.{props};
 
@@ -26,6 +26,7 @@ use crate::near_fault::NearFault;
 use crate::read_fault::ReadFault;
 use crate::reading::{find_mark, find_message, listed};
 use crate::survey::{Entry, Survey, survey_of};
+use device::history::History;
 use mailcore::flags::Flags;
 use mailcore::listing::Listing;
 use mailcore::octets::Octets;
@@ -37,9 +38,10 @@ use maildir::meta::Meta;
 use std::alloc::Global;
 use std::num::NonZeroU32;
 
-/// The mailbox that stands in a folder.
+/// The mailbox that stands in a folder: closed, or open.
 ///
-/// After `Stopped` and `NoMemory` every call answers `Stopped`, until the folder's `reopen` and a new `open`; after others it goes on.
+/// Of a closed one every call but `enter` and `reopen` answers `Stopped`. So does that of an open one after `Stopped` and `NoMemory`,
+/// until `reopen` and `enter`, or the folder's `reopen` and a new `open`; after other faults it goes on.
 #[derive(Drop)]
 pub struct NearBox<F: Folder> {
     alloc: Global,
@@ -47,8 +49,8 @@ pub struct NearBox<F: Folder> {
     fresh: u32,
     survey: Survey,
     body: Vec<u8>,
-    // One for each file that stood in the folder and was gone when it was to be read.
-    missed: Vec<()>,
+    // An item for each file that stood in the folder and was gone when it was to be read.
+    missed: History<()>,
     is_ready: bool,
     pub ghost is_whole: { is_ready ≡ true → (F.seen folder).is_broken ≡ false },
     pub ghost has_numbers: { (0 < survey.meta.validity) × (0 < survey.meta.next) },
@@ -70,7 +72,7 @@ impl<F: Folder> NearBox<F> {
     pub fn open(alloc: Global, folder: F, fresh: NonZeroU32) -> Result<NearBox<F>, (NearFault, F)>
         ensures opens { Opens (λ near. F.seen near.folder) F.seen (F.seen folder) result }
         ensures keeps { F.is_honest ≡ true → Keeps (λ near. F.seen near.folder) F.seen (F.seen folder) result }
-        ensures ready { IfOk result (λ near. (near.is_ready ≡ true) × (near.fresh ≡ non_zero_u32_get fresh) × (vec_len near.missed ≡ 0)) }
+        ensures ready { IfOk result (λ near. (near.is_ready ≡ true) × (near.fresh ≡ non_zero_u32_get fresh) × (length near.missed.items ≡ 0)) }
         ensures mailbox { F.is_honest ≡ true → Tells (non_zero_u32_get fresh) (F.seen folder).stored result }
     {
         let mut folder = folder;
@@ -81,11 +83,59 @@ impl<F: Folder> NearBox<F> {
                 fresh: fresh.get(),
                 survey,
                 body: Vec::new(alloc),
-                missed: Vec::new(alloc),
+                missed: History::new(),
                 is_ready: true,
             }),
             Err(fault) => Err((fault, folder)),
         }
+    }
+
+    /// The mailbox of a folder, closed. Its validity is `fresh` where the folder has no meta file. The folder is not called.
+    pub fn closed(alloc: Global, folder: F, fresh: NonZeroU32) -> NearBox<F>
+        ensures folder { result.folder ≡ folder }
+        ensures fresh { result.fresh ≡ non_zero_u32_get fresh }
+        ensures closed { (result.is_ready ≡ false) × (length result.missed.items ≡ 0) }
+    {
+        NearBox {
+            alloc,
+            folder,
+            fresh: fresh.get(),
+            survey: Survey::none(alloc, fresh),
+            body: Vec::new(alloc),
+            missed: History::new(),
+            is_ready: false,
+        }
+    }
+
+    /// Opens the mailbox, anew where it is open, with the validity `fresh` where the folder has no meta file. It reads the folder and
+    /// changes nothing. Beside a fault the mailbox is closed.
+    ///
+    /// Faults: `Stopped` and `NoMemory`, and the first that holds of `Absent`, `TwoWithOneUid` and `BadMeta`.
+    pub fn enter(&mut self, fresh: NonZeroU32) -> Result<(), NearFault>
+        ensures looks { Looks (seen_in self.old) (seen_in self.new) result }
+        ensures keeps { F.is_honest ≡ true → stored_in self.new ≡ stored_in self.old }
+        ensures ready { OnOk result (self.new.is_ready ≡ true) }
+        ensures closed { IfErr result (λ _. self.new.is_ready ≡ false) }
+        ensures fresh { self.new.fresh ≡ non_zero_u32_get fresh }
+        ensures missed { self.new.missed ≡ self.old.missed }
+        ensures mailbox { F.is_honest ≡ true → TellsOf (non_zero_u32_get fresh) (stored_in self.old) result }
+    {
+        self.is_ready = false;
+        self.fresh = fresh.get();
+        self.survey = survey_of(self.alloc, &mut self.folder, fresh)?;
+        self.is_ready = true;
+        Ok(())
+    }
+
+    /// Closes the mailbox, and opens its folder again: its calls are answered again.
+    pub fn reopen(&mut self)
+        ensures folder { Reopens (seen_in self.old) (seen_in self.new) }
+        ensures closed { self.new.is_ready ≡ false }
+        ensures fresh { self.new.fresh ≡ self.old.fresh }
+        ensures missed { self.new.missed ≡ self.old.missed }
+    {
+        self.is_ready = false;
+        self.folder.reopen();
     }
 
     /// Gives the folder back, without taking memory.
@@ -109,7 +159,7 @@ impl<F: Folder> NearBox<F> {
     pub fn list(&mut self) -> Result<Listing, NearFault>
         ensures shows { F.is_honest ≡ true → IfOk result (λ listing. Shows Side.Near (mailbox_of self.old).store listing) }
         ensures numbers { IfOk result (λ listing. (0 < listing.validity) × (0 < listing.next)) }
-        ensures keeps { F.is_honest ≡ true → (stored_in self.new ≡ stored_in self.old) × (vec_len self.new.missed ≡ vec_len self.old.missed) }
+        ensures keeps { F.is_honest ≡ true → (stored_in self.new ≡ stored_in self.old) × (length self.new.missed.items ≡ length self.old.missed.items) }
         ensures ends { Ends false (box_of self.old) (box_of self.new) result }
     {
         self.list_above(0)
@@ -119,7 +169,7 @@ impl<F: Folder> NearBox<F> {
     pub fn list_above(&mut self, from: u32) -> Result<Listing, NearFault>
         ensures shows { F.is_honest ≡ true → IfOk result (λ listing. ShowsAbove Side.Near from (mailbox_of self.old).store listing) }
         ensures numbers { IfOk result (λ listing. (0 < listing.validity) × (0 < listing.next)) }
-        ensures keeps { F.is_honest ≡ true → (stored_in self.new ≡ stored_in self.old) × (vec_len self.new.missed ≡ vec_len self.old.missed) }
+        ensures keeps { F.is_honest ≡ true → (stored_in self.new ≡ stored_in self.old) × (length self.new.missed.items ≡ length self.old.missed.items) }
         ensures untouched { NoneAbove from self.old.survey.entries.items → self.new.folder ≡ self.old.folder }
         ensures known { F.is_honest ≡ true → All (λ m. m.uid ≤ from) (mailbox_of self.old).store.messages → self.new.folder ≡ self.old.folder }
         ensures ends { Ends false (box_of self.old) (box_of self.new) result }
@@ -141,7 +191,7 @@ impl<F: Folder> NearBox<F> {
     pub fn fetch(&mut self, uid: Uid) -> Result<Option<&[u8]>, NearFault>
         ensures bytes { F.is_honest ≡ true → IfOk result (λ found. option_map (λ b. b.now) found ≡ bytes_of uid (mailbox_of self.old).store) }
         ensures* behind { sem 𝓛 (follows_so (the_row F.row F.Folder) (the_row F.row F.Folder) self.entry.ghost_name none (λ _ _. ⊤)
-            (λ after. (F.is_honest ≡ true → (stored_in after ≡ stored_in self.old) × (vec_len after.missed ≡ vec_len self.old.missed))
+            (λ after. (F.is_honest ≡ true → (stored_in after ≡ stored_in self.old) × (length after.missed.items ≡ length self.old.missed.items))
             × Ends false (box_of self.old) (box_of after) result)) }
     {
         if self.load(uid)? {
@@ -155,7 +205,7 @@ impl<F: Folder> NearBox<F> {
     pub fn load(&mut self, uid: Uid) -> Result<bool, NearFault>
         ensures bytes { F.is_honest ≡ true
             → IfOk result (λ is_there. bytes_of uid (mailbox_of self.old).store ≡ (if is_there then Some self.new.body.items else None)) }
-        ensures keeps { F.is_honest ≡ true → (stored_in self.new ≡ stored_in self.old) × (vec_len self.new.missed ≡ vec_len self.old.missed) }
+        ensures keeps { F.is_honest ≡ true → (stored_in self.new ≡ stored_in self.old) × (length self.new.missed.items ≡ length self.old.missed.items) }
         ensures ends { Ends false (box_of self.old) (box_of self.new) result }
     {
         self.begin()?;
@@ -183,7 +233,7 @@ impl<F: Folder> NearBox<F> {
     /// The least UID of at least `from` whose message has the mark: one `read` for each message from there on whose mark is not known.
     pub fn find_mark(&mut self, mark: Tuid, from: u32) -> Result<Option<Uid>, NearFault>
         ensures found { F.is_honest ≡ true → IfOk result (λ found. found ≡ marked_from mark from (mailbox_of self.old).store) }
-        ensures keeps { F.is_honest ≡ true → (stored_in self.new ≡ stored_in self.old) × (vec_len self.new.missed ≡ vec_len self.old.missed) }
+        ensures keeps { F.is_honest ≡ true → (stored_in self.new ≡ stored_in self.old) × (length self.new.missed.items ≡ length self.old.missed.items) }
         ensures ends { Ends false (box_of self.old) (box_of self.new) result }
     {
         self.begin()?;
@@ -316,7 +366,8 @@ impl<F: Folder> NearBox<F> {
 
     /// Makes what was renamed, removed and replaced so far outlive a loss of power: one `sync` of the folder.
     pub fn sync(&mut self) -> Result<(), NearFault>
-        ensures keeps { F.is_honest ≡ true → (stored_in self.new ≡ stored_in self.old) × (vec_len self.new.missed ≡ vec_len self.old.missed) }
+        ensures synced { OnOk result (F.is_synced self.new.folder ≡ true) }
+        ensures keeps { F.is_honest ≡ true → (stored_in self.new ≡ stored_in self.old) × (length self.new.missed.items ≡ length self.old.missed.items) }
         ensures ends { Ends false (box_of self.old) (box_of self.new) result }
     {
         self.begin()?;
@@ -345,13 +396,13 @@ impl<F: Folder> NearBox<F> {
     fn failed(&mut self, fault: ReadFault) -> NearFault
         ensures folder { self.new.folder ≡ self.old.folder }
         ensures same { (self.new.is_ready ≡ self.old.is_ready) × (self.new.fresh ≡ self.old.fresh) }
-        ensures told { Told fault (vec_len self.old.missed) (vec_len self.new.missed) result }
+        ensures told { Told fault (length self.old.missed.items) (length self.new.missed.items) result }
     {
         match fault {
-            ReadFault::Gone => match self.missed.push(()) {
-                Ok(()) => NearFault::Stopped,
-                Err(_) => NearFault::NoMemory,
-            },
+            ReadFault::Gone => {
+                self.missed = self.missed.and(&());
+                NearFault::Stopped
+            }
             ReadFault::Device(fault) => NearFault::from(fault),
         }
     }

@@ -10,7 +10,7 @@ use thiserror::Error;
 #[derive(Clone, Copy, Debug, PartialEq, Eq, Error)]
 pub enum NearFault {
     /// A call of the folder stopped, a file that stood there when the box was opened is gone, or an earlier call of the box
-    /// failed.
+    /// failed, or the box is closed.
     #[error("stopped")]
     Stopped,
     /// The folder lacks `cur`, `new` or `tmp`.

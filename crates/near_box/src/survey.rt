@@ -7,7 +7,7 @@ ghost use Rattle.std.specs.Ordering.{nat_cmp};
 ghost use Rattle.std.specs.Int.NonZero.{non_zero_u32_get};
 ghost use Rattle.maildir.specs.declared.meta.Meta.{Meta};
 ghost use Rattle.maildir.specs.Folders.{Stored, Lists, text_of};
-ghost use Rattle.near_box.specs.Mailboxes.{meta_in};
+ghost use Rattle.near_box.specs.Mailboxes.{first_meta, meta_in};
 ghost use Rattle.maildir.specs.Names.{name_of};
 ghost use Rattle.near_box.specs.NearCalls.{Looks};
 ghost use Rattle.near_box.specs.SurveyParts.{IsKind, IsOwnFault, SurveyTells, file_cmp, is_before, named_entry, waits};
@@ -47,6 +47,21 @@ pub struct Survey {
     pub has_meta: bool,
     /// What is known of the marks of the messages.
     pub marks: KnownMarks,
+}
+
+impl Survey {
+    /// That of a folder that was not read yet.
+    pub fn none(alloc: Global, fresh: NonZeroU32) -> Self
+        ensures numbers { (0 < result.meta.validity) × (0 < result.meta.next) }
+    {
+        Survey {
+            entries: Vec::new(alloc),
+            waiting: Vec::new(alloc),
+            meta: first_meta(fresh),
+            has_meta: false,
+            marks: KnownMarks::new(alloc),
+        }
+    }
 }
 
 /// What stands in a folder, whose validity is `fresh` where it has no meta file. It reads and changes nothing.
@@ -207,10 +222,18 @@ fn meta_from(text: Option<Vec<u8>>, fresh: NonZeroU32) -> Option<Meta>
 {
     match text {
         Some(text) => Meta::read(&text),
-        None => Some(Meta {
-            validity: fresh.get(),
-            next: 1,
-        }),
+        None => Some(first_meta(fresh)),
+    }
+}
+
+/// What a mailbox without a meta file begins with.
+fn first_meta(fresh: NonZeroU32) -> Meta
+    ensures value { result ≡ first_meta (non_zero_u32_get fresh) }
+    ensures numbers { (0 < result.validity) × (0 < result.next) }
+{
+    Meta {
+        validity: fresh.get(),
+        next: 1,
     }
 }
 

@@ -13,7 +13,7 @@ use Rattle.near_box.specs.NearCalls.{Box, Ends, Halts, Looks, stops_of}
 use Rattle.outside.specs.declared.fault.OutsideFault.{OutsideFault}
 use Rattle.outside.specs.declared.fault.OutsideFault.TheVariants as fault
 use Rattle.outside.specs.Calls.{FromBook}
-use Rattle.parts.specs.Stops.{HasCause, Standing, StopsSo}
+use Rattle.book_part.specs.Stops.{HasCause, Standing, StopsSo}
 use Rattle.near_part.specs.declared.desk.Desk.{Desk}
 use Rattle.near_part.specs.declared.desk.Desk.TheVariants.{Open}
 use Rattle.near_part.specs.Desks.{goes_on, stops_at}

@@ -5,7 +5,7 @@ use Rattle.maildir.specs.Folders.{Stored}
 use Rattle.near_box.specs.declared.near_box.NearBox.{NearBox}
 use Rattle.near_box.specs.Boxes.{box_of}
 use Rattle.near_box.specs.NearCalls.{stops_of}
-use Rattle.parts.specs.Stops.{Standing}
+use Rattle.book_part.specs.Stops.{Standing}
 use Rattle.near_part.specs.declared.desk.Desk.{Desk}
 use Rattle.near_part.specs.declared.desk.Desk.TheVariants.{Closed, Open, Moving}
 

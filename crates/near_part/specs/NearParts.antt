@@ -5,7 +5,7 @@ use Rattle.maildir.specs.declared.folder.Folder as folder
 use Rattle.maildir.specs.Folders.{Stored}
 use Rattle.near_box.specs.Mailboxes.{Near, near_of, delivered}
 use Rattle.outside.specs.declared.fault.OutsideFault.{OutsideFault}
-use Rattle.parts.specs.Stops.{Standing, StopsSo}
+use Rattle.book_part.specs.Stops.{Standing, StopsSo}
 use Rattle.near_part.specs.declared.near_part.NearPart.{NearPart}
 use Rattle.near_part.specs.Desks as desks
 

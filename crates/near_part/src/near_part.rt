@@ -8,7 +8,7 @@ ghost use Rattle.near_box.specs.Boxes.{TurnsMailbox, box_of, mailbox_of as mailb
 ghost use Rattle.near_box.specs.Mailboxes.{on_store};
 ghost use Rattle.near_box.specs.NearCalls.{Ends};
 ghost use Rattle.parts.specs.Drafts.{IsDraft, IsSomeDraft};
-ghost use Rattle.parts.specs.Stops.{StopsSo};
+ghost use Rattle.book_part.specs.Stops.{StopsSo};
 ghost use Rattle.near_part.specs.NearFaults.{FromNear, told_by};
 ghost use Rattle.near_part.specs.Desks.{folder_stops_at, fresh_at, goes_on, is_there, standing_in, stored_at};
 
@@ -43,8 +43,8 @@ impl<F: Folder + Drop> NearPart<F> {
     ghost use Rattle.near_box.specs.NearContracts.{AdmitsSome, SetsAside};
     ghost use Rattle.outside.specs.BoxCalls.{HasNumbers};
     ghost use Rattle.outside.specs.Calls.{FromBook, FromBox};
-    ghost use Rattle.parts.specs.PartCalls.{Part, PartChanges};
-    ghost use Rattle.parts.specs.Stops.{HasCause, standing_at};
+    ghost use Rattle.book_part.specs.PartCalls.{Part, PartChanges};
+    ghost use Rattle.book_part.specs.Stops.{HasCause, standing_at};
     ghost use Rattle.near_part.specs.NearParts.{Delivers, OpenStops, Stops, folder_of, is_open, mailbox_of, standing_of, stored_of};
 
     /// The part over this folder, whose validity is `fresh` where it has no meta file. No box is open.

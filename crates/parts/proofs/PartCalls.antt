@@ -12,7 +12,7 @@ use Rattle.outside.specs.Arrivals.{Arrives, IsMerge, none, left}
 use Rattle.outside.specs.Calls.{Call, IsCounted, IsStop, LeavesBy, stops_told}
 use Rattle.outside.specs.Devices.{Device}
 use Rattle.parts.specs.Devices.{every, seen_with}
-use Rattle.parts.specs.PartCalls.{Part, LeavesSome}
+use Rattle.book_part.specs.PartCalls.{Part, LeavesSome}
 use Rattle.parts.specs.Tallies.{Counts, Ended, Fails, IsCountedAs}
 
 -- ---- nobody else acts

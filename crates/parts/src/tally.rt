@@ -11,7 +11,7 @@ use std::alloc::Global;
 use std::marker::Model;
 
 /// Whether calls of an outside are answered, and how many of them have stopped, were refused, had another fault of a box, and
-/// have made a copy. No number is the greatest: what is counted takes memory.
+/// have made a copy. To contracts no number is the greatest.
 #[derive(Drop)]
 pub struct Tally {
     is_broken: bool,
@@ -36,10 +36,10 @@ impl Tally {
     {
         Tally {
             is_broken: false,
-            stops: StopCount::new(alloc),
-            refusals: StopCount::new(alloc),
-            faults: StopCount::new(alloc),
-            copies: StopCount::new(alloc),
+            stops: StopCount::new(),
+            refusals: StopCount::new(),
+            faults: StopCount::new(),
+            copies: StopCount::new(),
         }
     }
 
@@ -51,8 +51,6 @@ impl Tally {
     }
 
     /// Ends a call with this answer, which makes no copy. A fault is counted, and from then on each call stops.
-    ///
-    /// `NoMemory`: the fault could not be counted, too.
     pub fn end<T>(&mut self, answer: Result<T, OutsideFault>) -> Result<T, OutsideFault>
         ensures { Ended no_copies answer result self.old self.new }
     {
@@ -73,8 +71,8 @@ impl Tally {
             Ok(carried) => carried,
             Err(fault) => return Err(self.fail(fault)),
         };
-        if matches!(carried, Carried::Made(_)) && self.copies.push().is_err() {
-            return Err(self.fail(OutsideFault::NoMemory));
+        if matches!(carried, Carried::Made(_)) {
+            self.copies.push();
         }
         Ok(carried)
     }
@@ -91,17 +89,12 @@ impl Tally {
         ensures { Fails fault result self.old self.new }
     {
         self.is_broken = true;
-        let counted = match fault {
+        match fault {
             OutsideFault::Stopped => self.stops.push(),
             OutsideFault::Refused => self.refusals.push(),
             OutsideFault::Box(_, _) => self.faults.push(),
-            OutsideFault::BadState(_) | OutsideFault::BadJournal(_) | OutsideFault::NoMemory => {
-                Ok(())
-            }
-        };
-        match counted {
-            Ok(()) => fault,
-            Err(_) => OutsideFault::NoMemory,
+            OutsideFault::BadState(_) | OutsideFault::BadJournal(_) | OutsideFault::NoMemory => {}
         }
+        fault
     }
 }

@@ -4,12 +4,12 @@ use crate::failure::Failure;
 use crate::server::{TrialLink, account_of};
 use book::mem_shelf::MemShelf;
 use book_part::book_part::BookPart;
-use both::both::Both;
-use far_part::far_part::FarPart;
+use far_side::far_side::FarSide;
 use maildir::mem_folder::MemFolder;
 use maildir::meta::Meta;
-use near_part::near_part::NearPart;
+use near_side::near_side::NearSide;
 use outside::outside::Outside;
+use pair::pair::Pair;
 use rules::options::Options;
 use runner::fault::RunFault;
 use runner::pass::Settled;
@@ -49,10 +49,10 @@ impl<L: TrialLink + Drop> Devices<L> {
         options: &Options,
         tries: u32,
     ) -> Result<(Devices<L>, Ending), Failure> {
-        let far = FarPart::new(alloc, account_of(alloc)?, self.link);
+        let far = FarSide::new(alloc, account_of(alloc)?, self.link);
         // The folder of a trial has a meta file, so that this is of no use.
-        let near = NearPart::new(alloc, self.folder, NonZeroU32::MIN);
-        let outside = Both::new(alloc, far, near, BookPart::new(alloc, self.shelf));
+        let near = NearSide::new(alloc, self.folder, NonZeroU32::MIN);
+        let outside = Pair::new(alloc, far, near, BookPart::new(alloc, self.shelf));
         let (outside, settled) = settle_all(alloc, outside, options, tries);
         let (far, near, book) = outside.into_parts();
         let devices = Devices {

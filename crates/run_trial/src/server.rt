@@ -4,7 +4,7 @@ ghost use Rattle.std.specs.Prelude.{IfOk};
 ghost use Rattle.imap_server.specs.Boxes.{AreServed};
 
 use crate::failure::Failure;
-use far_part::account::Account;
+use far_side::account::Account;
 use imap_link::link::Link;
 use imap_server::served::are_served;
 use imap_server::server::Server;

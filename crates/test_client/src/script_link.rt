@@ -5,7 +5,6 @@ ghost use Rattle.std.specs.Prelude.{◌≡◌, ◌<◌, ◌≤◌, length};
 use crate::tape::Tape;
 use device::stop_count::StopCount;
 use imap_link::link::{Link, LinkFault};
-use std::alloc::Global;
 use std::cell::RefCell;
 
 /// A link whose other end says what a script says, true or not. So it is never honest in the sense of `Link`.
@@ -17,22 +16,20 @@ pub struct ScriptLink<'t> {
 
 impl<'t> ScriptLink<'t> {
     /// A link over this tape.
-    pub fn new(alloc: Global, tape: &'t RefCell<Tape>) -> ScriptLink<'t> {
+    pub fn new(tape: &'t RefCell<Tape>) -> ScriptLink<'t> {
         ScriptLink {
             tape,
-            stops: StopCount::new(alloc),
+            stops: StopCount::new(),
         }
     }
 
     // Counts a stop.
     fn stopped(&mut self) -> LinkFault
-        ensures counted { result ≡ LinkFault.Stopped → self.old.stops < self.new.stops }
-        ensures no_less { self.old.stops ≤ self.new.stops }
+        ensures fault { result ≡ LinkFault.Stopped }
+        ensures counted { self.old.stops < self.new.stops }
     {
-        match self.stops.push() {
-            Ok(()) => LinkFault::Stopped,
-            Err(_) => LinkFault::NoMemory,
-        }
+        self.stops.push();
+        LinkFault::Stopped
     }
 
     // Writes the next bytes to the front of the piece, and tells how many; none at their end.

@@ -21,7 +21,7 @@ impl<'t> Stage<'t> {
     pub fn new(alloc: Global, tape: &'t RefCell<Tape>) -> Stage<'t> {
         Stage {
             tape,
-            client: Client::new(alloc, ScriptLink::new(alloc, tape)),
+            client: Client::new(alloc, ScriptLink::new(tape)),
         }
     }
 

@@ -4,7 +4,6 @@ ghost use Rattle.std.specs.Prelude.{◌≡◌, ◌<◌, ◌≤◌};
 
 use device::stop_count::StopCount;
 use imap_link::link::{Link, LinkFault};
-use std::alloc::Global;
 
 /// A link over which these bytes come in pieces of one size, and then the end. So it is never honest in the sense of `Link`.
 #[derive(Drop)]
@@ -16,11 +15,11 @@ pub struct BytesLink<'b> {
 
 impl<'b> BytesLink<'b> {
     /// A link over which these bytes come, so many at once.
-    pub fn new(alloc: Global, bytes: &'b [u8], piece: usize) -> BytesLink<'b> {
+    pub fn new(bytes: &'b [u8], piece: usize) -> BytesLink<'b> {
         BytesLink {
             left: bytes,
             piece,
-            stops: StopCount::new(alloc),
+            stops: StopCount::new(),
         }
     }
 }
@@ -43,10 +42,8 @@ impl Link for BytesLink<'_> {
     fn recv(&mut self, piece: &mut [u8]) -> Result<usize, LinkFault> {
         let count = self.piece.min(self.left.len()).min(piece.len());
         if count == 0 {
-            return match self.stops.push() {
-                Ok(()) => Ok(0),
-                Err(_) => Err(LinkFault::NoMemory),
-            };
+            self.stops.push();
+            return Ok(0);
         }
         let (front, left) = self.left.split_at(count);
         piece[..count].copy_from_slice(front);

@@ -32,7 +32,7 @@ impl Hearing {
     /// What a client hears where these bytes come in pieces of so many.
     pub fn of(alloc: Global, bytes: &[u8], piece: usize) -> Result<Hearing, Failure> {
         let words = Rc::new(alloc, Words::new(alloc))?;
-        let mut link = FaceLink::new(alloc, BytesLink::new(alloc, bytes, piece), words.clone()?);
+        let mut link = FaceLink::new(alloc, BytesLink::new(bytes, piece), words.clone()?);
         let mut heard = Vec::new(alloc);
         let gave_up = hear_all(&mut link, &mut heard)?;
         Ok(Hearing {

@@ -60,6 +60,8 @@ impl<F: Folder> Folder for NotedFolder<F> {
 
     ghost seen = { λ noted. F.seen noted.folder };
 
+    ghost is_synced = { λ noted. F.is_synced noted.folder };
+
     fn names(&mut self) -> Result<Option<Vec<FileName>>, DeviceFault> {
         self.note(FolderCall::Names);
         self.folder.names()

@@ -60,7 +60,7 @@ impl Stage {
         } = world;
         let boxes = boxes_of(alloc, far, near, waiting);
         let shelf = shelf_with(alloc, &state, None, shelf_stops);
-        let condition = BoxCondition::new(alloc, stops, refusals);
+        let condition = BoxCondition::new(stops, refusals);
         match (boxes, shelf) {
             (Ok(boxes), Ok(shelf)) => Ok(Stage {
                 options,

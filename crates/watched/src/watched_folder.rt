@@ -55,12 +55,15 @@ impl<R: Files + AllocGlobal + Clone + Drop> WatchedFolder<R> {
 }
 
 impl<R: Files + Clock + AllocGlobal + Clone + Drop> Folder for WatchedFolder<R> {
-    ghost use Rattle.std.specs.Prelude.{false};
+    ghost use Rattle.std.specs.Prelude.{false, true};
     ghost use Rattle.maildir.specs.DiskFolders.{seen_on_disk};
 
     ghost is_honest = { false };
 
     ghost seen = { λ watched. seen_on_disk watched.folder };
+
+    // No contract can say what a disk outlives.
+    ghost is_synced = { λ _. true };
 
     fn names(&mut self) -> Result<Option<Vec<FileName>>, DeviceFault> {
         if self.watch.is_refused() {

@@ -1,4 +1,4 @@
-use Rattle.std.proofs.Common.{◌≡◌, refl, sym}
+use Rattle.std.proofs.Common.{◌∙◌, ◌≡◌, refl, sym}
 use Rattle.imap_commands.specs.declared.command.StoreMode.TheVariants as modes
 use Rattle.imap_session.specs.NamedMessages.{flags_changed, stored}
 use Rattle.imap_client.specs.Boxes.{one_uid}
@@ -7,7 +7,7 @@ use Rattle.imap_client.specs.Sessions.{server_of}
 use Rattle.imap_session.specs.Servers.{with_selected}
 use Rattle.far_part.specs.Chosen.{IsChosen}
 use Rattle.far_part.proofs.Changing.{changes_part, changes_chosen}
-use Rattle.far_part.proofs.FarCalls.{stands_open, store_open, stored_same}
+use Rattle.far_part.proofs.FarCalls.{entered_open, stands_open, store_open, stored_same}
 use Rattle.far_part.proofs.Mailboxes.{has_chosen}
 use Rattle.far_part.proofs.StopCalls.{open_stops}
 use Rattle.far_part.proofs.far_part.FarPart.add_flags.Goals as goal
@@ -23,6 +23,7 @@ invariant_of-self-2 g c =
     let same : g.L.Link.honest new.session.wire.link → with_selected (stored modes.Add c.args.flags (one_uid c.args.uid)) old ≡ with_selected (flags_changed modes.Add c.args.uid c.args.flags) old = λ h. stored_same name old modes.Add c.args.uid c.args.flags (chosen h) (g.met.L.Link.sound box.session.wire.link (was h)) in
     record {
       there = refl;
+      entered = c.add_flags.ensures.same.3 ∙ entered_open c.args.self.now.desk c.in-Open.far c.in-Open.is c.args.self.now.entered;
       stands = λ o h. has_chosen name (server_of new.session) (changes_chosen (g.L.Link.honest new.session.wire.link) name old (server_of new.session) (stored modes.Add c.args.flags (one_uid c.args.uid)) (flags_changed modes.Add c.args.uid c.args.flags) c.add_flags.result chosen same c.add_flags.ensures.outcome h);
       fresh = λ e. absurd (false≢true e);
     }

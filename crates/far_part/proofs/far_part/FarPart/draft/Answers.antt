@@ -6,7 +6,7 @@ use Rattle.parts.specs.Drafts.{IsDraft}
 use Rattle.imap_client.specs.Sessions.{server_of}
 use Rattle.imap_session.specs.Servers.{Server}
 use Rattle.far_part.specs.Chosen.{IsChosen, store_at}
-use Rattle.far_part.proofs.FarCalls.{stands_open, store_open, next_open, reads_part, reads_chosen}
+use Rattle.far_part.proofs.FarCalls.{entered_open, stands_open, store_open, next_open, reads_part, reads_chosen}
 use Rattle.far_part.proofs.Mailboxes.{selected_is, sound_there}
 use Rattle.far_part.proofs.StopCalls.{along}
 use Rattle.far_part.proofs.far_part.FarPart.draft.Goals as goal
@@ -22,6 +22,7 @@ invariant_of-self-2 g c =
     let same : g.L.Link.honest new.session.wire.link → server_of new.session ≡ old = λ h. c.draft_in.ensures.remains h (chosen h).mailbox (selected_is name old (chosen h)) in
     record {
       there = refl;
+      entered = c.draft_in.ensures.selected ∙ entered_open c.args.self.now.desk c.in-Open.far c.in-Open.is c.args.self.now.entered;
       stands = λ o h. reads_chosen name old (server_of new.session) (same h) (chosen h);
       fresh = λ e o h.
           c.draft_in.ensures.next ∙ next_open name c.args.self.now.desk box c.in-Open.is (c.args.self.now.fresh e) (was h) ∙ ap (λ (s : Server). (store_at name s.mailboxes).next) (sym (same h));

@@ -3,7 +3,7 @@ use Rattle.mailcore.specs.Operations.{marked_from}
 use Rattle.imap_client.specs.Sessions.{server_of}
 use Rattle.imap_session.specs.Servers.{Server}
 use Rattle.far_part.specs.Chosen.{IsChosen, store_at}
-use Rattle.far_part.proofs.FarCalls.{stands_open, store_open, next_open, reads_part, reads_chosen, told_ok}
+use Rattle.far_part.proofs.FarCalls.{entered_open, stands_open, store_open, next_open, reads_part, reads_chosen, told_ok}
 use Rattle.far_part.proofs.Mailboxes.{selected_is, sound_there}
 use Rattle.far_part.proofs.StopCalls.{open_stops}
 use Rattle.far_part.proofs.far_part.FarPart.find_mark.Goals as goal
@@ -19,6 +19,7 @@ invariant_of-self-2 g c =
     let same : g.L.Link.honest new.session.wire.link → server_of new.session ≡ old = λ h. c.find_mark.ensures.remains h (chosen h).mailbox (selected_is name old (chosen h)) in
     record {
       there = refl;
+      entered = c.find_mark.ensures.same.3 ∙ entered_open c.args.self.now.desk c.in-Open.far c.in-Open.is c.args.self.now.entered;
       stands = λ o h. reads_chosen name old (server_of new.session) (same h) (chosen h);
       fresh = λ e o h.
           c.find_mark.ensures.same.2 ∙ next_open name c.args.self.now.desk box c.in-Open.is (c.args.self.now.fresh e) (was h) ∙ ap (λ (s : Server). (store_at name s.mailboxes).next) (sym (same h));

@@ -6,7 +6,7 @@ use Rattle.mailcore.specs.Operations.{Shows}
 use Rattle.imap_client.specs.Sessions.{server_of}
 use Rattle.imap_session.specs.Servers.{Server}
 use Rattle.far_part.specs.Chosen.{IsChosen, store_at}
-use Rattle.far_part.proofs.FarCalls.{stands_open, store_open, next_open, reads_part, reads_chosen}
+use Rattle.far_part.proofs.FarCalls.{entered_open, stands_open, store_open, next_open, reads_part, reads_chosen}
 use Rattle.far_part.proofs.Mailboxes.{selected_is, sound_there, store_is}
 use Rattle.far_part.proofs.StopCalls.{open_stops}
 use Rattle.far_part.proofs.far_part.FarPart.list_known.Goals as goal
@@ -22,6 +22,7 @@ invariant_of-self-2 g c =
     let same : g.L.Link.honest new.session.wire.link → server_of new.session ≡ old = λ h. c.list.ensures.remains h (chosen h).mailbox (selected_is name old (chosen h)) in
     record {
       there = refl;
+      entered = c.list.ensures.same.3 ∙ entered_open c.args.self.now.desk c.in-Open.far c.in-Open.is c.args.self.now.entered;
       stands = λ o h. reads_chosen name old (server_of new.session) (same h) (chosen h);
       fresh = λ e o h.
           c.list.ensures.same.2 ∙ next_open name c.args.self.now.desk box c.in-Open.is (c.args.self.now.fresh e) (was h) ∙ ap (λ (s : Server). (store_at name s.mailboxes).next) (sym (same h));
@@ -40,7 +41,7 @@ returns-clause-part g c =
     (reads_part (Listing) (g.L.Link.honest new.session.wire.link) name old (server_of new.session) (λ listing s. Shows Far s listing) c.list.result chosen same
     (λ h.
     let s = sound_there name old (chosen h) (g.met.L.Link.sound box.session.wire.link (was h)) in
-    c.list.ensures.shows h (chosen h).mailbox (selected_is name old (chosen h)) s.store s.range.messages
+    c.list.ensures.shows h (entered_open c.args.self.now.desk box c.in-Open.is c.args.self.now.entered) (chosen h).mailbox (selected_is name old (chosen h)) s.store s.range.messages
     (next_open name c.args.self.now.desk box c.in-Open.is (c.args.self.now.fresh c.requires.fresh) (was h) ∙ ap (λ (x : Store). x.next) (store_is name old (chosen h)))))
 
 pub returns-clause-stops : goal.returns-clause-stops

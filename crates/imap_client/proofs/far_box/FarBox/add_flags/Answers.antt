@@ -7,13 +7,13 @@ use Rattle.imap_client.proofs.far_box.FarBox.add_flags.Goals as goal
 pub invariant_of-self : goal.invariant_of-self
 invariant_of-self g c = record {
   named = c.args.self.now.named;
-  selected = λ ready honest.
+  selected = λ is_selected ready honest.
       let was = c.args.self.now.session in
       let now = c.change.new.self in
       goes_on (Unit {0}) _ (store_keeps modes.Add c.args.flags (one_uid c.args.uid)) c.args.self.now.name.items c.args.self.now.validity c.args.self.now.next 1
       (state_of_parts was.is_ready was.tags (g.L.Link.stops was.wire.link) was.wire.heard.items) (state_of_parts now.is_ready now.tags (g.L.Link.stops now.wire.link) now.wire.heard.items)
       (g.L.Link.line was.wire.link).end.server (g.L.Link.line now.wire.link).end.server c.change.result c.change.ensures.ends ready
-      (λ before. c.args.self.now.selected before (c.change.ensures.was_honest honest))
+      (λ before. c.args.self.now.selected is_selected before (c.change.ensures.was_honest honest))
       (λ m is. c.change.ensures.outcome honest m is _ refl);
   numbers = c.args.self.now.numbers;
 }

@@ -8,7 +8,7 @@ use Rattle.imap_client.proofs.far_box.FarBox.append.Goals as goal
 pub invariant_of-self : goal.invariant_of-self
 invariant_of-self g c = record {
   named = c.args.self.now.named;
-  selected = λ ready honest.
+  selected = λ is_selected ready honest.
       let it = c.args.self.now in
       let was = it.session in
       let now = c.add.new.self in
@@ -16,7 +16,7 @@ invariant_of-self g c = record {
       let new = (g.L.Link.line now.wire.link).end.server in
       err_selected (state_of_parts was.is_ready was.tags (g.L.Link.stops was.wire.link) was.wire.heard.items) (state_of_parts now.is_ready now.tags (g.L.Link.stops now.wire.link) now.wire.heard.items) old new
       it.name.items it.validity it.next c.args.flags c.args.bytes.now c.in_err-told.field-0.0 c.in_err-told.ensures.ends ready
-      (λ before. it.selected before (c.in_err-told.ensures.was_honest honest))
+      (λ before. it.selected is_selected before (c.in_err-told.ensures.was_honest honest))
       (λ s m is. c.in_err-told.ensures.outcome honest (subst (λ (n : List ℕ). IsSelected n it.validity it.next old) (sym c.deref.ensures.value) s) m is);
   numbers = c.args.self.now.numbers;
 }
@@ -24,7 +24,7 @@ invariant_of-self g c = record {
 pub invariant_of-self-in-Some : goal.invariant_of-self-in-Some
 invariant_of-self-in-Some g c = record {
   named = c.args.self.now.named;
-  selected = λ ready honest.
+  selected = λ is_selected ready honest.
       let it = c.args.self.now in
       let was = it.session in
       let now = c.add.new.self in
@@ -33,7 +33,7 @@ invariant_of-self-in-Some g c = record {
       subst (λ (k : ℕ). IsSelected it.name.items it.validity k new) (ap (next_known it.next) c.in-Some.is ∙ ap (λ (u : ℕ). u + 1) (sym c.get.ensures.number))
       (ok_selected (state_of_parts was.is_ready was.tags (g.L.Link.stops was.wire.link) was.wire.heard.items) (state_of_parts now.is_ready now.tags (g.L.Link.stops now.wire.link) now.wire.heard.items) old new
       it.name.items it.validity it.next c.args.flags c.args.bytes.now c.in_ok-told.told c.in_ok-told.ensures.ends
-      (λ before. it.selected before (c.in_ok-told.ensures.was_honest honest))
+      (λ before. it.selected is_selected before (c.in_ok-told.ensures.was_honest honest))
       (λ s m is. c.in_ok-told.ensures.outcome honest (subst (λ (n : List ℕ). IsSelected n it.validity it.next old) (sym c.deref.ensures.value) s) m is));
   numbers = (c.args.self.now.numbers.0, omega arith);
 }
@@ -41,7 +41,7 @@ invariant_of-self-in-Some g c = record {
 pub invariant_of-self-in_default : goal.invariant_of-self-in_default
 invariant_of-self-in_default g c = record {
   named = c.args.self.now.named;
-  selected = λ ready honest.
+  selected = λ is_selected ready honest.
       let it = c.args.self.now in
       let was = it.session in
       let now = c.add.new.self in
@@ -50,7 +50,7 @@ invariant_of-self-in_default g c = record {
       subst (λ (k : ℕ). IsSelected it.name.items it.validity k new) (none_known it.next c.in_ok-told.told c.in_default.not-Some)
       (ok_selected (state_of_parts was.is_ready was.tags (g.L.Link.stops was.wire.link) was.wire.heard.items) (state_of_parts now.is_ready now.tags (g.L.Link.stops now.wire.link) now.wire.heard.items) old new
       it.name.items it.validity it.next c.args.flags c.args.bytes.now c.in_ok-told.told c.in_ok-told.ensures.ends
-      (λ before. it.selected before (c.in_ok-told.ensures.was_honest honest))
+      (λ before. it.selected is_selected before (c.in_ok-told.ensures.was_honest honest))
       (λ s m is. c.in_ok-told.ensures.outcome honest (subst (λ (n : List ℕ). IsSelected n it.validity it.next old) (sym c.deref.ensures.value) s) m is));
   numbers = c.args.self.now.numbers;
 }

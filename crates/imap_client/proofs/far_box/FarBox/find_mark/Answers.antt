@@ -6,13 +6,13 @@ use Rattle.imap_client.proofs.far_box.FarBox.find_mark.Goals as goal
 pub invariant_of-self : goal.invariant_of-self
 invariant_of-self g c = record {
   named = c.args.self.now.named;
-  selected = λ ready honest.
+  selected = λ is_selected ready honest.
       let was = c.args.self.now.session in
       let now = c.mark.new.self in
       stays c.args.self.now.name.items c.args.self.now.validity c.args.self.now.next
       (state_of_parts was.is_ready was.tags (g.L.Link.stops was.wire.link) was.wire.heard.items) (state_of_parts now.is_ready now.tags (g.L.Link.stops now.wire.link) now.wire.heard.items)
       (g.L.Link.line was.wire.link).end.server (g.L.Link.line now.wire.link).end.server ready
-      (λ before. c.args.self.now.selected before (c.mark.ensures.was_honest honest))
+      (λ before. c.args.self.now.selected is_selected before (c.mark.ensures.was_honest honest))
       (λ m is. c.mark.ensures.remains honest m is) (Option ℕ) 1 c.mark.result c.mark.ensures.ends;
   numbers = c.args.self.now.numbers;
 }

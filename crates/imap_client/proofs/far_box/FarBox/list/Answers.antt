@@ -16,19 +16,19 @@ use Rattle.imap_client.proofs.far_box.FarBox.list.Goals as goal
 pub invariant_of-self : goal.invariant_of-self
 invariant_of-self g c = record {
   named = c.args.self.now.named;
-  selected = λ ready honest.
+  selected = λ is_selected ready honest.
       let was = c.args.self.now.session in
       let now = c.items.new.self in
       stays c.args.self.now.name.items c.args.self.now.validity c.args.self.now.next
       (state_of_parts was.is_ready was.tags (g.L.Link.stops was.wire.link) was.wire.heard.items) (state_of_parts now.is_ready now.tags (g.L.Link.stops now.wire.link) now.wire.heard.items)
       (g.L.Link.line was.wire.link).end.server (g.L.Link.line now.wire.link).end.server ready
-      (λ before. c.args.self.now.selected before (c.items.ensures.was_honest honest))
+      (λ before. c.args.self.now.selected is_selected before (c.items.ensures.was_honest honest))
       (λ m is. c.items.ensures.remains honest m is) (List Item) 1 c.items.result c.items.ensures.ends;
   numbers = c.args.self.now.numbers;
 }
 
 pub returns-in_err-items-clause-outcome : goal.returns-in_err-items-clause-outcome
-returns-in_err-items-clause-outcome g c honest m is store range =
+returns-in_err-items-clause-outcome g c honest is_selected m is store range =
     let p = err_from_is_err_and c.from_residual.result c.from_residual.ensures.1 in
     let f = c.in_err-items.field-0.0 in
     let known = c.args.self.now.next in
@@ -38,20 +38,20 @@ returns-in_err-items-clause-outcome g c honest m is store range =
     (outcome_err (List Item) Listing (Tells (λ items. items ≡ map (item_of Far) m.store.messages)) (Tells (ListsFrom known m.store)) Never Remains old new f (c.in_err-items.ensures.outcome honest m is store range))
 
 pub returns-clause-outcome : goal.returns-clause-outcome
-returns-clause-outcome g c honest m is store range =
+returns-clause-outcome g c honest is_selected m is store range =
     let box = c.args.self.now in
     let old = (g.L.Link.line box.session.wire.link).end.server in
     let listing : Listing = record { validity = box.validity; next = c.next_above-next.result; items = c.in_ok-items.items } in
     let told = c.in_ok-items.ensures.outcome honest m is store range in (
-      lists_so box.name.items box.validity box.next old m is (box.selected c.in_ok-items.ensures.ends.was_ready (c.items.ensures.was_honest honest)) listing refl (c.next_above-next.ensures.next ∙ ap (next_above box.next) c.as_slice.ensures.all) told.0,
+      lists_so box.name.items box.validity box.next old m is (box.selected is_selected c.in_ok-items.ensures.ends.was_ready (c.items.ensures.was_honest honest)) listing refl (c.next_above-next.ensures.next ∙ ap (next_above box.next) c.as_slice.ensures.all) told.0,
       told.1,
     )
 
 pub returns-clause-shows : goal.returns-clause-shows
-returns-clause-shows g c honest m is store range e =
+returns-clause-shows g c honest is_selected m is store range e =
     let box = c.args.self.now in
     let old = (g.L.Link.line box.session.wire.link).end.server in
     let listing : Listing = record { validity = box.validity; next = c.next_above-next.result; items = c.in_ok-items.items } in
     let told = c.in_ok-items.ensures.outcome honest m is store range in
     shows_so box.next m.store listing store e
-    (lists_so box.name.items box.validity box.next old m is (box.selected c.in_ok-items.ensures.ends.was_ready (c.items.ensures.was_honest honest)) listing refl (c.next_above-next.ensures.next ∙ ap (next_above box.next) c.as_slice.ensures.all) told.0)
+    (lists_so box.name.items box.validity box.next old m is (box.selected is_selected c.in_ok-items.ensures.ends.was_ready (c.items.ensures.was_honest honest)) listing refl (c.next_above-next.ensures.next ∙ ap (next_above box.next) c.as_slice.ensures.all) told.0)

@@ -15,13 +15,13 @@ use Rattle.imap_client.proofs.far_box.FarBox.load.Goals as goal
 pub invariant_of-self : goal.invariant_of-self
 invariant_of-self g c = record {
   named = c.args.self.now.named;
-  selected = λ ready honest.
+  selected = λ is_selected ready honest.
       let was = c.args.self.now.session in
       let now = c.body.new.self in
       stays c.args.self.now.name.items c.args.self.now.validity c.args.self.now.next
       (state_of_parts was.is_ready was.tags (g.L.Link.stops was.wire.link) was.wire.heard.items) (state_of_parts now.is_ready now.tags (g.L.Link.stops now.wire.link) now.wire.heard.items)
       (g.L.Link.line was.wire.link).end.server (g.L.Link.line now.wire.link).end.server ready
-      (λ before. c.args.self.now.selected before (c.body.ensures.was_honest honest))
+      (λ before. c.args.self.now.selected is_selected before (c.body.ensures.was_honest honest))
       (λ m is. c.body.ensures.remains honest m is) (Option (Vec ℕ Global)) 1 c.body.result c.body.ensures.ends;
   numbers = c.args.self.now.numbers;
 }
@@ -29,13 +29,13 @@ invariant_of-self g c = record {
 pub invariant_of-self-in-Some : goal.invariant_of-self-in-Some
 invariant_of-self-in-Some g c = record {
   named = c.args.self.now.named;
-  selected = λ ready honest.
+  selected = λ is_selected ready honest.
       let was = c.args.self.now.session in
       let now = c.body.new.self in
       stays c.args.self.now.name.items c.args.self.now.validity c.args.self.now.next
       (state_of_parts was.is_ready was.tags (g.L.Link.stops was.wire.link) was.wire.heard.items) (state_of_parts now.is_ready now.tags (g.L.Link.stops now.wire.link) now.wire.heard.items)
       (g.L.Link.line was.wire.link).end.server (g.L.Link.line now.wire.link).end.server ready
-      (λ before. c.args.self.now.selected before (c.body.ensures.was_honest honest))
+      (λ before. c.args.self.now.selected is_selected before (c.body.ensures.was_honest honest))
       (λ m is. c.body.ensures.remains honest m is) (Option (Vec ℕ Global)) 1 c.body.result c.body.ensures.ends;
   numbers = c.args.self.now.numbers;
 }
@@ -43,13 +43,13 @@ invariant_of-self-in-Some g c = record {
 pub invariant_of-self-in-None : goal.invariant_of-self-in-None
 invariant_of-self-in-None g c = record {
   named = c.args.self.now.named;
-  selected = λ ready honest.
+  selected = λ is_selected ready honest.
       let was = c.args.self.now.session in
       let now = c.body.new.self in
       stays c.args.self.now.name.items c.args.self.now.validity c.args.self.now.next
       (state_of_parts was.is_ready was.tags (g.L.Link.stops was.wire.link) was.wire.heard.items) (state_of_parts now.is_ready now.tags (g.L.Link.stops now.wire.link) now.wire.heard.items)
       (g.L.Link.line was.wire.link).end.server (g.L.Link.line now.wire.link).end.server ready
-      (λ before. c.args.self.now.selected before (c.body.ensures.was_honest honest))
+      (λ before. c.args.self.now.selected is_selected before (c.body.ensures.was_honest honest))
       (λ m is. c.body.ensures.remains honest m is) (Option (Vec ℕ Global)) 1 c.body.result c.body.ensures.ends;
   numbers = c.args.self.now.numbers;
 }

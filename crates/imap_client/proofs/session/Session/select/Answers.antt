@@ -7,7 +7,7 @@ use Rattle.imap_client.proofs.session.Session.select.Goals as goal
 pub invariant_of-result : goal.invariant_of-result
 invariant_of-result g c = record {
   named = subst IsWord (sym c.in-Ok.ensures.name) c.requires;
-  selected = λ ready honest.
+  selected = λ is_selected ready honest.
       let old = (g.L.Link.line c.args.self.wire.link).end.server in
       let new = (g.L.Link.line c.choose.new.self.wire.link).end.server in
       subst (λ (name : List ℕ). IsSelected name c.in-Ok.chosen.validity c.in-Ok.chosen.next new) (sym c.in-Ok.ensures.name)

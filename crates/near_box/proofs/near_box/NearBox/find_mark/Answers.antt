@@ -1,5 +1,6 @@
 use Rattle.std.proofs.Common.{◌∙◌, ap, refl}
-use Rattle.std.specs.Prelude.{Err, vec_len}
+use Rattle.std.specs.Prelude.{Err, length}
+use Rattle.device.specs.declared.history.History.{History}
 use Rattle.near_box.specs.declared.read_fault.ReadFault.{ReadFault}
 use Rattle.near_box.proofs.CallLemmas.{none_missed}
 use Rattle.near_box.proofs.NearLemmas.{at_hand, near_marked, surveys_marked}
@@ -12,8 +13,8 @@ returns-in-Err-clause-keeps g c = λ honest.
     let folder = ap (λ f. (g.F.Folder.seen f).stored) c.in_ok-begin.ensures.folder in
     let hand = at_hand old.survey now.survey old.fresh (g.F.Folder.seen old.folder).stored (g.F.Folder.seen now.folder).stored c.deref.result.now (old.surveys c.in_ok-begin.ensures.ready honest) c.in_ok-begin.ensures.same.0 c.deref.ensures.value folder in (
       ap (λ f. (g.F.Folder.seen f).stored) c.failed.ensures.folder ∙ c.find_mark.ensures.keeps honest ∙ folder,
-      none_missed c.in-Err.fault c.failed.result (vec_len now.missed) (vec_len c.failed.new.self.missed) c.failed.ensures.told (λ e. c.in-Err.ensures.there honest hand.there (ap (λ (f : ReadFault). Err f) e))
-          ∙ ap (λ v. vec_len v) c.in_ok-begin.ensures.same.2,
+      none_missed c.in-Err.fault c.failed.result (length now.missed.items) (length c.failed.new.self.missed.items) c.failed.ensures.told (λ e. c.in-Err.ensures.there honest hand.there (ap (λ (f : ReadFault). Err f) e))
+          ∙ ap (λ (m : History (Unit {0})). length m.items) c.in_ok-begin.ensures.same.2,
     )
 
 pub invariant_of-self-2-clause-surveys : goal.invariant_of-self-2-clause-surveys

@@ -1,6 +1,0 @@
-use Rattle.std.proofs.Common.{false}
-use Rattle.book_part.proofs.StopCalls.{open_stops}
-use Rattle.book_part.proofs.book_part.BookPart.commit.Goals as goal
-
-pub returns-clause-stops : goal.returns-clause-stops
-returns-clause-stops g c = rw c.told_by.ensures (open_stops false c.args.self.now.desk c.in-Open.book c.commit.new.self c.commit.result c.in-Open.is c.commit.ensures.ends)

@@ -1,0 +1,187 @@
+-- From a call of the far box to the clause of the trait.
+use Rattle.std.proofs.Common.{◌≡◌, ◌≤◌, ℕ, Bool, true, false, List, None, Some, Option, Result, Ok, Err, sym, ap, subst, ◌∙◌, refl}
+use Rattle.std.specs.Prelude.{OnOk, Vec, if◌then◌else◌}
+use Rattle.std.specs.Global.{Global}
+use Rattle.device.specs.Calls.{Effect, Nothing}
+use Rattle.mailcore.specs.Operations.{bytes_of}
+use Rattle.mailcore.specs.Ranges.{AreInRange}
+use Rattle.mailcore.specs.Stores.{IsStore, Store}
+use Rattle.mailcore.specs.declared.side.Side.TheVariants.{Far}
+use Rattle.near_box.specs.Mailboxes.{Near}
+use Rattle.imap_link.specs.declared.fault.FarFault.{FarFault}
+use Rattle.imap_link.specs.declared.fault.FarFault.TheVariants as far
+use Rattle.imap_link.specs.declared.link.Link as link
+use Rattle.imap_link.specs.Outcomes.{Outcome, Never as Unrefused}
+use Rattle.imap_link.specs.Soundness.{AreSound}
+use Rattle.imap_session.specs.Mailboxes.{FarMailbox}
+use Rattle.imap_session.specs.Servers.{Server, is_logged_in, selected, with_selected}
+use Rattle.imap_client.specs.declared.far_box.FarBox.{FarBox}
+use Rattle.imap_client.specs.Appending.{Adds, AddsSome, NoUidLeft}
+use Rattle.imap_client.specs.Boxes.{Becomes, IsSelected}
+use Rattle.imap_client.specs.Logins.{Remains}
+use Rattle.imap_client.specs.Readings.{Tells}
+use Rattle.imap_client.specs.Sessions.{server_of, state_of}
+use Rattle.imap_client.specs.States.{EndsSo}
+use Rattle.mailbox.specs.declared.fault.BoxFault.{BoxFault}
+use Rattle.mailbox.specs.declared.fault.BoxFault.TheVariants as boxes
+use Rattle.mailbox.specs.Arrivals.{Arrives}
+use Rattle.mailbox.specs.Calls.{Call, Never}
+use Rattle.mailbox.specs.Operations.{Answers, Appends, Loads, NoRoom, Turns}
+use Rattle.far_side.specs.declared.stage.Stage.{Stage}
+use Rattle.far_side.specs.declared.stage.Stage.TheVariants.{Closed, LoggedIn, Open}
+use Rattle.far_side.specs.Chosen.{IsChosen, box_at, settled, store_at}
+use Rattle.far_side.specs.FarFaults.{told, told_by}
+use Rattle.far_side.specs.FarSides.{seen_at}
+use Rattle.far_side.specs.FarStops.{Ends, HasEnded}
+use Rattle.far_side.specs.Stages.{is_broken_at, is_open_at, is_reached}
+use Rattle.far_side.proofs.Endings.{ends_of}
+use Rattle.far_side.proofs.Mailboxes.{chosen_of, logged_in_there, selected_is, sound_there, store_is}
+use Rattle.far_side.proofs.Outcomes.{Did, add_did, change_did, every, quiet, read_did}
+
+-- ---- whether it goes on
+
+pub is_whole : (stage : Stage) (is_selected is_ready : Bool) → is_ready ≡ true → is_selected ≡ true → is_broken_at stage is_selected is_ready ≡ false
+is_whole Closed is_selected is_ready r s = refl
+is_whole LoggedIn is_selected is_ready r s = cc
+is_whole Open is_selected is_ready r s = rw (r, s) refl
+
+pub ready_reached : (stage : Stage) (is_selected is_ready : Bool) → is_reached stage ≡ true → is_broken_at stage is_selected is_ready ≡ false → is_ready ≡ true
+ready_reached Closed is_selected is_ready o h = absurd cc
+ready_reached LoggedIn is_selected true o h = refl
+ready_reached LoggedIn is_selected false o h = absurd cc
+ready_reached Open is_selected true o h = refl
+ready_reached Open is_selected false o h = absurd cc
+
+pub selected_open : (stage : Stage) (is_selected is_ready : Bool) → is_open_at stage ≡ true → is_broken_at stage is_selected is_ready ≡ false → is_selected ≡ true
+selected_open Closed is_selected is_ready o h = absurd cc
+selected_open LoggedIn is_selected is_ready o h = absurd cc
+selected_open Open true is_ready o h = refl
+selected_open Open false true o h = absurd cc
+selected_open Open false false o h = absurd cc
+
+pub reached_open : (stage : Stage) → is_open_at stage ≡ true → is_reached stage ≡ true
+reached_open Closed o = o
+reached_open LoggedIn o = refl
+reached_open Open o = refl
+
+told_stopped : (e : FarFault) → told e ≡ boxes.Stopped → e ≡ far.Stopped
+told_stopped far.Stopped is = refl
+told_stopped far.Refused is = absurd cc
+told_stopped far.Protocol is = absurd cc
+told_stopped far.TooLong is = absurd cc
+told_stopped far.NoRev2 is = absurd cc
+told_stopped far.ReadOnly is = absurd cc
+told_stopped far.NoMemory is = absurd cc
+
+module _ {L : Type 0} {links : link.Ghosts L} (name : List ℕ) (old_stage new_stage : Stage) (old new : FarBox L links) where
+  -- ---- any call
+
+  pub far_call : {T : Type 0} (honest : Type 0) (because : BoxFault → Near → Type 0) (does : T → Effect Near) (part : Effect Near) (r : Result T FarFault)
+      → is_broken_at old_stage old.is_selected old.session.is_ready ≡ false → OnOk r (new.is_selected ≡ true) → Ends (state_of old.session) (state_of new.session) r
+      → (honest → Did does part because r (box_at name (server_of old.session)) (box_at name (server_of new.session)))
+      → Call honest (HasEnded (state_of new.session)) (Arrives Far every true) because does part (seen_at old_stage name old) (seen_at new_stage name new) (told_by r)
+  far_call honest because does part (Ok a) whole selected ends did = record {
+    was_whole = whole;
+    is_whole = is_whole new_stage new.is_selected new.session.is_ready ends.0 selected;
+    stops = ends.1;
+    effect = λ h. record { mid = box_at name (server_of old.session); before = quiet (box_at name (server_of old.session)); behind = did h };
+  }
+  far_call honest because does part (Err e) whole selected ends did = record {
+    cause = λ is. ends.0 (told_stopped e is);
+    no_less = ends.1;
+    left = λ h. record { mid = box_at name (server_of old.session); before = quiet (box_at name (server_of old.session)); behind = did h };
+  }
+
+pub loaded : (uid : ℕ) (body : List ℕ) (is_there : Bool) (s : Store) → (if is_there then Some body else None) ≡ bytes_of uid s → Loads uid body is_there (settled s)
+loaded uid body true s is = sym is
+loaded uid body false s is = sym is
+
+-- ---- a call of an open one
+
+module _ {L : Type 0} {links : link.Ghosts L} (name : List ℕ) (box : FarBox L links) (named : box.is_selected ≡ true → box.name.items ≡ name) (is_selected : box.is_selected ≡ true) (ready : box.session.is_ready ≡ true) where
+  pub chosen_in : links.honest box.session.wire.link → IsChosen name (server_of box.session)
+  chosen_in h = chosen_of name box.validity box.next (server_of box.session) (subst (λ (n : List ℕ). IsSelected n box.validity box.next (server_of box.session)) (named is_selected) (box.selected is_selected ready h))
+
+  pub logged_in_by : links.honest box.session.wire.link → is_logged_in (server_of box.session).condition ≡ true
+  logged_in_by h = logged_in_there name (server_of box.session) (chosen_in h)
+
+on_ok : {T : Type 0} (P : Type 0) (r : Result T FarFault) → P → OnOk r P
+on_ok P (Ok a) p = p
+on_ok P (Err e) p = tt
+
+-- a call of an open one, as its contract tells it
+pub record Called {L : Type 0} {links : link.Ghosts L} (name : List ℕ) (stage : Stage) (old new : FarBox L links) : Type 0 where
+  pub is_open : is_open_at stage ≡ true
+  pub whole : is_broken_at stage old.is_selected old.session.is_ready ≡ false
+  pub named : old.is_selected ≡ true → old.name.items ≡ name
+  pub was_honest : links.honest new.session.wire.link → links.honest old.session.wire.link
+  pub still : new.is_selected ≡ old.is_selected
+  pub counts : links.stops old.session.wire.link ≤ links.stops new.session.wire.link
+
+module _ {L : Type 0} {links : link.Ghosts L} {name : List ℕ} {stage : Stage} {old new : FarBox L links} (k : Called name stage old new) where
+  is_selected : old.is_selected ≡ true
+  is_selected = selected_open stage old.is_selected old.session.is_ready k.is_open k.whole
+
+  is_ready : old.session.is_ready ≡ true
+  is_ready = ready_reached stage old.is_selected old.session.is_ready (reached_open stage k.is_open) k.whole
+
+  chosen : links.honest new.session.wire.link → IsChosen name (server_of old.session)
+  chosen h = chosen_in name old k.named is_selected is_ready (k.was_honest h)
+
+  -- ---- what the side keeps of it
+
+  pub still_named : new.name ≡ old.name → new.is_selected ≡ true → new.name.items ≡ name
+  still_named same s = ap (λ (n : Vec ℕ Global). n.items) same ∙ k.named (sym k.still ∙ s)
+
+  pub still_logged_in : new.name ≡ old.name → new.session.is_ready ≡ true → links.honest new.session.wire.link → is_logged_in (server_of new.session).condition ≡ true
+  still_logged_in same ready h = logged_in_by name new (still_named same) (k.still ∙ is_selected) ready h
+
+  pub still_fresh : new.next ≡ old.next → (links.honest new.session.wire.link → (m : FarMailbox) → selected (server_of old.session) ≡ Some m → Remains (server_of old.session) (server_of new.session))
+      → (links.honest old.session.wire.link → old.next ≡ (store_at name (server_of old.session).mailboxes).next) → links.honest new.session.wire.link → new.next ≡ (store_at name (server_of new.session).mailboxes).next
+  still_fresh same remains was h =
+      let c = chosen h in
+      same ∙ was (k.was_honest h) ∙ ap (λ (s : Server). (store_at name s.mailboxes).next) (sym (remains h c.mailbox (selected_is name (server_of old.session) c)))
+
+  -- ---- the clause of its call
+
+  module _ (sound : (l : L) → links.honest l → AreSound (links.line l).end.server.mailboxes) where
+    abbrev Says : {T : Type 0} → (because : BoxFault → Near → Type 0) → (does : T → Effect Near) → Result T FarFault → Type 0
+    Says because does r =
+        Call (links.honest new.session.wire.link) (HasEnded (state_of new.session)) (Arrives Far every true) because does Nothing (seen_at stage name old) (seen_at stage name new) (told_by r)
+
+    says : {T : Type 0} (because : BoxFault → Near → Type 0) (does : T → Effect Near) (commands : ℕ) (r : Result T FarFault) → EndsSo commands (state_of old.session) (state_of new.session) r
+        → (links.honest new.session.wire.link → Did does Nothing because r (box_at name (server_of old.session)) (box_at name (server_of new.session))) → Says because does r
+    says because does commands r ends did =
+        far_call name stage stage old new (links.honest new.session.wire.link) because does Nothing r k.whole (on_ok (new.is_selected ≡ true) r (k.still ∙ is_selected))
+        (ends_of commands (state_of old.session) (state_of new.session) r is_ready k.counts ends) did
+
+    pub reads : {T : Type 0} (tells : T → Near → Type 0) (P : T → Store → Type 0) → ((answer : T) (s : Store) → P answer s → tells answer (settled s)) → (r : Result T FarFault) → EndsSo 1 (state_of old.session) (state_of new.session) r
+        → (links.honest new.session.wire.link → (m : FarMailbox) → selected (server_of old.session) ≡ Some m → IsStore m.store → AreInRange m.store.messages → Outcome (Tells (λ answer. P answer m.store)) Unrefused Remains r (server_of old.session) (server_of new.session))
+        → Says Never (Answers tells) r
+    reads tells P to r ends outcome =
+        says Never (Answers tells) 1 r ends
+        (λ h.
+        let c = chosen h in
+        let s = sound_there name (server_of old.session) c (sound old.session.wire.link (k.was_honest h)) in
+        read_did name (server_of old.session) (server_of new.session) (Tells (λ answer. P answer c.mailbox.store)) Unrefused Remains tells Never
+        (λ answer o. (ap (λ (x : Server). x.mailboxes) o.1, subst (λ (x : Store). tells answer (settled x)) (sym (store_is name (server_of old.session) c)) (to answer c.mailbox.store o.0)))
+        (λ e. ap (λ (x : Server). x.mailboxes) e) (λ refused. absurd refused) r (outcome h c.mailbox (selected_is name (server_of old.session) c) s.store s.range.messages))
+
+    pub turns : (commands : ℕ) (change own : Store → Store) (r : Result (Unit {0}) FarFault) → EndsSo commands (state_of old.session) (state_of new.session) r
+        → (IsChosen name (server_of old.session) → AreSound (server_of old.session).mailboxes → with_selected change (server_of old.session) ≡ with_selected own (server_of old.session))
+        → (links.honest new.session.wire.link → (m : FarMailbox) → selected (server_of old.session) ≡ Some m → Outcome (λ _. Becomes change) Unrefused (Becomes change) r (server_of old.session) (server_of new.session))
+        → Says {T = Unit {0}} Never (λ _. Turns own) r
+    turns commands change own r ends same outcome =
+        says Never (λ _. Turns own) commands r ends
+        (λ h.
+        let c = chosen h in
+        change_did name (server_of old.session) (server_of new.session) change own c (same c (sound old.session.wire.link (k.was_honest h))) r (outcome h c.mailbox (selected_is name (server_of old.session) c)))
+
+    pub appends : (bytes : List ℕ) (flags : ℕ) (r : Result (Option ℕ) FarFault) → EndsSo 1 (state_of old.session) (state_of new.session) r
+        → (links.honest new.session.wire.link → old.is_selected ≡ true → (m : FarMailbox) → selected (server_of old.session) ≡ Some m → Outcome (Adds m flags bytes) (NoUidLeft m) (AddsSome m flags bytes) r (server_of old.session) (server_of new.session))
+        → Says (NoRoom Far (λ _. 1)) (Appends Far bytes flags) r
+    appends bytes flags r ends outcome =
+        says (NoRoom Far (λ _. 1)) (Appends Far bytes flags) 1 r ends
+        (λ h.
+        let c = chosen h in
+        add_did name (server_of old.session) (server_of new.session) bytes flags c r (outcome h is_selected c.mailbox (selected_is name (server_of old.session) c)))

@@ -1,0 +1,140 @@
+-- From what a call of the far box does at the server to what the trait says of it.
+use Rattle.std.proofs.Common.{◌≡◌, ◌≤◌, ◌+◌, ◌^◌, ℕ, Bool, List, [], ◌++◌, Option, Some, None, Result, Ok, Err, false, sym, ap, subst, ◌∙◌, inl, inr, refl, arith, true}
+use Rattle.std.proofs.lemmas.List.{append-nil}
+use Rattle.std.proofs.lemmas.List.Elements.{All-nil}
+use Rattle.device.specs.Calls.{Effect, Follows, Leaves, Nothing, Went}
+use Rattle.mailcore.specs.declared.mailbox.Message.{Message}
+use Rattle.mailcore.specs.declared.side.Side.TheVariants.{Far}
+use Rattle.mailcore.specs.Operations.{added}
+use Rattle.mailcore.specs.Stores.{Store}
+use Rattle.near_box.specs.Mailboxes.{Near}
+use Rattle.imap_link.specs.declared.fault.FarFault.{FarFault}
+use Rattle.imap_link.specs.declared.fault.FarFault.TheVariants as far
+use Rattle.imap_link.specs.Outcomes.{Outcome, Never as Unrefused}
+use Rattle.imap_session.specs.Servers.{Server, with_selected}
+use Rattle.exchange_laws.specs.Ends.{MayHave}
+use Rattle.imap_client.specs.Appending as appending
+use Rattle.imap_client.specs.Boxes.{Becomes}
+use Rattle.outside.specs.BoxCalls.{Tells}
+use Rattle.mailbox.specs.declared.fault.BoxFault.{BoxFault}
+use Rattle.mailbox.specs.declared.fault.BoxFault.TheVariants as boxes
+use Rattle.mailbox.specs.Arrivals.{Arrives}
+use Rattle.mailbox.specs.Calls.{DoesSome, LeavesBy, Never, Seen}
+use Rattle.mailbox.specs.Operations.{Admits, Answers, Appends, NoRoom, Turns}
+use Rattle.far_side.specs.Chosen.{IsChosen, KeepsMailboxes, box_at, settled, store_at}
+use Rattle.far_side.specs.FarFaults.{told}
+use Rattle.far_side.proofs.Mailboxes.{changed_store, store_is}
+
+-- ---- nobody else
+
+abbrev pub every : List ℕ → Bool
+every mark = true
+
+pub quiet : (b : Near) → Arrives Far every true b b
+quiet b = record {
+  comes = record {
+    messages = [];
+    next = b.store.next;
+    rise = omega arith;
+    foreign = All-nil _;
+    now = ap (λ (ms : List Message). let n : Near = record b { store = record b.store { messages = ms } } in n) (sym (append-nil b.store.messages));
+  };
+  nobody = λ _. refl;
+}
+
+-- a call that does nothing
+pub rests : (honest : Type 0) (does : Effect Near) (seen : Seen) → seen.is_broken ≡ false → does seen.stored seen.stored → Went honest (Follows (Arrives Far every true) does) seen seen
+rests honest does seen whole done = record {
+  was_whole = whole;
+  is_whole = whole;
+  stops = refl;
+  effect = λ h. record { mid = seen.stored; before = quiet seen.stored; behind = done };
+}
+
+-- nothing waits, so that nothing is admitted
+pub none_admitted : (s : Store) → Admits (settled s) (settled s)
+none_admitted s =
+    let none : s.next + 0 ≡ s.next = omega arith in
+    sym (ap (λ (n : ℕ). settled (record s { next = n; messages = s.messages ++ [] })) none
+    ∙ ap (λ (ms : List Message). settled (record s { messages = ms })) (append-nil s.messages))
+
+-- ---- by its answer, or by what its fault leaves
+
+abbrev pub Did : {T : Type 0} → (does : T → Effect Near) → (part : Effect Near) → (because : BoxFault → Near → Type 0) → Result T FarFault → Near → Near → Type 0
+Did does part because (Ok answer) b b' = does answer b b'
+Did does part because (Err e) b b' = LeavesBy does part because (told e) b b'
+
+module _ (name : List ℕ) (old new : Server) where
+  stays : KeepsMailboxes old new → box_at name new ≡ box_at name old
+  stays e = ap (λ ms. settled (store_at name ms)) e
+
+  -- ---- a call that changes no mailbox
+
+  module _ {T : Type 0} (does : T → Server → Server → Type 0) (refuses effect : Server → Server → Type 0) (tells : T → Near → Type 0) (because : BoxFault → Near → Type 0)
+      (done : (answer : T) → does answer old new → KeepsMailboxes old new × tells answer (box_at name old)) (keeps : effect old new → KeepsMailboxes old new)
+      (refused : refuses old new → KeepsMailboxes old new × because boxes.Refused (box_at name old)) where
+    may_read : MayHave effect old new → Leaves (DoesSome (Answers tells)) Nothing (box_at name old) (box_at name new)
+    may_read (inl quiet) = inl (stays (ap (λ (s : Server). s.mailboxes) quiet))
+    may_read (inr e) = inl (stays (keeps e))
+
+    pub read_did : (r : Result T FarFault) → Outcome does refuses effect r old new → Did (Answers tells) Nothing because r (box_at name old) (box_at name new)
+    read_did (Ok a) o = let d = done a o in (stays d.0, d.1)
+    read_did (Err far.Stopped) o = may_read o
+    read_did (Err far.Refused) o = let d = refused o in (stays d.0, d.1)
+    read_did (Err far.Protocol) o = absurd o
+    read_did (Err far.TooLong) o = absurd o
+    read_did (Err far.NoRev2) o = absurd o
+    read_did (Err far.ReadOnly) o = absurd o
+    read_did (Err far.NoMemory) o = may_read o
+
+  -- ---- a call that changes the selected mailbox
+
+  module _ (change own : Store → Store) (c : IsChosen name old) (same : with_selected change old ≡ with_selected own old) where
+    became : Becomes change old new → box_at name new ≡ settled (own (store_at name old.mailboxes))
+    became is = ap (box_at name) (is ∙ same) ∙ ap settled (changed_store own name old c)
+
+    may_change : MayHave (Becomes change) old new → Leaves (DoesSome {T = Unit {0}} (λ _. Turns own)) Nothing (box_at name old) (box_at name new)
+    may_change (inl quiet) = inl (ap (box_at name) quiet)
+    may_change (inr is) = inr (inl (record { answer = tt; done = became is }))
+
+    pub change_did : (r : Result (Unit {0}) FarFault) → Outcome (λ _. Becomes change) Unrefused (Becomes change) r old new → Did (λ _. Turns own) Nothing Never r (box_at name old) (box_at name new)
+    change_did (Ok x) o = became o
+    change_did (Err far.Stopped) o = may_change o
+    change_did (Err far.Refused) o = absurd o
+    change_did (Err far.Protocol) o = absurd o
+    change_did (Err far.TooLong) o = absurd o
+    change_did (Err far.NoRev2) o = absurd o
+    change_did (Err far.ReadOnly) o = absurd o
+    change_did (Err far.NoMemory) o = may_change o
+
+  -- ---- a message is added
+
+  module _ (bytes : List ℕ) (flags : ℕ) (c : IsChosen name old) where
+    told_so : (told : Option ℕ) (uid : ℕ) → appending.IsTold told uid → Tells told uid
+    told_so None uid t = tt
+    told_so (Some n) uid t = t
+
+    appends : (told : Option ℕ) (uid : ℕ) → appending.AddsUnder c.mailbox flags bytes uid old new → appending.IsTold told uid → Appends Far bytes flags told (box_at name old) (box_at name new)
+    appends told uid u t = record {
+      uid = uid;
+      gives = (subst (λ (s : Store). s.next ≤ uid) (sym (store_is name old c)) u.may.at_least, told_so told uid t);
+      now = ap (box_at name) u.after ∙ ap settled (changed_store (added uid flags bytes) name old c);
+    }
+
+    may_add : MayHave (appending.AddsSome c.mailbox flags bytes) old new → Leaves (DoesSome (Appends Far bytes flags)) Nothing (box_at name old) (box_at name new)
+    may_add (inl quiet) = inl (ap (box_at name) quiet)
+    may_add (inr a) = inr (inl (record { answer = None; done = appends None a.uid a.under tt }))
+
+    full : c.mailbox.store.next ≡ 4294967295 → 2 ^ 32 ≤ (store_at name old.mailboxes).next + 1
+    full last = let n = ap (λ (s : Store). s.next) (store_is name old c) in omega (arith, n, last)
+
+    pub add_did : (r : Result (Option ℕ) FarFault) → Outcome (appending.Adds c.mailbox flags bytes) (appending.NoUidLeft c.mailbox) (appending.AddsSome c.mailbox flags bytes) r old new
+        → Did (Appends Far bytes flags) Nothing (NoRoom Far (λ _. 1)) r (box_at name old) (box_at name new)
+    add_did (Ok told) a = appends told a.uid a.under a.is_told
+    add_did (Err far.Stopped) o = may_add o
+    add_did (Err far.Refused) o = (ap (box_at name) o.0, (refl, full o.1))
+    add_did (Err far.Protocol) o = absurd o
+    add_did (Err far.TooLong) o = absurd o
+    add_did (Err far.NoRev2) o = absurd o
+    add_did (Err far.ReadOnly) o = absurd o
+    add_did (Err far.NoMemory) o = may_add o

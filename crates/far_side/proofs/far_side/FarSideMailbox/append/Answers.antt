@@ -1,0 +1,41 @@
+use Rattle.std.proofs.lemmas.Bool.{false≢true}
+use Rattle.far_side.proofs.CopyOctets.{sent_as}
+use Rattle.far_side.proofs.OpenCalls.{Called, appends, still_logged_in, still_named}
+use Rattle.far_side.proofs.far_side.FarSideMailbox.append.Goals as goal
+
+pub invariant_of-self : goal.invariant_of-self
+invariant_of-self g c =
+    let s = c.args.self.now in
+    let new = c.append.new.self in
+    let said = c.append.ensures in
+    let k : Called s.account.mailbox.items s.stage s.far new = record {
+      is_open = c.requires.open;
+      whole = c.requires.whole;
+      named = s.named;
+      was_honest = said.was_honest;
+      still = said.same.2;
+      counts = said.counts;
+    } in
+    record {
+      named = λ selected. still_named k said.same.0 selected;
+      logged_in = λ reached ready h. still_logged_in k said.same.0 ready h;
+      fresh = λ e. absurd (false≢true e);
+    }
+
+pub returns-clause-call : goal.returns-clause-call
+returns-clause-call g c =
+    let s = c.args.self.now in
+    let new = c.append.new.self in
+    let said = c.append.ensures in
+    let k : Called s.account.mailbox.items s.stage s.far new = record {
+      is_open = c.requires.open;
+      whole = c.requires.whole;
+      named = s.named;
+      was_honest = said.was_honest;
+      still = said.same.2;
+      counts = said.counts;
+    } in
+    rw c.told_by.ensures (appends k g.met.L.Link.sound c.args.text.now c.args.flags c.append.result said.ends said.outcome)
+
+pub append-requires : goal.append-requires
+append-requires g c = sent_as c.args.text.now c.requires.copy

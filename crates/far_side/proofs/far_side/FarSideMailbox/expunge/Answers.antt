@@ -1,0 +1,45 @@
+use Rattle.std.proofs.Common.{[], ◌∷◌}
+use Rattle.std.proofs.lemmas.Bool.{false≢true}
+use Rattle.mailcore.specs.declared.side.Side.TheVariants.{Far}
+use Rattle.imap_session.specs.NamedMessages.{swept}
+use Rattle.imap_client.specs.Calls.{each_one}
+use Rattle.imap_client.specs.Sessions.{server_of}
+use Rattle.outside.specs.BoxCalls.{removed}
+use Rattle.far_side.proofs.OpenCalls.{Called, still_logged_in, still_named, turns}
+use Rattle.far_side.proofs.Operations.{swept_same}
+use Rattle.far_side.proofs.far_side.FarSideMailbox.expunge.Goals as goal
+
+pub invariant_of-self : goal.invariant_of-self
+invariant_of-self g c =
+    let s = c.args.self.now in
+    let new = c.expunge.new.self in
+    let said = c.expunge.ensures in
+    let k : Called s.account.mailbox.items s.stage s.far new = record {
+      is_open = c.requires.open;
+      whole = c.requires.whole;
+      named = s.named;
+      was_honest = said.was_honest;
+      still = said.same.3;
+      counts = said.counts;
+    } in
+    record {
+      named = λ selected. still_named k said.same.0 selected;
+      logged_in = λ reached ready h. still_logged_in k said.same.0 ready h;
+      fresh = λ e. absurd (false≢true e);
+    }
+
+pub returns-clause-call : goal.returns-clause-call
+returns-clause-call g c =
+    let s = c.args.self.now in
+    let new = c.expunge.new.self in
+    let said = c.expunge.ensures in
+    let k : Called s.account.mailbox.items s.stage s.far new = record {
+      is_open = c.requires.open;
+      whole = c.requires.whole;
+      named = s.named;
+      was_honest = said.was_honest;
+      still = said.same.3;
+      counts = said.counts;
+    } in
+    rw c.told_by.ensures (turns k g.met.L.Link.sound 1 (swept (each_one (c.args.uid ∷ []))) (removed Far c.args.uid) c.expunge.result said.ends
+    (swept_same s.account.mailbox.items (server_of s.far.session) c.args.uid) said.outcome)

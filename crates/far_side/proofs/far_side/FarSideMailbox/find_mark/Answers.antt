@@ -1,0 +1,38 @@
+use Rattle.mailbox.specs.Operations.{Finds}
+use Rattle.far_side.specs.Chosen.{settled}
+use Rattle.far_side.proofs.OpenCalls.{Called, reads, still_fresh, still_logged_in, still_named}
+use Rattle.far_side.proofs.far_side.FarSideMailbox.find_mark.Goals as goal
+
+pub invariant_of-self : goal.invariant_of-self
+invariant_of-self g c =
+    let s = c.args.self.now in
+    let new = c.find_mark.new.self in
+    let said = c.find_mark.ensures in
+    let k : Called s.account.mailbox.items s.stage s.far new = record {
+      is_open = c.requires.open;
+      whole = c.requires.whole;
+      named = s.named;
+      was_honest = said.was_honest;
+      still = said.same.3;
+      counts = said.counts;
+    } in
+    record {
+      named = λ selected. still_named k said.same.0 selected;
+      logged_in = λ reached ready h. still_logged_in k said.same.0 ready h;
+      fresh = λ e h. still_fresh k said.same.2 said.remains (s.fresh e) h;
+    }
+
+pub returns-clause-call : goal.returns-clause-call
+returns-clause-call g c =
+    let s = c.args.self.now in
+    let new = c.find_mark.new.self in
+    let said = c.find_mark.ensures in
+    let k : Called s.account.mailbox.items s.stage s.far new = record {
+      is_open = c.requires.open;
+      whole = c.requires.whole;
+      named = s.named;
+      was_honest = said.was_honest;
+      still = said.same.3;
+      counts = said.counts;
+    } in
+    rw c.told_by.ensures (reads k g.met.L.Link.sound (Finds c.args.mark c.args.from) (λ found s. Finds c.args.mark c.args.from found (settled s)) (λ found s is. is) c.find_mark.result said.ends said.outcome)

@@ -1,0 +1,40 @@
+use Rattle.std.proofs.Common.{◌≡◌, Some, None}
+use Rattle.std.specs.Prelude.{if◌then◌else◌}
+use Rattle.mailcore.specs.Operations.{bytes_of}
+use Rattle.mailbox.specs.Operations.{Loads}
+use Rattle.far_side.proofs.OpenCalls.{Called, loaded, reads, still_fresh, still_logged_in, still_named}
+use Rattle.far_side.proofs.far_side.FarSideMailbox.load.Goals as goal
+
+pub invariant_of-self : goal.invariant_of-self
+invariant_of-self g c =
+    let s = c.args.self.now in
+    let new = c.load.new.self in
+    let said = c.load.ensures in
+    let k : Called s.account.mailbox.items s.stage s.far new = record {
+      is_open = c.requires.open;
+      whole = c.requires.whole;
+      named = s.named;
+      was_honest = said.was_honest;
+      still = said.same.3;
+      counts = said.counts;
+    } in
+    record {
+      named = λ selected. still_named k said.same.0 selected;
+      logged_in = λ reached ready h. still_logged_in k said.same.0 ready h;
+      fresh = λ e h. still_fresh k said.same.2 said.remains (s.fresh e) h;
+    }
+
+pub returns-clause-call : goal.returns-clause-call
+returns-clause-call g c =
+    let s = c.args.self.now in
+    let new = c.load.new.self in
+    let said = c.load.ensures in
+    let k : Called s.account.mailbox.items s.stage s.far new = record {
+      is_open = c.requires.open;
+      whole = c.requires.whole;
+      named = s.named;
+      was_honest = said.was_honest;
+      still = said.same.3;
+      counts = said.counts;
+    } in
+    rw c.told_by.ensures (reads k g.met.L.Link.sound (Loads c.args.uid new.body.items) (λ is_there s. (if is_there then Some new.body.items else None) ≡ bytes_of c.args.uid s) (loaded c.args.uid new.body.items) c.load.result said.ends said.outcome)

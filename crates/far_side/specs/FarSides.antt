@@ -1,0 +1,43 @@
+-- The far mailbox of a run as the clauses of its calls name it.
+use Rattle.std.specs.Prelude.{◌≡◌, ◌⊎◌, ℕ, false, List}
+use Rattle.imap_session.specs.Servers.{Server}
+use Rattle.imap_link.specs.declared.link.Link as link
+use Rattle.imap_client.specs.declared.far_box.FarBox.{FarBox}
+use Rattle.imap_client.specs.Logins.{is_known}
+use Rattle.imap_client.specs.Sessions.{server_of}
+use Rattle.mailbox.specs.declared.fault.BoxFault.{BoxFault}
+use Rattle.mailbox.specs.declared.fault.BoxFault.TheVariants.{Stopped, Refused, Own, NoMemory}
+use Rattle.mailbox.specs.Calls.{Seen}
+use Rattle.far_side.specs.declared.far_side.FarSide.{FarSide}
+use Rattle.far_side.specs.declared.stage.Stage.{Stage}
+use Rattle.far_side.specs.declared.stage.Stage.TheVariants.{Closed}
+use Rattle.far_side.specs.Chosen.{IsMissing, box_at}
+use Rattle.far_side.specs.Stages.{is_broken_at}
+
+module _ {L : Type 0} {links : link.Ghosts L} where
+  abbrev pub seen_at : Stage → (name : List ℕ) → FarBox L links → Seen
+  seen_at stage name far = record {
+    stored = box_at name (server_of far.session);
+    is_broken = is_broken_at stage far.is_selected far.session.is_ready;
+    stops = links.stops far.session.wire.link;
+  }
+
+  abbrev pub seen_of : FarSide L links → Seen
+  seen_of side = seen_at side.stage side.account.mailbox.items side.far
+
+  -- the link has kept its word
+  abbrev pub honest_of : FarSide L links → Type 0
+  honest_of side = links.honest side.far.session.wire.link
+
+  -- the server behind it
+  abbrev pub server_at : FarSide L links → Server
+  server_at side = server_of side.far.session
+
+  -- no other fault comes from a server that keeps its word
+  abbrev pub Unfit : FarSide L links → BoxFault → Type 0
+  Unfit side Stopped = ⊥
+  Unfit side Refused =
+      ((side.stage ≡ Closed) × (is_known side.account.user.items side.account.password.items (server_at side) ≡ false))
+      ⊎ IsMissing side.account.mailbox.items (server_at side)
+  Unfit side (Own number) = ⊥
+  Unfit side NoMemory = ⊥

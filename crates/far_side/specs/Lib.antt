@@ -1,0 +1,5 @@
+pub mod Chosen
+pub mod Stages
+pub mod FarFaults
+pub mod FarStops
+pub mod FarSides

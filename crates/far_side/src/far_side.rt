@@ -1,0 +1,306 @@
+//! The far mailbox of a run.
+
+ghost use Rattle.std.specs.Prelude.{◌≡◌, true, false, not, IfOk, IfSome, OnErr, OnOk, is_some};
+ghost use Rattle.std.proofs.Props.{props};
+ghost use Rattle.imap_client.specs.Sessions.{server_of, state_of};
+ghost use Rattle.imap_link.specs.Outcomes.{Never, Outcome};
+ghost use Rattle.mailbox.specs.Operations.{HasNumbers};
+ghost use Rattle.imap_session.specs.Servers.{is_logged_in};
+ghost use Rattle.far_side.specs.Chosen.{KeepsMailboxes, ListsAll, Misses, TellsValidity, box_at, store_at};
+ghost use Rattle.far_side.specs.FarStops.{Ends};
+ghost use Rattle.far_side.specs.Stages.{RefusesAll, Unopened, is_open_at, is_reached};
+
+use crate::account::Account;
+use crate::entering::log_in;
+use crate::logged_in::LoggedIn;
+use crate::stage::Stage;
+use crate::told::told_by;
+use imap_client::far_box::FarBox;
+use imap_client::session::Session;
+use imap_link::fault::FarFault;
+use imap_link::link::Link;
+use mailbox::fault::BoxFault;
+use mailbox::mailbox::Mailbox;
+use mailcore::flags::Flags;
+use mailcore::listing::Listing;
+use mailcore::tuid::Tuid;
+use mailcore::uid::Uid;
+use outside::far_next::FarNext;
+use std::alloc::Global;
+
+/// The mailbox of an account at a server: closed, or open.
+#[derive(Drop)]
+pub struct FarSide<L: Link> {
+    account: Account,
+    far: FarBox<L>,
+    stage: Stage,
+    // Nothing has changed since the mailbox was selected, so that its next UID is known.
+    is_fresh: bool,
+    pub ghost named: { far.is_selected ≡ true → far.name.items ≡ account.mailbox.items },
+    pub ghost logged_in: { is_reached stage ≡ true → far.session.is_ready ≡ true → L.honest far.session.wire.link
+        → is_logged_in (L.line far.session.wire.link).end.server.condition ≡ true } by { Prim.hlevel props },
+    pub ghost fresh: { is_fresh ≡ true → L.honest far.session.wire.link
+        → far.next ≡ (store_at account.mailbox.items (L.line far.session.wire.link).end.server.mailboxes).next } by { Prim.hlevel props },
+}
+
+impl<L: Link + Drop> FarSide<L> {
+    ghost use Rattle.far_side.specs.FarSides.{honest_of, seen_of, server_at};
+
+    /// That of this account, over this link. It is closed.
+    pub fn new(alloc: Global, account: Account, link: L) -> Self
+        ensures seen { seen_of result
+            ≡ record { stored = box_at account.mailbox.items (L.line link).end.server; is_broken = false; stops = L.stops link } }
+        ensures was_honest { honest_of result → L.honest link }
+        ensures honest { L.honest link → honest_of result }
+        ensures closed { is_open_at result.stage ≡ false }
+    {
+        FarSide {
+            account,
+            far: FarBox::closed(Session::closed(alloc, link)),
+            stage: Stage::Closed,
+            is_fresh: false,
+        }
+    }
+
+    /// That of this account, over a session of its user. It is closed.
+    pub fn over(account: Account, session: LoggedIn<L>) -> Self
+        ensures seen { seen_of result ≡ record {
+          stored = box_at account.mailbox.items (server_of session.session);
+          is_broken = not session.session.is_ready;
+          stops = L.stops session.session.wire.link;
+        } }
+        ensures was_honest { honest_of result → L.honest session.session.wire.link }
+        ensures honest { L.honest session.session.wire.link → honest_of result }
+        ensures closed { is_open_at result.stage ≡ false }
+    {
+        FarSide {
+            account,
+            far: FarBox::closed(session.into_session()),
+            stage: Stage::LoggedIn,
+            is_fresh: false,
+        }
+    }
+
+    /// The UIDNEXT of the mailbox, where it is open and nothing has changed since it was selected.
+    pub fn next(&self) -> Option<u32>
+        ensures next { honest_of self.now → IfSome result (λ next. next ≡ (seen_of self.now).stored.store.next) }
+        ensures known { self.now.is_fresh ≡ true → is_some result ≡ true }
+    {
+        if self.is_fresh {
+            Some(self.far.next())
+        } else {
+            None
+        }
+    }
+
+    /// Gives the link back.
+    pub fn into_link(self) -> L
+        ensures { result ≡ self.far.session.wire.link }
+    {
+        let FarSide { far, .. } = self;
+        far.into_session().into_link()
+    }
+
+    /// Gives the session back, if its user has logged in and it goes on.
+    pub fn into_session(self) -> Option<LoggedIn<L>>
+        ensures session { IfSome result (λ s. s.session ≡ self.far.session) }
+        ensures ready { IfSome result (λ s. s.session.is_ready ≡ true) }
+        ensures some { is_reached self.stage ≡ true → self.far.session.is_ready ≡ true → is_some result ≡ true }
+    {
+        let FarSide { far, stage, .. } = self;
+        let session = far.into_session();
+        if stage != Stage::Closed && session.is_ready() {
+            Some(LoggedIn { session })
+        } else {
+            None
+        }
+    }
+
+    // Connects and logs in, where nobody has.
+    fn log_in(&mut self) -> Result<(), FarFault>
+        requires whole { (seen_of self.old).is_broken ≡ false }
+        ensures mailbox { self.new.account.mailbox.items ≡ self.old.account.mailbox.items }
+        ensures was_honest { honest_of self.new → honest_of self.old }
+        ensures reached { OnOk result (is_reached self.new.stage ≡ true) }
+        ensures ends { Ends (state_of self.old.far.session) (state_of self.new.far.session) result }
+        ensures outcome { honest_of self.new → Outcome (λ _. KeepsMailboxes)
+            (Unopened self.old.stage self.old.account.user.items self.old.account.password.items) KeepsMailboxes result
+            (server_at self.old) (server_at self.new) }
+    {
+        match self.stage {
+            Stage::Closed => {
+                self.is_fresh = false;
+                log_in(&mut self.far, &self.account.user, &self.account.password)?;
+                self.stage = Stage::LoggedIn;
+                Ok(())
+            }
+            Stage::LoggedIn | Stage::Open => Ok(()),
+        }
+    }
+
+    // Selects the mailbox, over the session as it stands, and tells its UIDVALIDITY.
+    fn select(&mut self) -> Result<u32, FarFault>
+        requires reached { is_reached self.old.stage ≡ true }
+        requires ready { self.old.far.session.is_ready ≡ true }
+        ensures mailbox { self.new.account.mailbox.items ≡ self.old.account.mailbox.items }
+        ensures was_honest { honest_of self.new → honest_of self.old }
+        ensures open { OnOk result (is_open_at self.new.stage ≡ true) }
+        ensures selected { OnOk result (self.new.far.is_selected ≡ true) }
+        ensures fresh { OnOk result (self.new.is_fresh ≡ true) }
+        ensures stays { OnErr result (self.new.stage ≡ self.old.stage) }
+        ensures ends { Ends (state_of self.old.far.session) (state_of self.new.far.session) result }
+        ensures outcome { honest_of self.new
+            → Outcome (TellsValidity self.old.account.mailbox.items) (Misses self.old.account.mailbox.items) KeepsMailboxes result
+            (server_at self.old) (server_at self.new) }
+    {
+        self.is_fresh = false;
+        self.far.enter(&self.account.mailbox)?;
+        self.stage = Stage::Open;
+        self.is_fresh = true;
+        Ok(self.far.validity())
+    }
+
+    // Logs in, where nobody has, and selects the mailbox.
+    fn reach(&mut self) -> Result<u32, FarFault>
+        requires whole { (seen_of self.old).is_broken ≡ false }
+        ensures mailbox { self.new.account.mailbox.items ≡ self.old.account.mailbox.items }
+        ensures was_honest { honest_of self.new → honest_of self.old }
+        ensures open { OnOk result (is_open_at self.new.stage ≡ true) }
+        ensures selected { OnOk result (self.new.far.is_selected ≡ true) }
+        ensures ends { Ends (state_of self.old.far.session) (state_of self.new.far.session) result }
+        ensures outcome { honest_of self.new → Outcome (TellsValidity self.old.account.mailbox.items) (RefusesAll self.old.stage
+            self.old.account.user.items self.old.account.password.items self.old.account.mailbox.items) KeepsMailboxes result
+            (server_at self.old) (server_at self.new) }
+    {
+        self.log_in()?;
+        self.select()
+    }
+
+    // Selects the mailbox again, where something has changed since it was.
+    fn refresh(&mut self) -> Result<(), FarFault>
+        requires whole { (seen_of self.old).is_broken ≡ false }
+        requires open { is_open_at self.old.stage ≡ true }
+        ensures mailbox { self.new.account.mailbox.items ≡ self.old.account.mailbox.items }
+        ensures was_honest { honest_of self.new → honest_of self.old }
+        ensures open { is_open_at self.new.stage ≡ true }
+        ensures selected { OnOk result (self.new.far.is_selected ≡ true) }
+        ensures fresh { OnOk result (self.new.is_fresh ≡ true) }
+        ensures ends { Ends (state_of self.old.far.session) (state_of self.new.far.session) result }
+        ensures outcome { honest_of self.new → Outcome (λ _. KeepsMailboxes) Never KeepsMailboxes result
+            (server_at self.old) (server_at self.new) }
+    {
+        if self.is_fresh {
+            return Ok(());
+        }
+        self.select()?;
+        Ok(())
+    }
+
+    // What the mailbox lists. Where something has changed since it was selected, it is selected again, which tells its next UID.
+    fn list_anew(&mut self) -> Result<Listing, FarFault>
+        requires whole { (seen_of self.old).is_broken ≡ false }
+        requires open { is_open_at self.old.stage ≡ true }
+        ensures mailbox { self.new.account.mailbox.items ≡ self.old.account.mailbox.items }
+        ensures was_honest { honest_of self.new → honest_of self.old }
+        ensures open { is_open_at self.new.stage ≡ true }
+        ensures selected { OnOk result (self.new.far.is_selected ≡ true) }
+        ensures numbers { IfOk result HasNumbers }
+        ensures ends { Ends (state_of self.old.far.session) (state_of self.new.far.session) result }
+        ensures outcome { honest_of self.new → Outcome (ListsAll self.old.account.mailbox.items) Never KeepsMailboxes result
+            (server_at self.old) (server_at self.new) }
+    {
+        self.refresh()?;
+        self.far.list()
+    }
+}
+
+impl<L: Link + Drop> FarNext for FarSide<L> {
+    fn far_next(&self) -> Option<u32> {
+        self.next()
+    }
+}
+
+impl<L: Link + Drop> Mailbox for FarSide<L> {
+    ghost use Rattle.mailcore.specs.declared.side.Side.TheVariants.{Far};
+    ghost use Rattle.imap_client.specs.Sessions.{state_of};
+    ghost use Rattle.far_side.specs.FarSides.{Unfit, honest_of, seen_of};
+    ghost use Rattle.far_side.specs.FarStops.{HasEnded};
+
+    ghost side = { Far };
+
+    ghost honest = { honest_of };
+
+    ghost ours = { λ _. true };
+
+    ghost alone = { true };
+
+    // nothing waits at a server, so that there is nothing to admit
+    ghost seen = { seen_of };
+
+    ghost is_open = { λ side. is_open_at side.stage };
+
+    ghost body = { λ side. side.far.body.items };
+
+    ghost ended = { λ _ side. HasEnded (state_of side.far.session) };
+
+    ghost unfit = { Unfit };
+
+    // the server's affair
+    ghost is_synced = { λ _. true };
+
+    fn open(&mut self) -> Result<u32, BoxFault> {
+        told_by(self.reach())
+    }
+
+    fn list(&mut self, _from: u32) -> Result<Listing, BoxFault> {
+        told_by(self.list_anew())
+    }
+
+    fn find_mark(&mut self, mark: Tuid, from: u32) -> Result<Option<Uid>, BoxFault> {
+        told_by(self.far.find_mark(mark, from))
+    }
+
+    fn load(&mut self, uid: Uid) -> Result<bool, BoxFault> {
+        told_by(self.far.load(uid))
+    }
+
+    fn body(&self) -> &[u8] {
+        self.far.body()
+    }
+
+    fn append(&mut self, text: &[u8], flags: Flags) -> Result<Option<Uid>, BoxFault> {
+        self.is_fresh = false;
+        told_by(self.far.append(text, flags))
+    }
+
+    fn add_flags(&mut self, uid: Uid, flags: Flags) -> Result<(), BoxFault> {
+        self.is_fresh = false;
+        told_by(self.far.add_flags(uid, flags))
+    }
+
+    fn remove_flags(&mut self, uid: Uid, flags: Flags) -> Result<(), BoxFault> {
+        self.is_fresh = false;
+        told_by(self.far.remove_flags(uid, flags))
+    }
+
+    fn expunge(&mut self, uid: Uid) -> Result<(), BoxFault> {
+        self.is_fresh = false;
+        told_by(self.far.expunge(&[uid]))
+    }
+
+    fn admit(&mut self) -> Result<(), BoxFault> {
+        Ok(())
+    }
+
+    fn sync(&mut self) -> Result<(), BoxFault> {
+        Ok(())
+    }
+
+    // A session that goes on, and in which no mailbox was selected since its user logged in, is kept.
+    fn reopen(&mut self) {
+        self.is_fresh = false;
+        if self.stage != Stage::LoggedIn || !self.far.is_ready() {
+            self.stage = Stage::Closed;
+        }
+    }
+}

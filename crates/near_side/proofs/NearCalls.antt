@@ -1,0 +1,215 @@
+-- From what the near box says of a call to the clause of the trait.
+use Rattle.std.proofs.Common.{◌≡◌, ◌⊎◌, inl, inr, ap, refl, subst, sym, ℕ, ◌+◌, ◌^◌, ◌≤◌, Bool, true, false, List, [], ◌∷◌, length, Some, Result, Ok, Err, arith}
+use Rattle.std.specs.Prelude.{IfOk, IsErrOf, not}
+use Rattle.std.specs.Int.NonZero.{non_zero_u32_get}
+use Rattle.std.proofs.lemmas.List.Elements.{All-nil}
+use Rattle.device.specs.Calls.{Effect, Follows, Leaves, Nothing, Went}
+use Rattle.mailcore.specs.Ranges.{IsInRange}
+use Rattle.mailcore.specs.Stores.{Waiting}
+use Rattle.mailcore.specs.declared.side.Side.TheVariants as side
+use Rattle.maildir.specs.declared.folder.Folder as folder
+use Rattle.near_box.specs.declared.near_box.NearBox.{NearBox}
+use Rattle.near_box.specs.declared.near_fault.NearFault.{NearFault}
+use Rattle.near_box.specs.declared.near_fault.NearFault.TheVariants as near
+use Rattle.near_box.specs.Boxes.{TurnsMailbox, box_of, mailbox_of, seen_in, stored_in}
+use Rattle.near_box.specs.Mailboxes.{IsMailbox, Near, admitted_near, delivered, near_of}
+use Rattle.near_box.specs.NearCalls.{Box, Ends, Goes, RunsOut, stops_of}
+use Rattle.near_box.specs.NearContracts.{AdmitsSome, SetsAside}
+use Rattle.near_box.proofs.RangeLemmas.{near_in_range}
+use Rattle.near_box.proofs.SurveyedLemmas.{surveyed_mailbox}
+use Rattle.outside.specs.Arrivals.{IsMerge, none, left}
+use Rattle.mailbox.specs.declared.fault.BoxFault.{BoxFault}
+use Rattle.mailbox.specs.declared.fault.BoxFault.TheVariants as fault
+use Rattle.mailbox.specs.Arrivals.{Arrives}
+use Rattle.mailbox.specs.Calls.{Call, DoesSome, Halts, HasCause, LeavesBy, Never, Seen}
+use Rattle.mailbox.specs.Operations.{Admits, Answers, Appends, IsFull, NoRoom}
+use Rattle.near_side.specs.declared.near_side.NearSide.{NearSide}
+use Rattle.near_side.specs.NearFaults.{told, told_by}
+use Rattle.near_side.specs.NearSides.{every, is_broken_in, seen_at, seen_of}
+
+-- ---- nobody else acts
+
+nobody_else : (ws : List Waiting) → IsMerge ws [] ws
+nobody_else [] = none
+nobody_else (w ∷ ws) = left w ws [] ws (nobody_else ws)
+
+quiet : (b : Near) → Arrives side.Near every true b b
+quiet b = record {
+  comes = record { files = []; waiting = b.waiting; merged = nobody_else b.waiting; foreign = All-nil _; now = refl };
+  nobody = λ _. refl;
+}
+
+pub alone : {b b' : Near} (does : Effect Near) → does b b' → Follows (Arrives side.Near every true) does b b'
+alone {b} does h = record { mid = b; before = quiet b; behind = h }
+
+-- ---- an open mailbox
+
+-- one that has not failed is ready
+ready_of : (is_open is_ready is_broken : Bool) → is_open ≡ true → is_broken_in is_open is_ready is_broken ≡ false → is_ready ≡ true
+ready_of true true is_broken o h = refl
+ready_of true false is_broken o h = absurd (cc)
+ready_of false is_ready is_broken o h = absurd (cc)
+
+-- UIDs ran out: the box is as it was
+as_it_was : (gives_uids : Bool) (a b : Box) → RunsOut gives_uids a b → b ≡ a
+as_it_was true a b h = h.1
+as_it_was false a b h = absurd h
+
+-- a call that does nothing
+pub nothing_done : {F : Type 0} {folders : folder.Ghosts F} (s : NearSide F folders) → (seen_of s).is_broken ≡ false
+    → Went (folders.is_honest ≡ true) (Follows (Arrives side.Near every true) (λ b b'. b' ≡ b)) (seen_of s) (seen_of s)
+nothing_done s whole = record { was_whole = whole; is_whole = whole; stops = refl; effect = λ h. alone (λ b b'. b' ≡ b) refl }
+
+-- what a call does by its answer, and what it leaves by its fault
+abbrev Left : {T : Type 0} → (because : BoxFault → Near → Type 0) → (does : T → Effect Near) → (part : Effect Near) → Result T NearFault → Effect Near
+Left because does part (Ok answer) = does answer
+Left because does part (Err e) = LeavesBy does part because (told e)
+
+-- the mailbox before a call of its box, and the box behind it
+module _ {F : Type 0} {folders : folder.Ghosts F} (s : NearSide F folders) (new : NearBox F folders) (is_open : s.is_open ≡ true) (whole : (seen_of s).is_broken ≡ false) where
+  abbrev honest : Type 0
+  honest = folders.is_honest ≡ true
+
+  abbrev now : Seen
+  now = seen_at s.is_open (non_zero_u32_get s.fresh) new
+
+  -- the box's mailbox before the call, and behind it
+  abbrev n : Near
+  n = mailbox_of s.near
+
+  abbrev n' : Near
+  n' = near_of s.near.fresh (stored_in new)
+
+  says_so : (does : Effect Near) → does n n' → Follows (Arrives side.Near every true) does (seen_of s).stored now.stored
+  says_so does h = alone does (subst (λ (f : ℕ). does (near_of f (stored_in s.near)) (near_of f (stored_in new))) s.same_fresh h)
+
+  pub ready : s.near.is_ready ≡ true
+  ready = ready_of s.is_open s.near.is_ready (seen_in s.near).is_broken is_open whole
+
+  same_near : stored_in new ≡ stored_in s.near → n' ≡ n
+  same_near same = ap (near_of s.near.fresh) same
+
+  same_box : (gives_uids : Bool) → RunsOut gives_uids (box_of s.near) (box_of new) → box_of new ≡ box_of s.near
+  same_box gives_uids out = as_it_was gives_uids (box_of s.near) (box_of new) out
+
+  -- ---- by the answer
+
+  goes : {T : Type 0} (does : T → Effect Near) (answer : T) → Goes (box_of s.near) (box_of new) → (honest → does answer n n')
+      → Went honest (Follows (Arrives side.Near every true) (does answer)) (seen_of s) now
+  goes does answer ends does_so = record {
+    was_whole = whole;
+    is_whole = rw is_open (ap not ends.is_ready);
+    stops = ends.stops;
+    effect = λ h. says_so (does answer) (does_so h);
+  }
+
+  halts : {is_stop : Type 0} (leaves : Effect Near) → (is_stop → HasCause ⊥ (seen_of s) now) → (seen_of s).stops ≤ now.stops → (honest → leaves n n')
+      → Halts honest ⊥ is_stop (Follows (Arrives side.Near every true) leaves) (seen_of s) now
+  halts leaves cause no_less leaves_so = record { cause = cause; no_less = no_less; left = λ h. says_so leaves (leaves_so h) }
+
+  fails : (T : Type 0) (gives_uids : Bool) (leaves : Effect Near) (e : NearFault) → Ends {T = T} gives_uids (box_of s.near) (box_of new) (Err e) → (honest → leaves n n')
+      → Halts honest ⊥ (told e ≡ fault.Stopped) (Follows (Arrives side.Near every true) leaves) (seen_of s) now
+  fails T gives_uids leaves near.Stopped ends leaves_so = halts leaves (λ _. inl (ends.counted ready)) (omega (arith, ends.counted ready)) leaves_so
+  fails T gives_uids leaves near.NoMemory ends leaves_so = halts leaves (λ is. absurd (cc)) ends.no_less leaves_so
+  fails T gives_uids leaves near.UidsExhausted ends leaves_so = halts leaves (λ is. absurd (cc)) (omega (arith, ap stops_of (same_box gives_uids ends))) leaves_so
+  fails T gives_uids leaves near.Absent ends leaves_so = absurd ends
+  fails T gives_uids leaves near.TwoWithOneUid ends leaves_so = absurd ends
+  fails T gives_uids leaves near.BadMeta ends leaves_so = absurd ends
+
+  calls : {T : Type 0} (gives_uids : Bool) (because : BoxFault → Near → Type 0) (does : T → Effect Near) (part : Effect Near) (answer : Result T NearFault)
+      → Ends gives_uids (box_of s.near) (box_of new) answer → (honest → Left because does part answer n n')
+      → Call honest ⊥ (Arrives side.Near every true) because does part (seen_of s) now (told_by answer)
+  calls gives_uids because does part (Ok answer) ends left_so = goes does answer ends left_so
+  calls {T} gives_uids because does part (Err e) ends left_so = fails T gives_uids (LeavesBy does part because (told e)) e ends left_so
+
+  -- ---- a call that changes nothing
+
+  unchanged : {T : Type 0} (does : T → Effect Near) (answer : Result T NearFault) → Ends false (box_of s.near) (box_of new) answer → n' ≡ n → IfOk answer (λ x. does x n n') → Left Never does Nothing answer n n'
+  unchanged does (Ok x) ends same did = did
+  unchanged does (Err near.Stopped) ends same did = inl same
+  unchanged does (Err near.NoMemory) ends same did = inl same
+  unchanged does (Err near.UidsExhausted) ends same did = absurd ends
+  unchanged does (Err near.Absent) ends same did = absurd ends
+  unchanged does (Err near.TwoWithOneUid) ends same did = absurd ends
+  unchanged does (Err near.BadMeta) ends same did = absurd ends
+
+  answered : {T : Type 0} (tells : T → Near → Type 0) (answer : Result T NearFault) → n' ≡ n → IfOk answer (λ x. tells x n) → IfOk answer (λ x. Answers tells x n n')
+  answered tells (Ok x) same tells_so = (same, tells_so)
+  answered tells (Err e) same tells_so = tt
+
+  rested : (answer : Result (Unit {0}) NearFault) → n' ≡ n → IfOk answer (λ _. n' ≡ n)
+  rested (Ok x) same = same
+  rested (Err e) same = tt
+
+  -- it reads
+  pub reads : {T : Type 0} (tells : T → Near → Type 0) (answer : Result T NearFault) → Ends false (box_of s.near) (box_of new) answer → (honest → stored_in new ≡ stored_in s.near)
+      → (honest → IfOk answer (λ x. tells x n)) → Call honest ⊥ (Arrives side.Near every true) Never (Answers tells) Nothing (seen_of s) now (told_by answer)
+  reads tells answer ends same tells_so = calls false Never (Answers tells) Nothing answer ends
+      (λ h. unchanged (Answers tells) answer ends (same_near (same h)) (answered tells answer (same_near (same h)) (tells_so h)))
+
+  -- it rests
+  pub rests : (answer : Result (Unit {0}) NearFault) → Ends false (box_of s.near) (box_of new) answer → (honest → stored_in new ≡ stored_in s.near)
+      → Call {T = Unit {0}} honest ⊥ (Arrives side.Near every true) Never (λ _ b b'. b' ≡ b) Nothing (seen_of s) now (told_by answer)
+  rests answer ends same = calls false Never (λ _ b b'. b' ≡ b) Nothing answer ends
+      (λ h. unchanged (λ _ b b'. b' ≡ b) answer ends (same_near (same h)) (rested answer (same_near (same h))))
+
+  -- ---- a call that changes the mailbox, or not
+
+  may : {T : Type 0} (does : T → Effect Near) (part : Effect Near) (change : Near → Near) → (n' ≡ change n → DoesSome does n n') → (n' ≡ n) ⊎ ((n' ≡ change n) ⊎ part n n') → Leaves (DoesSome does) part n n'
+  may does part change done (inl same) = inl same
+  may does part change done (inr (inl all)) = inr (inl (done all))
+  may does part change done (inr (inr some)) = inr (inr some)
+
+  failed : (A : Type 0) {T : Type 0} (gives_uids : Bool) (because : BoxFault → Near → Type 0) (does : T → Effect Near) (part : Effect Near) (change : Near → Near) (e : NearFault) → (n' ≡ change n → DoesSome does n n')
+      → Ends {T = A} gives_uids (box_of s.near) (box_of new) (Err e) → (n' ≡ n) ⊎ ((n' ≡ change n) ⊎ part n n') → (e ≡ near.UidsExhausted → gives_uids ≡ true → because (fault.Own 5) n)
+      → LeavesBy does part because (told e) n n'
+  failed A gives_uids because does part change near.Stopped done ends left_so full = may does part change done left_so
+  failed A gives_uids because does part change near.NoMemory done ends left_so full = may does part change done left_so
+  failed A true because does part change near.UidsExhausted done ends left_so full = (same_near (ap (λ (b : Box). b.folder.stored) ends.1), full refl refl)
+  failed A false because does part change near.UidsExhausted done ends left_so full = absurd ends
+  failed A gives_uids because does part change near.Absent done ends left_so full = absurd ends
+  failed A gives_uids because does part change near.TwoWithOneUid done ends left_so full = absurd ends
+  failed A gives_uids because does part change near.BadMeta done ends left_so full = absurd ends
+
+  turned : (gives_uids : Bool) (because : BoxFault → Near → Type 0) (part : Effect Near) (change : Near → Near) (answer : Result (Unit {0}) NearFault) → Ends gives_uids (box_of s.near) (box_of new) answer
+      → TurnsMailbox change part s.near new answer → (IsErrOf answer near.UidsExhausted → gives_uids ≡ true → because (fault.Own 5) n) → Left because (λ _ b b'. b' ≡ change b) part answer n n'
+  turned gives_uids because part change (Ok x) ends did full = did
+  turned gives_uids because part change (Err e) ends did full =
+      failed (Unit {0}) gives_uids because (λ _ b b'. b' ≡ change b) part change e (λ all. record { answer = tt; done = all }) ends did (λ is. full (ap Err is))
+
+  -- it gives no UIDs
+  pub turns : (change : Near → Near) (answer : Result (Unit {0}) NearFault) → Ends false (box_of s.near) (box_of new) answer → (honest → TurnsMailbox change Nothing s.near new answer)
+      → Call {T = Unit {0}} honest ⊥ (Arrives side.Near every true) Never (λ _ b b'. b' ≡ change b) Nothing (seen_of s) now (told_by answer)
+  turns change answer ends did = calls false Never (λ _ b b'. b' ≡ change b) Nothing answer ends (λ h. turned false Never Nothing change answer ends (did h) (λ is no. absurd (cc)))
+
+  -- it gives all that waits its UIDs
+  pub admits : (answer : Result (Unit {0}) NearFault) → Ends true (box_of s.near) (box_of new) answer → (honest → TurnsMailbox admitted_near AdmitsSome s.near new answer)
+      → (honest → IsErrOf answer near.UidsExhausted → IsFull (length n.waiting) n)
+      → Call {T = Unit {0}} honest ⊥ (Arrives side.Near every true) (NoRoom side.Near (λ b. length b.waiting)) (λ _. Admits) AdmitsSome (seen_of s) now (told_by answer)
+  admits answer ends did full = calls true (NoRoom side.Near (λ b. length b.waiting)) (λ _. Admits) AdmitsSome answer ends
+      (λ h. turned true (NoRoom side.Near (λ b. length b.waiting)) AdmitsSome admitted_near answer ends (did h) (λ is _. (refl, full h is)))
+
+  -- it adds a message
+  appends : (bytes : List ℕ) (flags : ℕ) → n' ≡ delivered bytes flags n → Appends side.Near bytes flags (Some n.store.next) n n'
+  appends bytes flags added = record { uid = n.store.next; gives = (refl, refl); now = added }
+
+  pub added_one : (bytes : List ℕ) (flags uid : ℕ) → Goes (box_of s.near) (box_of new) → (honest → uid ≡ n.store.next) → (honest → n' ≡ delivered bytes flags n)
+      → Went honest (Follows (Arrives side.Near every true) (Appends side.Near bytes flags (Some uid))) (seen_of s) now
+  added_one bytes flags uid ends next did = goes (Appends side.Near bytes flags) (Some uid) ends (λ h. rw (next h) (appends bytes flags (did h)))
+
+  pub added_none : (bytes : List ℕ) (flags : ℕ) (e : NearFault) → Ends {T = ℕ} true (box_of s.near) (box_of new) (Err e) → (honest → (n' ≡ n) ⊎ ((n' ≡ delivered bytes flags n) ⊎ SetsAside n n'))
+      → (honest → e ≡ near.UidsExhausted → IsFull 1 n)
+      → Halts honest ⊥ (told e ≡ fault.Stopped) (Follows (Arrives side.Near every true) (LeavesBy (Appends side.Near bytes flags) SetsAside (NoRoom side.Near (λ _. 1)) (told e))) (seen_of s) now
+  added_none bytes flags e ends left_so full = fails ℕ true (LeavesBy (Appends side.Near bytes flags) SetsAside (NoRoom side.Near (λ _. 1)) (told e)) e ends
+      (λ h. failed ℕ true (NoRoom side.Near (λ _. 1)) (Appends side.Near bytes flags) SetsAside (delivered bytes flags) e (λ all. record { answer = Some n.store.next; done = appends bytes flags all }) ends (left_so h) (λ is _. (refl, full h is)))
+
+  -- ---- a full mailbox
+
+  pub has_no_room : (count : Near → ℕ) → IsFull (count (seen_of s).stored) (seen_of s).stored → IsFull (count n) n
+  has_no_room count h = subst (λ (f : ℕ). IsFull (count (near_of f (stored_in s.near))) (near_of f (stored_in s.near))) (sym s.same_fresh) h
+
+  pub has_no_uid : honest → IsFull 1 (seen_of s).stored → n.store.next + 1 ≡ 2 ^ 32
+  has_no_uid h is_full =
+      let mailbox : IsMailbox s.near.fresh (stored_in s.near) = surveyed_mailbox s.near.survey s.near.fresh (stored_in s.near) (s.near.surveys ready h) in
+      let range : IsInRange n.store = near_in_range s.near.fresh (stored_in s.near) s.near.has_fresh.0 s.near.has_fresh.1 mailbox in
+      omega (arith, has_no_room (λ _. 1) is_full, range.next.below)

@@ -1,0 +1,99 @@
+-- What the near box says where it is opened, as the trait says it.
+use Rattle.std.proofs.Common.{◌≡◌, ◌⊎◌, ◌<◌, inl, inr, ap, ◌∙◌, refl, ℕ, ◌≤◌, Bool, true, false, length, Ok, Err, arith}
+use Rattle.std.specs.Prelude.{not}
+use Rattle.std.specs.Int.NonZero.{non_zero_u32_get}
+use Rattle.device.specs.Calls.{Effect, Follows, Nothing, Seen as FolderSeen, Went}
+use Rattle.device.specs.declared.history.History.{History}
+use Rattle.mailcore.specs.declared.side.Side.TheVariants as side
+use Rattle.maildir.specs.declared.folder.Folder as folder
+use Rattle.maildir.specs.declared.meta.Meta.{Meta}
+use Rattle.maildir.specs.Folders.{Stored}
+use Rattle.near_box.specs.declared.near_box.NearBox.{NearBox}
+use Rattle.near_box.specs.declared.near_fault.NearFault.{NearFault}
+use Rattle.near_box.specs.declared.near_fault.NearFault.TheVariants as near
+use Rattle.near_box.specs.Boxes.{mailbox_of, seen_in, stored_in}
+use Rattle.near_box.specs.Mailboxes.{IsMetaOf, Near, near_of}
+use Rattle.near_box.specs.NearCalls.{Looks}
+use Rattle.near_box.specs.NearContracts.{TellsWhy}
+use Rattle.mailbox.specs.declared.fault.BoxFault.TheVariants as fault
+use Rattle.mailbox.specs.Arrivals.{Arrives}
+use Rattle.mailbox.specs.Calls.{Halts, LeavesBy, Seen}
+use Rattle.mailbox.specs.Operations.{Answers, TellsValidity}
+use Rattle.near_side.specs.declared.near_side.NearSide.{NearSide}
+use Rattle.near_side.specs.NearFaults.{told}
+use Rattle.near_side.specs.NearSides.{Unfit, every, is_broken_in, seen_at, seen_of}
+use Rattle.near_side.proofs.NearCalls.{alone}
+
+-- the folder of a mailbox that has not failed is whole
+folder_whole : (is_open is_ready is_broken : Bool) → (is_ready ≡ true → is_broken ≡ false) → is_broken_in is_open is_ready is_broken ≡ false → is_broken ≡ false
+folder_whole true true is_broken by_box h = by_box refl
+folder_whole true false is_broken by_box h = absurd (cc)
+folder_whole false is_ready is_broken by_box h = h
+
+stopped_now : (old new : FolderSeen Stored) → old.is_broken ≡ false → (old.is_broken ≡ true) ⊎ (old.stops < new.stops) → old.stops < new.stops
+stopped_now old new whole (inl broken) = absurd (cc)
+stopped_now old new whole (inr rose) = rose
+
+module _ {F : Type 0} {folders : folder.Ghosts F} (s : NearSide F folders) (new : NearBox F folders) (whole : (seen_of s).is_broken ≡ false) (missed : new.missed ≡ s.near.missed) (same : folders.is_honest ≡ true → stored_in new ≡ stored_in s.near) where
+  abbrev honest : Type 0
+  honest = folders.is_honest ≡ true
+
+  abbrev now : Bool → Seen
+  now is_open = seen_at is_open (non_zero_u32_get s.fresh) new
+
+  abbrev Leaves : NearFault → Effect Near
+  Leaves e = LeavesBy (Answers TellsValidity) Nothing (λ f _. Unfit s f) (told e)
+
+  missed_same : length new.missed.items ≡ length s.near.missed.items
+  missed_same = ap (λ (m : History (Unit {0})). length m.items) missed
+
+  near_same : honest → (now false).stored ≡ (seen_of s).stored
+  near_same h = ap (near_of (non_zero_u32_get s.fresh)) (same h)
+
+  folder_is_whole : (seen_in s.near).is_broken ≡ false
+  folder_is_whole = folder_whole s.is_open s.near.is_ready (seen_in s.near).is_broken s.near.is_whole whole
+
+  -- ---- it is opened
+
+  pub opens : (meta : Meta) → Looks {T = Unit {0}} (seen_in s.near) (seen_in new) (Ok tt) → new.is_ready ≡ true → new.fresh ≡ non_zero_u32_get s.fresh
+      → (honest → IsMetaOf (mailbox_of new).store meta) → Went honest (Follows (Arrives side.Near every true) (Answers TellsValidity meta.validity)) (seen_of s) (now true)
+  opens meta looks is_ready fresh is = record {
+    was_whole = whole;
+    is_whole = ap not is_ready;
+    stops = omega (arith, missed_same, looks.2);
+    effect = λ h. alone (Answers TellsValidity meta.validity) (near_same h, (is h).0 ∙ ap (λ (f : ℕ). (near_of f (stored_in new)).store.validity) fresh ∙ ap (λ (n : Near). n.store.validity) (near_same h));
+  }
+
+  -- ---- or not
+
+  unfit : (e : NearFault) → Looks {T = Unit {0}} (seen_in s.near) (seen_in new) (Err e) → honest → TellsWhy (non_zero_u32_get s.fresh) (stored_in s.near) e → Leaves e (seen_of s).stored (now false).stored
+  unfit near.Stopped looks h why = inl (near_same h)
+  unfit near.NoMemory looks h why = inl (near_same h)
+  unfit near.UidsExhausted looks h why = absurd looks
+  unfit near.Absent looks h why = (near_same h, inl (refl, why))
+  unfit near.TwoWithOneUid looks h why = (near_same h, inr (inl (refl, why)))
+  unfit near.BadMeta looks h why = (near_same h, inr (inr (refl, why)))
+
+  cause : (e : NearFault) → Looks {T = Unit {0}} (seen_in s.near) (seen_in new) (Err e) → told e ≡ fault.Stopped → (seen_of s).stops < (now false).stops
+  cause near.Stopped looks is = omega (arith, missed_same, stopped_now (seen_in s.near) (seen_in new) folder_is_whole looks.0)
+  cause near.NoMemory looks is = absurd (cc)
+  cause near.UidsExhausted looks is = absurd looks
+  cause near.Absent looks is = absurd (cc)
+  cause near.TwoWithOneUid looks is = absurd (cc)
+  cause near.BadMeta looks is = absurd (cc)
+
+  no_less : (e : NearFault) → Looks {T = Unit {0}} (seen_in s.near) (seen_in new) (Err e) → (seen_of s).stops ≤ (now false).stops
+  no_less near.Stopped looks = omega (arith, missed_same, stopped_now (seen_in s.near) (seen_in new) folder_is_whole looks.0)
+  no_less near.NoMemory looks = omega (arith, missed_same, looks)
+  no_less near.UidsExhausted looks = absurd looks
+  no_less near.Absent looks = omega (arith, missed_same, looks.1)
+  no_less near.TwoWithOneUid looks = omega (arith, missed_same, looks.1)
+  no_less near.BadMeta looks = omega (arith, missed_same, looks.1)
+
+  pub stays_closed : (e : NearFault) → Looks {T = Unit {0}} (seen_in s.near) (seen_in new) (Err e) → (honest → TellsWhy (non_zero_u32_get s.fresh) (stored_in s.near) e)
+      → Halts honest ⊥ (told e ≡ fault.Stopped) (Follows (Arrives side.Near every true) (Leaves e)) (seen_of s) (now false)
+  stays_closed e looks why = record {
+    cause = λ is. inl (cause e looks is);
+    no_less = no_less e looks;
+    left = λ h. alone (Leaves e) (unfit e looks h (why h));
+  }

@@ -1,0 +1,53 @@
+-- The near mailbox of a run as the clauses of its calls name it.
+use Rattle.std.specs.Prelude.{◌≡◌, ◌⊎◌, ℕ, Bool, List, true, false, not, Result}
+use Rattle.std.specs.Int.NonZero.{non_zero_u32_get}
+use Rattle.device.specs.Calls.{Effect}
+use Rattle.mailcore.specs.declared.side.Side.TheVariants as side
+use Rattle.maildir.specs.declared.folder.Folder as folder
+use Rattle.near_box.specs.declared.near_box.NearBox.{NearBox}
+use Rattle.near_box.specs.declared.near_fault.NearFault.TheVariants.{Absent, BadMeta, TwoWithOneUid}
+use Rattle.near_box.specs.Boxes.{box_of, seen_in, stored_in}
+use Rattle.near_box.specs.Mailboxes.{Near, near_of}
+use Rattle.near_box.specs.NearCalls.{stops_of}
+use Rattle.near_box.specs.NearContracts.{TellsWhy}
+use Rattle.mailbox.specs.declared.fault.BoxFault.{BoxFault}
+use Rattle.mailbox.specs.declared.fault.BoxFault.TheVariants.{Stopped, Refused, Own, NoMemory}
+use Rattle.mailbox.specs.Arrivals.{Arrives}
+use Rattle.mailbox.specs.Calls.{Call, Seen}
+use Rattle.near_side.specs.declared.near_side.NearSide.{NearSide}
+
+-- nobody else writes a mark
+abbrev pub every : List ℕ → Bool
+every mark = true
+
+-- whether a call has failed: of an open mailbox its box, of a closed one its folder
+abbrev pub is_broken_in : (is_open is_ready is_broken : Bool) → Bool
+is_broken_in true is_ready is_broken = not is_ready
+is_broken_in false is_ready is_broken = is_broken
+
+module _ {F : Type 0} {folders : folder.Ghosts F} where
+  abbrev pub seen_at : (is_open : Bool) → (fresh : ℕ) → NearBox F folders → Seen
+  seen_at is_open fresh near = record {
+    stored = near_of fresh (stored_in near);
+    is_broken = is_broken_in is_open near.is_ready (seen_in near).is_broken;
+    stops = stops_of (box_of near);
+  }
+
+  -- its messages and what waits, whether a call has failed, and how many calls of the folder have stopped or missed a file
+  abbrev pub seen_of : NearSide F folders → Seen
+  seen_of side = seen_at side.is_open (non_zero_u32_get side.fresh) side.near
+
+  -- why the folder holds no mailbox: the first that holds of three
+  abbrev pub Unfit : NearSide F folders → BoxFault → Type 0
+  Unfit side Stopped = ⊥
+  Unfit side Refused = ⊥
+  Unfit side (Own number) =
+      let why = TellsWhy (non_zero_u32_get side.fresh) (stored_in side.near) in
+      ((number ≡ 2) × why Absent) ⊎ (((number ≡ 3) × why TwoWithOneUid) ⊎ ((number ≡ 4) × why BadMeta))
+  Unfit side NoMemory = ⊥
+
+  -- a call: nobody else acts, and the other end, which is the folder, ends nothing
+  abbrev pub Calls : {T : Type 0} → (because : BoxFault → Near → Type 0) → (does : T → Effect Near) → (part : Effect Near)
+      → (old new : NearSide F folders) → Result T BoxFault → Type 0
+  Calls because does part old new result =
+      Call (folders.is_honest ≡ true) ⊥ (Arrives side.Near every true) because does part (seen_of old) (seen_of new) result

@@ -1,0 +1,175 @@
+//! The near mailbox of a run.
+
+ghost use Rattle.std.specs.Prelude.{◌≡◌, true, false, length, IfErr, IsErrOf, OnOk};
+ghost use Rattle.std.specs.Int.NonZero.{non_zero_u32_get};
+
+use crate::told::{told, told_by};
+use mailbox::fault::BoxFault;
+use mailbox::mailbox::Mailbox;
+use mailcore::flags::Flags;
+use mailcore::listing::Listing;
+use mailcore::tuid::Tuid;
+use mailcore::uid::Uid;
+use maildir::folder::Folder;
+use near_box::NearBox;
+use std::alloc::Global;
+use std::num::NonZeroU32;
+
+/// The mailbox that stands in a folder: closed, or open.
+///
+/// A stop is told where a call of the folder stopped, and where a file is gone that stood in the folder when the mailbox was opened.
+#[derive(Drop)]
+pub struct NearSide<F: Folder> {
+    near: NearBox<F>,
+    // Its UIDVALIDITY where the folder has no meta file.
+    fresh: NonZeroU32,
+    is_open: bool,
+    pub ghost same_fresh: { near.fresh ≡ non_zero_u32_get fresh },
+}
+
+impl<F: Folder> NearSide<F> {
+    ghost use Rattle.near_box.specs.Mailboxes.{near_of};
+    ghost use Rattle.near_side.specs.NearSides.{seen_of};
+
+    /// The mailbox of this folder, closed. Its UIDVALIDITY is `fresh` where the folder has no meta file. The folder is not called.
+    pub fn new(alloc: Global, folder: F, fresh: NonZeroU32) -> Self
+        ensures folder { result.near.folder ≡ folder }
+        ensures mailbox { (seen_of result).stored ≡ near_of (non_zero_u32_get fresh) (F.seen folder).stored }
+        ensures stops { (seen_of result).stops ≡ (F.seen folder).stops }
+        ensures broken { (seen_of result).is_broken ≡ (F.seen folder).is_broken }
+        ensures closed { result.is_open ≡ false }
+    {
+        NearSide {
+            near: NearBox::closed(alloc, folder, fresh),
+            fresh,
+            is_open: false,
+        }
+    }
+
+    /// Gives the folder back, without taking memory.
+    pub fn into_folder(self) -> F
+        ensures { result ≡ self.near.folder }
+    {
+        self.near.into_folder()
+    }
+}
+
+impl<F: Folder + Drop> Mailbox for NearSide<F> {
+    ghost use Rattle.std.specs.Prelude.{Bool, List, ℕ};
+    ghost use Rattle.device.specs.Calls.{Nothing};
+    ghost use Rattle.mailcore.specs.declared.side.Side.TheVariants.{Near};
+    ghost use Rattle.near_box.specs.Boxes.{stored_in};
+    ghost use Rattle.near_box.specs.Mailboxes.{IsMailbox};
+    ghost use Rattle.near_box.specs.NearContracts.{AdmitsSome, SetsAside};
+    ghost use Rattle.mailbox.specs.Calls.{IsPlain, Never};
+    ghost use Rattle.mailbox.specs.Operations.{Admits, Answers, Appends, IsCopyText, IsFull, NoRoom, TellsValidity};
+    ghost use Rattle.near_side.specs.NearSides.{Calls, Unfit, every, seen_of};
+
+    ghost side = { Near };
+
+    ghost honest = { λ _. F.is_honest ≡ true };
+
+    ghost ours = { every };
+
+    ghost alone = { true };
+
+    ghost seen = { seen_of };
+
+    ghost is_open = { λ side. side.is_open };
+
+    ghost body = { λ side. side.near.body.items };
+
+    ghost ended = { λ _ _. ⊥ };
+
+    ghost unfit = { Unfit };
+
+    ghost is_synced = { λ side. F.is_synced side.near.folder };
+
+    fn open(&mut self) -> Result<u32, BoxFault>
+        requires whole { (seen_of self.old).is_broken ≡ false }
+        ensures open { OnOk result (self.new.is_open ≡ true) }
+        ensures mailbox { F.is_honest ≡ true → OnOk result (IsMailbox (non_zero_u32_get self.old.fresh) (stored_in self.old.near)) }
+        ensures call { Calls (λ fault _. Unfit self.old fault) (Answers TellsValidity) Nothing self.old self.new result }
+    {
+        self.is_open = false;
+        match self.near.enter(self.fresh) {
+            Ok(()) => {
+                self.is_open = true;
+                Ok(self.near.meta().validity)
+            }
+            Err(fault) => Err(told(fault)),
+        }
+    }
+
+    fn list(&mut self, from: u32) -> Result<Listing, BoxFault> {
+        told_by(self.near.list_above(from))
+    }
+
+    fn find_mark(&mut self, mark: Tuid, from: u32) -> Result<Option<Uid>, BoxFault> {
+        told_by(self.near.find_mark(mark, from))
+    }
+
+    fn load(&mut self, uid: Uid) -> Result<bool, BoxFault> {
+        told_by(self.near.load(uid))
+    }
+
+    fn body(&self) -> &[u8] {
+        self.near.body()
+    }
+
+    fn append(&mut self, text: &[u8], flags: Flags) -> Result<Option<Uid>, BoxFault>
+        requires whole { (seen_of self.old).is_broken ≡ false }
+        requires open { self.old.is_open ≡ true }
+        requires copy { IsCopyText Near text.now }
+        ensures open { self.new.is_open ≡ true }
+        ensures full { F.is_honest ≡ true → IsFull 1 (seen_of self.old).stored → IsErrOf result (BoxFault.Own 5) }
+        ensures call { Calls (NoRoom Near (λ _. 1)) (Appends Near text.now flags) SetsAside self.old self.new result }
+    {
+        match self.near.append(text, flags) {
+            Ok(uid) => Ok(Some(uid)),
+            Err(fault) => Err(told(fault)),
+        }
+    }
+
+    fn add_flags(&mut self, uid: Uid, flags: Flags) -> Result<(), BoxFault> {
+        told_by(self.near.add_flags(uid, flags))
+    }
+
+    fn remove_flags(&mut self, uid: Uid, flags: Flags) -> Result<(), BoxFault> {
+        told_by(self.near.remove_flags(uid, flags))
+    }
+
+    fn expunge(&mut self, uid: Uid) -> Result<(), BoxFault> {
+        told_by(self.near.expunge(&[uid]))
+    }
+
+    fn admit(&mut self) -> Result<(), BoxFault>
+        requires whole { (seen_of self.old).is_broken ≡ false }
+        requires open { self.old.is_open ≡ true }
+        ensures open { self.new.is_open ≡ true }
+        ensures full { F.is_honest ≡ true → (let b = (seen_of self.old).stored in IsFull (length b.waiting) b)
+            → IsErrOf result (BoxFault.Own 5) }
+        ensures call { Calls {T = Unit {0}} (NoRoom Near (λ b. length b.waiting)) (λ _. Admits) AdmitsSome self.old self.new result }
+    {
+        told_by(self.near.admit())
+    }
+
+    fn sync(&mut self) -> Result<(), BoxFault>
+        requires whole { (seen_of self.old).is_broken ≡ false }
+        ensures open { self.new.is_open ≡ self.old.is_open }
+        ensures synced { OnOk result (self.old.is_open ≡ true → F.is_synced self.new.near.folder ≡ true) }
+        ensures closed { self.old.is_open ≡ false → self.new ≡ self.old }
+        ensures told { IfErr result IsPlain }
+        ensures call { Calls {T = Unit {0}} Never (λ _ b b'. b' ≡ b) Nothing self.old self.new result }
+    {
+        if !self.is_open {
+            return Ok(());
+        }
+        told_by(self.near.sync())
+    }
+
+    fn reopen(&mut self) {
+        self.is_open = false;
+        self.near.reopen();
+    }
+}

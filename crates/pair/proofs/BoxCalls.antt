@@ -1,0 +1,219 @@
+-- From the clauses of a mailbox's call to those of the outside's: one proof for both sides.
+use Rattle.std.proofs.Common.{◌≡◌, ◌∙◌, inl, inr, ap, sym, refl, subst, ℕ, Bool, true, false, List, Option, Result, Ok, Err}
+use Rattle.std.specs.Prelude.{IfErr, IfOk, OnOk, ◌&&◌, length}
+use Rattle.book.specs.declared.shelf.Shelf as shelf
+use Rattle.mailbox.specs.declared.mailbox.Mailbox as mailbox
+use Rattle.device.specs.Calls as dev
+use Rattle.device.specs.Calls.{Effect, Nothing, Stays, Follows}
+use Rattle.mailcore.specs.declared.listing.Listing.{Listing}
+use Rattle.mailcore.specs.declared.side.Side.{Side}
+use Rattle.mailcore.specs.declared.side.Side.TheVariants.{Far, Near as NearSide}
+use Rattle.mailcore.specs.Operations.{marked_from}
+use Rattle.mailcore.specs.Stores.{Store}
+use Rattle.near_box.specs.Mailboxes.{Near}
+use Rattle.near_box.specs.NearContracts.{AdmitsSome}
+use Rattle.mailbox.specs.declared.fault.BoxFault.{BoxFault}
+use Rattle.mailbox.specs.declared.fault.BoxFault.TheVariants as boxes
+use Rattle.mailbox.specs.Arrivals as box
+use Rattle.mailbox.specs.Calls as calls
+use Rattle.mailbox.specs.Calls.{HasCause, Never, Seen}
+use Rattle.mailbox.specs.Operations as ops
+use Rattle.mailbox.specs.Operations.{Answers, NoRoom}
+use Rattle.outside.specs.declared.fault.OutsideFault.{OutsideFault}
+use Rattle.outside.specs.Arrivals.{Arrives}
+use Rattle.outside.specs.BoxCalls.{Admits, AdmitsPart, ListsFar, ListsNear, Turns}
+use Rattle.outside.specs.Calls.{Call, FromBox, LeavesBy}
+use Rattle.outside.specs.Devices as devices
+use Rattle.outside.specs.Devices.{Device}
+use Rattle.pair.specs.declared.pair.Pair.{Pair}
+use Rattle.pair.specs.Faults.{IsTold, told, told_by}
+use Rattle.pair.specs.Pairs.{Failed, device_of}
+use Rattle.pair.specs.Parts.{IsLess, both, put}
+use Rattle.pair.specs.Tallies.{Counts, Tallied, ended, no_copies, seen_with}
+use Rattle.pair.proofs.Arriving.{alone_left, alone_right, arrives_at, less_left, less_right}
+use Rattle.pair.proofs.Ending.{done_call, failed_call, tally}
+
+-- ---- what is left of a device, of a call that changes and of one that reads
+
+module _ (side : Side) (d : Device) where
+  pub same_there : (b b' : Near) → b' ≡ b → put side b' d ≡ put side b d
+  same_there b b' h = ap (λ (x : Near). put side x d) h
+
+  pub changes_left : {T : Type 0} (because : BoxFault → Near → Type 0) (does : T → Effect Near) (part : Effect Near) (does' : T → Effect Device) (part' : Effect Device)
+      → ((x : T) (b b' : Near) → does x b b' → does' x (put side b d) (put side b' d)) → ((b b' : Near) → part b b' → part' (put side b d) (put side b' d))
+      → (f : BoxFault) (b b' : Near) → calls.LeavesBy does part because f b b' → LeavesBy does' part' (told side f) (put side b d) (put side b' d)
+  changes_left because does part does' part' all some boxes.Stopped b b' (inl h) = inl (same_there b b' h)
+  changes_left because does part does' part' all some boxes.Stopped b b' (inr (inl h)) = inr (inl (record { answer = h.answer; done = all h.answer b b' h.done }))
+  changes_left because does part does' part' all some boxes.Stopped b b' (inr (inr h)) = inr (inr (some b b' h))
+  changes_left because does part does' part' all some boxes.Refused b b' h = same_there b b' h.0
+  changes_left because does part does' part' all some (boxes.Own number) b b' h = same_there b b' h.0
+  changes_left because does part does' part' all some boxes.NoMemory b b' (inl h) = inl (same_there b b' h)
+  changes_left because does part does' part' all some boxes.NoMemory b b' (inr (inl h)) = inr (inl (record { answer = h.answer; done = all h.answer b b' h.done }))
+  changes_left because does part does' part' all some boxes.NoMemory b b' (inr (inr h)) = inr (inr (some b b' h))
+
+  pub reads_left : {T : Type 0} (because : BoxFault → Near → Type 0) (tells : T → Near → Type 0) (f : BoxFault) (b b' : Near)
+      → calls.LeavesBy (Answers tells) Nothing because f b b' → Stays (put side b d) (put side b' d)
+  reads_left because tells boxes.Stopped b b' (inl h) = same_there b b' h
+  reads_left because tells boxes.Stopped b b' (inr (inl h)) = same_there b b' h.done.0
+  reads_left because tells boxes.Stopped b b' (inr (inr h)) = absurd h
+  reads_left because tells boxes.Refused b b' h = same_there b b' h.0
+  reads_left because tells (boxes.Own number) b b' h = same_there b b' h.0
+  reads_left because tells boxes.NoMemory b b' (inl h) = same_there b b' h
+  reads_left because tells boxes.NoMemory b b' (inr (inl h)) = same_there b b' h.done.0
+  reads_left because tells boxes.NoMemory b b' (inr (inr h)) = absurd h
+
+-- ---- calls of a mailbox, in its own words and in those of the device that it stands in
+
+pub record Move (side : Side) (d : Device) (T : Type 0) : Type 1 where
+  pub because : BoxFault → Near → Type 0
+  pub does : T → Effect Near
+  pub part : Effect Near
+  pub does' : T → Effect Device
+  pub leaves' : OutsideFault → Effect Device
+  pub all : (x : T) (b b' : Near) → does x b b' → does' x (put side b d) (put side b' d)
+  pub some : (f : BoxFault) (b b' : Near) → calls.LeavesBy does part because f b b' → leaves' (told side f) (put side b d) (put side b' d)
+
+module _ {T : Type 0} (side : Side) (d : Device) (because : BoxFault → Near → Type 0) where
+  abbrev reading : (tells : T → Near → Type 0) (tells' : T → Device → Type 0) → ((x : T) (b : Near) → tells x b → tells' x (put side b d)) → Move side d T
+  reading tells tells' so = record {
+    because = because;
+    does = Answers tells;
+    part = Nothing;
+    does' = dev.Answers tells';
+    leaves' = λ _. Stays;
+    all = λ x b b' h. (same_there side d b b' h.0, so x b h.1);
+    some = reads_left side d because tells;
+  }
+
+  abbrev changing : (does : T → Effect Near) (part : Effect Near) (does' : T → Effect Device) (part' : Effect Device)
+      → ((x : T) (b b' : Near) → does x b b' → does' x (put side b d) (put side b' d)) → ((b b' : Near) → part b b' → part' (put side b d) (put side b' d)) → Move side d T
+  changing does part does' part' all some = record {
+    because = because;
+    does = does;
+    part = part;
+    does' = does';
+    leaves' = LeavesBy does' part';
+    all = all;
+    some = changes_left side d because does part does' part' all some;
+  }
+
+module _ (d : Device) where
+  pub box_at : (side : Side) (b : Near) → devices.box (put side b d) side ≡ b.store
+  box_at Far b = refl
+  box_at NearSide b = refl
+
+  abbrev pub opening : (side : Side) → (unfit : BoxFault → Near → Type 0) → Move side d ℕ
+  opening side unfit = reading side d unfit ops.TellsValidity (λ validity e. validity ≡ (devices.box e side).validity) (λ validity b h. h ∙ sym (ap (λ (s : Store). s.validity) (box_at side b)))
+
+  abbrev pub finding : (side : Side) → (mark : List ℕ) → (from : ℕ) → Move side d (Option ℕ)
+  finding side mark from = reading side d Never (ops.Finds mark from) (λ found e. found ≡ marked_from mark from (devices.box e side)) (λ found b h. h ∙ sym (ap (λ (s : Store). marked_from mark from s) (box_at side b)))
+
+  abbrev pub listing_far : (from : ℕ) → Move Far d Listing
+  listing_far from = reading Far d Never (ops.Lists Far from) ListsFar (λ listing b h. h)
+
+  abbrev pub listing_near : (from : ℕ) → Move NearSide d Listing
+  listing_near from = reading NearSide d Never (ops.Lists NearSide from) (ListsNear from) (λ listing b h. h)
+
+  pub turned : (side : Side) (change : Store → Store) (b b' : Near) → ops.Turns change b b' → Turns side change (put side b d) (put side b' d)
+  turned Far change b b' h = ap (λ (x : Near). put Far x d) h
+  turned NearSide change b b' h = ap (λ (x : Near). put NearSide x d) h
+
+  abbrev pub turning : (side : Side) → (change : Store → Store) → Move side d (Unit {0})
+  turning side change = changing side d Never (λ _. ops.Turns change) Nothing (λ _. Turns side change) Nothing (λ _. turned side change) (λ b b' h. absurd h)
+
+  abbrev pub admitting : Move NearSide d (Unit {0})
+  admitting = changing NearSide d (NoRoom NearSide (λ b. length b.waiting)) (λ _. ops.Admits) AdmitsSome (λ _. Admits) AdmitsPart
+      (λ _ b b' h. ap (λ (x : Near). put NearSide x d) h) (λ b b' h. record { far = refl; files = refl; near = h })
+
+-- ---- what is told
+
+from_box : (side : Side) (f : BoxFault) → FromBox (told side f)
+from_box side boxes.Stopped = tt
+from_box side boxes.Refused = tt
+from_box side (boxes.Own number) = tt
+from_box side boxes.NoMemory = tt
+
+pub is_told : {T : Type 0} (side : Side) (own ended' cause : Type 0) (others : Effect Near) (because : BoxFault → Near → Type 0) (does : T → Effect Near) (part : Effect Near) (s s' : Seen) (f : BoxFault)
+    → (HasCause ended' s s' → cause) → calls.Call {T = T} own ended' others because does part s s' (Err f) → IsTold own cause side because s'.stored (told side f)
+is_told side own ended' cause others because does part s s' boxes.Stopped so h = so (h.cause refl)
+is_told side own ended' cause others because does part s s' boxes.Refused so h = λ k. let l = h.left k in subst (λ (b : Near). because boxes.Refused b) (sym l.behind.0) l.behind.1
+is_told side own ended' cause others because does part s s' (boxes.Own number) so h =
+    (refl, λ k. let l = h.left k in subst (λ (b : Near). because (boxes.Own number) b) (sym l.behind.0) l.behind.1)
+is_told side own ended' cause others because does part s s' boxes.NoMemory so h = tt
+
+-- ---- the call of one side is that of the outside
+
+-- what the outside says of a call of the mailbox of a side
+pub record Ends {T : Type 0} (side : Side) (d d' : Device) (move : Move side d T) (now : Near) (honest own cause : Type 0) (others : Effect Device) (c c' : Counts) (result : Result T OutsideFault) : Type 0 where
+  pub call : Call honest others (λ _. 0) FromBox move.does' move.leaves' (seen_with d c) (seen_with d' c') result
+  pub why : IfErr result (IsTold own cause side move.because now)
+  pub tallied : Tallied no_copies result c c'
+
+module _ {T : Type 0} (side : Side) (d : Device) (move : Move side d T) (honest own ended' cause : Type 0) (ours ours' : List ℕ → Bool) (alone alone' : Bool) (s s' : Seen)
+    (kept : honest → own) (less : IsLess ours ours') (lone : alone' ≡ true → alone ≡ true) (so : HasCause ended' s s' → cause) (was : put side s.stored d ≡ d) where
+  along : (own' : Effect Near) (own'' : Effect Device) → ((b b' : Near) → own' b b' → own'' (put side b d) (put side b' d))
+      → Follows (box.Arrives side ours alone) own' s.stored s'.stored → Follows (Arrives ours' alone') own'' d (put side s'.stored d)
+  along own' own'' f h = record {
+    mid = put side h.mid d;
+    before = subst (λ (e : Device). Arrives ours' alone' e (put side h.mid d)) was (arrives_at ours ours' alone alone' less lone d side s.stored h.mid h.before);
+    behind = f h.mid s'.stored h.behind;
+  }
+
+  abbrev EndsSo : Counts → Counts → Result T OutsideFault → Type 0
+  EndsSo c c' result = Ends side d (put side s'.stored d) move s'.stored honest own cause (Arrives ours' alone') c c' result
+
+  ends_so : (c : Counts) (answer : Result T BoxFault) → c.is_broken ≡ false → calls.Call own ended' (box.Arrives side ours alone) move.because move.does move.part s s' answer
+      → EndsSo c (ended no_copies (told_by side answer) c) (told_by side answer)
+  ends_so c (Ok x) whole h = record {
+    call = done_call honest (Arrives ours' alone') (λ _. 0) FromBox move.does' move.leaves' d (put side s'.stored d) c whole x (λ k. along (move.does x) (move.does' x) (move.all x) (h.effect (kept k)));
+    why = tt;
+    tallied = tally no_copies (Ok x) (Ok x) c (ended no_copies (Ok x) c) whole refl refl;
+  }
+  ends_so c (Err f) whole h = record {
+    call = failed_call honest (Arrives ours' alone') (λ _. 0) FromBox move.does' move.leaves' d (put side s'.stored d) c whole (told side f) (from_box side f)
+        (λ k. along (calls.LeavesBy move.does move.part move.because f) (move.leaves' (told side f)) (move.some f) (h.left (kept k)));
+    why = is_told side own ended' cause (box.Arrives side ours alone) move.because move.does move.part s s' f so h;
+    tallied = tally {T = T} no_copies (Err (told side f)) (Err (told side f)) c (ended {T = T} no_copies (Err (told side f)) c) whole refl refl;
+  }
+
+  pub ends : (c c' : Counts) (answer : Result T BoxFault) (result : Result T OutsideFault) → c.is_broken ≡ false → result ≡ told_by side answer → c' ≡ ended no_copies (told_by side answer) c
+      → calls.Call own ended' (box.Arrives side ours alone) move.because move.does move.part s s' answer → EndsSo c c' result
+  ends c c' answer result whole same now h =
+      subst (λ (k : Counts). EndsSo c k result) (sym now) (subst (λ (r : Result T OutsideFault). EndsSo c (ended no_copies (told_by side answer) c) r) (sym same) (ends_so c answer whole h))
+
+module _ {F N S : Type 0} {fars : mailbox.Ghosts F} {nears : mailbox.Ghosts N} {shelves : shelf.Ghosts S} (p : Pair F N S fars nears shelves) {T : Type 0} where
+  -- the far mailbox was called, and is as it is now
+  pub far_ends : (move : Move Far (device_of p) T) (far : F) (c' : Counts) (answer : Result T BoxFault) (result : Result T OutsideFault)
+      → p.tally.is_broken ≡ false → result ≡ told_by Far answer → c' ≡ ended no_copies (told_by Far answer) p.tally
+      → calls.Call (fars.honest far) (fars.ended p.far far) (box.Arrives Far fars.ours fars.alone) move.because move.does move.part (fars.seen p.far) (fars.seen far) answer
+      → Ends Far (device_of p) (put Far (fars.seen far).stored (device_of p)) move (fars.seen far).stored (fars.honest far × nears.honest p.near × (shelves.is_honest ≡ true)) (fars.honest far)
+      (Failed p (HasCause (fars.ended p.far far) (fars.seen p.far) (fars.seen far))) (Arrives (both fars.ours nears.ours) (fars.alone && nears.alone)) p.tally c' result
+  far_ends move far c' answer result whole same now h =
+      ends Far (device_of p) move _ (fars.honest far) (fars.ended p.far far) _ fars.ours (both fars.ours nears.ours) fars.alone (fars.alone && nears.alone) (fars.seen p.far) (fars.seen far)
+      (λ k. k.0) (less_left fars.ours nears.ours) (alone_left fars.alone nears.alone) (λ k. inr k) refl p.tally c' answer result whole same now h
+
+  -- the near mailbox was
+  pub near_ends : (move : Move NearSide (device_of p) T) (near : N) (c' : Counts) (answer : Result T BoxFault) (result : Result T OutsideFault)
+      → p.tally.is_broken ≡ false → result ≡ told_by NearSide answer → c' ≡ ended no_copies (told_by NearSide answer) p.tally
+      → calls.Call (nears.honest near) (nears.ended p.near near) (box.Arrives NearSide nears.ours nears.alone) move.because move.does move.part (nears.seen p.near) (nears.seen near) answer
+      → Ends NearSide (device_of p) (put NearSide (nears.seen near).stored (device_of p)) move (nears.seen near).stored (fars.honest p.far × nears.honest near × (shelves.is_honest ≡ true)) (nears.honest near)
+      (Failed p (HasCause (nears.ended p.near near) (nears.seen p.near) (nears.seen near))) (Arrives (both fars.ours nears.ours) (fars.alone && nears.alone)) p.tally c' result
+  near_ends move near c' answer result whole same now h =
+      ends NearSide (device_of p) move _ (nears.honest near) (nears.ended p.near near) _ nears.ours (both fars.ours nears.ours) nears.alone (fars.alone && nears.alone) (nears.seen p.near) (nears.seen near)
+      (λ k. k.1) (less_right fars.ours nears.ours) (alone_right fars.alone nears.alone) (λ k. inr k) refl p.tally c' answer result whole same now h
+
+-- ---- an answer
+
+pub if_ok : {T : Type 0} (side : Side) (P : T → Type 0) (answer : Result T BoxFault) (result : Result T OutsideFault) → result ≡ told_by side answer → IfOk answer P → IfOk result P
+if_ok {T} side P answer result same h = subst (λ (r : Result T OutsideFault). IfOk r P) (sym same) (by_answer answer h)
+  where
+    by_answer : (a : Result T BoxFault) → IfOk a P → IfOk (told_by side a) P
+    by_answer (Ok x) k = k
+    by_answer (Err f) k = tt
+
+pub on_ok : {T : Type 0} (side : Side) (P Q : Type 0) (answer : Result T BoxFault) (result : Result T OutsideFault) → result ≡ told_by side answer → (P → Q) → OnOk answer P → OnOk result Q
+on_ok {T} side P Q answer result same f h = subst (λ (r : Result T OutsideFault). OnOk r Q) (sym same) (by_answer answer h)
+  where
+    by_answer : (a : Result T BoxFault) → OnOk a P → OnOk (told_by side a) Q
+    by_answer (Ok x) k = f k
+    by_answer (Err e) k = tt

@@ -1,0 +1,107 @@
+-- A call of the outside ends: what it tells is what is counted.
+use Rattle.std.proofs.Common.{◌≡◌, ◌∙◌, inl, inr, ap, sym, refl, subst, ℕ, Bool, true, false, List, Result, Ok, Err, arith}
+use Rattle.std.specs.Prelude.{IfErr, OnOk}
+use Rattle.device.specs.Calls.{Effect, Follows}
+use Rattle.outside.specs.declared.fault.OutsideFault.{OutsideFault}
+use Rattle.outside.specs.declared.fault.OutsideFault.TheVariants as fault
+use Rattle.outside.specs.Arrivals.{Arrives}
+use Rattle.outside.specs.Calls.{Call, IsCounted, stops_told}
+use Rattle.outside.specs.Devices.{Device}
+use Rattle.pair.specs.Tallies.{Counts, Tallied, ended, failed, seen_with}
+use Rattle.pair.proofs.Arriving.{quiet}
+
+-- ---- the outside is broken
+
+pub stuck : {T : Type 0} (honest : Type 0) (ours : List ℕ → Bool) (alone : Bool) (copies : T → ℕ) (may_tell : OutsideFault → Type 0) (does : T → Effect Device) (leaves : OutsideFault → Effect Device) (d : Device) (c : Counts)
+    → c.is_broken ≡ true → may_tell fault.Stopped → leaves fault.Stopped d d
+    → Call {T = T} honest (Arrives ours alone) copies may_tell does leaves (seen_with d c) (seen_with d c) (Err fault.Stopped)
+stuck honest ours alone copies may_tell does leaves d c broken may same = record {
+  acts = record {
+    is_broken = broken;
+    counted = λ _. inl broken;
+    no_less = omega arith;
+    stuck = λ _. (refl, refl);
+    left = λ _. record { mid = d; before = quiet ours alone d; behind = same };
+  };
+  counts = record {
+    told = may;
+    counted = tt;
+    stopped = λ whole. absurd (cc);
+    refusals = omega arith;
+    faults = omega arith;
+    appends = omega arith;
+    stuck = λ _. refl;
+  };
+}
+
+-- ---- an answer is told as it is
+
+counted_so : (e : OutsideFault) (d d' : Device) (c : Counts) → IsCounted e (seen_with d c) (seen_with d' (failed e c))
+counted_so fault.Stopped d d' c = tt
+counted_so fault.Refused d d' c = omega arith
+counted_so (fault.Box side number) d d' c = omega arith
+counted_so (fault.BadState line) d d' c = tt
+counted_so (fault.BadJournal line) d d' c = tt
+counted_so fault.NoMemory d d' c = tt
+
+module _ {T : Type 0} (honest : Type 0) (others : Effect Device) (copies : T → ℕ) (may_tell : OutsideFault → Type 0) (does : T → Effect Device) (leaves : OutsideFault → Effect Device) (d d' : Device) (c : Counts)
+    (whole : c.is_broken ≡ false) where
+  pub failed_call : (e : OutsideFault) → may_tell e → (honest → Follows others (leaves e) d d')
+      → Call honest others copies may_tell does leaves (seen_with d c) (seen_with d' (failed e c)) (Err e)
+  failed_call e may left_so = record {
+    acts = record {
+      is_broken = refl;
+      counted = λ is. inr (omega (arith, ap stops_told is));
+      no_less = omega arith;
+      stuck = λ broken. absurd (cc);
+      left = left_so;
+    };
+    counts = record {
+      told = may;
+      counted = counted_so e d d' c;
+      stopped = λ _. omega arith;
+      refusals = omega arith;
+      faults = omega arith;
+      appends = omega arith;
+      stuck = λ broken. absurd (cc);
+    };
+  }
+
+  pub done_call : (x : T) → (honest → Follows others (does x) d d') → Call honest others copies may_tell does leaves (seen_with d c) (seen_with d' (ended copies (Ok x) c)) (Ok x)
+  done_call x done_so = record {
+    acts = record { was_whole = whole; is_whole = whole; stops = refl; effect = done_so };
+    counts = record { refusals = refl; faults = refl; appends = omega arith };
+  }
+
+-- ---- what was counted
+
+pub tally : {T : Type 0} (copies : T → ℕ) (answer result : Result T OutsideFault) (c c' : Counts) → c.is_broken ≡ false → result ≡ answer → c' ≡ ended copies answer c → Tallied copies result c c'
+tally copies answer result c c' whole same now = record { counted = λ _. now ∙ ap (λ r. ended copies r c) (sym same); stuck = λ broken. absurd (cc) }
+
+-- a call whose answer is counted as it is
+pub tallied : {T : Type 0} (honest : Type 0) (others : Effect Device) (copies : T → ℕ) (may_tell : OutsideFault → Type 0) (does : T → Effect Device) (leaves : OutsideFault → Effect Device) (d d' : Device) (c c' : Counts) (answer result : Result T OutsideFault)
+    → result ≡ answer → c' ≡ ended copies answer c
+    → Call honest others copies may_tell does leaves (seen_with d c) (seen_with d' (ended copies answer c)) answer
+    → Call honest others copies may_tell does leaves (seen_with d c) (seen_with d' c') result
+tallied {T} honest others copies may_tell does leaves d d' c c' answer result same now call =
+    subst (λ (k : Counts). Call honest others copies may_tell does leaves (seen_with d c) (seen_with d' k) result) (sym now)
+    (subst (λ (r : Result T OutsideFault). Call honest others copies may_tell does leaves (seen_with d c) (seen_with d' (ended copies answer c)) r) (sym same) call)
+
+-- ---- what is said of an answer is said of the result
+
+pub on_ok : {T : Type 0} (P Q : Type 0) (answer result : Result T OutsideFault) → result ≡ answer → (P → Q) → OnOk answer P → OnOk result Q
+on_ok {T} P Q answer result same f h = subst (λ (r : Result T OutsideFault). OnOk r Q) (sym same) (by_answer answer h)
+  where
+    by_answer : (a : Result T OutsideFault) → OnOk a P → OnOk a Q
+    by_answer (Ok x) k = f k
+    by_answer (Err e) k = tt
+
+pub if_err : {T : Type 0} (P Q : OutsideFault → Type 0) (answer result : Result T OutsideFault) → result ≡ answer → ((e : OutsideFault) → P e → Q e) → IfErr answer P → IfErr result Q
+if_err {T} P Q answer result same f h = subst (λ (r : Result T OutsideFault). IfErr r Q) (sym same) (by_answer answer h)
+  where
+    by_answer : (a : Result T OutsideFault) → IfErr a P → IfErr a Q
+    by_answer (Ok x) k = tt
+    by_answer (Err e) k = f e k
+
+pub at_ok : {T P : Type 0} (x : T) (answer : Result T OutsideFault) → answer ≡ Ok x → OnOk answer P → P
+at_ok {T} {P} x answer is h = subst (λ (r : Result T OutsideFault). OnOk r P) is h

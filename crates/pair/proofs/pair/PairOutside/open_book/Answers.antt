@@ -1,0 +1,24 @@
+use Rattle.std.proofs.Common.{◌∙◌, sym, refl}
+use Rattle.book_part.specs.BookParts.{kept_of}
+use Rattle.pair.specs.Pairs.{device_of}
+use Rattle.pair.specs.Tallies.{no_copies}
+use Rattle.pair.proofs.BookCalls as books
+use Rattle.pair.proofs.Ending.{on_ok, stuck, tally}
+use Rattle.pair.proofs.pair.PairOutside.open_book.Goals as goal
+
+pub returns-then-is_broken-clause-call : goal.returns-then-is_broken-clause-call
+returns-then-is_broken-clause-call g c = stuck _ _ _ _ _ _ _ (device_of c.args.self.now) c.args.self.now.tally (sym c.is_broken.ensures ∙ c.if-is_broken.true) tt (refl, tt)
+
+pub returns : goal.returns
+returns g c =
+    let p = c.args.self.now in
+    let b = c.open-answer in
+    let e = c.end in
+    let whole = sym c.is_broken.ensures ∙ c.if-is_broken.false in
+    record {
+      was_honest = λ h. h;
+      book = on_ok _ _ b.result e.result e.ensures.same (books.is_book (g.F.Mailbox.is_open p.far) (g.N.Mailbox.is_open p.near) (kept_of b.new.self)) b.ensures.book;
+      call = books.open_ends p b.new.self e.new.self b.result e.result whole e.ensures.same e.ensures.now b.ensures.told b.ensures.part;
+      why = books.by_book p b.new.self b.result e.result whole e.ensures.same b.ensures.stops;
+      tallied = tally no_copies b.result e.result p.tally e.new.self whole e.ensures.same e.ensures.now;
+    }

@@ -1,0 +1,74 @@
+-- What is counted of the calls of an outside.
+use Rattle.std.specs.Prelude.{◌≡◌, ◌+◌, ℕ, Bool, true, false, List, [], ◌∷◌, Result, Ok, Err}
+use Rattle.outside.specs.declared.fault.OutsideFault.{OutsideFault}
+use Rattle.outside.specs.declared.fault.OutsideFault.TheVariants.{Stopped, Refused, Box, BadState, BadJournal, NoMemory}
+use Rattle.outside.specs.Calls.{Seen, stops_told}
+use Rattle.outside.specs.Devices.{Device}
+
+-- whether a call has failed since the outside was opened; the faults that were told, the last first; and how many copies were made
+pub record Counts : Type 0 where
+  pub is_broken : Bool
+  pub told : List OutsideFault
+  pub copies : ℕ
+
+-- no call was made
+abbrev pub untouched : Counts
+untouched = record { is_broken = false; told = []; copies = 0 }
+
+-- a call has told this fault
+abbrev pub failed : OutsideFault → Counts → Counts
+failed fault c = record { is_broken = true; told = fault ∷ c.told; copies = c.copies }
+
+-- a call has made so many copies
+abbrev pub copied : ℕ → Counts → Counts
+copied n c = record c { copies = n + c.copies }
+
+-- a call with this answer has ended
+abbrev pub ended : {T : Type 0} → (copies : T → ℕ) → Result T OutsideFault → Counts → Counts
+ended copies (Ok answer) c = copied (copies answer) c
+ended copies (Err fault) c = failed fault c
+
+-- a call that makes no copy
+abbrev pub no_copies : {T : Type 0} → T → ℕ
+no_copies answer = 0
+
+-- What a call with this result has counted: the result, and nothing else. Of a broken outside nothing is counted.
+pub record Tallied {T : Type 0} (copies : T → ℕ) (result : Result T OutsideFault) (old new : Counts) : Type 0 where
+  pub counted : old.is_broken ≡ false → new ≡ ended copies result old
+  pub stuck : old.is_broken ≡ true → new ≡ old
+
+-- ---- the numbers that an outside shows
+
+-- 1 for a refusal
+abbrev pub is_refusal : OutsideFault → ℕ
+is_refusal Stopped = 0
+is_refusal Refused = 1
+is_refusal (Box side number) = 0
+is_refusal (BadState line) = 0
+is_refusal (BadJournal line) = 0
+is_refusal NoMemory = 0
+
+-- 1 for another fault of a box
+abbrev pub is_box_fault : OutsideFault → ℕ
+is_box_fault Stopped = 0
+is_box_fault Refused = 0
+is_box_fault (Box side number) = 1
+is_box_fault (BadState line) = 0
+is_box_fault (BadJournal line) = 0
+is_box_fault NoMemory = 0
+
+-- the sum of a number of each fault
+abbrev pub total : (OutsideFault → ℕ) → List OutsideFault → ℕ
+total f [] = 0
+total f (fault ∷ faults) = f fault + total f faults
+
+-- an outside with this device
+abbrev pub seen_with : Device → Counts → Seen
+seen_with device counts = record {
+  device = device;
+  is_broken = counts.is_broken;
+  stops = total stops_told counts.told;
+  refusals = total is_refusal counts.told;
+  faults = total is_box_fault counts.told;
+  appends = counts.copies;
+}

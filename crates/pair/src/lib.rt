@@ -1,0 +1,8 @@
+//! The outside of a run over any two mailboxes and any shelf.
+#![tactic(auto)]
+
+mod copying;
+pub mod pair;
+mod plan_written;
+mod run_ended;
+pub mod tally;

@@ -1,0 +1,472 @@
+//! The outside of a run over any two mailboxes and any shelf.
+
+ghost use Rattle.std.specs.Prelude.{◌≡◌, true, false, None, Ok, IfErr, IfOk, OnOk, IsErrOf, length};
+ghost use Rattle.mailcore.specs.declared.side.Side.TheVariants as sides;
+ghost use Rattle.book_part.specs.BookParts.{files_of, standing_of};
+
+use crate::copying::copy;
+use crate::plan_written::begin_synced;
+use crate::run_ended::commit_synced;
+use crate::tally::Tally;
+use book::shelf::Shelf;
+use book_part::book_part::BookPart;
+use mailbox::mailbox::Mailbox;
+use mailcore::flags::Flags;
+use mailcore::listing::Listing;
+use mailcore::side::{Direction, Side};
+use mailcore::tuid::Tuid;
+use mailcore::uid::Uid;
+use outside::far_next::FarNext;
+use outside::fault::OutsideFault;
+use outside::outside::{Carried, Outside};
+use rules::plan::Plan;
+use rules::state::SyncState;
+use std::alloc::Global;
+use sync_state::journal::Journal;
+
+/// The outside of a run over a far mailbox, a near one and a book. While no call has failed, each of them is whole.
+///
+/// Besides what the trait asks, each call says why it tells a fault (`why`), and that it is counted as it is told (`tallied`).
+/// A plan is written, and a run is ended, behind a sync of the near mailbox (`synced`).
+#[derive(Drop)]
+pub struct Pair<F: Mailbox, N: Mailbox, S: Shelf> {
+    alloc: Global,
+    far: F,
+    near: N,
+    book: BookPart<S>,
+    tally: Tally,
+    pub ghost far_is: { F.side ≡ sides.Far },
+    pub ghost near_is: { N.side ≡ sides.Near },
+    pub ghost far_whole: { tally.is_broken ≡ false → (F.seen far).is_broken ≡ false },
+    pub ghost near_whole: { tally.is_broken ≡ false → (N.seen near).is_broken ≡ false },
+    pub ghost book_whole: { tally.is_broken ≡ false → (standing_of book).is_ready ≡ true },
+}
+
+impl<F: Mailbox + Drop, N: Mailbox + Drop, S: Shelf + Drop> Pair<F, N, S> {
+    ghost use Rattle.pair.specs.Tallies.{seen_with, untouched};
+    ghost use Rattle.pair.specs.Pairs.{IsWhole, device_of, honest_of, opened_of, seen_of};
+
+    /// The outside of these parts, which are opened again. Nothing is open, and no call was made.
+    pub fn new(alloc: Global, far: F, near: N, book: BookPart<S>) -> Self
+        requires far { F.side ≡ sides.Far }
+        requires near { N.side ≡ sides.Near }
+        ensures was_honest { honest_of result → (F.honest far) × (N.honest near) }
+        ensures far { F.seen result.far ≡ record (F.seen far) { is_broken = false } }
+        ensures near { N.seen result.near ≡ record (N.seen near) { is_broken = false } }
+        ensures book { standing_of result.book ≡ record (standing_of book) { is_ready = true } }
+        ensures files { files_of result.book ≡ files_of book }
+        ensures seen { seen_of result ≡ seen_with (device_of result) untouched }
+        ensures opened { opened_of result ≡ None }
+        ensures tally { result.tally ≡ untouched }
+        ensures whole { IsWhole result }
+    {
+        let (mut far, mut near, mut book) = (far, near, book);
+        far.reopen();
+        near.reopen();
+        book.reopen();
+        Pair {
+            alloc,
+            far,
+            near,
+            book,
+            tally: Tally::new(),
+        }
+    }
+
+    /// Gives its parts back, without taking memory.
+    pub fn into_parts(self) -> (F, N, BookPart<S>)
+        ensures far { result.0 ≡ self.far }
+        ensures near { result.1 ≡ self.near }
+        ensures book { result.2 ≡ self.book }
+    {
+        let Pair {
+            far,
+            near,
+            book,
+            ..
+        } = self;
+        (far, near, book)
+    }
+}
+
+impl<F: Mailbox + FarNext + Drop, N: Mailbox + Drop, S: Shelf + Drop> FarNext for Pair<F, N, S> {
+    fn far_next(&self) -> Option<u32> {
+        self.far.far_next()
+    }
+}
+
+impl<F: Mailbox + Drop, N: Mailbox + Drop, S: Shelf + Drop> Outside for Pair<F, N, S> {
+    ghost use Rattle.std.specs.Prelude.{◌&&◌, List, ℕ, Bool};
+    ghost use Rattle.device.specs.Calls.{Nothing};
+    ghost use Rattle.mailcore.specs.Operations.{flags_added, flags_removed, marked_from};
+    ghost use Rattle.mailcore.specs.Sides.{target};
+    ghost use Rattle.sync_state.specs.declared.journal.Logged.TheVariants.{Void};
+    ghost use Rattle.book.specs.declared.book.Pending.TheVariants.{Missing, Useless};
+    ghost use Rattle.book.specs.Books.{mended, torn, Turns as TurnsJournal, TurnsHalf};
+    ghost use Rattle.book.specs.BookLogs.{begun, as_done, logged_more};
+    ghost use Rattle.book.specs.Commits.{CommitsHalf, CommitsTo};
+    ghost use Rattle.outside.specs.Devices.{box};
+    ghost use Rattle.outside.specs.Calls.{FromBook, FromBox, FromShelf, LeavesBy};
+    ghost use Rattle.outside.specs.Opened.{AreCommitted, IsBook, IsHeld, IsOpen, IsRead, turned, with_box};
+    ghost use Rattle.outside.specs.Opened.{TakesCommit, TakesLog, TakesPlan};
+    ghost use Rattle.outside.specs.BookCalls.{FromLog, LeavesUnread, ReadsBook};
+    ghost use Rattle.outside.specs.BoxCalls.{Admits, AdmitsPart, Carry, HasNumbers, ListsFar, ListsNear, SetsAside, Turns};
+    ghost use Rattle.outside.specs.BoxCalls.{copies_made, removed};
+    ghost use Rattle.mailbox.specs.Calls.{Never};
+    ghost use Rattle.mailbox.specs.Operations.{NoRoom};
+    ghost use Rattle.pair.specs.Parts.{both};
+    ghost use Rattle.pair.specs.Tallies.{Tallied, no_copies};
+    ghost use Rattle.pair.specs.Pairs.{BookCall, BoxChange, BoxRead, PairCall, honest_of, opened_of, seen_of};
+    ghost use Rattle.pair.specs.Pairs.{ByBook, ByBox, ByCopy, BySyncedBook, IsSyncedFirst, IsWhole, CannotOpen};
+
+    ghost honest = { honest_of };
+
+    ghost ours = { both F.ours N.ours };
+
+    ghost alone = { F.alone && N.alone };
+
+    ghost seen = { seen_of };
+
+    ghost opened = { opened_of };
+
+    fn open_book(&mut self) -> Result<(), OutsideFault>
+        ensures was_honest { honest_of self.new → honest_of self.old }
+        ensures book { OnOk result (IsBook (opened_of self.new)) }
+        ensures call { PairCall (λ _. 0) FromShelf (λ _. ReadsBook (opened_of self.new)) LeavesUnread self.old self.new result }
+        ensures why { IsErrOf result OutsideFault.Stopped → ByBook self.old self.new }
+        ensures tallied { Tallied no_copies result self.old.tally self.new.tally }
+    {
+        if self.tally.is_broken() {
+            return Err(OutsideFault::Stopped);
+        }
+        let answer = self.book.open();
+        self.tally.end(answer)
+    }
+
+    fn state(&self) -> &SyncState {
+        self.book.state()
+    }
+
+    fn pending(&self) -> Option<&Journal> {
+        self.book.pending()
+    }
+
+    fn discard(&mut self) -> Result<(), OutsideFault>
+        requires read { IsRead (opened_of self.old) }
+        ensures was_honest { honest_of self.new → honest_of self.old }
+        ensures opened { OnOk result (opened_of self.new ≡ turned (λ _. Missing) (opened_of self.old)) }
+        ensures call { BookCall FromBook (λ p. TurnsJournal p Missing) (λ p. TurnsHalf p Missing) self.old self.new result }
+        ensures why { IsErrOf result OutsideFault.Stopped → ByBook self.old self.new }
+        ensures tallied { Tallied no_copies result self.old.tally self.new.tally }
+    {
+        if self.tally.is_broken() {
+            return Err(OutsideFault::Stopped);
+        }
+        let answer = self.book.discard();
+        self.tally.end(answer)
+    }
+
+    fn mend(&mut self) -> Result<(), OutsideFault>
+        requires read { IsRead (opened_of self.old) }
+        ensures was_honest { honest_of self.new → honest_of self.old }
+        ensures opened { OnOk result (opened_of self.new ≡ turned mended (opened_of self.old)) }
+        ensures call { BookCall FromBook (λ p. TurnsJournal p (mended p)) (λ p. TurnsHalf p p) self.old self.new result }
+        ensures why { IsErrOf result OutsideFault.Stopped → ByBook self.old self.new }
+        ensures tallied { Tallied no_copies result self.old.tally self.new.tally }
+    {
+        if self.tally.is_broken() {
+            return Err(OutsideFault::Stopped);
+        }
+        let answer = self.book.mend();
+        self.tally.end(answer)
+    }
+
+    fn begin(&mut self, plan: Plan) -> Result<(), OutsideFault>
+        requires takes { TakesPlan (opened_of self.old) plan }
+        ensures was_honest { honest_of self.new → honest_of self.old }
+        ensures opened { OnOk result (opened_of self.new ≡ turned (λ _. begun plan) (opened_of self.old)) }
+        ensures call { BookCall FromBook (λ _. TurnsJournal Missing (begun plan)) (λ _. TurnsHalf Missing Useless)
+            self.old self.new result }
+        ensures why { IsErrOf result OutsideFault.Stopped → BySyncedBook self.old self.new }
+        ensures tallied { Tallied no_copies result self.old.tally self.new.tally }
+        ensures synced { IsSyncedFirst self.old self.new }
+    {
+        if self.tally.is_broken() {
+            return Err(OutsideFault::Stopped);
+        }
+        let answer = begin_synced(&mut self.near, &mut self.book, plan);
+        self.tally.end(answer)
+    }
+
+    fn done(&mut self, step: usize, copy: Option<Uid>) -> Result<(), OutsideFault>
+        requires takes { TakesLog (opened_of self.old) step (as_done copy) }
+        ensures was_honest { honest_of self.new → honest_of self.old }
+        ensures opened { OnOk result (opened_of self.new ≡ turned (λ p. logged_more p (as_done copy)) (opened_of self.old)) }
+        ensures call { BookCall (FromLog (opened_of self.old) (as_done copy)) (λ p. TurnsJournal p (logged_more p (as_done copy)))
+            (λ p. TurnsHalf p (torn p)) self.old self.new result }
+        ensures why { IsErrOf result OutsideFault.Stopped → ByBook self.old self.new }
+        ensures tallied { Tallied no_copies result self.old.tally self.new.tally }
+    {
+        if self.tally.is_broken() {
+            return Err(OutsideFault::Stopped);
+        }
+        let answer = self.book.done(step, copy);
+        self.tally.end(answer)
+    }
+
+    fn void(&mut self, step: usize) -> Result<(), OutsideFault>
+        requires takes { TakesLog (opened_of self.old) step Void }
+        ensures was_honest { honest_of self.new → honest_of self.old }
+        ensures opened { OnOk result (opened_of self.new ≡ turned (λ p. logged_more p Void) (opened_of self.old)) }
+        ensures call { BookCall FromBook (λ p. TurnsJournal p (logged_more p Void)) (λ p. TurnsHalf p (torn p)) self.old self.new result }
+        ensures why { IsErrOf result OutsideFault.Stopped → ByBook self.old self.new }
+        ensures tallied { Tallied no_copies result self.old.tally self.new.tally }
+    {
+        if self.tally.is_broken() {
+            return Err(OutsideFault::Stopped);
+        }
+        let answer = self.book.void(step);
+        self.tally.end(answer)
+    }
+
+    fn commit(&mut self) -> Result<(), OutsideFault>
+        requires takes { TakesCommit (opened_of self.old) }
+        ensures was_honest { honest_of self.new → honest_of self.old }
+        ensures opened { OnOk result (AreCommitted (opened_of self.old) (opened_of self.new)) }
+        ensures held { result ≡ Ok tt → honest_of self.new → IsHeld (opened_of self.new) (seen_of self.new).device }
+        ensures call { BookCall FromBook CommitsTo CommitsHalf self.old self.new result }
+        ensures why { IsErrOf result OutsideFault.Stopped → BySyncedBook self.old self.new }
+        ensures tallied { Tallied no_copies result self.old.tally self.new.tally }
+        ensures synced { IsSyncedFirst self.old self.new }
+    {
+        if self.tally.is_broken() {
+            return Err(OutsideFault::Stopped);
+        }
+        let answer = commit_synced(&mut self.near, &mut self.book);
+        self.tally.end(answer)
+    }
+
+    fn open_box(&mut self, side: Side) -> Result<u32, OutsideFault>
+        ensures was_honest { honest_of self.new → honest_of self.old }
+        ensures opened { OnOk result (opened_of self.new ≡ with_box side (opened_of self.old)) }
+        ensures call { BoxRead (λ validity d. validity ≡ (box d side).validity) self.old self.new result }
+        ensures why { IfErr result (ByBox side (CannotOpen side self.old) self.old self.new) }
+        ensures tallied { Tallied no_copies result self.old.tally self.new.tally }
+    {
+        if self.tally.is_broken() {
+            return Err(OutsideFault::Stopped);
+        }
+        match side {
+            Side::Far => {
+                let answer = self.far.open();
+                self.tally.end_at(Side::Far, answer)
+            }
+            Side::Near => {
+                let answer = self.near.open();
+                self.tally.end_at(Side::Near, answer)
+            }
+        }
+    }
+
+    fn admit(&mut self) -> Result<(), OutsideFault>
+        requires is_open { IsOpen Side.Near (opened_of self.old) }
+        ensures was_honest { honest_of self.new → honest_of self.old }
+        ensures opened { opened_of self.new ≡ opened_of self.old }
+        ensures call { BoxChange Admits AdmitsPart self.old self.new result }
+        ensures why { IfErr result (ByBox Side.Near (NoRoom Side.Near (λ b. length b.waiting)) self.old self.new) }
+        ensures tallied { Tallied no_copies result self.old.tally self.new.tally }
+    {
+        if self.tally.is_broken() {
+            return Err(OutsideFault::Stopped);
+        }
+        let answer = self.near.admit();
+        self.tally.end_at(Side::Near, answer)
+    }
+
+    fn list_far(&mut self) -> Result<Listing, OutsideFault>
+        requires is_open { IsOpen Side.Far (opened_of self.old) }
+        ensures was_honest { honest_of self.new → honest_of self.old }
+        ensures opened { opened_of self.new ≡ opened_of self.old }
+        ensures numbers { IfOk result HasNumbers }
+        ensures call { BoxRead ListsFar self.old self.new result }
+        ensures why { IfErr result (ByBox Side.Far Never self.old self.new) }
+        ensures tallied { Tallied no_copies result self.old.tally self.new.tally }
+    {
+        if self.tally.is_broken() {
+            return Err(OutsideFault::Stopped);
+        }
+        let answer = self.far.list(0);
+        self.tally.end_at(Side::Far, answer)
+    }
+
+    fn list_near(&mut self, from: u32) -> Result<Listing, OutsideFault>
+        requires is_open { IsOpen Side.Near (opened_of self.old) }
+        ensures was_honest { honest_of self.new → honest_of self.old }
+        ensures opened { opened_of self.new ≡ opened_of self.old }
+        ensures numbers { IfOk result HasNumbers }
+        ensures call { BoxRead (ListsNear from) self.old self.new result }
+        ensures why { IfErr result (ByBox Side.Near Never self.old self.new) }
+        ensures tallied { Tallied no_copies result self.old.tally self.new.tally }
+    {
+        if self.tally.is_broken() {
+            return Err(OutsideFault::Stopped);
+        }
+        let answer = self.near.list(from);
+        self.tally.end_at(Side::Near, answer)
+    }
+
+    fn find_mark(&mut self, side: Side, mark: Tuid, from: u32) -> Result<Option<Uid>, OutsideFault>
+        requires is_open { IsOpen side (opened_of self.old) }
+        ensures was_honest { honest_of self.new → honest_of self.old }
+        ensures opened { opened_of self.new ≡ opened_of self.old }
+        ensures call { BoxRead (λ found d. found ≡ marked_from mark from (box d side)) self.old self.new result }
+        ensures why { IfErr result (ByBox side Never self.old self.new) }
+        ensures tallied { Tallied no_copies result self.old.tally self.new.tally }
+    {
+        if self.tally.is_broken() {
+            return Err(OutsideFault::Stopped);
+        }
+        match side {
+            Side::Far => {
+                let answer = self.far.find_mark(mark, from);
+                self.tally.end_at(Side::Far, answer)
+            }
+            Side::Near => {
+                let answer = self.near.find_mark(mark, from);
+                self.tally.end_at(Side::Near, answer)
+            }
+        }
+    }
+
+    fn carry(
+        &mut self,
+        direction: Direction,
+        uid: Uid,
+        mark: Tuid,
+        flags: Flags,
+    ) -> Result<Carried, OutsideFault>
+        requires far_open { IsOpen Side.Far (opened_of self.old) }
+        requires near_open { IsOpen Side.Near (opened_of self.old) }
+        ensures was_honest { honest_of self.new → honest_of self.old }
+        ensures opened { opened_of self.new ≡ opened_of self.old }
+        ensures call { PairCall copies_made FromBox (Carry direction uid flags mark)
+            (LeavesBy (Carry direction uid flags mark) (SetsAside (target direction))) self.old self.new result }
+        ensures why { IfErr result (ByCopy direction self.old self.new) }
+        ensures tallied { Tallied copies_made result self.old.tally self.new.tally }
+    {
+        if self.tally.is_broken() {
+            return Err(OutsideFault::Stopped);
+        }
+        match direction {
+            Direction::Pull => {
+                let answer = copy(
+                    self.alloc,
+                    Direction::Pull,
+                    &mut self.far,
+                    &mut self.near,
+                    uid,
+                    mark,
+                    flags,
+                );
+                self.tally.end_carry(answer)
+            }
+            Direction::Push => {
+                let answer = copy(
+                    self.alloc,
+                    Direction::Push,
+                    &mut self.near,
+                    &mut self.far,
+                    uid,
+                    mark,
+                    flags,
+                );
+                self.tally.end_carry(answer)
+            }
+        }
+    }
+
+    fn add_flags(&mut self, side: Side, uid: Uid, flags: Flags) -> Result<(), OutsideFault>
+        requires is_open { IsOpen side (opened_of self.old) }
+        ensures was_honest { honest_of self.new → honest_of self.old }
+        ensures opened { opened_of self.new ≡ opened_of self.old }
+        ensures call { BoxChange (Turns side (flags_added uid flags)) Nothing self.old self.new result }
+        ensures why { IfErr result (ByBox side Never self.old self.new) }
+        ensures tallied { Tallied no_copies result self.old.tally self.new.tally }
+    {
+        if self.tally.is_broken() {
+            return Err(OutsideFault::Stopped);
+        }
+        match side {
+            Side::Far => {
+                let answer = self.far.add_flags(uid, flags);
+                self.tally.end_at(Side::Far, answer)
+            }
+            Side::Near => {
+                let answer = self.near.add_flags(uid, flags);
+                self.tally.end_at(Side::Near, answer)
+            }
+        }
+    }
+
+    fn remove_flags(&mut self, side: Side, uid: Uid, flags: Flags) -> Result<(), OutsideFault>
+        requires is_open { IsOpen side (opened_of self.old) }
+        ensures was_honest { honest_of self.new → honest_of self.old }
+        ensures opened { opened_of self.new ≡ opened_of self.old }
+        ensures call { BoxChange (Turns side (flags_removed uid flags)) Nothing self.old self.new result }
+        ensures why { IfErr result (ByBox side Never self.old self.new) }
+        ensures tallied { Tallied no_copies result self.old.tally self.new.tally }
+    {
+        if self.tally.is_broken() {
+            return Err(OutsideFault::Stopped);
+        }
+        match side {
+            Side::Far => {
+                let answer = self.far.remove_flags(uid, flags);
+                self.tally.end_at(Side::Far, answer)
+            }
+            Side::Near => {
+                let answer = self.near.remove_flags(uid, flags);
+                self.tally.end_at(Side::Near, answer)
+            }
+        }
+    }
+
+    fn expunge(&mut self, side: Side, uid: Uid) -> Result<(), OutsideFault>
+        requires is_open { IsOpen side (opened_of self.old) }
+        ensures was_honest { honest_of self.new → honest_of self.old }
+        ensures opened { opened_of self.new ≡ opened_of self.old }
+        ensures call { BoxChange (Turns side (removed side uid)) Nothing self.old self.new result }
+        ensures why { IfErr result (ByBox side Never self.old self.new) }
+        ensures tallied { Tallied no_copies result self.old.tally self.new.tally }
+    {
+        if self.tally.is_broken() {
+            return Err(OutsideFault::Stopped);
+        }
+        match side {
+            Side::Far => {
+                let answer = self.far.expunge(uid);
+                self.tally.end_at(Side::Far, answer)
+            }
+            Side::Near => {
+                let answer = self.near.expunge(uid);
+                self.tally.end_at(Side::Near, answer)
+            }
+        }
+    }
+
+    fn reopen(&mut self)
+        ensures seen { seen_of self.new ≡ record (seen_of self.old) { is_broken = false } }
+        ensures was_honest { honest_of self.new → honest_of self.old }
+        ensures opened { opened_of self.new ≡ None }
+        ensures far { F.seen self.new.far ≡ record (F.seen self.old.far) { is_broken = false } }
+        ensures near { N.seen self.new.near ≡ record (N.seen self.old.near) { is_broken = false } }
+        ensures book { standing_of self.new.book ≡ record (standing_of self.old.book) { is_ready = true } }
+        ensures tally { self.new.tally ≡ record self.old.tally { is_broken = false } }
+        ensures whole { IsWhole self.new }
+    {
+        self.far.reopen();
+        self.near.reopen();
+        self.book.reopen();
+        self.tally.reopen();
+    }
+}

@@ -1,0 +1,122 @@
+//! Whether calls of an outside are answered, and what was told.
+
+ghost use Rattle.std.specs.Prelude.{◌≡◌, false};
+ghost use Rattle.outside.specs.BoxCalls.{copies_made};
+ghost use Rattle.pair.specs.Faults.{told, told_by};
+ghost use Rattle.pair.specs.Tallies.{ended, failed, no_copies, untouched};
+
+use device::history::History;
+use mailbox::fault::BoxFault;
+use mailcore::side::Side;
+use outside::fault::OutsideFault;
+use outside::outside::Carried;
+use std::marker::Model;
+
+/// Whether calls of an outside are answered, and, for contracts alone, which faults were told and how many copies were made.
+#[derive(Drop)]
+pub struct Tally {
+    is_broken: bool,
+    told: History<OutsideFault>,
+    copies: History<Carried>,
+}
+
+impl Model for Tally {
+    ghost use Rattle.std.specs.Prelude.{length};
+    ghost use Rattle.pair.specs.Tallies.{Counts};
+
+    ghost Value = { Counts };
+
+    ghost view = { λ t. record { is_broken = t.is_broken; told = t.told.items; copies = length t.copies.items } };
+}
+
+impl Tally {
+    /// That of an outside of which no call was made.
+    pub fn new() -> Self
+        ensures { result ≡ untouched }
+    {
+        Tally {
+            is_broken: false,
+            told: History::new(),
+            copies: History::new(),
+        }
+    }
+
+    /// Whether a call has failed since the outside was opened.
+    pub fn is_broken(&self) -> bool
+        ensures { result ≡ self.now.is_broken }
+    {
+        self.is_broken
+    }
+
+    /// Ends a call with this answer, which makes no copy. After a fault no call is answered.
+    pub fn end<T>(&mut self, answer: Result<T, OutsideFault>) -> Result<T, OutsideFault>
+        ensures same { result ≡ answer }
+        ensures now { self.new ≡ ended no_copies answer self.old }
+    {
+        if let Err(fault) = &answer {
+            self.fail(*fault);
+        }
+        answer
+    }
+
+    /// The same of a call of the mailbox of this side.
+    pub fn end_at<T>(&mut self, side: Side, answer: Result<T, BoxFault>) -> Result<T, OutsideFault>
+        ensures same { result ≡ told_by side answer }
+        ensures now { self.new ≡ ended no_copies (told_by side answer) self.old }
+    {
+        match answer {
+            Ok(answer) => Ok(answer),
+            Err(fault) => {
+                let fault = told(side, fault);
+                self.fail(fault);
+                Err(fault)
+            }
+        }
+    }
+
+    /// The same of a call that may have made a copy.
+    pub fn end_carry(
+        &mut self,
+        answer: Result<Carried, OutsideFault>,
+    ) -> Result<Carried, OutsideFault>
+        ensures same { result ≡ answer }
+        ensures now { self.new ≡ ended copies_made answer self.old }
+    {
+        match &answer {
+            Ok(carried) => {
+                if matches!(carried, Carried::Made(_)) {
+                    self.copies = self.copies.and(carried);
+                }
+            }
+            Err(fault) => self.fail(*fault),
+        }
+        answer
+    }
+
+    /// Calls are answered again.
+    pub fn reopen(&mut self)
+        ensures { self.new ≡ record self.old { is_broken = false } }
+    {
+        self.is_broken = false;
+    }
+
+    /// A call tells this fault, and from now on none is answered.
+    fn fail(&mut self, fault: OutsideFault)
+        ensures { self.new ≡ failed fault self.old }
+    {
+        self.is_broken = true;
+        self.told = self.told.and(&fault);
+    }
+}
+
+/// How a fault of the mailbox of a side is told.
+pub(crate) fn told(side: Side, fault: BoxFault) -> OutsideFault
+    ensures { result ≡ told side fault }
+{
+    match fault {
+        BoxFault::Stopped => OutsideFault::Stopped,
+        BoxFault::Refused => OutsideFault::Refused,
+        BoxFault::Own(number) => OutsideFault::Box(side, number),
+        BoxFault::NoMemory => OutsideFault::NoMemory,
+    }
+}
