@@ -3,10 +3,9 @@
 use crate::facts::{Facts, behind};
 use book::mem_shelf::MemShelf;
 use book::shelf::File;
-use mem_outside::mem_outside::MemOutside;
 use std::alloc::Global;
 use test_run::calls::Schedule;
-use test_run::stage::{Stage, left_in, outside_of, stage_of};
+use test_run::stage::{MemOutside, Stage, left_in, outside_of, parts_of, stage_of};
 use test_scripts::failure::Failure;
 use test_scripts::told::Told;
 use test_scripts::words::Words;
@@ -111,7 +110,7 @@ pub(crate) fn show(alloc: Global, told: &mut Told, facts: &Facts, boxes: Vec<Len
 
 fn tell_box(alloc: Global, told: &mut Told, one: LentBox) {
     let LentBox { name, outside } = one;
-    let Ok(text) = left_in(alloc, &outside.into_parts()) else {
+    let Ok(text) = left_in(alloc, &parts_of(outside)) else {
         return told.answer("no memory");
     };
     for line in text.lines() {

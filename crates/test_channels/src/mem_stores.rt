@@ -8,7 +8,6 @@ use config::config::{ImapStore, MaildirStore};
 use device::trouble::Trouble;
 use mailcore::mailbox_name::MailboxName;
 use mailcore::side::Side;
-use mem_outside::mem_outside::MemOutside;
 use runner::fault::RunFault;
 use std::alloc::{AllocError, Global};
 use stores::channel_box::ChannelBox;
@@ -16,6 +15,7 @@ use stores::fault::{ListFault, ServerFault, StoreFault};
 use stores::notice::Notice;
 use stores::stop_cause::StopCause;
 use stores::stores::{BoxLists, Stores};
+use test_run::stage::MemOutside;
 use test_scripts::failure::Failure;
 use test_scripts::told::Told;
 

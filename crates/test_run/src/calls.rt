@@ -2,7 +2,8 @@
 
 use book::mem_shelf::ShelfCall;
 use device::schedule::{Moment, Stop};
-use mem_outside::box_condition::BoxCall;
+use mailcore::side::Side;
+use mem_mailbox::box_condition::{BoxCall, BoxCondition};
 use std::alloc::Global;
 use test_scripts::failure::Failure;
 use test_scripts::words::Words;
@@ -11,22 +12,38 @@ use trial::stop::Halt;
 /// A call that a script can stop.
 #[derive(Clone, Copy, PartialEq, Eq)]
 pub enum Call {
-    /// Of a mailbox.
-    Box(BoxCall),
+    /// Of the mailbox of a side.
+    Box(Side, BoxCall),
     /// Of the shelf.
     Shelf(ShelfCall),
 }
 
 /// All of them, with their names.
-pub const CALLS: [(&str, Call); 12] = [
-    ("open_box", Call::Box(BoxCall::Open)),
-    ("admit", Call::Box(BoxCall::Admit)),
-    ("list", Call::Box(BoxCall::List)),
-    ("find_mark", Call::Box(BoxCall::FindMark)),
-    ("carry", Call::Box(BoxCall::Carry)),
-    ("add_flags", Call::Box(BoxCall::AddFlags)),
-    ("remove_flags", Call::Box(BoxCall::RemoveFlags)),
-    ("expunge", Call::Box(BoxCall::Expunge)),
+pub const CALLS: [(&str, Call); 22] = [
+    ("far.open", Call::Box(Side::Far, BoxCall::Open)),
+    ("far.list", Call::Box(Side::Far, BoxCall::List)),
+    ("far.find_mark", Call::Box(Side::Far, BoxCall::FindMark)),
+    ("far.load", Call::Box(Side::Far, BoxCall::Load)),
+    ("far.append", Call::Box(Side::Far, BoxCall::Append)),
+    ("far.add_flags", Call::Box(Side::Far, BoxCall::AddFlags)),
+    (
+        "far.remove_flags",
+        Call::Box(Side::Far, BoxCall::RemoveFlags),
+    ),
+    ("far.expunge", Call::Box(Side::Far, BoxCall::Expunge)),
+    ("near.open", Call::Box(Side::Near, BoxCall::Open)),
+    ("near.admit", Call::Box(Side::Near, BoxCall::Admit)),
+    ("near.list", Call::Box(Side::Near, BoxCall::List)),
+    ("near.find_mark", Call::Box(Side::Near, BoxCall::FindMark)),
+    ("near.load", Call::Box(Side::Near, BoxCall::Load)),
+    ("near.append", Call::Box(Side::Near, BoxCall::Append)),
+    ("near.add_flags", Call::Box(Side::Near, BoxCall::AddFlags)),
+    (
+        "near.remove_flags",
+        Call::Box(Side::Near, BoxCall::RemoveFlags),
+    ),
+    ("near.expunge", Call::Box(Side::Near, BoxCall::Expunge)),
+    ("near.sync", Call::Box(Side::Near, BoxCall::Sync)),
     ("shelf.read", Call::Shelf(ShelfCall::Read)),
     ("shelf.append", Call::Shelf(ShelfCall::Append)),
     ("shelf.replace", Call::Shelf(ShelfCall::Replace)),
@@ -47,13 +64,36 @@ pub fn name_of(call: Call) -> &'static str {
     }
 }
 
+/// Which calls of a mailbox stop, and which are refused.
+#[derive(Drop)]
+pub struct BoxSchedule {
+    stops: Vec<Stop<BoxCall>>,
+    refusals: Vec<Stop<BoxCall>>,
+}
+
+impl BoxSchedule {
+    /// None.
+    fn new(alloc: Global) -> BoxSchedule {
+        BoxSchedule {
+            stops: Vec::new(alloc),
+            refusals: Vec::new(alloc),
+        }
+    }
+
+    /// The condition of a mailbox whose calls stop and are refused so.
+    pub fn condition(self) -> BoxCondition {
+        let BoxSchedule { stops, refusals } = self;
+        BoxCondition::new(stops, refusals)
+    }
+}
+
 /// Which calls stop, and which are refused.
 #[derive(Drop)]
 pub struct Schedule {
-    /// The calls of the mailboxes that stop.
-    pub stops: Vec<Stop<BoxCall>>,
-    /// Those that are refused.
-    pub refusals: Vec<Stop<BoxCall>>,
+    /// Of the far mailbox.
+    pub far: BoxSchedule,
+    /// Of the near mailbox.
+    pub near: BoxSchedule,
     /// The calls of the shelf that stop.
     pub shelf_stops: Vec<Stop<ShelfCall>>,
 }
@@ -62,8 +102,8 @@ impl Schedule {
     /// None.
     pub fn new(alloc: Global) -> Schedule {
         Schedule {
-            stops: Vec::new(alloc),
-            refusals: Vec::new(alloc),
+            far: BoxSchedule::new(alloc),
+            near: BoxSchedule::new(alloc),
             shelf_stops: Vec::new(alloc),
         }
     }
@@ -84,14 +124,14 @@ impl Schedule {
         let call = call_named(line.word().as_bytes());
         let number = line.long_number();
         match call {
-            Some(Call::Box(call)) => Ok(
-                self.refusals.push(Stop {
+            Some(Call::Box(_, BoxCall::Sync)) | Some(Call::Shelf(_)) | None => Err(Failure::Script),
+            Some(Call::Box(side, call)) => Ok(
+                self.of(side).refusals.push(Stop {
                     call,
                     number,
                     moment: Moment::Before,
                 })?,
             ),
-            _ => Err(Failure::Script),
         }
     }
 
@@ -103,8 +143,8 @@ impl Schedule {
             moment,
         } = stop;
         match call {
-            Call::Box(call) => Ok(
-                self.stops.push(Stop {
+            Call::Box(side, call) => Ok(
+                self.of(side).stops.push(Stop {
                     call,
                     number,
                     moment,
@@ -117,6 +157,14 @@ impl Schedule {
                     moment,
                 })?,
             ),
+        }
+    }
+
+    /// That of the mailbox of a side.
+    fn of(&mut self, side: Side) -> &mut BoxSchedule {
+        match side {
+            Side::Far => &mut self.far,
+            Side::Near => &mut self.near,
         }
     }
 }

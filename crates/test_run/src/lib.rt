@@ -15,9 +15,10 @@
 //! | `each stop` | a run over the world is made with a stop at each of its calls, before and behind its effect, and behind each count of bytes of an append: it is told how many stops there were, and which run left something else than the last `run` but for its marks |
 //! | `each pair of stops` | the same, and also with each two stops, the second of them before or behind a call |
 //!
-//! The calls of the mailboxes are `open_box`, `admit`, `list`, `find_mark`, `carry`, `add_flags`, `remove_flags` and `expunge`; those
-//! of the shelf, which are not refused, are `shelf.read`, `shelf.append`, `shelf.replace` and `shelf.remove`. Calls are counted over
-//! the whole case.
+//! The calls of the far mailbox are `far.open`, `far.list`, `far.find_mark`, `far.load`, `far.append`, `far.add_flags`,
+//! `far.remove_flags` and `far.expunge`. Those of the near mailbox have the same names behind `near.`, and two more are `near.admit`
+//! and `near.sync`. Those of the shelf are `shelf.read`, `shelf.append`, `shelf.replace` and `shelf.remove`. `near.sync` and the calls
+//! of the shelf are not refused. Calls are counted over the whole case.
 #![tactic(auto)]
 
 pub mod calls;

@@ -1,18 +1,18 @@
 //! A world in memory, over which runs are made.
 
 ghost use Rattle.std.specs.Prelude.{◌≡◌, false};
-ghost use Rattle.mem_outside.specs.MemOutsides.{seen_of};
+ghost use Rattle.pair.specs.Pairs.{seen_of};
 
-use crate::calls::Schedule;
+use crate::calls::{BoxSchedule, Schedule};
 use book::mem_shelf::MemShelf;
-use book::shelf::Shelf;
+use book_part::book_part::BookPart;
 use mailcore::mailbox::{Mailbox, Message};
 use mailcore::octets::Octets;
 use mailcore::uid::Uid;
-use mem_outside::box_condition::BoxCondition;
-use mem_outside::boxes::Boxes;
-use mem_outside::mem_box::MemBox;
-use mem_outside::mem_outside::{MemOutside, Parts};
+use mem_mailbox::kind::{OfFar, OfNear};
+use mem_mailbox::mem_mailbox::MemMailbox;
+use mem_mailbox::mem_store::MemStore;
+use pair::pair::Pair;
 use rules::options::Options;
 use rules::state::SyncState;
 use std::alloc::{AllocError, Global};
@@ -26,12 +26,34 @@ use worlds::read::read_world;
 use worlds::world::{Waiting, WaitingFile, World};
 use written_worlds::write::{WrittenMailbox, WrittenWorld, write_parts};
 
+/// The outside of a run over two mailboxes and a shelf in memory.
+pub type MemOutside = Pair<MemMailbox<OfFar>, MemMailbox<OfNear>, MemShelf>;
+
+/// What an outside in memory is made of.
+#[derive(Drop)]
+pub struct Parts {
+    /// The far mailbox.
+    pub far: MemMailbox<OfFar>,
+    /// The near mailbox.
+    pub near: MemMailbox<OfNear>,
+    /// The shelf.
+    pub shelf: MemShelf,
+}
+
+impl Parts {
+    /// How many of their calls have stopped, up to the top of its type.
+    fn stops(&self) -> usize {
+        let boxes = self.far.stop_count().saturating_add(self.near.stop_count());
+        boxes.saturating_add(self.shelf.stops())
+    }
+}
+
 /// A world in memory between two runs, and what a run may do.
 #[derive(Drop)]
 pub struct Stage {
     /// What a run may do.
     pub options: Options,
-    /// The shelf, both mailboxes and their condition.
+    /// Both mailboxes and the shelf.
     pub parts: Parts,
 }
 
@@ -46,11 +68,6 @@ pub fn stage_of(alloc: Global, text: &[u8], schedule: Schedule) -> Result<Stage,
 
 impl Stage {
     fn new(alloc: Global, world: World, schedule: Schedule) -> Result<Stage, Failure> {
-        let Schedule {
-            stops,
-            refusals,
-            shelf_stops,
-        } = schedule;
         let World {
             options,
             far,
@@ -58,31 +75,27 @@ impl Stage {
             waiting,
             state,
         } = world;
-        let boxes = boxes_of(alloc, far, near, waiting);
-        let shelf = shelf_with(alloc, &state, None, shelf_stops);
-        let condition = BoxCondition::new(stops, refusals);
-        match (boxes, shelf) {
-            (Ok(boxes), Ok(shelf)) => Ok(Stage {
+        let far = far_box(alloc, far, schedule.far);
+        let near = near_box(alloc, near, waiting, schedule.near);
+        let shelf = shelf_with(alloc, &state, None, schedule.shelf_stops);
+        match (far, near, shelf) {
+            (Ok(far), Ok(near), Ok(shelf)) => Ok(Stage {
                 options,
-                parts: Parts {
-                    shelf,
-                    boxes,
-                    condition,
-                },
+                parts: Parts { far, near, shelf },
             }),
-            (Err(failure), _) => Err(failure),
-            (_, Err(fault)) => Err(failure_of(fault)),
+            (Err(failure), _, _) | (_, Err(failure), _) => Err(failure),
+            (_, _, Err(fault)) => Err(failure_of(fault)),
         }
     }
 
     /// Makes one run, and gives what it came to.
     pub fn run(self, alloc: Global, tries: u32) -> (Stage, Ending) {
         let Stage { options, parts } = self;
-        let before = parts.condition.stops();
+        let before = parts.stops();
         let mut outside = outside_of(alloc, parts);
         let settled = settle_trial(alloc, &mut outside, &options, tries);
-        let parts = outside.into_parts();
-        let stops = parts.condition.stops().saturating_sub(before);
+        let parts = parts_of(outside);
+        let stops = parts.stops().saturating_sub(before);
         (Stage { options, parts }, Ending { settled, stops })
     }
 }
@@ -91,14 +104,18 @@ impl Stage {
 pub fn outside_of(alloc: Global, parts: Parts) -> MemOutside
     ensures { (seen_of result).is_broken ≡ false }
 {
-    let Parts {
-        mut shelf,
-        boxes,
-        mut condition,
-    } = parts;
-    shelf.reopen();
-    condition.reopen();
-    MemOutside::new(alloc, shelf, boxes, condition)
+    let Parts { far, near, shelf } = parts;
+    Pair::new(alloc, far, near, BookPart::new(alloc, shelf))
+}
+
+/// What an outside is made of.
+pub fn parts_of(outside: MemOutside) -> Parts {
+    let (far, near, book) = outside.into_parts();
+    Parts {
+        far,
+        near,
+        shelf: book.into_shelf(),
+    }
 }
 
 /// The world that stands in these parts, from its line `far` on. A text that is no state is written as none.
@@ -112,7 +129,14 @@ pub fn left_in(alloc: Global, parts: &Parts) -> Result<String, Failure> {
 
 fn write_left(alloc: Global, text: &mut String, parts: &Parts) -> Result<(), Failure> {
     let state = written_state(alloc, &parts.shelf)?;
-    write_with(alloc, text, &parts.boxes, &state)
+    let waiting = waiting_files(alloc, parts.near.waiting())?;
+    let world = WrittenWorld {
+        far: written(parts.far.store()),
+        near: written(parts.near.store()),
+        waiting: &waiting,
+        state: &state,
+    };
+    Ok(write_parts(text, &world)?)
 }
 
 fn written_state(alloc: Global, shelf: &MemShelf) -> Result<SyncState, Failure> {
@@ -123,28 +147,12 @@ fn written_state(alloc: Global, shelf: &MemShelf) -> Result<SyncState, Failure> 
     }
 }
 
-fn write_with(
-    alloc: Global,
-    text: &mut String,
-    boxes: &Boxes,
-    state: &SyncState,
-) -> Result<(), Failure> {
-    let waiting = waiting_files(alloc, &boxes.waiting)?;
-    let world = WrittenWorld {
-        far: written(&boxes.far),
-        near: written(&boxes.near),
-        waiting: &waiting,
-        state,
-    };
-    Ok(write_parts(text, &world)?)
-}
-
 /// A mailbox as it is written.
-fn written(mailbox: &MemBox) -> WrittenMailbox<'_> {
+fn written(store: &MemStore) -> WrittenMailbox<'_> {
     WrittenMailbox {
-        validity: mailbox.validity(),
-        next: mailbox.next(),
-        messages: mailbox.messages(),
+        validity: store.validity(),
+        next: store.next(),
+        messages: store.messages(),
     }
 }
 
@@ -160,26 +168,38 @@ fn waiting_files(alloc: Global, files: &[Message]) -> Result<Vec<WaitingFile>, A
     Ok(waiting)
 }
 
-/// Both mailboxes of a world.
-fn boxes_of(
+/// The far mailbox of a world.
+fn far_box(
     alloc: Global,
-    far: Mailbox,
-    near: Mailbox,
-    waiting: Vec<WaitingFile>,
-) -> Result<Boxes, Failure> {
-    match (box_of(far), box_of(near), files_of(alloc, waiting)) {
-        (Some(far), Some(near), Ok(waiting)) => Ok(Boxes { far, near, waiting }),
-        (_, _, Err(AllocError)) => Err(Failure::NoMemory),
-        _ => Err(Failure::Script),
+    mailbox: Mailbox,
+    schedule: BoxSchedule,
+) -> Result<MemMailbox<OfFar>, Failure> {
+    match store_of(mailbox) {
+        Some(store) => Ok(MemMailbox::far(alloc, store, schedule.condition())),
+        None => Err(Failure::Script),
     }
 }
 
-/// A mailbox in memory. None: its UIDVALIDITY or its UIDNEXT is 0, which is no world's.
-fn box_of(mailbox: Mailbox) -> Option<MemBox> {
+/// The near mailbox of a world.
+fn near_box(
+    alloc: Global,
+    mailbox: Mailbox,
+    waiting: Vec<WaitingFile>,
+    schedule: BoxSchedule,
+) -> Result<MemMailbox<OfNear>, Failure> {
+    match (store_of(mailbox), files_of(alloc, waiting)) {
+        (Some(store), Ok(files)) => Ok(MemMailbox::near(alloc, store, files, schedule.condition())),
+        (_, Err(AllocError)) => Err(Failure::NoMemory),
+        (None, _) => Err(Failure::Script),
+    }
+}
+
+/// The messages of a mailbox. None: its UIDVALIDITY or its UIDNEXT is 0, which is no world's.
+fn store_of(mailbox: Mailbox) -> Option<MemStore> {
     if mailbox.validity == 0 || mailbox.next == 0 {
         return None;
     }
-    Some(MemBox::new(mailbox.validity, mailbox.next, mailbox.messages))
+    Some(MemStore::new(mailbox.validity, mailbox.next, mailbox.messages))
 }
 
 /// The files that wait, each with a UID that says nothing.

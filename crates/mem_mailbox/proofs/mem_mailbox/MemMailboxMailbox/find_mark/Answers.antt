@@ -1,0 +1,19 @@
+use Rattle.std.proofs.Common.{refl}
+use Rattle.std.proofs.lemmas.Result.{err_from_is_err_and}
+use Rattle.mailbox.specs.Calls.{Never}
+use Rattle.mem_mailbox.specs.Views.{near_of}
+use Rattle.mem_mailbox.proofs.MemCalls.{ends, fails}
+use Rattle.mem_mailbox.proofs.mem_mailbox.MemMailboxMailbox.find_mark.Goals as goal
+
+pub returns-in_err-stops-clause-call : goal.returns-in_err-stops-clause-call
+returns-in_err-stops-clause-call g c =
+    let p = err_from_is_err_and c.from_residual.result c.from_residual.ensures.1 in
+    let m = c.args.self.now in
+    rw (p.1, p.2) (fails _ Never _ _ (near_of m.store m.waiting.items) m.condition _ c.begin.new.self c.in_err-stops.ensures.fails)
+
+pub returns-clause-call : goal.returns-clause-call
+returns-clause-call g c =
+    let m = c.args.self.now in
+    let b = near_of m.store m.waiting.items in
+    ends _ Never _ _ b m.condition c.find_mark-found.result b c.begin.new.self c.end.new.self c.end.result
+    c.requires.whole c.in_ok-stops.ensures.same (refl, c.find_mark-found.ensures) c.end.ensures.ends

@@ -1,0 +1,4 @@
+pub mod BoxConditions
+pub mod Listings
+pub mod Views
+pub mod MemMailboxes

@@ -1,2 +1,0 @@
-pub mod BookCalls
-pub mod BoxCalls

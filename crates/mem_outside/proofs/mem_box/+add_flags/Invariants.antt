@@ -1,5 +1,0 @@
-use Rattle.std.proofs.Common.{length}
-use Rattle.mem_outside.proofs.mem_box.+add_flags.Given as goal
-
-abbrev pub decreases-add_flags : goal.decreases-add_flags
-decreases-add_flags l = length l.messages.now

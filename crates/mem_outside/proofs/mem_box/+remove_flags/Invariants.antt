@@ -1,5 +1,0 @@
-use Rattle.std.proofs.Common.{length}
-use Rattle.mem_outside.proofs.mem_box.+remove_flags.Given as goal
-
-abbrev pub decreases-remove_flags : goal.decreases-remove_flags
-decreases-remove_flags l = length l.messages.now
