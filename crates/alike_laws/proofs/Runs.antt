@@ -19,7 +19,7 @@ use Rattle.book.proofs.KnownBooks.{book_known}
 use Rattle.run_laws.specs.AlikeLaws.{own_world}
 use Rattle.run_laws.proofs.FoundAgain.{admitted_is_opening, found_is_opening}
 use Rattle.run_laws.proofs.Named.{names_below}
-use Rattle.outside.specs.Arrivals.{IsMerge, left, none}
+use Rattle.mailbox.specs.Arrivals.{IsMerge, left, none}
 use Rattle.outside.specs.Devices.{Device}
 use Rattle.underway.specs.Moments.{PlannedAt, Stands, with_log}
 use Rattle.underway.specs.Openings.{Grows, IsIdle, world_at}

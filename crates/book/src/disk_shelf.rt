@@ -1,9 +1,7 @@
 //! A shelf on a disk.
 
-ghost use Rattle.std.specs.Prelude.{◌≡◌, ◌<◌, ◌^◌, Err, IfOk, false};
-ghost use Rattle.device.specs.Calls.{Rest};
+ghost use Rattle.std.specs.Prelude.{◌≡◌, ◌<◌, ◌^◌, IfOk};
 ghost use Rattle.device.specs.Conditions.{disk_at};
-ghost use Rattle.book.specs.DiskShelves.{seen_on_disk};
 
 use crate::shelf::{File, Shelf};
 use device::DeviceFault;
@@ -23,6 +21,15 @@ const JOURNAL: &str = ".mbsyncstate.journal";
 /// What a file is written as before it takes the place of the state or the journal.
 pub const NEXT: &str = ".mbsyncstate.new";
 
+/// Where a call on a shelf stopped, and what the system said.
+#[derive(Clone, Copy)]
+pub struct ShelfStop {
+    /// The name of the file.
+    pub file: &'static str,
+    /// What the system said.
+    pub trouble: Trouble,
+}
+
 /// The files `.mbsyncstate` and `.mbsyncstate.journal` of a folder. A call stops where the system fails.
 ///
 /// What has to outlive a loss of power is synced to the disk, and no more: the first bytes of a file with its name, since a plan
@@ -34,6 +41,8 @@ pub const NEXT: &str = ".mbsyncstate.new";
 #[derive(Drop)]
 pub struct DiskShelf<R: Files + AllocGlobal + Clone + Drop> {
     disk: Disk<R>,
+    /// Where a call stopped since the shelf was opened.
+    stop: Option<ShelfStop>,
 }
 
 impl<R: Files + AllocGlobal + Clone + Drop> Model for DiskShelf<R> {
@@ -51,6 +60,7 @@ impl<R: Files + AllocGlobal + Clone + Drop> DiskShelf<R> {
     {
         Ok(DiskShelf {
             disk: Disk::new(rt, path)?,
+            stop: None,
         })
     }
 
@@ -61,18 +71,19 @@ impl<R: Files + AllocGlobal + Clone + Drop> DiskShelf<R> {
         self.disk.stops()
     }
 
-    /// What the system said where a call stopped since the shelf was opened.
-    pub fn trouble(&self) -> Option<Trouble> {
-        self.disk.trouble()
+    /// Where a call stopped since the shelf was opened, and what the system said. None: none has, or memory was wanting.
+    pub fn stop(&self) -> Option<ShelfStop> {
+        self.stop
     }
 
-    /// A call stops over this before it has an effect, as where the system fails.
-    pub fn refuse(&mut self, trouble: Trouble) -> DeviceFault
-        ensures { Rest {T = Unit {0}} false (seen_on_disk self.old) (seen_on_disk self.new) (Err result) }
+    // Notes that a call on a file of this name stopped, if one did.
+    fn note(&mut self, file: &'static str)
+        ensures { self.new ≡ self.old }
     {
-        match self.disk.check() {
-            Ok(()) => self.disk.stop(trouble),
-            Err(fault) => fault,
+        if self.stop.is_none() {
+            if let Some(trouble) = self.disk.trouble() {
+                self.stop = Some(ShelfStop { file, trouble });
+            }
         }
     }
 
@@ -112,28 +123,37 @@ impl<R: Files + AllocGlobal + Clone + Drop> Shelf for DiskShelf<R> {
     fn read(&mut self, file: File) -> Result<Option<Vec<u8>>, DeviceFault> {
         self.disk.check()?;
         let answer = self.bytes_of(file);
-        self.disk.tell(answer)
+        let answer = self.disk.tell(answer);
+        self.note(name_of(file));
+        answer
     }
 
     fn append(&mut self, file: File, bytes: &[u8]) -> Result<(), DeviceFault> {
         self.disk.check()?;
         let answer = self.disk.append(name_of(file), bytes);
-        self.disk.tell(answer)
+        let answer = self.disk.tell(answer);
+        self.note(name_of(file));
+        answer
     }
 
     fn replace(&mut self, file: File, bytes: &[u8]) -> Result<(), DeviceFault> {
         self.disk.check()?;
         let answer = self.exchange(file, bytes);
-        self.disk.tell(answer)
+        let answer = self.disk.tell(answer);
+        self.note(NEXT);
+        answer
     }
 
     fn remove(&mut self, file: File) -> Result<(), DeviceFault> {
         self.disk.check()?;
         let answer = self.disk.remove_if_there(name_of(file));
-        self.disk.tell(answer)
+        let answer = self.disk.tell(answer);
+        self.note(name_of(file));
+        answer
     }
 
     fn reopen(&mut self) {
+        self.stop = None;
         self.disk.reopen();
     }
 }

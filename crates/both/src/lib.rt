@@ -1,4 +1,4 @@
-//! The outside of a run over any link, folder and shelf: a far mailbox at a server, a near one in a folder, and a book.
+//! What a run calls where it synchronises a mailbox at a server with one in a folder.
 #![tactic(auto)]
 
 pub mod both;

@@ -13,24 +13,50 @@ use rules::options::Options;
 use rules::plan::Step;
 use runner::fault::RunFault;
 use runner::pass::Pass;
+use runner::progress::Progress;
 use runner::settle::settle;
 use std::alloc::Global;
+use stores::stores::Work;
 
 /// How many attempts a run has, each but the first behind one that met a stop.
 const TRIES: u32 = 3;
 
+/// One run over a mailbox.
+#[derive(Drop)]
+pub(crate) struct RunOnce<'a, R> {
+    /// The allocator.
+    pub(crate) alloc: Global,
+    /// What it may do.
+    pub(crate) options: &'a Options,
+    /// What its marks are drawn from.
+    pub(crate) rng: &'a mut R,
+}
+
+impl<R: Rng> Work for RunOnce<'_, R> {
+    type Answer = Result<Pass, BoxFault>;
+
+    fn over<O: Outside, P: Progress>(
+        self,
+        outside: &mut O,
+        progress: &P,
+    ) -> Result<Pass, BoxFault> {
+        settle_lent(self.alloc, outside, self.options, self.rng, progress)
+    }
+}
+
 /// Makes one run over an outside. From an opening, the run is over where it answers.
-pub(crate) fn settle_lent<O: Outside, R: Rng>(
+fn settle_lent<O: Outside, R: Rng, P: Progress>(
     alloc: Global,
     outside: &mut O,
     options: &Options,
     rng: &mut R,
+    progress: &P,
 ) -> Result<Pass, BoxFault>
     ghost opening: { Opening }
     ensures done { OnOk result (O.honest outside.new → IsAsked O.ours opening options.now (R.stream rng.old)
         → AtOpening O.ours O.alone opening (O.seen outside.old).device → IsOver O.ours O.alone opening (O.seen outside.new).device) }
 {
-    match settle(alloc, outside, options, TRIES, rng) {
+    match settle(alloc, outside, options, TRIES, rng, progress) {
         Ok(settled) => Ok(settled.last),
         Err(RunFault::Refused(number)) => Err(BoxFault::Refused(number, step_of(outside, number))),
         Err(fault) => Err(BoxFault::Run(fault)),

@@ -7,7 +7,7 @@ ghost use Rattle.channels.specs.Lines.{box_line};
 ghost use Rattle.channels.specs.Streams.{Extends, HasNotices, IsTold, Notes};
 
 use crate::fault::BoxFault;
-use crate::lent::settle_lent;
+use crate::lent::RunOnce;
 use crate::telling;
 use crate::verdict::Verdict;
 use config::config::{Channel, ImapStore, MaildirStore};
@@ -250,8 +250,13 @@ impl<S: Stores, O: Write, E: Write> ToldStores<'_, S, O, E> {
         requires going { self.old.write_failed ≡ false }
         ensures { self.new ≡ record self.old { stores = self.new.stores } }
     {
-        match self.stores.outside(place) {
-            Ok(outside) => settle_lent(alloc, outside, options, rng),
+        let run = RunOnce {
+            alloc,
+            options,
+            rng,
+        };
+        match self.stores.work_over(place, run) {
+            Ok(answer) => answer,
             Err(fault) => Err(BoxFault::from(fault)),
         }
     }

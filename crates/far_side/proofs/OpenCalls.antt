@@ -7,7 +7,7 @@ use Rattle.mailcore.specs.Operations.{bytes_of}
 use Rattle.mailcore.specs.Ranges.{AreInRange}
 use Rattle.mailcore.specs.Stores.{IsStore, Store}
 use Rattle.mailcore.specs.declared.side.Side.TheVariants.{Far}
-use Rattle.near_box.specs.Mailboxes.{Near}
+use Rattle.mailcore.specs.Mailboxes.{Mailbox}
 use Rattle.imap_link.specs.declared.fault.FarFault.{FarFault}
 use Rattle.imap_link.specs.declared.fault.FarFault.TheVariants as far
 use Rattle.imap_link.specs.declared.link.Link as link
@@ -76,7 +76,7 @@ told_stopped far.NoMemory is = absurd cc
 module _ {L : Type 0} {links : link.Ghosts L} (name : List ℕ) (old_stage new_stage : Stage) (old new : FarBox L links) where
   -- ---- any call
 
-  pub far_call : {T : Type 0} (honest : Type 0) (because : BoxFault → Near → Type 0) (does : T → Effect Near) (part : Effect Near) (r : Result T FarFault)
+  pub far_call : {T : Type 0} (honest : Type 0) (because : BoxFault → Mailbox → Type 0) (does : T → Effect Mailbox) (part : Effect Mailbox) (r : Result T FarFault)
       → is_broken_at old_stage old.is_selected old.session.is_ready ≡ false → OnOk r (new.is_selected ≡ true) → Ends (state_of old.session) (state_of new.session) r
       → (honest → Did does part because r (box_at name (server_of old.session)) (box_at name (server_of new.session)))
       → Call honest (HasEnded (state_of new.session)) (Arrives Far every true) because does part (seen_at old_stage name old) (seen_at new_stage name new) (told_by r)
@@ -145,17 +145,17 @@ module _ {L : Type 0} {links : link.Ghosts L} {name : List ℕ} {stage : Stage} 
   -- ---- the clause of its call
 
   module _ (sound : (l : L) → links.honest l → AreSound (links.line l).end.server.mailboxes) where
-    abbrev Says : {T : Type 0} → (because : BoxFault → Near → Type 0) → (does : T → Effect Near) → Result T FarFault → Type 0
+    abbrev Says : {T : Type 0} → (because : BoxFault → Mailbox → Type 0) → (does : T → Effect Mailbox) → Result T FarFault → Type 0
     Says because does r =
         Call (links.honest new.session.wire.link) (HasEnded (state_of new.session)) (Arrives Far every true) because does Nothing (seen_at stage name old) (seen_at stage name new) (told_by r)
 
-    says : {T : Type 0} (because : BoxFault → Near → Type 0) (does : T → Effect Near) (commands : ℕ) (r : Result T FarFault) → EndsSo commands (state_of old.session) (state_of new.session) r
+    says : {T : Type 0} (because : BoxFault → Mailbox → Type 0) (does : T → Effect Mailbox) (commands : ℕ) (r : Result T FarFault) → EndsSo commands (state_of old.session) (state_of new.session) r
         → (links.honest new.session.wire.link → Did does Nothing because r (box_at name (server_of old.session)) (box_at name (server_of new.session))) → Says because does r
     says because does commands r ends did =
         far_call name stage stage old new (links.honest new.session.wire.link) because does Nothing r k.whole (on_ok (new.is_selected ≡ true) r (k.still ∙ is_selected))
         (ends_of commands (state_of old.session) (state_of new.session) r is_ready k.counts ends) did
 
-    pub reads : {T : Type 0} (tells : T → Near → Type 0) (P : T → Store → Type 0) → ((answer : T) (s : Store) → P answer s → tells answer (settled s)) → (r : Result T FarFault) → EndsSo 1 (state_of old.session) (state_of new.session) r
+    pub reads : {T : Type 0} (tells : T → Mailbox → Type 0) (P : T → Store → Type 0) → ((answer : T) (s : Store) → P answer s → tells answer (settled s)) → (r : Result T FarFault) → EndsSo 1 (state_of old.session) (state_of new.session) r
         → (links.honest new.session.wire.link → (m : FarMailbox) → selected (server_of old.session) ≡ Some m → IsStore m.store → AreInRange m.store.messages → Outcome (Tells (λ answer. P answer m.store)) Unrefused Remains r (server_of old.session) (server_of new.session))
         → Says Never (Answers tells) r
     reads tells P to r ends outcome =

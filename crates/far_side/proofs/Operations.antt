@@ -15,7 +15,7 @@ use Rattle.imap_client.specs.Calls.{each_one}
 use Rattle.imap_client.specs.Laws.{deleted_removed}
 use Rattle.imap_client.proofs.Flagging.{selected_same, stored_is_flagged}
 use Rattle.imap_client.proofs.Removing.{swept_is_deleted}
-use Rattle.outside.specs.BoxCalls.{may_go, removed}
+use Rattle.mailbox.specs.Operations.{may_go, removed}
 use Rattle.far_side.specs.Chosen.{IsChosen}
 use Rattle.far_side.proofs.Mailboxes.{selected_is, sound_there}
 

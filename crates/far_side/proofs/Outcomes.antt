@@ -7,7 +7,7 @@ use Rattle.mailcore.specs.declared.mailbox.Message.{Message}
 use Rattle.mailcore.specs.declared.side.Side.TheVariants.{Far}
 use Rattle.mailcore.specs.Operations.{added}
 use Rattle.mailcore.specs.Stores.{Store}
-use Rattle.near_box.specs.Mailboxes.{Near}
+use Rattle.mailcore.specs.Mailboxes.{Mailbox}
 use Rattle.imap_link.specs.declared.fault.FarFault.{FarFault}
 use Rattle.imap_link.specs.declared.fault.FarFault.TheVariants as far
 use Rattle.imap_link.specs.Outcomes.{Outcome, Never as Unrefused}
@@ -15,12 +15,11 @@ use Rattle.imap_session.specs.Servers.{Server, with_selected}
 use Rattle.exchange_laws.specs.Ends.{MayHave}
 use Rattle.imap_client.specs.Appending as appending
 use Rattle.imap_client.specs.Boxes.{Becomes}
-use Rattle.outside.specs.BoxCalls.{Tells}
+use Rattle.mailbox.specs.Operations.{Tells, Admits, Answers, Appends, NoRoom, Turns}
 use Rattle.mailbox.specs.declared.fault.BoxFault.{BoxFault}
 use Rattle.mailbox.specs.declared.fault.BoxFault.TheVariants as boxes
 use Rattle.mailbox.specs.Arrivals.{Arrives}
 use Rattle.mailbox.specs.Calls.{DoesSome, LeavesBy, Never, Seen}
-use Rattle.mailbox.specs.Operations.{Admits, Answers, Appends, NoRoom, Turns}
 use Rattle.far_side.specs.Chosen.{IsChosen, KeepsMailboxes, box_at, settled, store_at}
 use Rattle.far_side.specs.FarFaults.{told}
 use Rattle.far_side.proofs.Mailboxes.{changed_store, store_is}
@@ -30,20 +29,20 @@ use Rattle.far_side.proofs.Mailboxes.{changed_store, store_is}
 abbrev pub every : List ℕ → Bool
 every mark = true
 
-pub quiet : (b : Near) → Arrives Far every true b b
+pub quiet : (b : Mailbox) → Arrives Far every true b b
 quiet b = record {
   comes = record {
     messages = [];
     next = b.store.next;
     rise = omega arith;
     foreign = All-nil _;
-    now = ap (λ (ms : List Message). let n : Near = record b { store = record b.store { messages = ms } } in n) (sym (append-nil b.store.messages));
+    now = ap (λ (ms : List Message). let n : Mailbox = record b { store = record b.store { messages = ms } } in n) (sym (append-nil b.store.messages));
   };
   nobody = λ _. refl;
 }
 
 -- a call that does nothing
-pub rests : (honest : Type 0) (does : Effect Near) (seen : Seen) → seen.is_broken ≡ false → does seen.stored seen.stored → Went honest (Follows (Arrives Far every true) does) seen seen
+pub rests : (honest : Type 0) (does : Effect Mailbox) (seen : Seen) → seen.is_broken ≡ false → does seen.stored seen.stored → Went honest (Follows (Arrives Far every true) does) seen seen
 rests honest does seen whole done = record {
   was_whole = whole;
   is_whole = whole;
@@ -60,7 +59,7 @@ none_admitted s =
 
 -- ---- by its answer, or by what its fault leaves
 
-abbrev pub Did : {T : Type 0} → (does : T → Effect Near) → (part : Effect Near) → (because : BoxFault → Near → Type 0) → Result T FarFault → Near → Near → Type 0
+abbrev pub Did : {T : Type 0} → (does : T → Effect Mailbox) → (part : Effect Mailbox) → (because : BoxFault → Mailbox → Type 0) → Result T FarFault → Mailbox → Mailbox → Type 0
 Did does part because (Ok answer) b b' = does answer b b'
 Did does part because (Err e) b b' = LeavesBy does part because (told e) b b'
 
@@ -70,7 +69,7 @@ module _ (name : List ℕ) (old new : Server) where
 
   -- ---- a call that changes no mailbox
 
-  module _ {T : Type 0} (does : T → Server → Server → Type 0) (refuses effect : Server → Server → Type 0) (tells : T → Near → Type 0) (because : BoxFault → Near → Type 0)
+  module _ {T : Type 0} (does : T → Server → Server → Type 0) (refuses effect : Server → Server → Type 0) (tells : T → Mailbox → Type 0) (because : BoxFault → Mailbox → Type 0)
       (done : (answer : T) → does answer old new → KeepsMailboxes old new × tells answer (box_at name old)) (keeps : effect old new → KeepsMailboxes old new)
       (refused : refuses old new → KeepsMailboxes old new × because boxes.Refused (box_at name old)) where
     may_read : MayHave effect old new → Leaves (DoesSome (Answers tells)) Nothing (box_at name old) (box_at name new)

@@ -4,7 +4,7 @@ use Rattle.std.specs.Prelude.{OnOk}
 use Rattle.device.specs.Calls.{Effect, Nothing}
 use Rattle.mailcore.specs.declared.listing.Listing.{Listing}
 use Rattle.mailcore.specs.declared.side.Side.TheVariants.{Far}
-use Rattle.near_box.specs.Mailboxes.{Near}
+use Rattle.mailcore.specs.Mailboxes.{Mailbox}
 use Rattle.imap_link.specs.declared.fault.FarFault.{FarFault}
 use Rattle.imap_link.specs.declared.link.Link as link
 use Rattle.imap_link.specs.Outcomes.{Outcome, Never as Unrefused}
@@ -27,10 +27,10 @@ module _ {L : Type 0} {links : link.Ghosts L} (old new : FarSide L links) (same 
   abbrev name : List ℕ
   name = old.account.mailbox.items
 
-  abbrev Says : {T : Type 0} → (because : BoxFault → Near → Type 0) → (does : T → Effect Near) → List ℕ → Result T FarFault → Type 0
+  abbrev Says : {T : Type 0} → (because : BoxFault → Mailbox → Type 0) → (does : T → Effect Mailbox) → List ℕ → Result T FarFault → Type 0
   Says because does n r = Call (honest_of new) (HasEnded (state_of new.far.session)) (Arrives Far every true) because does Nothing (seen_of old) (seen_at new.stage n new.far) (told_by r)
 
-  says : {T : Type 0} (because : BoxFault → Near → Type 0) (does : T → Effect Near) (r : Result T FarFault) → OnOk r (new.far.is_selected ≡ true) → Ends (state_of old.far.session) (state_of new.far.session) r
+  says : {T : Type 0} (because : BoxFault → Mailbox → Type 0) (does : T → Effect Mailbox) (r : Result T FarFault) → OnOk r (new.far.is_selected ≡ true) → Ends (state_of old.far.session) (state_of new.far.session) r
       → (honest_of new → Did does Nothing because r (box_at name (server_at old)) (box_at name (server_at new))) → Says because does new.account.mailbox.items r
   says because does r selected ends did =
       subst (λ (n : List ℕ). Says because does n r) (sym same) (far_call name old.stage new.stage old.far new.far (honest_of new) because does Nothing r whole selected ends did)

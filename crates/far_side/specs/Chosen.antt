@@ -4,7 +4,7 @@ use Rattle.mailcore.specs.declared.listing.Listing.{Listing}
 use Rattle.mailcore.specs.declared.side.Side.TheVariants.{Far}
 use Rattle.mailcore.specs.Operations.{Shows}
 use Rattle.mailcore.specs.Stores.{Store}
-use Rattle.near_box.specs.Mailboxes.{Near}
+use Rattle.mailcore.specs.Mailboxes.{Mailbox}
 use Rattle.imap_session.specs.Mailboxes.{FarMailbox, mailbox_at}
 use Rattle.imap_session.specs.Servers.{Server, Selected, is_logged_in}
 use Rattle.imap_client.specs.Logins.{is_known}
@@ -22,11 +22,11 @@ abbrev pub store_at : (name : List ℕ) → List FarMailbox → Store
 store_at name mailboxes = store_in (mailbox_at name mailboxes)
 
 -- a mailbox at a server: nothing waits there
-abbrev pub settled : Store → Near
+abbrev pub settled : Store → Mailbox
 settled store = record { store = store; waiting = [] }
 
 -- the mailbox of this name, at this server
-abbrev pub box_at : (name : List ℕ) → Server → Near
+abbrev pub box_at : (name : List ℕ) → Server → Mailbox
 box_at name s = settled (store_at name s.mailboxes)
 
 -- the mailbox of this name is selected

@@ -19,13 +19,13 @@ use imap_client::far_box::FarBox;
 use imap_client::session::Session;
 use imap_link::fault::FarFault;
 use imap_link::link::Link;
+use mailbox::far_next::FarNext;
 use mailbox::fault::BoxFault;
 use mailbox::mailbox::Mailbox;
 use mailcore::flags::Flags;
 use mailcore::listing::Listing;
 use mailcore::tuid::Tuid;
 use mailcore::uid::Uid;
-use outside::far_next::FarNext;
 use std::alloc::Global;
 
 /// The mailbox of an account at a server: closed, or open.

@@ -9,7 +9,7 @@ use stores::channel_box::ChannelBox;
 use stores::fault::{ListFault, StoreFault};
 use stores::notice::Notice;
 use stores::stop_cause::StopCause;
-use stores::stores::{BoxLists, Stores};
+use stores::stores::{BoxLists, Stores, Work};
 
 /// Stores, and the line on a terminal that shows which of their mailboxes is at work.
 #[derive(Drop)]
@@ -44,8 +44,6 @@ impl<S: Stores + Drop, T: Write + Copy> BoxLists for ShownStores<'_, S, T> {
 }
 
 impl<S: Stores + Drop, T: Write + Copy> Stores for ShownStores<'_, S, T> {
-    type Outside = S::Outside;
-
     fn has_state(&mut self, place: ChannelBox<'_>) -> Result<bool, StoreFault> {
         self.stores.has_state(place)
     }
@@ -54,9 +52,13 @@ impl<S: Stores + Drop, T: Write + Copy> Stores for ShownStores<'_, S, T> {
         self.stores.make(side, place)
     }
 
-    fn outside(&mut self, place: ChannelBox<'_>) -> Result<&mut Self::Outside, StoreFault> {
+    fn work_over<W: Work + Drop>(
+        &mut self,
+        place: ChannelBox<'_>,
+        work: W,
+    ) -> Result<W::Answer, StoreFault> {
         self.screen.show(place);
-        self.stores.outside(place)
+        self.stores.work_over(place, work)
     }
 
     fn stop_cause(&mut self) -> Option<StopCause> {

@@ -3,8 +3,10 @@
 
 mod account;
 mod asked;
+mod last_box;
 pub mod mail_stores;
 mod names;
+mod noted_link;
 pub mod notes;
 mod notices;
 mod reach;

@@ -1,25 +1,24 @@
 //! The real stores: servers over TCP, and folders of a disk.
 
 use crate::asked::Asked;
+use crate::last_box::{BoxPlace, LastBox, cause_of, path_texts};
 use crate::names::is_servable;
 use crate::notes::Notes;
 use crate::notices::Notices;
-use crate::reach::{BothSides, Reach};
+use crate::reach::{GuardedSides, Reach};
 use crate::server::{AskFault, RealLink, is_word};
 use crate::sessions::{Standing, end, stands_at, stands_with, take_at};
-use crate::told::{
-    cause_text, list_fault, lock_fault, make_fault, path_texts, unlisted, unreached,
-};
-use book::shelf::Shelf;
+use crate::told::{list_fault, lock_fault, make_fault, unlisted, unreached};
 use config::config::{ImapStore, MaildirStore};
-use far_part::logged_in::LoggedIn;
+use far_side::logged_in::LoggedIn;
 use imap_link::fault::FarFault;
 use imap_link::link::Link;
 use mailcore::mailbox_name::MailboxName;
 use mailcore::side::Side;
-use maildir::folder::Folder;
 use near_places::home::Home;
 use near_places::lock::{Lock, LockFault};
+use outside::outside::Outside;
+use runner::progress::Progress;
 use std::alloc::AllocError;
 use std::fs::File;
 use std::net::Net;
@@ -29,30 +28,7 @@ use stores::channel_box::ChannelBox;
 use stores::fault::{ListFault, StoreFault};
 use stores::notice::Notice;
 use stores::stop_cause::StopCause;
-use stores::stores::{BoxLists, Stores};
-use watched::near_look::NearLook;
-use watched::progress::Progress;
-use watched::watched_folder::WatchedFolder;
-use watched::watched_outside::WatchedOutside;
-use watched::watched_shelf::WatchedShelf;
-
-/// Both sides of a mailbox, of which it is told how far a run over them is, and whose near side is looked at once more.
-type RealBox<R, P> = WatchedOutside<BothSides<R>, NearLook<R, P>>;
-
-/// A mailbox that is open. Its lock is dropped last.
-#[derive(Drop)]
-struct OpenBox<R: Net + Files + AllocGlobal + Clone + Drop, P>
-where
-    RealLink<R>: Link,
-    WatchedFolder<R>: Folder,
-    WatchedShelf<R>: Shelf,
-{
-    outside: RealBox<R, P>,
-    /// The name of the far store.
-    store: String,
-    folder: String,
-    _lock: Lock,
-}
+use stores::stores::{BoxLists, Stores, Work};
 
 /// The stores of a configuration: mailboxes at IMAP servers, and folders of a disk.
 ///
@@ -63,8 +39,6 @@ where
 pub struct MailStores<R: Net + Files<File = File> + AllocGlobal + Clone + Drop, P>
 where
     RealLink<R>: Link,
-    WatchedFolder<R>: Folder,
-    WatchedShelf<R>: Shelf,
 {
     reach: Reach<R>,
     progress: P,
@@ -72,17 +46,18 @@ where
     asked: Option<Asked>,
     notices: Notices,
     standing: Standing<R>,
-    open: Option<OpenBox<R, P>>,
+    /// What is known of the mailbox that was open last.
+    last: LastBox,
 }
 
-impl<
-    R: Net + Files<File = File> + Clock + AllocGlobal + Clone + Drop,
-    P: Progress + Copy,
-> MailStores<R, P> {
+impl<R: Net + Files<File = File> + Clock + AllocGlobal + Clone + Drop, P: Progress> MailStores<
+    R,
+    P,
+> {
     /// The stores of a user with this home folder. Near mailboxes that have no UIDVALIDITY yet get this one. It is told how far the run
     /// over a mailbox is.
     pub fn new(rt: R, home: Home, fresh: NonZeroU32, notes: Notes, progress: P) -> Self {
-        let notices = Notices::new(rt.alloc());
+        let alloc = rt.alloc();
         MailStores {
             reach: Reach {
                 rt,
@@ -92,19 +67,9 @@ impl<
             },
             progress,
             asked: None,
-            notices,
+            notices: Notices::new(alloc),
             standing: None,
-            open: None,
-        }
-    }
-
-    /// Closes the mailbox that is open, and lets its lock go. The session stands, if it goes on.
-    fn close(&mut self) {
-        if let Some(open) = self.open.take() {
-            let (far, _, _) = open.outside.into_outside().into_parts();
-            if let Some(session) = far.into_session() {
-                self.standing = stands_with(open.store, session);
-            }
+            last: LastBox::none(alloc),
         }
     }
 
@@ -202,37 +167,71 @@ impl<
         }
     }
 
-    /// Takes the lock of a mailbox, and opens both sides.
-    fn open_box(&mut self, place: ChannelBox<'_>) -> Result<OpenBox<R, P>, LockFault> {
-        let alloc = self.reach.rt.alloc();
-        let store = String::from_str(alloc, place.of.far_store.name.as_str())?;
+    /// Takes the lock of a mailbox, opens both sides, and does this over them. The session stands then, if it goes on.
+    fn work_in<W: Work + Drop>(
+        &mut self,
+        place: ChannelBox<'_>,
+        work: W,
+    ) -> Result<W::Answer, LockFault> {
         let folder = self.reach.folder_of(place)?;
-        let look = self.look_into(folder.clone()?)?;
-        let lock = Lock::take(&self.reach.rt, folder.as_str())?;
-        let session = take_at(&mut self.standing, store.as_str());
-        match self.reach.both_sides(place, folder.as_str(), session) {
-            Ok(both) => Ok(OpenBox {
-                outside: WatchedOutside::new(both, look),
-                store,
-                folder,
-                _lock: lock,
-            }),
-            Err(refusal) => Err(LockFault::Refused(refusal)),
-        }
+        let _lock = Lock::take(&self.reach.rt, folder.as_str())?;
+        let sides = self.open_sides(place, folder.as_str())?;
+        let (sides, answer) = work_with(sides, work, &self.progress);
+        self.close(place, folder.as_str(), sides);
+        Ok(answer)
     }
 
-    /// The second look into this folder.
-    fn look_into(&self, folder: String) -> Result<NearLook<R, P>, AllocError> {
-        let rt = self.reach.rt.clone()?;
-        let watch = self.reach.notes.watch.clone()?;
-        Ok(NearLook::new(rt, folder, watch, self.progress))
+    /// Opens both sides of a mailbox, over the session that stands, if one does.
+    fn open_sides(
+        &mut self,
+        place: ChannelBox<'_>,
+        folder: &str,
+    ) -> Result<GuardedSides<R>, LockFault> {
+        let store = place.of.far_store;
+        let session = take_at(&mut self.standing, store.name.as_str());
+        self.reach
+            .guarded_sides(place, folder, session)
+            .map_err(LockFault::Refused)
+    }
+
+    /// Closes both sides of a mailbox: what stopped the run over them is noted, and which files were left out, and the session is kept,
+    /// if it goes on.
+    fn close(&mut self, place: ChannelBox<'_>, folder: &str, sides: GuardedSides<R>) {
+        let alloc = self.reach.rt.alloc();
+        let store = place.of.far_store;
+        let (sides, look) = sides.into_parts();
+        let (far, near, book) = sides.into_parts();
+        let (near, book) = (near.into_folder(), book.into_shelf());
+        let place = BoxPlace {
+            store: store.name.as_str(),
+            folder,
+        };
+        let refused = look.take_objection();
+        let notes = &self.reach.notes;
+        self.last = LastBox {
+            cause: cause_of(alloc, place, refused, near.stop(), book.stop(), notes).ok(),
+            left_out: path_texts(alloc, folder, near.left_out()),
+        };
+        if let Some(session) = far.into_session() {
+            self.keep(store, session);
+        }
     }
 }
 
-impl<R: Net + Files<File = File> + Clock + AllocGlobal + Clone + Drop, P: Progress + Copy> BoxLists
+/// Does this over an outside, and gives that back beside what it came to.
+fn work_with<O: Outside, W: Work + Drop, P: Progress>(
+    outside: O,
+    work: W,
+    progress: &P,
+) -> (O, W::Answer) {
+    let mut outside = outside;
+    let answer = work.over(&mut outside, progress);
+    (outside, answer)
+}
+
+impl<R: Net + Files<File = File> + Clock + AllocGlobal + Clone + Drop, P: Progress> BoxLists
     for MailStores<R, P> {
     fn far_boxes(&mut self, store: &ImapStore) -> Result<Vec<MailboxName>, ListFault> {
-        self.close();
         self.ask(store);
         match self.names_at(store) {
             Ok(names) => Ok(names),
@@ -266,16 +265,13 @@ impl<R: Net + Files<File = File> + Clock + AllocGlobal + Clone + Drop, P: Progre
     }
 }
 
-impl<R: Net + Files<File = File> + Clock + AllocGlobal + Clone + Drop, P: Progress + Copy> Stores
+impl<R: Net + Files<File = File> + Clock + AllocGlobal + Clone + Drop, P: Progress> Stores
     for MailStores<R, P> {
-    type Outside = RealBox<R, P>;
-
     fn has_state(&mut self, place: ChannelBox<'_>) -> Result<bool, StoreFault> {
         self.reach.has_state(place).map_err(lock_fault)
     }
 
     fn make(&mut self, side: Side, place: ChannelBox<'_>) -> Result<(), StoreFault> {
-        self.close();
         match side {
             Side::Far => {
                 self.ask(place.of.far_store);
@@ -285,36 +281,26 @@ impl<R: Net + Files<File = File> + Clock + AllocGlobal + Clone + Drop, P: Progre
         }
     }
 
-    fn outside(&mut self, place: ChannelBox<'_>) -> Result<&mut Self::Outside, StoreFault> {
-        self.close();
+    fn work_over<W: Work + Drop>(
+        &mut self,
+        place: ChannelBox<'_>,
+        work: W,
+    ) -> Result<W::Answer, StoreFault> {
+        self.last = LastBox::none(self.reach.rt.alloc());
         self.ask(place.of.far_store);
-        let open = self.open_box(place).map_err(lock_fault)?;
-        Ok(&mut self.open.insert(open).outside)
+        self.work_in(place, work).map_err(lock_fault)
     }
 
     fn stop_cause(&mut self) -> Option<StopCause> {
-        let alloc = self.reach.rt.alloc();
-        let open = self.open.as_ref()?;
-        cause_text(
-            alloc,
-            open.store.as_str(),
-            open.folder.as_str(),
-            &self.reach.notes,
-        )
-        .ok()
+        self.last.cause.take()
     }
 
     fn left_out(&mut self) -> Vec<String> {
         let alloc = self.reach.rt.alloc();
-        let watch = &self.reach.notes.watch;
-        match &self.open {
-            Some(open) => path_texts(alloc, open.folder.as_str(), &watch.take_left_out()),
-            None => Vec::new(alloc),
-        }
+        std::mem::replace(&mut self.last.left_out, Vec::new(alloc))
     }
 
     fn end(&mut self) {
-        self.close();
         end(&mut self.standing);
     }
 }

@@ -1,5 +1,6 @@
-//! What is noted of servers and folders while they are asked, so that a person can be told.
+//! What is noted of servers while they are asked, so that a person can be told.
 
+use crate::noted_link::{LinkEnd, NotedEnd};
 use crate::server::AskFault;
 use imap_client::tcp_link::Unreached;
 use imap_link::fault::FarFault;
@@ -8,13 +9,12 @@ use std::alloc::{AllocError, Global};
 use std::cell::Cell;
 use std::rc::Rc;
 use stores::fault::ServerFault;
-use watched::watch::{Cause, Watch};
 
-/// What is noted of servers and folders while they are asked. What is asked notes it, and the stores tell it.
+/// What is noted of servers while they are asked. What is asked notes it, and the stores tell it.
 #[derive(Drop)]
 pub struct Notes {
-    /// What stopped a call, and which near files were left out.
-    pub(crate) watch: Rc<Watch>,
+    /// How the connection came to its end.
+    pub(crate) end: NotedEnd,
     /// What a server says to people.
     pub(crate) words: Rc<Words>,
     /// What the system said when a server could not be reached.
@@ -25,7 +25,7 @@ impl Notes {
     /// Nothing was asked.
     pub fn new(alloc: Global) -> Result<Self, AllocError> {
         Ok(Notes {
-            watch: Rc::new(alloc, Watch::new(alloc))?,
+            end: Rc::new(alloc, Cell::new(None))?,
             words: Rc::new(alloc, Words::new(alloc))?,
             unreached: Rc::new(alloc, Cell::new(None))?,
         })
@@ -33,7 +33,7 @@ impl Notes {
 
     /// Something else is asked: what was noted of faults before is forgotten.
     pub(crate) fn renew(&self) {
-        self.watch.renew();
+        self.end.set(None);
         let _ = self.words.take_last();
         let _ = self.words.take_unread();
         self.unreached.set(None);
@@ -44,7 +44,7 @@ impl Notes {
         match fault {
             AskFault::Unsendable => Some(ServerFault::Unsendable),
             AskFault::LoginRefused => Some(ServerFault::LoginRefused),
-            AskFault::Far(FarFault::Stopped) => Some(self.end_of(self.watch.take_cause())),
+            AskFault::Far(FarFault::Stopped) => Some(self.take_end()),
             AskFault::Far(FarFault::Refused | FarFault::ReadOnly) => Some(ServerFault::Refused),
             AskFault::Far(FarFault::Protocol | FarFault::TooLong) => Some(ServerFault::NoAnswer),
             AskFault::Far(FarFault::NoRev2) => Some(ServerFault::NoRev2),
@@ -52,12 +52,12 @@ impl Notes {
         }
     }
 
-    /// How a connection came to its end. Where nothing was noted, the server ended the session.
-    pub(crate) fn end_of(&self, cause: Option<Cause>) -> ServerFault {
-        match cause {
-            Some(Cause::Unreached) => ServerFault::Unreached(self.unreached.take()),
+    /// Takes out how the connection came to its end. Where nothing was noted, the server ended the session.
+    pub(crate) fn take_end(&self) -> ServerFault {
+        match self.end.take() {
+            Some(LinkEnd::Unreached) => ServerFault::Unreached(self.unreached.take()),
             _ if self.words.is_unread() => ServerFault::NoAnswer,
-            Some(_) => ServerFault::Ended,
+            Some(LinkEnd::Ended) => ServerFault::Ended,
             None => ServerFault::Dismissed,
         }
     }

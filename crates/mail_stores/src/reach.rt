@@ -5,18 +5,21 @@ use crate::notes::Notes;
 use crate::server::{AskFault, RealLink, link_to, log_in};
 use book::disk_shelf::{DiskShelf, name_of};
 use book::shelf;
-use book_part::book_part::BookPart;
 use both::both::Both;
 use config::config::{ImapStore, MaildirStore};
 use device::DeviceFault;
-use far_part::far_part::FarPart;
-use far_part::logged_in::LoggedIn;
+use far_side::far_side::FarSide;
+use far_side::logged_in::LoggedIn;
+use guarded::guarded_outside::GuardedOutside;
+use guarded::near_look::NearLook;
 use maildir::disk_folder::DiskFolder;
-use near_part::near_part::NearPart;
 use near_places::boxes::{NearBoxes, near_boxes};
 use near_places::home::Home;
 use near_places::lock::LockFault;
 use near_places::refusal::Refusal;
+use near_side::near_side::NearSide;
+use pair::book_part::BookPart;
+use pair::pair::Pair;
 use std::fs;
 use std::fs::File;
 use std::io::ErrorKind;
@@ -24,11 +27,12 @@ use std::net::Net;
 use std::num::NonZeroU32;
 use std::rt::{Clock, Files};
 use stores::channel_box::ChannelBox;
-use watched::watched_folder::WatchedFolder;
-use watched::watched_shelf::WatchedShelf;
 
 /// Both sides of a mailbox, and its book, which lies in the folder of the near side.
-pub(crate) type BothSides<R> = Both<RealLink<R>, WatchedFolder<R>, WatchedShelf<R>>;
+type BothSides<R> = Both<RealLink<R>, DiskFolder<R>, DiskShelf<R>>;
+
+/// The same, whose calls stop where a look into the near side says that the run is not to go on.
+pub(crate) type GuardedSides<R> = GuardedOutside<BothSides<R>, NearLook<R>>;
 
 /// Where the mailboxes of a user are. Nothing of them is open.
 #[derive(Drop)]
@@ -87,41 +91,50 @@ impl<R: Net + Files<File = File> + Clock + AllocGlobal + Clone + Drop> Reach<R> 
         Ok(self.home.folder_of(alloc, place.of.near_store, place.near)?)
     }
 
-    /// Both sides of a mailbox, over this session, or else a link that is not connected yet; and a folder that is not read yet. What stops
-    /// them is noted.
-    pub(crate) fn both_sides(
+    /// Both sides of a mailbox, with a look into the near one: over this session, or else a link that is not connected yet; and a folder
+    /// that is not read yet.
+    pub(crate) fn guarded_sides(
+        &self,
+        place: ChannelBox<'_>,
+        folder: &str,
+        session: Option<LoggedIn<RealLink<R>>>,
+    ) -> Result<GuardedSides<R>, Refusal> {
+        let look = NearLook::new(self.rt.clone()?, String::from_str(self.rt.alloc(), folder)?);
+        let both = self.both_sides(place, folder, session)?;
+        Ok(GuardedOutside::new(both, look))
+    }
+
+    /// Both sides of a mailbox.
+    fn both_sides(
         &self,
         place: ChannelBox<'_>,
         folder: &str,
         session: Option<LoggedIn<RealLink<R>>>,
     ) -> Result<BothSides<R>, Refusal> {
         let alloc = self.rt.alloc();
-        let watch = &self.notes.watch;
         let near = DiskFolder::new(self.rt.clone()?, folder)?;
-        let near = WatchedFolder::new(near, watch.clone()?);
         let book = DiskShelf::new(self.rt.clone()?, folder)?;
-        let book = WatchedShelf::new(book, watch.clone()?);
-        let far = self.far_part(place, session)?;
-        let near = NearPart::new(alloc, near, self.fresh);
-        Ok(Both::new(alloc, far, near, BookPart::new(alloc, book)))
+        let far = self.far_side(place, session)?;
+        let near = NearSide::new(alloc, near, self.fresh);
+        Ok(Pair::new(alloc, far, near, BookPart::new(alloc, book)))
     }
 
     /// The far side of a mailbox.
-    fn far_part(
+    fn far_side(
         &self,
         place: ChannelBox<'_>,
         session: Option<LoggedIn<RealLink<R>>>,
-    ) -> Result<FarPart<RealLink<R>>, Refusal> {
+    ) -> Result<FarSide<RealLink<R>>, Refusal> {
         let alloc = self.rt.alloc();
         let store = place.of.far_store;
         let Some(account) = account_of(alloc, store, place.far)? else {
             return Err(Refusal::cannot_open(alloc, store.name.as_str()));
         };
         match session {
-            Some(session) => Ok(FarPart::over(alloc, account, session)),
+            Some(session) => Ok(FarSide::over(account, session)),
             None => {
                 let link = link_to(&self.rt, store, &self.notes)?;
-                Ok(FarPart::new(alloc, account, link))
+                Ok(FarSide::new(alloc, account, link))
             }
         }
     }

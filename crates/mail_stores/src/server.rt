@@ -3,15 +3,15 @@
 ghost use Rattle.std.specs.Prelude.{◌↔◌, IsTrue};
 ghost use Rattle.imap_client.specs.Requests.{IsWord};
 
+use crate::noted_link::NotedLink;
 use crate::notes::Notes;
 use config::config::ImapStore;
-use far_part::logged_in::LoggedIn;
+use far_side::logged_in::LoggedIn;
 use imap_client::tcp_link::TcpLink;
 use imap_link::fault::FarFault;
 use link_face::face_link::FaceLink;
 use std::alloc::{AllocError, Global};
 use std::net::Net;
-use watched::watched_link::WatchedLink;
 use wire_strings::line_text::all_text;
 
 /// The greatest number of bytes of a user, a password or the name of a mailbox.
@@ -28,8 +28,8 @@ pub(crate) enum AskFault {
     Far(FarFault),
 }
 
-/// A link to a server over TCP, from which a client hears only replies that it reads, and of which it is known what stopped a call.
-pub(crate) type RealLink<R> = WatchedLink<FaceLink<TcpLink<R>>>;
+/// A link to a server over TCP, from which a client hears only replies that it reads, and of which it is known how a connection came to its end.
+pub(crate) type RealLink<R> = NotedLink<FaceLink<TcpLink<R>>>;
 
 /// A link to the server of a store, which is not connected yet.
 pub(crate) fn link_to<R: Net + AllocGlobal + Clone + Drop>(
@@ -41,7 +41,7 @@ pub(crate) fn link_to<R: Net + AllocGlobal + Clone + Drop>(
     let address = address_of(alloc, store)?;
     let link = TcpLink::noting(rt.clone()?, address.as_str(), notes.unreached.clone()?)?;
     let link = FaceLink::new(alloc, link, notes.words.clone()?);
-    Ok(WatchedLink::new(link, notes.watch.clone()?))
+    Ok(NotedLink::new(link, notes.end.clone()?))
 }
 
 /// The address of a store's server: its host and its port. An IPv6 address stands in brackets.

@@ -1,7 +1,7 @@
 //! The session that stands at a server between the mailboxes of its store.
 
 use crate::server::RealLink;
-use far_part::logged_in::LoggedIn;
+use far_side::logged_in::LoggedIn;
 use imap_link::link::Link;
 use std::net::Net;
 

@@ -16,12 +16,11 @@ pub trait Mailbox {
     ghost use Rattle.device.specs.Calls.{Nothing};
     ghost use Rattle.mailcore.specs.declared.side.Side.{Side};
     ghost use Rattle.mailcore.specs.Operations.{flags_added, flags_removed};
-    ghost use Rattle.near_box.specs.NearContracts.{AdmitsSome};
-    ghost use Rattle.outside.specs.BoxCalls.{removed};
+    ghost use Rattle.mailcore.specs.Mailboxes.{AdmitsSome};
+    ghost use Rattle.mailbox.specs.Operations.{removed, Admits, Answers, Appends, AppendsPart, Finds, HasNumbers, IsCopyText, Lists, Loads, NoRoom, TellsValidity, Turns};
     ghost use Rattle.mailbox.specs.declared.fault.BoxFault.{BoxFault};
     ghost use Rattle.mailbox.specs.Arrivals.{Arrives};
     ghost use Rattle.mailbox.specs.Calls.{Call, IsPlain, Never, Seen};
-    ghost use Rattle.mailbox.specs.Operations.{Admits, Answers, Appends, AppendsPart, Finds, HasNumbers, IsCopyText, Lists, Loads, NoRoom, TellsValidity, Turns};
 
     /// Which mailbox of a pair it is: what its line ends and fitness are, who gives its UIDs, and how it says no.
     ghost side: { Side };

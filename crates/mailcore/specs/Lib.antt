@@ -9,6 +9,7 @@ pub mod Listed
 pub mod Mark
 pub mod Rise
 pub mod Operations
+pub mod Mailboxes
 pub mod Ranges
 pub mod Sides
 pub mod Stores

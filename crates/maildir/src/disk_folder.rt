@@ -1,10 +1,9 @@
 //! A Maildir folder on a disk.
 
-ghost use Rattle.std.specs.Prelude.{◌≡◌, ◌<◌, ◌^◌, Err, IfOk, false};
-ghost use Rattle.device.specs.Calls.{Rest};
+ghost use Rattle.std.specs.Prelude.{◌≡◌, ◌<◌, ◌^◌, IfOk};
 ghost use Rattle.device.specs.Conditions.{disk_at};
-ghost use Rattle.maildir.specs.DiskFolders.{seen_on_disk};
 
+use crate::disk_stop::{DiskStop, Part};
 use crate::folder::{FileName, Folder, Location, Origin, Place, Source};
 use crate::found_names::FoundNames;
 use crate::kinds::{is_file, is_something};
@@ -14,11 +13,11 @@ use device::disk::Disk;
 use device::trouble::Trouble;
 use std::alloc::AllocError;
 use std::cell::Cell;
+use std::io;
 use std::io::ErrorKind;
 use std::marker::Model;
 use std::path::Path;
 use std::rt::{Clock, Files};
-use std::{io, mem};
 
 /// The file in the folder that keeps the mailbox's validity and next UID.
 pub const META: &str = ".uidvalidity";
@@ -44,8 +43,8 @@ pub struct DiskFolder<R: Files + AllocGlobal + Clone + Drop> {
     has_odd: Cell<bool>,
     /// The files that were left out when the names were listed last, since they cannot get a UID.
     left_out: Vec<FileName>,
-    /// The message at which the last call stopped since its name is no UTF-8.
-    unreached: Option<FileName>,
+    /// Where a call, or the mailbox over the folder, stopped first since it was opened.
+    stop: Option<DiskStop>,
 }
 
 impl<R: Files + AllocGlobal + Clone + Drop> Model for DiskFolder<R> {
@@ -66,7 +65,7 @@ impl<R: Files + AllocGlobal + Clone + Drop> DiskFolder<R> {
             disk: Disk::new(rt, path)?,
             has_odd: Cell::new(false),
             left_out,
-            unreached: None,
+            stop: None,
         })
     }
 
@@ -89,34 +88,51 @@ impl<R: Files + AllocGlobal + Clone + Drop> DiskFolder<R> {
         self.disk.stops()
     }
 
-    /// What the system said where a call stopped since the folder was opened.
-    pub fn trouble(&self) -> Option<Trouble> {
-        self.disk.trouble()
+    /// Where a call stopped since the folder was opened, and what the system said; or a message that was to be read and was gone, over
+    /// which the mailbox in the folder stops. None: nothing has stopped, or memory was wanting.
+    pub fn stop(&self) -> Option<&DiskStop> {
+        self.stop.as_ref()
     }
 
-    /// A call stops over this before it has an effect, as where the system fails.
-    pub fn refuse(&mut self, trouble: Trouble) -> DeviceFault
-        ensures { Rest {T = Unit {0}} false (seen_on_disk self.old) (seen_on_disk self.new) (Err result) }
+    /// The files that cannot get a UID, and were left out when the names were listed last.
+    pub fn left_out(&self) -> &[FileName] {
+        self.left_out.as_slice()
+    }
+
+    // Notes that a call stopped there, if one did.
+    fn note(&mut self, part: Part)
+        ensures { self.new ≡ self.old }
     {
-        match self.disk.check() {
-            Ok(()) => self.disk.stop(trouble),
-            Err(fault) => fault,
+        if let Some(trouble) = self.disk.trouble() {
+            self.note_stop(part, trouble);
         }
     }
 
-    /// Takes out the files that cannot get a UID, and were left out when the names were listed last.
-    pub fn take_left_out(&mut self) -> Vec<FileName>
+    // The same of a message.
+    fn note_mail(&mut self, file: Location<'_>)
         ensures { self.new ≡ self.old }
     {
-        let alloc = self.disk.rt().alloc();
-        mem::replace(&mut self.left_out, Vec::new(alloc))
+        if let Some(trouble) = self.disk.trouble() {
+            let part = Part::of_mail(self.disk.rt().alloc(), file);
+            self.note_stop(part, trouble);
+        }
     }
 
-    /// Takes out the message at which listing the names stopped since its name is no UTF-8, if there is one.
-    pub fn take_unreached(&mut self) -> Option<FileName>
+    // Notes that a message was to be read and is gone.
+    fn note_gone(&mut self, file: Location<'_>)
         ensures { self.new ≡ self.old }
     {
-        self.unreached.take()
+        let part = Part::of_mail(self.disk.rt().alloc(), file);
+        self.note_stop(part, Trouble::Missing);
+    }
+
+    // Notes where something stopped, if nothing has stopped before.
+    fn note_stop(&mut self, part: Part, trouble: Trouble)
+        ensures { self.new ≡ self.old }
+    {
+        if self.stop.is_none() {
+            self.stop = Some(DiskStop { part, trouble });
+        }
     }
 
     fn make(&self) -> io::Result<()> {
@@ -148,12 +164,18 @@ impl<R: Files + AllocGlobal + Clone + Drop> DiskFolder<R> {
     fn keep(&mut self, found: FoundNames) -> io::Result<Vec<FileName>>
         ensures { self.new ≡ self.old }
     {
-        self.left_out = found.left_out;
-        self.unreached = found.unreached;
-        if self.unreached.is_some() {
-            Err(io::Error::from(ErrorKind::InvalidFilename))
-        } else {
-            Ok(found.names)
+        let FoundNames {
+            names,
+            left_out,
+            unreached,
+        } = found;
+        self.left_out = left_out;
+        match unreached {
+            Some(file) => {
+                self.note_stop(Part::Mail(file), Trouble::BadName);
+                Err(io::Error::from(ErrorKind::InvalidFilename))
+            }
+            None => Ok(names),
         }
     }
 
@@ -254,46 +276,68 @@ impl<R: Files + Clock + AllocGlobal + Clone + Drop> Folder for DiskFolder<R> {
             Ok(None) => Ok(None),
             Err(error) => Err(error),
         };
-        self.disk.tell(answer)
+        let answer = self.disk.tell(answer);
+        self.note(Part::Whole);
+        answer
     }
 
     fn read(&mut self, file: Source<'_>) -> Result<Option<Vec<u8>>, DeviceFault> {
         self.disk.check()?;
         let answer = self.bytes_of(file);
-        self.disk.tell(answer)
+        let answer = self.disk.tell(answer);
+        match file {
+            Source::Meta => self.note(Part::Own(META)),
+            Source::Mail(file) if matches!(answer, Ok(None)) => self.note_gone(file),
+            Source::Mail(file) => self.note_mail(file),
+        }
+        answer
     }
 
     fn write_tmp(&mut self, bytes: &[u8]) -> Result<(), DeviceFault> {
         self.disk.check()?;
         let answer = self.disk.write_new(COPY, bytes);
-        self.disk.tell(answer)
+        let answer = self.disk.tell(answer);
+        self.note(Part::Own(COPY));
+        answer
     }
 
     fn rename(&mut self, from: Origin<'_>, to: Location<'_>) -> Result<(), DeviceFault> {
         self.disk.check()?;
         let answer = self.give_name(from, to);
-        self.disk.tell(answer)
+        let answer = self.disk.tell(answer);
+        match from {
+            Origin::Tmp => self.note_mail(to),
+            Origin::Delivered(file) => self.note_mail(file),
+        }
+        answer
     }
 
     fn remove(&mut self, file: Location<'_>) -> Result<(), DeviceFault> {
         self.disk.check()?;
         let answer = self.take_out(file);
-        self.disk.tell(answer)
+        let answer = self.disk.tell(answer);
+        self.note_mail(file);
+        answer
     }
 
     fn replace_meta(&mut self, text: &[u8]) -> Result<(), DeviceFault> {
         self.disk.check()?;
         let answer = self.disk.replace(META, NEXT_META, text);
-        self.disk.tell(answer)
+        let answer = self.disk.tell(answer);
+        self.note(Part::Own(NEXT_META));
+        answer
     }
 
     fn sync(&mut self) -> Result<(), DeviceFault> {
         self.disk.check()?;
         let answer = self.sync_names();
-        self.disk.tell(answer)
+        let answer = self.disk.tell(answer);
+        self.note(Part::Whole);
+        answer
     }
 
     fn reopen(&mut self) {
+        self.stop = None;
         self.disk.reopen();
     }
 }

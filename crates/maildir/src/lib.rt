@@ -4,6 +4,7 @@
 mod changes;
 mod cut;
 pub mod disk_folder;
+pub mod disk_stop;
 mod entries;
 pub mod folder;
 mod found_names;

@@ -41,7 +41,7 @@ pub use stores::stores::{BoxLists, Stores};
 /// The real stores: servers over TCP and folders of a disk.
 pub use mail_stores::mail_stores::MailStores;
 /// Who is told how far a run over the real stores is, as a trait.
-pub use watched::progress::Progress;
+pub use runner::progress::Progress;
 /// The generator of random words, from a seed.
 pub use chacha_generator::generator;
 /// What a run calls, as a trait.

@@ -10,11 +10,10 @@ use Rattle.mailcore.specs.declared.side.Side.{Side}
 use Rattle.mailcore.specs.declared.side.Side.TheVariants as side
 use Rattle.mailcore.specs.Operations.{added}
 use Rattle.mailcore.specs.Stores.{Store, Waiting, numbered}
-use Rattle.near_box.specs.Mailboxes.{Near, on_store}
-use Rattle.outside.specs.Arrivals.{IsMerge, none, left}
+use Rattle.mailcore.specs.Mailboxes.{Mailbox, on_store}
+use Rattle.mailbox.specs.Arrivals.{IsMerge, none, left, Arrives}
 use Rattle.mailbox.specs.declared.fault.BoxFault.{BoxFault}
 use Rattle.mailbox.specs.declared.fault.BoxFault.TheVariants as fault
-use Rattle.mailbox.specs.Arrivals.{Arrives}
 use Rattle.mailbox.specs.Calls.{Call, Halts, LeavesBy}
 use Rattle.mailbox.specs.Operations.{Appends, IsFull, Lists, NoRoom, is_full}
 use Rattle.mem_mailbox.specs.BoxConditions.{Counts, Ends, Fails, Stops, out_of_memory, stopped}
@@ -29,7 +28,7 @@ nobody_else : (ws : List Waiting) → IsMerge ws [] ws
 nobody_else [] = none
 nobody_else (w ∷ ws) = left w ws [] ws (nobody_else ws)
 
-quiet : (of : Side) (b : Near) → Arrives of every true b b
+quiet : (of : Side) (b : Mailbox) → Arrives of every true b b
 quiet side.Far b = record {
   comes = record {
     messages = [];
@@ -45,16 +44,16 @@ quiet side.Near b = record {
   nobody = λ _. refl;
 }
 
-alone : (of : Side) {b b' : Near} (does : Effect Near) → does b b' → Follows (Arrives of every true) does b b'
+alone : (of : Side) {b b' : Mailbox} (does : Effect Mailbox) → does b b' → Follows (Arrives of every true) does b b'
 alone of {b} does h = record { mid = b; before = quiet of b; behind = h }
 
 -- ---- exits with a fault
 
-module _ {T : Type 0} (of : Side) (because : BoxFault → Near → Type 0) (does : T → Effect Near) (part : Effect Near) (b : Near) (c : Counts) where
-  abbrev Exit : BoxFault → Near → Counts → Type 0
+module _ {T : Type 0} (of : Side) (because : BoxFault → Mailbox → Type 0) (does : T → Effect Mailbox) (part : Effect Mailbox) (b : Mailbox) (c : Counts) where
+  abbrev Exit : BoxFault → Mailbox → Counts → Type 0
   Exit e b' c' = Halts (c'.has_refused ≡ false) ⊥ (e ≡ fault.Stopped) (Follows (Arrives of every true) (LeavesBy does part because e)) (seen_at b c) (seen_at b' c')
 
-  stopped_with : (b' : Near) (c' : Counts) → LeavesBy does part because fault.Stopped b b' → c' ≡ stopped c → Exit fault.Stopped b' c'
+  stopped_with : (b' : Mailbox) (c' : Counts) → LeavesBy does part because fault.Stopped b b' → c' ≡ stopped c → Exit fault.Stopped b' c'
   stopped_with b' c' left_so now = record {
     cause = λ _. inl (omega (arith, ap (λ (x : Counts). x.stops) now));
     no_less = omega (arith, ap (λ (x : Counts). x.stops) now);
@@ -77,7 +76,7 @@ module _ {T : Type 0} (of : Side) (because : BoxFault → Near → Type 0) (does
   fails fault.NoMemory c' h = absurd h
 
   -- a call that found no memory
-  pub lacks : (b' : Near) (c1 c' : Counts) → b' ≡ b → c1 ≡ c → c' ≡ out_of_memory c1 → Exit fault.NoMemory b' c'
+  pub lacks : (b' : Mailbox) (c1 c' : Counts) → b' ≡ b → c1 ≡ c → c' ≡ out_of_memory c1 → Exit fault.NoMemory b' c'
   lacks b' c1 c' same began now = record {
     cause = λ is. absurd (cc);
     no_less = omega (arith, ap (λ (x : Counts). x.stops) now, ap (λ (x : Counts). x.stops) began);
@@ -86,11 +85,11 @@ module _ {T : Type 0} (of : Side) (because : BoxFault → Near → Type 0) (does
 
   -- ---- a call that has had its effect
 
-  pub answers : (value : T) (b' : Near) → c.is_broken ≡ false → does value b b'
+  pub answers : (value : T) (b' : Mailbox) → c.is_broken ≡ false → does value b b'
       → Went (c.has_refused ≡ false) (Follows (Arrives of every true) (does value)) (seen_at b c) (seen_at b' c)
   answers value b' whole done = record { was_whole = whole; is_whole = whole; stops = refl; effect = λ _. alone of (does value) done }
 
-  pub ends : (value : T) (b' : Near) (c1 c' : Counts) (answer : Result T BoxFault) → c.is_broken ≡ false → c1 ≡ c → does value b b' → Ends value answer c1 c'
+  pub ends : (value : T) (b' : Mailbox) (c1 c' : Counts) (answer : Result T BoxFault) → c.is_broken ≡ false → c1 ≡ c → does value b b' → Ends value answer c1 c'
       → Call (c'.has_refused ≡ false) ⊥ (Arrives of every true) because does part (seen_at b c) (seen_at b' c') answer
   ends value b' c1 c' (Ok given) whole began done h = record {
     was_whole = whole;
@@ -103,7 +102,7 @@ module _ {T : Type 0} (of : Side) (because : BoxFault → Near → Type 0) (does
 
 -- ---- no UID is left
 
-pub full : {T : Type 0} (of : Side) (count : Near → ℕ) (does : T → Effect Near) (part : Effect Near) (b : Near) (c c' : Counts) (e : BoxFault) → e ≡ is_full of → IsFull (count b) b → c' ≡ c
+pub full : {T : Type 0} (of : Side) (count : Mailbox → ℕ) (does : T → Effect Mailbox) (part : Effect Mailbox) (b : Mailbox) (c c' : Counts) (e : BoxFault) → e ≡ is_full of → IsFull (count b) b → c' ≡ c
     → Halts (c'.has_refused ≡ false) ⊥ (e ≡ fault.Stopped) (Follows (Arrives of every true) (LeavesBy does part (NoRoom of count) e)) (seen_at b c) (seen_at b c')
 full {T} of count does part b c c' e is is_so same = subst (λ (f : BoxFault). Exit of (NoRoom of count) does part b c f b c') (sym is) (by_side of)
   where
@@ -121,7 +120,7 @@ full {T} of count does part b c c' e is is_so same = subst (λ (f : BoxFault). E
 
 -- ---- the store of a mailbox
 
-abbrev with_store : List Message → Store → Near
+abbrev with_store : List Message → Store → Mailbox
 with_store files s = record { store = s; waiting = map waiting_of files }
 
 pub stays : (s s' : MemStore) (files : List Message) → store_of s' ≡ store_of s → near_of s' files ≡ near_of s files
@@ -137,7 +136,7 @@ added_next side.Near s s' files uid flags bytes next now = record { uid = uid; g
 
 -- ---- what is listed, and what waits
 
-pub lists : (of : Side) (from : ℕ) (b : Near) (listing : Listing) → ShowsIn of from b.store listing → Lists of from listing b
+pub lists : (of : Side) (from : ℕ) (b : Mailbox) (listing : Listing) → ShowsIn of from b.store listing → Lists of from listing b
 lists side.Far from b listing h = record { validity = h.validity; next = h.next; items = h.items }
 lists side.Near from b listing h = record { validity = h.validity; next = h.next; items = h.items }
 
@@ -147,7 +146,7 @@ numbered_waiting next (f ∷ files) = ap (λ (x : List Waiting). f ∷ x) (numbe
 
 -- the numbers of waiting files say nothing
 pub unadmitted : (validity next : ℕ) (messages messages' files files' : List Message) → messages' ≡ messages → files' ≡ numbered next (map waiting_of files)
-    → (let b : List Message → List Waiting → Near = λ ms ws. record { store = record { validity = validity; next = next; messages = ms }; waiting = ws } in b messages' (map waiting_of files') ≡ b messages (map waiting_of files))
+    → (let b : List Message → List Waiting → Mailbox = λ ms ws. record { store = record { validity = validity; next = next; messages = ms }; waiting = ws } in b messages' (map waiting_of files') ≡ b messages (map waiting_of files))
 unadmitted validity next messages messages' files files' same now =
     ap (λ (x : List Message). record { store = record { validity = validity; next = next; messages = x }; waiting = map waiting_of files' }) same
     ∙ ap (λ (x : List Waiting). record { store = record { validity = validity; next = next; messages = messages }; waiting = x }) (ap (map waiting_of) now ∙ numbered_waiting next (map waiting_of files))

@@ -2,7 +2,7 @@
 use Rattle.std.specs.Prelude.{◌≡◌, true, false, Result}
 use Rattle.device.specs.Calls.{Effect}
 use Rattle.mailcore.specs.declared.side.Side.{Side}
-use Rattle.near_box.specs.Mailboxes.{Near}
+use Rattle.mailcore.specs.Mailboxes.{Mailbox}
 use Rattle.mailbox.specs.declared.fault.BoxFault.{BoxFault}
 use Rattle.mailbox.specs.Arrivals.{Arrives}
 use Rattle.mailbox.specs.Calls.{Call, Seen}
@@ -10,7 +10,7 @@ use Rattle.mem_mailbox.specs.declared.mem_mailbox.MemMailbox.{MemMailbox}
 use Rattle.mem_mailbox.specs.BoxConditions.{Counts}
 use Rattle.mem_mailbox.specs.Views.{every, near_of}
 
-abbrev pub seen_at : Near → Counts → Seen
+abbrev pub seen_at : Mailbox → Counts → Seen
 seen_at b c = record { stored = b; is_broken = c.is_broken; stops = c.stops }
 
 -- its messages and what waits, whether a call has stopped, and how many have
@@ -18,6 +18,6 @@ abbrev pub seen_of : {K : Type 0} → MemMailbox K → Seen
 seen_of m = seen_at (near_of m.store m.waiting.items) m.condition
 
 -- a call of a mailbox in memory: nobody else acts, and it is as its word says where none was refused
-abbrev pub Calls : {T : Type 0} → Side → (because : BoxFault → Near → Type 0) → (does : T → Effect Near) → (part : Effect Near)
-    → (b b' : Near) → (c c' : Counts) → Result T BoxFault → Type 0
+abbrev pub Calls : {T : Type 0} → Side → (because : BoxFault → Mailbox → Type 0) → (does : T → Effect Mailbox) → (part : Effect Mailbox)
+    → (b b' : Mailbox) → (c c' : Counts) → Result T BoxFault → Type 0
 Calls side because does part b b' c c' result = Call (c'.has_refused ≡ false) ⊥ (Arrives side every true) because does part (seen_at b c) (seen_at b' c') result

@@ -2,7 +2,7 @@
 use Rattle.std.specs.Prelude.{ℕ, Bool, true, List, map}
 use Rattle.mailcore.specs.declared.mailbox.Message.{Message}
 use Rattle.mailcore.specs.Stores.{Store, Waiting}
-use Rattle.near_box.specs.Mailboxes.{Near}
+use Rattle.mailcore.specs.Mailboxes.{Mailbox}
 use Rattle.mem_mailbox.specs.declared.mem_store.MemStore.{MemStore}
 
 -- every mark is the run's: nobody else adds messages
@@ -16,5 +16,5 @@ store_of s = record { validity = s.validity; next = s.next; messages = s.message
 abbrev pub waiting_of : Message → Waiting
 waiting_of m = record { flags = m.flags; bytes = m.bytes }
 
-abbrev pub near_of : MemStore → List Message → Near
+abbrev pub near_of : MemStore → List Message → Mailbox
 near_of s files = record { store = store_of s; waiting = map waiting_of files }

@@ -2,7 +2,7 @@
 
 ghost use Rattle.std.specs.Prelude.{◌≡◌, ◌<◌, ◌≤◌, ◌+◌, ◌^◌, false, length, map, MatchOption, OnOk, OnErr};
 ghost use Rattle.mailcore.specs.Stores.{numbered};
-ghost use Rattle.near_box.specs.Mailboxes.{admitted_near};
+ghost use Rattle.mailcore.specs.Mailboxes.{all_admitted};
 ghost use Rattle.mem_mailbox.specs.Views.{near_of, waiting_of};
 
 use crate::mem_store::MemStore;
@@ -17,7 +17,7 @@ pub(crate) fn admit(
     behind: u32,
 ) -> Result<(), AllocError>
     requires behind { behind ≡ store.old.next + length waiting.old.items }
-    ensures ok { OnOk result (near_of store.new waiting.new.items ≡ admitted_near (near_of store.old waiting.old.items)) }
+    ensures ok { OnOk result (near_of store.new waiting.new.items ≡ all_admitted (near_of store.old waiting.old.items)) }
     ensures unsynced { OnOk result (store.new.is_synced ≡ false) }
     ensures err { OnErr result (near_of store.new waiting.new.items ≡ near_of store.old waiting.old.items) }
 {

@@ -6,7 +6,7 @@ ghost use Rattle.mailcore.specs.Content.{mark_of};
 ghost use Rattle.mailcore.specs.FlagSet.{minus, union};
 ghost use Rattle.mailcore.specs.Listed.{AreBelow};
 ghost use Rattle.mailcore.specs.Operations.{is_mark, marked_among, with_flags};
-ghost use Rattle.outside.specs.BoxCalls.{may_go};
+ghost use Rattle.mailbox.specs.Operations.{may_go};
 ghost use Rattle.mem_mailbox.specs.Listings.{item_in};
 
 use mailcore::content::fit;
@@ -37,7 +37,7 @@ pub(crate) struct Unlisted;
 
 impl MemStore {
     ghost use Rattle.mailcore.specs.Operations.{added, bytes_of, flags_added, flags_removed, marked_from};
-    ghost use Rattle.outside.specs.BoxCalls.{HasNumbers, removed};
+    ghost use Rattle.mailbox.specs.Operations.{HasNumbers, removed};
     ghost use Rattle.mem_mailbox.specs.Listings.{ShowsIn};
     ghost use Rattle.mem_mailbox.specs.Views.{store_of};
 

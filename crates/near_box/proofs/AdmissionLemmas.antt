@@ -13,10 +13,10 @@ use Rattle.maildir.specs.declared.folder.FileName.{FileName}
 use Rattle.near_box.specs.declared.survey.Entry.{Entry}
 use Rattle.near_box.specs.declared.survey.Survey.{Survey}
 use Rattle.maildir.specs.Folders.{Stored, AreApart, is_at, left, moved, name_of_file, renamed_file}
-use Rattle.near_box.specs.Mailboxes.{Near, admitted_near, by_uid, is_before, meta_in, messages_in, near_of, numbered_near, waiting_files, waiting_of}
+use Rattle.mailcore.specs.Mailboxes.{Mailbox, all_admitted, some_admitted, AdmitsSome}
+use Rattle.near_box.specs.Mailboxes.{by_uid, is_before, meta_in, messages_in, near_of, waiting_files, waiting_of}
 use Rattle.maildir.specs.Metas.{is_meta}
 use Rattle.maildir.specs.Names.{is_uid, is_waiting}
-use Rattle.near_box.specs.NearContracts.{AdmitsSome}
 use Rattle.maildir.specs.FlaggedNames.{flags_by_name}
 use Rattle.near_box.specs.NearEffects.{Admitting, admitted, admitted_all, name_admitted, raised, set_aside_all}
 use Rattle.near_box.specs.Sorting.{sorted}
@@ -193,7 +193,7 @@ module _ (survey : Survey) (fresh : ℕ) (s : Stored) (surveys : Surveys survey 
       (first_turn k survey.meta.next (waiting_files s.files) begun refl (omega (arith, count)) (holds_from_survey survey fresh s surveys) bounds.2 (omega arith))
 
   -- what the mailbox is once the first have theirs
-  pub admitted_some : (k : ℕ) → k ≤ length survey.waiting.items → near_of fresh (admitted_all (take k survey.waiting.items) survey.meta.next begun) ≡ numbered_near k (near_of fresh s)
+  pub admitted_some : (k : ℕ) → k ≤ length survey.waiting.items → near_of fresh (admitted_all (take k survey.waiting.items) survey.meta.next begun) ≡ some_admitted k (near_of fresh s)
   admitted_some k within =
       let now : Stored = admitted_all (take k survey.waiting.items) survey.meta.next begun in
       let first = first_of k within in
@@ -204,22 +204,22 @@ module _ (survey : Survey) (fresh : ℕ) (s : Stored) (surveys : Surveys survey 
       ∙ ap (λ (ms : List Message). near_with meta ms (waiting_files now.files)) first.messages
       ∙ ap (λ (ws : List File). near_with meta new ws) first.waiting
       ∙ ap (λ (n : ℕ). near_with (raised survey.meta n) new (drop k (waiting_files s.files))) (count ∙ sym (length-map (waiting_files s.files) waiting_of))
-      ∙ ap (λ (ws : List Waiting). let n : Near = record {
+      ∙ ap (λ (ws : List Waiting). let n : Mailbox = record {
         store = record { validity = survey.meta.validity; next = survey.meta.next + length (map waiting_of (waiting_files s.files)); messages = new };
         waiting = ws;
       } in n) (sym (drop-map waiting_of k (waiting_files s.files)))
-      ∙ sym (ap (numbered_near k) (near_is fresh s survey.meta surveys.meta))
+      ∙ sym (ap (some_admitted k) (near_is fresh s survey.meta surveys.meta))
 
   pub all : take (length survey.waiting.items) survey.waiting.items ≡ survey.waiting.items
   all = take_all (length survey.waiting.items) survey.waiting.items (omega arith)
 
-  pub admitted_whole : near_of fresh (admitted_all survey.waiting.items survey.meta.next begun) ≡ admitted_near (near_of fresh s)
+  pub admitted_whole : near_of fresh (admitted_all survey.waiting.items survey.meta.next begun) ≡ all_admitted (near_of fresh s)
   admitted_whole =
       let waiting : List Waiting = (near_of fresh s).waiting in
       let same : length survey.waiting.items ≡ length waiting = count ∙ sym (length-map (waiting_files s.files) waiting_of) in
       ap (λ (names : List FileName). near_of fresh (admitted_all names survey.meta.next begun)) (sym all)
       ∙ admitted_some (length survey.waiting.items) (omega arith)
-      ∙ ap (λ (n : ℕ). numbered_near n (near_of fresh s)) same
+      ∙ ap (λ (n : ℕ). some_admitted n (near_of fresh s)) same
 
   pub admitted_surveys : (new : Survey) → Extends (entries_from survey.meta.next survey.waiting.items) [] (raised survey.meta (length survey.waiting.items)) survey new
       → Surveys new fresh (admitted_all survey.waiting.items survey.meta.next begun)
@@ -231,7 +231,7 @@ module _ (survey : Survey) (fresh : ℕ) (s : Stored) (surveys : Surveys survey 
       (extends.waiting ∙ ap (map name_of_file) (sym (first.waiting ∙ none_left)))
       (ap (meta_in fresh) first.meta ∙ raised_is_read survey.meta (length survey.waiting.items) fits room ∙ ap Some (sym extends.meta))
       (ap is_some first.meta ∙ sym extends.has_meta)
-      (marks_after (numbered_near (length survey.waiting.items) (near_of fresh s)) (near_of fresh now) survey.marks new.marks (admitted_some (length survey.waiting.items) (omega arith)) extends.marks
+      (marks_after (some_admitted (length survey.waiting.items) (near_of fresh s)) (near_of fresh now) survey.marks new.marks (admitted_some (length survey.waiting.items) (omega arith)) extends.marks
       (marks_numbered (length survey.waiting.items) (near_of fresh s) survey.marks surveys.marks)))
     where
       now : Stored
@@ -245,23 +245,23 @@ module _ (survey : Survey) (fresh : ℕ) (s : Stored) (surveys : Surveys survey 
 
   -- a fault leaves the mailbox as it was, or with the UIDs set aside, and some of the files have theirs
   pub admission_stopped : (s' : Stored) → (s' ≡ s) ⊎ Admitting survey.waiting.items survey.meta s s'
-      → (near_of fresh s' ≡ near_of fresh s) ⊎ ((near_of fresh s' ≡ admitted_near (near_of fresh s)) ⊎ AdmitsSome (near_of fresh s) (near_of fresh s'))
+      → (near_of fresh s' ≡ near_of fresh s) ⊎ ((near_of fresh s' ≡ all_admitted (near_of fresh s)) ⊎ AdmitsSome (near_of fresh s) (near_of fresh s'))
   admission_stopped s' (inl same) = inl (ap (near_of fresh) same)
   admission_stopped s' (inr some) = by_count (cases_lt some.count (length survey.waiting.items))
     where
       by_count : (some.count < length survey.waiting.items) ⊎ (length survey.waiting.items ≤ some.count)
-          → (near_of fresh s' ≡ near_of fresh s) ⊎ ((near_of fresh s' ≡ admitted_near (near_of fresh s)) ⊎ AdmitsSome (near_of fresh s) (near_of fresh s'))
+          → (near_of fresh s' ≡ near_of fresh s) ⊎ ((near_of fresh s' ≡ all_admitted (near_of fresh s)) ⊎ AdmitsSome (near_of fresh s) (near_of fresh s'))
       by_count (inl less) = inr (inr (record { count = some.count; now = ap (near_of fresh) some.now ∙ admitted_some some.count (omega arith) }))
       by_count (inr more) =
           inr (inl (ap (near_of fresh) (some.now ∙ ap (λ (names : List FileName). admitted_all names survey.meta.next begun) (take_all some.count survey.waiting.items more)) ∙ admitted_whole))
 
   -- nothing waits, and the meta file stays
-  pub nothing_to_admit : survey.waiting.items ≡ [] → near_of fresh s ≡ admitted_near (near_of fresh s)
-  nothing_to_admit none = near_is fresh s survey.meta surveys.meta ∙ by_files (waiting_files s.files) (sym surveys.waiting ∙ none) ∙ sym (ap admitted_near (near_is fresh s survey.meta surveys.meta))
+  pub nothing_to_admit : survey.waiting.items ≡ [] → near_of fresh s ≡ all_admitted (near_of fresh s)
+  nothing_to_admit none = near_is fresh s survey.meta surveys.meta ∙ by_files (waiting_files s.files) (sym surveys.waiting ∙ none) ∙ sym (ap all_admitted (near_is fresh s survey.meta surveys.meta))
     where
-      by_files : (files : List File) → map name_of_file files ≡ [] → near_with survey.meta (by_uid (messages_in s.files)) files ≡ admitted_near (near_with survey.meta (by_uid (messages_in s.files)) files)
+      by_files : (files : List File) → map name_of_file files ≡ [] → near_with survey.meta (by_uid (messages_in s.files)) files ≡ all_admitted (near_with survey.meta (by_uid (messages_in s.files)) files)
       by_files [] none =
           let same : survey.meta.next ≡ survey.meta.next + 0 = omega arith in
           ap (λ (ms : List Message). near_with survey.meta ms []) (sym (append-nil (by_uid (messages_in s.files))))
-          ∙ ap (λ (n : ℕ). let l : Near = record { store = record { validity = survey.meta.validity; next = n; messages = by_uid (messages_in s.files) ++ [] }; waiting = [] } in l) same
+          ∙ ap (λ (n : ℕ). let l : Mailbox = record { store = record { validity = survey.meta.validity; next = n; messages = by_uid (messages_in s.files) ++ [] }; waiting = [] } in l) same
       by_files (file ∷ files) none = cc

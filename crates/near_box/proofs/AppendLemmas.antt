@@ -11,14 +11,13 @@ use Rattle.maildir.specs.declared.folder.Place.TheVariants.{Cur}
 use Rattle.near_box.specs.declared.survey.Entry.{Entry}
 use Rattle.near_box.specs.declared.survey.Survey.{Survey}
 use Rattle.maildir.specs.Folders.{Stored, AreApart, without, name_of_file}
-use Rattle.near_box.specs.Mailboxes.{messages_in, by_uid, waiting_files, near_of, on_store, delivered}
+use Rattle.mailcore.specs.Mailboxes.{on_store, delivered, SetsAside}
+use Rattle.near_box.specs.Mailboxes.{messages_in, by_uid, waiting_files, near_of, is_before}
 use Rattle.mailcore.specs.Operations.{set_aside as uids_set_aside}
 use Rattle.maildir.specs.Metas.{is_meta}
-use Rattle.near_box.specs.NearContracts.{SetsAside}
 use Rattle.near_box.specs.NearEffects.{AppendsPart, appended, copy_name, raised, set_aside}
 use Rattle.near_box.specs.Surveys.{Surveys, Extends, entry_of, entry_at}
 use Rattle.near_box.specs.Sorting.{sorted}
-use Rattle.near_box.specs.Mailboxes.{is_before}
 use Rattle.maildir.proofs.FileLemmas.{apart_added}
 use Rattle.near_box.proofs.NewNameLemmas.{IsNumbered, copy_is_numbered}
 use Rattle.near_box.proofs.NewUidLemmas.{Gains, gains, Holds, HasUidBelow, holds_from_survey, survey_from_holds, left_all, none_there, meta_fits, meta_is_positive, near_is, near_with, raised_is_read, waits_not, message_in}

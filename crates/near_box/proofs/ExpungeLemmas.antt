@@ -22,8 +22,9 @@ use Rattle.maildir.specs.Folders.{Removes, Stored, is_left, name_at, name_of_fil
 use Rattle.maildir.specs.Names.{uid_in, is_waiting, is_one_of}
 use Rattle.maildir.specs.FlaggedNames.{flags_by_name}
 use Rattle.near_box.specs.NearEffects.{file_of, without_uids, RemovesSome, Does}
-use Rattle.near_box.specs.NearContracts.{Changes, ExpungesSome}
-use Rattle.near_box.specs.Mailboxes.{message_of, messages_in, by_uid, is_before, waiting_files, near_of, on_store}
+use Rattle.mailcore.specs.Mailboxes.{ExpungesSome, on_store}
+use Rattle.near_box.specs.NearContracts.{Changes}
+use Rattle.near_box.specs.Mailboxes.{message_of, messages_in, by_uid, is_before, waiting_files, near_of}
 use Rattle.mailcore.specs.Operations.{expunged}
 use Rattle.near_box.specs.Sorting.{sorted}
 use Rattle.near_box.specs.Surveys.{Surveys, entry_of, entries_in}

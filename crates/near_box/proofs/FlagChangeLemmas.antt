@@ -23,7 +23,8 @@ use Rattle.maildir.specs.Names.{NameParts, name_of, uid_in, lacks_uid, is_waitin
 use Rattle.maildir.specs.FlaggedNames.{flags_by_name, flagged}
 use Rattle.near_box.specs.NearEffects.{if_other, name_flagged, under_name, flagged_file, flagged_files, file_of, set_name, Does}
 use Rattle.near_box.specs.NearContracts.{Changes}
-use Rattle.near_box.specs.Mailboxes.{message_of, messages_in, by_uid, is_before, waiting_files, near_of, on_store}
+use Rattle.mailcore.specs.Mailboxes.{on_store}
+use Rattle.near_box.specs.Mailboxes.{message_of, messages_in, by_uid, is_before, waiting_files, near_of}
 use Rattle.mailcore.specs.Operations.{flagged as store_flagged, with_flags}
 use Rattle.near_box.specs.Sorting.{sorted}
 use Rattle.near_box.specs.Surveys.{Surveys, entry_of, entries_in}

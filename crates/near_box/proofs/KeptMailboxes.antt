@@ -16,7 +16,8 @@ use Rattle.near_box.specs.declared.flag_change.FlagChange.TheVariants.{Add, Remo
 use Rattle.near_box.specs.declared.near_fault.NearFault.{NearFault}
 use Rattle.near_box.specs.declared.survey.Survey.{Survey}
 use Rattle.near_box.specs.FlagChanges.{changed_flags}
-use Rattle.near_box.specs.Mailboxes.{Near, near_of, meta_in, IsMailbox}
+use Rattle.mailcore.specs.Mailboxes.{Mailbox}
+use Rattle.near_box.specs.Mailboxes.{near_of, meta_in, IsMailbox}
 use Rattle.near_box.specs.NearEffects.{flagged_files, without_uids, RemovesSome, Does, raised, set_aside, appended, AppendsPart, admitted_all, set_aside_all, Admitting}
 use Rattle.near_box.specs.Surveys.{Surveys}
 use Rattle.near_box.proofs.AdmissionLemmas as admission
@@ -36,7 +37,7 @@ pub flagged_mailbox : (fresh : ℕ) (s : Stored) (change : ℕ → ℕ) (uid : �
     → IsMailbox fresh s → IsMailbox fresh (flagged_files change uid s)
 flagged_mailbox fresh s change uid small apart is =
     store_mailbox fresh (flagged_files change uid s) is.meta.meta is.is_there apart is.meta.is
-    (subst (λ (n : Near). IsStore n.store) (sym (near-flagged change uid small fresh s)) (is_store-flagged (near_of fresh s).store change uid (mailbox_store fresh s is)))
+    (subst (λ (n : Mailbox). IsStore n.store) (sym (near-flagged change uid small fresh s)) (is_store-flagged (near_of fresh s).store change uid (mailbox_store fresh s is)))
 
 -- ---- messages are removed
 
@@ -44,7 +45,7 @@ pub expunged_mailbox : (fresh : ℕ) (s : Stored) (uids : List ℕ) → IsMailbo
 expunged_mailbox fresh s uids is =
     store_mailbox fresh (without_uids uids s) is.meta.meta is.is_there
     (AllPairs-filter (λ a b. name_of_file a ≡ name_of_file b → ⊥) (λ file. not (is_one_of uids (uid_in file.name))) s.files is.apart) is.meta.is
-    (subst (λ (n : Near). IsStore n.store) (sym (near-expunged uids fresh s)) (is_store-expunged (near_of fresh s).store uids (mailbox_store fresh s is)))
+    (subst (λ (n : Mailbox). IsStore n.store) (sym (near-expunged uids fresh s)) (is_store-expunged (near_of fresh s).store uids (mailbox_store fresh s is)))
 
 pub expunge_mailbox : {T : Type 0} (fresh : ℕ) (s s' : Stored) (uids : List ℕ) (r : Result T NearFault) → Does (without_uids uids) (RemovesSome uids) s s' r → IsMailbox fresh s → IsMailbox fresh s'
 expunge_mailbox fresh s s' uids r does is =
@@ -59,7 +60,7 @@ module _ (survey : Survey) (fresh : ℕ) (s : Stored) (surveys : Surveys survey 
     set_aside_mailbox =
         store_mailbox fresh (set_aside survey.meta bytes s) (raised survey.meta 1) is.is_there is.apart
         (raised_is_read survey.meta 1 (delivery.fits survey fresh s surveys positive small room) room)
-        (subst (λ (n : Near). IsStore n.store) (sym (delivery.set_aside_near survey fresh s surveys positive small room bytes))
+        (subst (λ (n : Mailbox). IsStore n.store) (sym (delivery.set_aside_near survey fresh s surveys positive small room bytes))
         (is_store-set_aside (near_of fresh s).store 1 (mailbox_store fresh s is)))
 
     appended_mailbox : IsMailbox fresh (appended survey.meta bytes flags s)
@@ -67,7 +68,7 @@ module _ (survey : Survey) (fresh : ℕ) (s : Stored) (surveys : Surveys survey 
         store_mailbox fresh (appended survey.meta bytes flags s) (raised survey.meta 1) is.is_there
         (delivery.is_added survey fresh s surveys positive small room bytes flags are_flags).holds.apart
         (raised_is_read survey.meta 1 (delivery.fits survey fresh s surveys positive small room) room)
-        (subst (λ (n : Near). IsStore n.store) (sym (delivery.appended_near survey fresh s surveys positive small room bytes flags are_flags))
+        (subst (λ (n : Mailbox). IsStore n.store) (sym (delivery.appended_near survey fresh s surveys positive small room bytes flags are_flags))
         (is_store-added (near_of fresh s).store (near_of fresh s).store.next flags bytes (omega arith) (mailbox_store fresh s is)))
 
     part_mailbox : (t : Stored) → AppendsPart survey.meta bytes s t → IsMailbox fresh t
@@ -84,11 +85,11 @@ module _ (survey : Survey) (fresh : ℕ) (s : Stored) (surveys : Surveys survey 
     some_mailbox : (k : ℕ) → k ≤ length survey.waiting.items → IsMailbox fresh (admitted_all (take k survey.waiting.items) survey.meta.next (set_aside_all survey.waiting.items survey.meta s))
     some_mailbox k within =
         let first = admission.first_of survey fresh s surveys positive small room k within in
-        let near : Near = near_of fresh s in
+        let near : Mailbox = near_of fresh s in
         let most = length-take k near.waiting in
         store_mailbox fresh _ (raised survey.meta (length survey.waiting.items)) (first.is_there ∙ surveys.is_there) first.holds.apart
         (ap (meta_in fresh) first.meta ∙ raised_is_read survey.meta (length survey.waiting.items) (admission.fits survey fresh s surveys positive small room) room)
-        (subst (λ (n : Near). IsStore n.store) (sym (admission.admitted_some survey fresh s surveys positive small room k within))
+        (subst (λ (n : Mailbox). IsStore n.store) (sym (admission.admitted_some survey fresh s surveys positive small room k within))
         (is_store-numbered near.store (take k near.waiting) (near.store.next + length near.waiting) (omega (arith, most)) (mailbox_store fresh s is)))
 
     pub whole_mailbox : IsMailbox fresh (admitted_all survey.waiting.items survey.meta.next (set_aside_all survey.waiting.items survey.meta s))

@@ -15,7 +15,7 @@ use Rattle.near_box.specs.declared.passed_marks.PassedMarks.{PassedMarks}
 use Rattle.near_box.specs.declared.survey.Entry.{Entry}
 use Rattle.near_box.specs.Entries.{AreRising, message_at}
 use Rattle.near_box.specs.KnownMarks.{AreMarksAmong, AreMarksOf, AreMarksOfFile, ArePassed, BearsOther, IsMarkAmong, mark_at}
-use Rattle.near_box.specs.Mailboxes.{Near, numbered_near, delivered}
+use Rattle.mailcore.specs.Mailboxes.{Mailbox, some_admitted, delivered}
 use Rattle.maildir.specs.Folders.{Stored}
 use Rattle.near_box.proofs.KeptLemmas.{one_place}
 
@@ -93,7 +93,7 @@ other_later : (p : PassedMarks) (mark : List ℕ) (next uid : ℕ) (flags : ℕ)
 other_later p mark next uid flags bytes within above up under =
     absurd (let below : p.below ≤ next = within (omega (arith, up, under)) in omega (arith, below, above, under))
 
-each_delivered : (bytes : List ℕ) (flags : ℕ) (n : Near) (known : List KnownMark) → AreMarksAmong n.store.next n.store.messages known
+each_delivered : (bytes : List ℕ) (flags : ℕ) (n : Mailbox) (known : List KnownMark) → AreMarksAmong n.store.next n.store.messages known
     → AreMarksAmong (delivered bytes flags n).store.next (delivered bytes flags n).store.messages known
 each_delivered bytes flags n known are =
     let s : Store = n.store in
@@ -105,7 +105,7 @@ each_delivered bytes flags n known are =
           (All-cons (Bears k) m [] (bears_later k s.next s.next flags bytes is.below (omega arith)) (All-nil (Bears k)));
     }) known are
 
-passed_delivered : (bytes : List ℕ) (flags : ℕ) (n : Near) (p : PassedMarks) → ArePassed n.store.next n.store.messages p
+passed_delivered : (bytes : List ℕ) (flags : ℕ) (n : Mailbox) (p : PassedMarks) → ArePassed n.store.next n.store.messages p
     → ArePassed (delivered bytes flags n).store.next (delivered bytes flags n).store.messages p
 passed_delivered bytes flags n p is =
     let s : Store = n.store in
@@ -116,7 +116,7 @@ passed_delivered bytes flags n p is =
           (All-cons (BearsOther p mark) m [] (other_later p mark s.next s.next flags bytes is.below (omega arith)) (All-nil (BearsOther p mark)));
     }
 
-pub marks_delivered : (bytes : List ℕ) (flags : ℕ) (n : Near) (known : KnownMarks) → AreMarksOf n.store known → AreMarksOf (delivered bytes flags n).store known
+pub marks_delivered : (bytes : List ℕ) (flags : ℕ) (n : Mailbox) (known : KnownMarks) → AreMarksOf n.store known → AreMarksOf (delivered bytes flags n).store known
 marks_delivered bytes flags n known are = record {
   each = each_delivered bytes flags n known.by_uid.items are.each;
   passed = passed_delivered bytes flags n known.passed are.passed;
@@ -128,8 +128,8 @@ bears_numbered k next uid (file ∷ files) below above =
     All-cons (Bears k) (record { uid = uid; flags = file.flags; bytes = file.bytes }) (numbered (uid + 1) files)
     (bears_later k next uid file.flags file.bytes below above) (bears_numbered k next (uid + 1) files below (omega (arith, above)))
 
-each_numbered : (count : ℕ) (n : Near) (known : List KnownMark) → AreMarksAmong n.store.next n.store.messages known
-    → AreMarksAmong (numbered_near count n).store.next (numbered_near count n).store.messages known
+each_numbered : (count : ℕ) (n : Mailbox) (known : List KnownMark) → AreMarksAmong n.store.next n.store.messages known
+    → AreMarksAmong (some_admitted count n).store.next (some_admitted count n).store.messages known
 each_numbered count n known are =
     let s : Store = n.store in
     All-weaker (IsMarkAmong s.next s.messages) (IsMarkAmong (s.next + length n.waiting) (s.messages ++ numbered s.next (take count n.waiting)))
@@ -145,8 +145,8 @@ others_numbered p mark next uid (file ∷ files) within above =
     All-cons (BearsOther p mark) (record { uid = uid; flags = file.flags; bytes = file.bytes }) (numbered (uid + 1) files)
     (other_later p mark next uid file.flags file.bytes within above) (others_numbered p mark next (uid + 1) files within (omega (arith, above)))
 
-passed_numbered : (count : ℕ) (n : Near) (p : PassedMarks) → ArePassed n.store.next n.store.messages p
-    → ArePassed (numbered_near count n).store.next (numbered_near count n).store.messages p
+passed_numbered : (count : ℕ) (n : Mailbox) (p : PassedMarks) → ArePassed n.store.next n.store.messages p
+    → ArePassed (some_admitted count n).store.next (some_admitted count n).store.messages p
 passed_numbered count n p is =
     let s : Store = n.store in
     record {
@@ -155,7 +155,7 @@ passed_numbered count n p is =
           (others_numbered p mark s.next s.next (take count n.waiting) is.below (omega arith));
     }
 
-pub marks_numbered : (count : ℕ) (n : Near) (known : KnownMarks) → AreMarksOf n.store known → AreMarksOf (numbered_near count n).store known
+pub marks_numbered : (count : ℕ) (n : Mailbox) (known : KnownMarks) → AreMarksOf n.store known → AreMarksOf (some_admitted count n).store known
 marks_numbered count n known are = record {
   each = each_numbered count n known.by_uid.items are.each;
   passed = passed_numbered count n known.passed are.passed;
@@ -163,9 +163,9 @@ marks_numbered count n known are = record {
 
 -- ---- the same known of a mailbox that is said in another way
 
-pub marks_after : (n n' : Near) (known now : KnownMarks) → n' ≡ n → now ≡ known → AreMarksOf n.store known → AreMarksOf n'.store now
+pub marks_after : (n n' : Mailbox) (known now : KnownMarks) → n' ≡ n → now ≡ known → AreMarksOf n.store known → AreMarksOf n'.store now
 marks_after n n' known now same kept are =
-    subst (λ (l : KnownMarks). AreMarksOf n'.store l) (sym kept) (subst (λ (m : Near). AreMarksOf m.store known) (sym same) are)
+    subst (λ (l : KnownMarks). AreMarksOf n'.store l) (sym kept) (subst (λ (m : Mailbox). AreMarksOf m.store known) (sym same) are)
 
 -- ---- marks of files that are read
 

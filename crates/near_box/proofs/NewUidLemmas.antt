@@ -17,7 +17,8 @@ use Rattle.maildir.specs.Folders.{Stored, AreApart, is_at, left, is_left, name_o
 use Rattle.maildir.specs.Names.{uid_in, is_waiting}
 use Rattle.maildir.specs.FlaggedNames.{flags_by_name}
 use Rattle.near_box.specs.NearEffects.{raised}
-use Rattle.near_box.specs.Mailboxes.{Near, messages_in, by_uid, waiting_files, waiting_of, meta_in, first_meta, store_of, near_of}
+use Rattle.mailcore.specs.Mailboxes.{Mailbox}
+use Rattle.near_box.specs.Mailboxes.{messages_in, by_uid, waiting_files, waiting_of, meta_in, first_meta, store_of, near_of}
 use Rattle.near_box.specs.Surveys.{Surveys, entry_of, entries_in, entry_at}
 use Rattle.maildir.specs.Metas.{is_meta, meta_of, meta_text}
 use Rattle.near_box.specs.Sorting.{sorted}
@@ -194,14 +195,14 @@ surveys_same v v' n n' s s' a b c surveys =
 
 -- ---- the mailbox by its parts
 
-abbrev pub near_with : Meta → List Message → List File → Near
+abbrev pub near_with : Meta → List Message → List File → Mailbox
 near_with meta messages waiting = record {
   store = record { validity = meta.validity; next = meta.next; messages = messages };
   waiting = map waiting_of waiting;
 }
 
 pub near_is : (fresh : ℕ) (s : Stored) (meta : Meta) → meta_in fresh s.meta ≡ Some meta → near_of fresh s ≡ near_with meta (by_uid (messages_in s.files)) (waiting_files s.files)
-near_is fresh s meta e = ap (λ (m : Option Meta). let n : Near = record { store = store_of (unwrap_or m (first_meta fresh)) s.files; waiting = map waiting_of (waiting_files s.files) } in n) e
+near_is fresh s meta e = ap (λ (m : Option Meta). let n : Mailbox = record { store = store_of (unwrap_or m (first_meta fresh)) s.files; waiting = map waiting_of (waiting_files s.files) } in n) e
 
 -- a file that does not wait
 pub waits_not : (front back : List File) (file : File) → is_waiting file.name ≡ false

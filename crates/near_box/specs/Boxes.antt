@@ -5,7 +5,8 @@ use Rattle.maildir.specs.declared.folder.Folder as folder
 use Rattle.maildir.specs.Folders.{Stored}
 use Rattle.near_box.specs.declared.near_box.NearBox.{NearBox}
 use Rattle.near_box.specs.declared.near_fault.NearFault.{NearFault}
-use Rattle.near_box.specs.Mailboxes.{Near, near_of}
+use Rattle.mailcore.specs.Mailboxes.{Mailbox}
+use Rattle.near_box.specs.Mailboxes.{near_of}
 use Rattle.near_box.specs.NearCalls.{Box}
 use Rattle.near_box.specs.NearContracts.{Changes}
 use Rattle.near_box.specs.NearEffects.{Does}
@@ -24,11 +25,11 @@ module _ {F : Type 0} {folders : folder.Ghosts F} where
   box_of near = record { is_ready = near.is_ready; fresh = near.fresh; missed = length near.missed.items; folder = seen_in near }
 
   -- the mailbox that stands in its folder
-  abbrev pub mailbox_of : NearBox F folders → Near
+  abbrev pub mailbox_of : NearBox F folders → Mailbox
   mailbox_of near = near_of near.fresh (stored_in near)
 
   -- what a call does to it
-  abbrev pub TurnsMailbox : {T : Type 0} → (Near → Near) → (part : Effect Near) → (old new : NearBox F folders) → Result T NearFault → Type 0
+  abbrev pub TurnsMailbox : {T : Type 0} → (Mailbox → Mailbox) → (part : Effect Mailbox) → (old new : NearBox F folders) → Result T NearFault → Type 0
   TurnsMailbox effect part old new result = Changes effect part (mailbox_of old) (near_of old.fresh (stored_in new)) result
 
   -- and to the files

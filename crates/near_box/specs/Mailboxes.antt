@@ -1,5 +1,5 @@
 -- The mailbox that stands in a folder.
-use Rattle.std.specs.Prelude.{◌≡◌, ◌<◌, ℕ, ◌+◌, Bool, true, nat_lt, List, ◌++◌, map, filter, length, take, drop, Option, None, Some, unwrap_or, All, AllPairs}
+use Rattle.std.specs.Prelude.{◌≡◌, ◌<◌, ℕ, Bool, true, nat_lt, List, map, filter, Option, None, Some, unwrap_or, All, AllPairs}
 use Rattle.std.specs.List.{filter_map}
 use Rattle.std.specs.Option.{option_map}
 use Rattle.std.specs.Ordering.{nat_cmp, is_lt, ordering_then}
@@ -7,8 +7,8 @@ use Rattle.std.specs.Cmp.Lexicographic.{slice_cmp}
 use Rattle.std.specs.declared.cmp.Ordering.{Ordering}
 use Rattle.std.specs.declared.cmp.Ordering.TheVariants.{Less, Equal, Greater}
 use Rattle.mailcore.specs.declared.mailbox.Message.{Message}
-use Rattle.mailcore.specs.Operations.{added}
-use Rattle.mailcore.specs.Stores.{Store, Waiting, numbered}
+use Rattle.mailcore.specs.Mailboxes.{Mailbox}
+use Rattle.mailcore.specs.Stores.{Store, Waiting}
 use Rattle.maildir.specs.declared.folder.Place.{Place}
 use Rattle.maildir.specs.declared.folder.Place.TheVariants.{New, Cur}
 use Rattle.maildir.specs.declared.folder.File.{File}
@@ -75,14 +75,10 @@ meta_at fresh s = unwrap_or (meta_in fresh s.meta) (first_meta fresh)
 abbrev pub waiting_names : Stored → List FileName
 waiting_names s = map name_of_file (waiting_files s.files)
 
-pub record Near : Type 0 where
-  pub store : Store
-  pub waiting : List Waiting
-
 abbrev pub store_of : Meta → List File → Store
 store_of meta files = record { validity = meta.validity; next = meta.next; messages = by_uid (messages_in files) }
 
-abbrev pub near_of : (fresh : ℕ) → Stored → Near
+abbrev pub near_of : (fresh : ℕ) → Stored → Mailbox
 near_of fresh s = record {
   store = store_of (meta_at fresh s) s.files;
   waiting = map waiting_of (waiting_files s.files);
@@ -104,27 +100,3 @@ pub record IsMailbox (fresh : ℕ) (s : Stored) : Type 0 where
   pub apart : AreApart s.files
   pub once : AreDistinct (messages_in s.files)
   pub meta : HasMeta fresh s
-
--- ---- what calls do to the mailbox
-
--- an operation on its messages (`Operations` of mailcore); the waiting files stay
-abbrev pub on_store : (Store → Store) → Near → Near
-on_store change n = record n { store = change n.store }
-
--- a message is added under the next UID
-abbrev pub delivered : (bytes : List ℕ) (flags : ℕ) → Near → Near
-delivered bytes flags n = on_store (added n.store.next flags bytes) n
-
--- the UIDs of all waiting files are set aside, and the first of them have theirs
-abbrev pub numbered_near : (count : ℕ) → Near → Near
-numbered_near count n = record {
-  store = record n.store {
-    next = n.store.next + length n.waiting;
-    messages = n.store.messages ++ numbered n.store.next (take count n.waiting);
-  };
-  waiting = drop count n.waiting;
-}
-
--- all waiting files have their UIDs
-abbrev pub admitted_near : Near → Near
-admitted_near n = numbered_near (length n.waiting) n

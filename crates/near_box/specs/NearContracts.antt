@@ -1,11 +1,11 @@
 -- What the calls of the near mailbox answer, and what they do to the mailbox that stands in its folder.
-use Rattle.std.specs.Prelude.{◌≡◌, ◌⊎◌, ℕ, true, false, List, take, Result, Ok, Err}
-use Rattle.mailcore.specs.Operations.{expunged, set_aside}
+use Rattle.std.specs.Prelude.{◌≡◌, ◌⊎◌, ℕ, true, false, Result, Ok, Err}
+use Rattle.mailcore.specs.Mailboxes.{Mailbox}
 use Rattle.device.specs.Calls.{Effect}
 use Rattle.near_box.specs.declared.near_fault.NearFault.{NearFault}
 use Rattle.near_box.specs.declared.near_fault.NearFault.TheVariants.{Stopped, Absent, TwoWithOneUid, BadMeta, UidsExhausted, NoMemory}
 use Rattle.maildir.specs.Folders.{Stored}
-use Rattle.near_box.specs.Mailboxes.{Near, AreDistinct, messages_in, HasMeta, IsMailbox, on_store, numbered_near}
+use Rattle.near_box.specs.Mailboxes.{AreDistinct, messages_in, HasMeta, IsMailbox}
 
 -- ---- open
 
@@ -31,20 +31,6 @@ TellsOf fresh s (Err fault) = TellsWhy fresh s fault
 -- ---- calls that write
 
 -- with the effect where the answer is Ok, else without it, or with it, or with a part of it
-abbrev pub Changes : {T : Type 0} → (Near → Near) → (part : Effect Near) → Near → Near → Result T NearFault → Type 0
+abbrev pub Changes : {T : Type 0} → (Mailbox → Mailbox) → (part : Effect Mailbox) → Mailbox → Mailbox → Result T NearFault → Type 0
 Changes effect part n n' (Ok answer) = n' ≡ effect n
 Changes effect part n n' (Err fault) = (n' ≡ n) ⊎ ((n' ≡ effect n) ⊎ part n n')
-
--- some of the messages are removed, in the order in which they are named
-pub record ExpungesSome (uids : List ℕ) (n n' : Near) : Type 0 where
-  pub count : ℕ
-  pub now : n' ≡ on_store (expunged (take count uids)) n
-
--- the next UID is set aside, and no message has it
-abbrev pub SetsAside : Near → Near → Type 0
-SetsAside n n' = n' ≡ on_store (set_aside 1) n
-
--- the UIDs are set aside, and some of the waiting files have theirs
-pub record AdmitsSome (n n' : Near) : Type 0 where
-  pub count : ℕ
-  pub now : n' ≡ numbered_near count n

@@ -7,6 +7,7 @@ pub mod laws;
 mod near_box;
 mod near_calls;
 mod near_fault;
+mod opening;
 mod passed_marks;
 mod read_fault;
 mod reading;

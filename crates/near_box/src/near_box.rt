@@ -10,8 +10,9 @@ ghost use Rattle.mailcore.specs.FlagSet.{union, minus};
 ghost use Rattle.mailcore.specs.Operations.{Shows, ShowsAbove, bytes_of, expunged, flagged, flags_added, flags_removed, marked_from};
 ghost use Rattle.near_box.specs.Entries.{NoneAbove};
 ghost use Rattle.near_box.specs.FlagChanges.{changed_flags};
-ghost use Rattle.near_box.specs.Mailboxes.{IsMailbox, IsMetaOf, near_of, on_store, delivered, admitted_near, meta_at, waiting_names};
-ghost use Rattle.near_box.specs.NearContracts.{Tells, TellsOf, Changes, ExpungesSome, SetsAside, AdmitsSome};
+ghost use Rattle.mailcore.specs.Mailboxes.{on_store, delivered, all_admitted, ExpungesSome, SetsAside, AdmitsSome};
+ghost use Rattle.near_box.specs.Mailboxes.{IsMailbox, IsMetaOf, near_of, meta_at, waiting_names};
+ghost use Rattle.near_box.specs.NearContracts.{Tells, TellsOf, Changes};
 ghost use Rattle.maildir.specs.Folders.{renamed_file, with_meta};
 ghost use Rattle.maildir.specs.Metas.{meta_text};
 ghost use Rattle.near_box.specs.NearEffects.{flagged_files, without_uids, RemovesSome, Admits, AdmitsIf, AppendsPart, admitted, appended};
@@ -44,14 +45,14 @@ use std::num::NonZeroU32;
 /// until `reopen` and `enter`, or the folder's `reopen` and a new `open`; after other faults it goes on.
 #[derive(Drop)]
 pub struct NearBox<F: Folder> {
-    alloc: Global,
-    folder: F,
-    fresh: u32,
-    survey: Survey,
-    body: Vec<u8>,
+    pub(crate) alloc: Global,
+    pub(crate) folder: F,
+    pub(crate) fresh: u32,
+    pub(crate) survey: Survey,
+    pub(crate) body: Vec<u8>,
     // An item for each file that stood in the folder and was gone when it was to be read.
-    missed: History<()>,
-    is_ready: bool,
+    pub(crate) missed: History<()>,
+    pub(crate) is_ready: bool,
     pub ghost is_whole: { is_ready ≡ true → (F.seen folder).is_broken ≡ false },
     pub ghost has_numbers: { (0 < survey.meta.validity) × (0 < survey.meta.next) },
     pub ghost has_fresh: { (0 < fresh) × (fresh < 2 ^ 32) },
@@ -64,86 +65,6 @@ impl<F: Folder> NearBox<F> {
     ghost use Rattle.std.specs.Borrow.{sem, follows_so};
     ghost use Rattle.near_box.specs.Boxes.{TurnsFiles, TurnsMailbox, box_of, mailbox_of, seen_in, stored_in};
     ghost use Rattle.near_box.specs.contracts.near_box.NearBox.{the_row};
-
-    /// The mailbox of a folder, whose validity is `fresh` where it has no meta file. It reads the folder and
-    /// changes nothing; beside a fault the folder comes back.
-    ///
-    /// Faults: `Stopped` and `NoMemory`, and the first that holds of `Absent`, `TwoWithOneUid` and `BadMeta`.
-    pub fn open(alloc: Global, folder: F, fresh: NonZeroU32) -> Result<NearBox<F>, (NearFault, F)>
-        ensures opens { Opens (λ near. F.seen near.folder) F.seen (F.seen folder) result }
-        ensures keeps { F.is_honest ≡ true → Keeps (λ near. F.seen near.folder) F.seen (F.seen folder) result }
-        ensures ready { IfOk result (λ near. (near.is_ready ≡ true) × (near.fresh ≡ non_zero_u32_get fresh) × (length near.missed.items ≡ 0)) }
-        ensures mailbox { F.is_honest ≡ true → Tells (non_zero_u32_get fresh) (F.seen folder).stored result }
-    {
-        let mut folder = folder;
-        match survey_of(alloc, &mut folder, fresh) {
-            Ok(survey) => Ok(NearBox {
-                alloc,
-                folder,
-                fresh: fresh.get(),
-                survey,
-                body: Vec::new(alloc),
-                missed: History::new(),
-                is_ready: true,
-            }),
-            Err(fault) => Err((fault, folder)),
-        }
-    }
-
-    /// The mailbox of a folder, closed. Its validity is `fresh` where the folder has no meta file. The folder is not called.
-    pub fn closed(alloc: Global, folder: F, fresh: NonZeroU32) -> NearBox<F>
-        ensures folder { result.folder ≡ folder }
-        ensures fresh { result.fresh ≡ non_zero_u32_get fresh }
-        ensures closed { (result.is_ready ≡ false) × (length result.missed.items ≡ 0) }
-    {
-        NearBox {
-            alloc,
-            folder,
-            fresh: fresh.get(),
-            survey: Survey::none(alloc, fresh),
-            body: Vec::new(alloc),
-            missed: History::new(),
-            is_ready: false,
-        }
-    }
-
-    /// Opens the mailbox, anew where it is open, with the validity `fresh` where the folder has no meta file. It reads the folder and
-    /// changes nothing. Beside a fault the mailbox is closed.
-    ///
-    /// Faults: `Stopped` and `NoMemory`, and the first that holds of `Absent`, `TwoWithOneUid` and `BadMeta`.
-    pub fn enter(&mut self, fresh: NonZeroU32) -> Result<(), NearFault>
-        ensures looks { Looks (seen_in self.old) (seen_in self.new) result }
-        ensures keeps { F.is_honest ≡ true → stored_in self.new ≡ stored_in self.old }
-        ensures ready { OnOk result (self.new.is_ready ≡ true) }
-        ensures closed { IfErr result (λ _. self.new.is_ready ≡ false) }
-        ensures fresh { self.new.fresh ≡ non_zero_u32_get fresh }
-        ensures missed { self.new.missed ≡ self.old.missed }
-        ensures mailbox { F.is_honest ≡ true → TellsOf (non_zero_u32_get fresh) (stored_in self.old) result }
-    {
-        self.is_ready = false;
-        self.fresh = fresh.get();
-        self.survey = survey_of(self.alloc, &mut self.folder, fresh)?;
-        self.is_ready = true;
-        Ok(())
-    }
-
-    /// Closes the mailbox, and opens its folder again: its calls are answered again.
-    pub fn reopen(&mut self)
-        ensures folder { Reopens (seen_in self.old) (seen_in self.new) }
-        ensures closed { self.new.is_ready ≡ false }
-        ensures fresh { self.new.fresh ≡ self.old.fresh }
-        ensures missed { self.new.missed ≡ self.old.missed }
-    {
-        self.is_ready = false;
-        self.folder.reopen();
-    }
-
-    /// Gives the folder back, without taking memory.
-    pub fn into_folder(self) -> F
-        ensures { result ≡ self.folder }
-    {
-        self.folder
-    }
 
     /// The validity of the mailbox and its next UID.
     pub fn meta(&self) -> Meta
@@ -344,7 +265,7 @@ impl<F: Folder> NearBox<F> {
     pub fn admit(&mut self) -> Result<(), NearFault>
         ensures exhausted { F.is_honest ≡ true → IsErrOf result NearFault.UidsExhausted
             ↔ ((self.old.is_ready ≡ true) × (let n = mailbox_of self.old in 2 ^ 32 ≤ n.store.next + length n.waiting)) }
-        ensures effect { F.is_honest ≡ true → TurnsMailbox admitted_near AdmitsSome self.old self.new result }
+        ensures effect { F.is_honest ≡ true → TurnsMailbox all_admitted AdmitsSome self.old self.new result }
         ensures files { F.is_honest ≡ true → (let s = stored_in self.old in
             AdmitsIf (is_some s.meta) (waiting_names s) (meta_at self.old.fresh s) s (stored_in self.new) result) }
         ensures mailbox { F.is_honest ≡ true → IsMailbox self.old.fresh (stored_in self.old) → IsMailbox self.old.fresh (stored_in self.new) }

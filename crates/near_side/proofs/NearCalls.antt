@@ -12,15 +12,14 @@ use Rattle.near_box.specs.declared.near_box.NearBox.{NearBox}
 use Rattle.near_box.specs.declared.near_fault.NearFault.{NearFault}
 use Rattle.near_box.specs.declared.near_fault.NearFault.TheVariants as near
 use Rattle.near_box.specs.Boxes.{TurnsMailbox, box_of, mailbox_of, seen_in, stored_in}
-use Rattle.near_box.specs.Mailboxes.{IsMailbox, Near, admitted_near, delivered, near_of}
+use Rattle.mailcore.specs.Mailboxes.{Mailbox, all_admitted, delivered, AdmitsSome, SetsAside}
+use Rattle.near_box.specs.Mailboxes.{IsMailbox, near_of}
 use Rattle.near_box.specs.NearCalls.{Box, Ends, Goes, RunsOut, stops_of}
-use Rattle.near_box.specs.NearContracts.{AdmitsSome, SetsAside}
 use Rattle.near_box.proofs.RangeLemmas.{near_in_range}
 use Rattle.near_box.proofs.SurveyedLemmas.{surveyed_mailbox}
-use Rattle.outside.specs.Arrivals.{IsMerge, none, left}
+use Rattle.mailbox.specs.Arrivals.{IsMerge, none, left, Arrives}
 use Rattle.mailbox.specs.declared.fault.BoxFault.{BoxFault}
 use Rattle.mailbox.specs.declared.fault.BoxFault.TheVariants as fault
-use Rattle.mailbox.specs.Arrivals.{Arrives}
 use Rattle.mailbox.specs.Calls.{Call, DoesSome, Halts, HasCause, LeavesBy, Never, Seen}
 use Rattle.mailbox.specs.Operations.{Admits, Answers, Appends, IsFull, NoRoom}
 use Rattle.near_side.specs.declared.near_side.NearSide.{NearSide}
@@ -33,13 +32,13 @@ nobody_else : (ws : List Waiting) → IsMerge ws [] ws
 nobody_else [] = none
 nobody_else (w ∷ ws) = left w ws [] ws (nobody_else ws)
 
-quiet : (b : Near) → Arrives side.Near every true b b
+quiet : (b : Mailbox) → Arrives side.Near every true b b
 quiet b = record {
   comes = record { files = []; waiting = b.waiting; merged = nobody_else b.waiting; foreign = All-nil _; now = refl };
   nobody = λ _. refl;
 }
 
-pub alone : {b b' : Near} (does : Effect Near) → does b b' → Follows (Arrives side.Near every true) does b b'
+pub alone : {b b' : Mailbox} (does : Effect Mailbox) → does b b' → Follows (Arrives side.Near every true) does b b'
 alone {b} does h = record { mid = b; before = quiet b; behind = h }
 
 -- ---- an open mailbox
@@ -61,7 +60,7 @@ pub nothing_done : {F : Type 0} {folders : folder.Ghosts F} (s : NearSide F fold
 nothing_done s whole = record { was_whole = whole; is_whole = whole; stops = refl; effect = λ h. alone (λ b b'. b' ≡ b) refl }
 
 -- what a call does by its answer, and what it leaves by its fault
-abbrev Left : {T : Type 0} → (because : BoxFault → Near → Type 0) → (does : T → Effect Near) → (part : Effect Near) → Result T NearFault → Effect Near
+abbrev Left : {T : Type 0} → (because : BoxFault → Mailbox → Type 0) → (does : T → Effect Mailbox) → (part : Effect Mailbox) → Result T NearFault → Effect Mailbox
 Left because does part (Ok answer) = does answer
 Left because does part (Err e) = LeavesBy does part because (told e)
 
@@ -74,13 +73,13 @@ module _ {F : Type 0} {folders : folder.Ghosts F} (s : NearSide F folders) (new 
   now = seen_at s.is_open (non_zero_u32_get s.fresh) new
 
   -- the box's mailbox before the call, and behind it
-  abbrev n : Near
+  abbrev n : Mailbox
   n = mailbox_of s.near
 
-  abbrev n' : Near
+  abbrev n' : Mailbox
   n' = near_of s.near.fresh (stored_in new)
 
-  says_so : (does : Effect Near) → does n n' → Follows (Arrives side.Near every true) does (seen_of s).stored now.stored
+  says_so : (does : Effect Mailbox) → does n n' → Follows (Arrives side.Near every true) does (seen_of s).stored now.stored
   says_so does h = alone does (subst (λ (f : ℕ). does (near_of f (stored_in s.near)) (near_of f (stored_in new))) s.same_fresh h)
 
   pub ready : s.near.is_ready ≡ true
@@ -94,7 +93,7 @@ module _ {F : Type 0} {folders : folder.Ghosts F} (s : NearSide F folders) (new 
 
   -- ---- by the answer
 
-  goes : {T : Type 0} (does : T → Effect Near) (answer : T) → Goes (box_of s.near) (box_of new) → (honest → does answer n n')
+  goes : {T : Type 0} (does : T → Effect Mailbox) (answer : T) → Goes (box_of s.near) (box_of new) → (honest → does answer n n')
       → Went honest (Follows (Arrives side.Near every true) (does answer)) (seen_of s) now
   goes does answer ends does_so = record {
     was_whole = whole;
@@ -103,11 +102,11 @@ module _ {F : Type 0} {folders : folder.Ghosts F} (s : NearSide F folders) (new 
     effect = λ h. says_so (does answer) (does_so h);
   }
 
-  halts : {is_stop : Type 0} (leaves : Effect Near) → (is_stop → HasCause ⊥ (seen_of s) now) → (seen_of s).stops ≤ now.stops → (honest → leaves n n')
+  halts : {is_stop : Type 0} (leaves : Effect Mailbox) → (is_stop → HasCause ⊥ (seen_of s) now) → (seen_of s).stops ≤ now.stops → (honest → leaves n n')
       → Halts honest ⊥ is_stop (Follows (Arrives side.Near every true) leaves) (seen_of s) now
   halts leaves cause no_less leaves_so = record { cause = cause; no_less = no_less; left = λ h. says_so leaves (leaves_so h) }
 
-  fails : (T : Type 0) (gives_uids : Bool) (leaves : Effect Near) (e : NearFault) → Ends {T = T} gives_uids (box_of s.near) (box_of new) (Err e) → (honest → leaves n n')
+  fails : (T : Type 0) (gives_uids : Bool) (leaves : Effect Mailbox) (e : NearFault) → Ends {T = T} gives_uids (box_of s.near) (box_of new) (Err e) → (honest → leaves n n')
       → Halts honest ⊥ (told e ≡ fault.Stopped) (Follows (Arrives side.Near every true) leaves) (seen_of s) now
   fails T gives_uids leaves near.Stopped ends leaves_so = halts leaves (λ _. inl (ends.counted ready)) (omega (arith, ends.counted ready)) leaves_so
   fails T gives_uids leaves near.NoMemory ends leaves_so = halts leaves (λ is. absurd (cc)) ends.no_less leaves_so
@@ -116,7 +115,7 @@ module _ {F : Type 0} {folders : folder.Ghosts F} (s : NearSide F folders) (new 
   fails T gives_uids leaves near.TwoWithOneUid ends leaves_so = absurd ends
   fails T gives_uids leaves near.BadMeta ends leaves_so = absurd ends
 
-  calls : {T : Type 0} (gives_uids : Bool) (because : BoxFault → Near → Type 0) (does : T → Effect Near) (part : Effect Near) (answer : Result T NearFault)
+  calls : {T : Type 0} (gives_uids : Bool) (because : BoxFault → Mailbox → Type 0) (does : T → Effect Mailbox) (part : Effect Mailbox) (answer : Result T NearFault)
       → Ends gives_uids (box_of s.near) (box_of new) answer → (honest → Left because does part answer n n')
       → Call honest ⊥ (Arrives side.Near every true) because does part (seen_of s) now (told_by answer)
   calls gives_uids because does part (Ok answer) ends left_so = goes does answer ends left_so
@@ -124,7 +123,7 @@ module _ {F : Type 0} {folders : folder.Ghosts F} (s : NearSide F folders) (new 
 
   -- ---- a call that changes nothing
 
-  unchanged : {T : Type 0} (does : T → Effect Near) (answer : Result T NearFault) → Ends false (box_of s.near) (box_of new) answer → n' ≡ n → IfOk answer (λ x. does x n n') → Left Never does Nothing answer n n'
+  unchanged : {T : Type 0} (does : T → Effect Mailbox) (answer : Result T NearFault) → Ends false (box_of s.near) (box_of new) answer → n' ≡ n → IfOk answer (λ x. does x n n') → Left Never does Nothing answer n n'
   unchanged does (Ok x) ends same did = did
   unchanged does (Err near.Stopped) ends same did = inl same
   unchanged does (Err near.NoMemory) ends same did = inl same
@@ -133,7 +132,7 @@ module _ {F : Type 0} {folders : folder.Ghosts F} (s : NearSide F folders) (new 
   unchanged does (Err near.TwoWithOneUid) ends same did = absurd ends
   unchanged does (Err near.BadMeta) ends same did = absurd ends
 
-  answered : {T : Type 0} (tells : T → Near → Type 0) (answer : Result T NearFault) → n' ≡ n → IfOk answer (λ x. tells x n) → IfOk answer (λ x. Answers tells x n n')
+  answered : {T : Type 0} (tells : T → Mailbox → Type 0) (answer : Result T NearFault) → n' ≡ n → IfOk answer (λ x. tells x n) → IfOk answer (λ x. Answers tells x n n')
   answered tells (Ok x) same tells_so = (same, tells_so)
   answered tells (Err e) same tells_so = tt
 
@@ -142,7 +141,7 @@ module _ {F : Type 0} {folders : folder.Ghosts F} (s : NearSide F folders) (new 
   rested (Err e) same = tt
 
   -- it reads
-  pub reads : {T : Type 0} (tells : T → Near → Type 0) (answer : Result T NearFault) → Ends false (box_of s.near) (box_of new) answer → (honest → stored_in new ≡ stored_in s.near)
+  pub reads : {T : Type 0} (tells : T → Mailbox → Type 0) (answer : Result T NearFault) → Ends false (box_of s.near) (box_of new) answer → (honest → stored_in new ≡ stored_in s.near)
       → (honest → IfOk answer (λ x. tells x n)) → Call honest ⊥ (Arrives side.Near every true) Never (Answers tells) Nothing (seen_of s) now (told_by answer)
   reads tells answer ends same tells_so = calls false Never (Answers tells) Nothing answer ends
       (λ h. unchanged (Answers tells) answer ends (same_near (same h)) (answered tells answer (same_near (same h)) (tells_so h)))
@@ -155,12 +154,12 @@ module _ {F : Type 0} {folders : folder.Ghosts F} (s : NearSide F folders) (new 
 
   -- ---- a call that changes the mailbox, or not
 
-  may : {T : Type 0} (does : T → Effect Near) (part : Effect Near) (change : Near → Near) → (n' ≡ change n → DoesSome does n n') → (n' ≡ n) ⊎ ((n' ≡ change n) ⊎ part n n') → Leaves (DoesSome does) part n n'
+  may : {T : Type 0} (does : T → Effect Mailbox) (part : Effect Mailbox) (change : Mailbox → Mailbox) → (n' ≡ change n → DoesSome does n n') → (n' ≡ n) ⊎ ((n' ≡ change n) ⊎ part n n') → Leaves (DoesSome does) part n n'
   may does part change done (inl same) = inl same
   may does part change done (inr (inl all)) = inr (inl (done all))
   may does part change done (inr (inr some)) = inr (inr some)
 
-  failed : (A : Type 0) {T : Type 0} (gives_uids : Bool) (because : BoxFault → Near → Type 0) (does : T → Effect Near) (part : Effect Near) (change : Near → Near) (e : NearFault) → (n' ≡ change n → DoesSome does n n')
+  failed : (A : Type 0) {T : Type 0} (gives_uids : Bool) (because : BoxFault → Mailbox → Type 0) (does : T → Effect Mailbox) (part : Effect Mailbox) (change : Mailbox → Mailbox) (e : NearFault) → (n' ≡ change n → DoesSome does n n')
       → Ends {T = A} gives_uids (box_of s.near) (box_of new) (Err e) → (n' ≡ n) ⊎ ((n' ≡ change n) ⊎ part n n') → (e ≡ near.UidsExhausted → gives_uids ≡ true → because (fault.Own 5) n)
       → LeavesBy does part because (told e) n n'
   failed A gives_uids because does part change near.Stopped done ends left_so full = may does part change done left_so
@@ -171,23 +170,23 @@ module _ {F : Type 0} {folders : folder.Ghosts F} (s : NearSide F folders) (new 
   failed A gives_uids because does part change near.TwoWithOneUid done ends left_so full = absurd ends
   failed A gives_uids because does part change near.BadMeta done ends left_so full = absurd ends
 
-  turned : (gives_uids : Bool) (because : BoxFault → Near → Type 0) (part : Effect Near) (change : Near → Near) (answer : Result (Unit {0}) NearFault) → Ends gives_uids (box_of s.near) (box_of new) answer
+  turned : (gives_uids : Bool) (because : BoxFault → Mailbox → Type 0) (part : Effect Mailbox) (change : Mailbox → Mailbox) (answer : Result (Unit {0}) NearFault) → Ends gives_uids (box_of s.near) (box_of new) answer
       → TurnsMailbox change part s.near new answer → (IsErrOf answer near.UidsExhausted → gives_uids ≡ true → because (fault.Own 5) n) → Left because (λ _ b b'. b' ≡ change b) part answer n n'
   turned gives_uids because part change (Ok x) ends did full = did
   turned gives_uids because part change (Err e) ends did full =
       failed (Unit {0}) gives_uids because (λ _ b b'. b' ≡ change b) part change e (λ all. record { answer = tt; done = all }) ends did (λ is. full (ap Err is))
 
   -- it gives no UIDs
-  pub turns : (change : Near → Near) (answer : Result (Unit {0}) NearFault) → Ends false (box_of s.near) (box_of new) answer → (honest → TurnsMailbox change Nothing s.near new answer)
+  pub turns : (change : Mailbox → Mailbox) (answer : Result (Unit {0}) NearFault) → Ends false (box_of s.near) (box_of new) answer → (honest → TurnsMailbox change Nothing s.near new answer)
       → Call {T = Unit {0}} honest ⊥ (Arrives side.Near every true) Never (λ _ b b'. b' ≡ change b) Nothing (seen_of s) now (told_by answer)
   turns change answer ends did = calls false Never (λ _ b b'. b' ≡ change b) Nothing answer ends (λ h. turned false Never Nothing change answer ends (did h) (λ is no. absurd (cc)))
 
   -- it gives all that waits its UIDs
-  pub admits : (answer : Result (Unit {0}) NearFault) → Ends true (box_of s.near) (box_of new) answer → (honest → TurnsMailbox admitted_near AdmitsSome s.near new answer)
+  pub admits : (answer : Result (Unit {0}) NearFault) → Ends true (box_of s.near) (box_of new) answer → (honest → TurnsMailbox all_admitted AdmitsSome s.near new answer)
       → (honest → IsErrOf answer near.UidsExhausted → IsFull (length n.waiting) n)
       → Call {T = Unit {0}} honest ⊥ (Arrives side.Near every true) (NoRoom side.Near (λ b. length b.waiting)) (λ _. Admits) AdmitsSome (seen_of s) now (told_by answer)
   admits answer ends did full = calls true (NoRoom side.Near (λ b. length b.waiting)) (λ _. Admits) AdmitsSome answer ends
-      (λ h. turned true (NoRoom side.Near (λ b. length b.waiting)) AdmitsSome admitted_near answer ends (did h) (λ is _. (refl, full h is)))
+      (λ h. turned true (NoRoom side.Near (λ b. length b.waiting)) AdmitsSome all_admitted answer ends (did h) (λ is _. (refl, full h is)))
 
   -- it adds a message
   appends : (bytes : List ℕ) (flags : ℕ) → n' ≡ delivered bytes flags n → Appends side.Near bytes flags (Some n.store.next) n n'
@@ -205,7 +204,7 @@ module _ {F : Type 0} {folders : folder.Ghosts F} (s : NearSide F folders) (new 
 
   -- ---- a full mailbox
 
-  pub has_no_room : (count : Near → ℕ) → IsFull (count (seen_of s).stored) (seen_of s).stored → IsFull (count n) n
+  pub has_no_room : (count : Mailbox → ℕ) → IsFull (count (seen_of s).stored) (seen_of s).stored → IsFull (count n) n
   has_no_room count h = subst (λ (f : ℕ). IsFull (count (near_of f (stored_in s.near))) (near_of f (stored_in s.near))) (sym s.same_fresh) h
 
   pub has_no_uid : honest → IsFull 1 (seen_of s).stored → n.store.next + 1 ≡ 2 ^ 32

@@ -12,7 +12,8 @@ use Rattle.near_box.specs.declared.near_box.NearBox.{NearBox}
 use Rattle.near_box.specs.declared.near_fault.NearFault.{NearFault}
 use Rattle.near_box.specs.declared.near_fault.NearFault.TheVariants as near
 use Rattle.near_box.specs.Boxes.{mailbox_of, seen_in, stored_in}
-use Rattle.near_box.specs.Mailboxes.{IsMetaOf, Near, near_of}
+use Rattle.mailcore.specs.Mailboxes.{Mailbox}
+use Rattle.near_box.specs.Mailboxes.{IsMetaOf, near_of}
 use Rattle.near_box.specs.NearCalls.{Looks}
 use Rattle.near_box.specs.NearContracts.{TellsWhy}
 use Rattle.mailbox.specs.declared.fault.BoxFault.TheVariants as fault
@@ -41,7 +42,7 @@ module _ {F : Type 0} {folders : folder.Ghosts F} (s : NearSide F folders) (new 
   abbrev now : Bool → Seen
   now is_open = seen_at is_open (non_zero_u32_get s.fresh) new
 
-  abbrev Leaves : NearFault → Effect Near
+  abbrev Leaves : NearFault → Effect Mailbox
   Leaves e = LeavesBy (Answers TellsValidity) Nothing (λ f _. Unfit s f) (told e)
 
   missed_same : length new.missed.items ≡ length s.near.missed.items
@@ -61,7 +62,7 @@ module _ {F : Type 0} {folders : folder.Ghosts F} (s : NearSide F folders) (new 
     was_whole = whole;
     is_whole = ap not is_ready;
     stops = omega (arith, missed_same, looks.2);
-    effect = λ h. alone (Answers TellsValidity meta.validity) (near_same h, (is h).0 ∙ ap (λ (f : ℕ). (near_of f (stored_in new)).store.validity) fresh ∙ ap (λ (n : Near). n.store.validity) (near_same h));
+    effect = λ h. alone (Answers TellsValidity meta.validity) (near_same h, (is h).0 ∙ ap (λ (f : ℕ). (near_of f (stored_in new)).store.validity) fresh ∙ ap (λ (n : Mailbox). n.store.validity) (near_same h));
   }
 
   -- ---- or not

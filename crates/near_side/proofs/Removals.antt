@@ -8,9 +8,9 @@ use Rattle.mailcore.specs.declared.mailbox.Message.{Message}
 use Rattle.mailcore.specs.declared.side.Side.TheVariants as side
 use Rattle.mailcore.specs.Operations.{expunged, with_messages}
 use Rattle.near_box.specs.declared.near_fault.NearFault.{NearFault}
-use Rattle.near_box.specs.Mailboxes.{Near, on_store}
-use Rattle.near_box.specs.NearContracts.{Changes, ExpungesSome}
-use Rattle.outside.specs.BoxCalls.{removed}
+use Rattle.mailcore.specs.Mailboxes.{Mailbox, on_store, ExpungesSome}
+use Rattle.near_box.specs.NearContracts.{Changes}
+use Rattle.mailbox.specs.Operations.{removed}
 use Rattle.rules.proofs.Walks.{filter_all}
 
 -- a near file can be removed whatever its flags
@@ -21,11 +21,11 @@ same_test uid m = by_test (m.uid == uid)
     by_test true = refl
     by_test false = refl
 
-near_removed : (uid : ℕ) (n : Near) → on_store (expunged (uid ∷ [])) n ≡ on_store (removed side.Near uid) n
+near_removed : (uid : ℕ) (n : Mailbox) → on_store (expunged (uid ∷ [])) n ≡ on_store (removed side.Near uid) n
 near_removed uid n = ap (λ (ms : List Message). on_store (with_messages (λ _. ms)) n) (filter_agree _ _ (same_test uid) n.store.messages)
 
 -- some of one message: it, or none
-removed_or_not : (uid : ℕ) (n n' : Near) → ExpungesSome (uid ∷ []) n n' → (n' ≡ n) ⊎ (n' ≡ on_store (removed side.Near uid) n)
+removed_or_not : (uid : ℕ) (n n' : Mailbox) → ExpungesSome (uid ∷ []) n n' → (n' ≡ n) ⊎ (n' ≡ on_store (removed side.Near uid) n)
 removed_or_not uid n n' h = by_count h.count h.now
   where
     by_count : (count : ℕ) → n' ≡ on_store (expunged (take count (uid ∷ []))) n → (n' ≡ n) ⊎ (n' ≡ on_store (removed side.Near uid) n)
@@ -33,7 +33,7 @@ removed_or_not uid n n' h = by_count h.count h.now
     by_count (suc zero) now = inr (now ∙ near_removed uid n)
     by_count (suc (suc count)) now = inr (now ∙ near_removed uid n)
 
-pub removes_one : {T : Type 0} (uid : ℕ) (n n' : Near) (answer : Result T NearFault) → Changes (on_store (expunged (uid ∷ []))) (ExpungesSome (uid ∷ [])) n n' answer
+pub removes_one : {T : Type 0} (uid : ℕ) (n n' : Mailbox) (answer : Result T NearFault) → Changes (on_store (expunged (uid ∷ []))) (ExpungesSome (uid ∷ [])) n n' answer
     → Changes (on_store (removed side.Near uid)) Nothing n n' answer
 removes_one uid n n' (Ok x) h = h ∙ near_removed uid n
 removes_one uid n n' (Err e) (inl same) = inl same

@@ -7,7 +7,8 @@ use Rattle.maildir.specs.declared.folder.Folder as folder
 use Rattle.near_box.specs.declared.near_box.NearBox.{NearBox}
 use Rattle.near_box.specs.declared.near_fault.NearFault.TheVariants.{Absent, BadMeta, TwoWithOneUid}
 use Rattle.near_box.specs.Boxes.{box_of, seen_in, stored_in}
-use Rattle.near_box.specs.Mailboxes.{Near, near_of}
+use Rattle.mailcore.specs.Mailboxes.{Mailbox}
+use Rattle.near_box.specs.Mailboxes.{near_of}
 use Rattle.near_box.specs.NearCalls.{stops_of}
 use Rattle.near_box.specs.NearContracts.{TellsWhy}
 use Rattle.mailbox.specs.declared.fault.BoxFault.{BoxFault}
@@ -47,7 +48,7 @@ module _ {F : Type 0} {folders : folder.Ghosts F} where
   Unfit side NoMemory = ⊥
 
   -- a call: nobody else acts, and the other end, which is the folder, ends nothing
-  abbrev pub Calls : {T : Type 0} → (because : BoxFault → Near → Type 0) → (does : T → Effect Near) → (part : Effect Near)
+  abbrev pub Calls : {T : Type 0} → (because : BoxFault → Mailbox → Type 0) → (does : T → Effect Mailbox) → (part : Effect Mailbox)
       → (old new : NearSide F folders) → Result T BoxFault → Type 0
   Calls because does part old new result =
       Call (folders.is_honest ≡ true) ⊥ (Arrives side.Near every true) because does part (seen_of old) (seen_of new) result

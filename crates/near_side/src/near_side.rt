@@ -60,7 +60,7 @@ impl<F: Folder + Drop> Mailbox for NearSide<F> {
     ghost use Rattle.mailcore.specs.declared.side.Side.TheVariants.{Near};
     ghost use Rattle.near_box.specs.Boxes.{stored_in};
     ghost use Rattle.near_box.specs.Mailboxes.{IsMailbox};
-    ghost use Rattle.near_box.specs.NearContracts.{AdmitsSome, SetsAside};
+    ghost use Rattle.mailcore.specs.Mailboxes.{AdmitsSome, SetsAside};
     ghost use Rattle.mailbox.specs.Calls.{IsPlain, Never};
     ghost use Rattle.mailbox.specs.Operations.{Admits, Answers, Appends, IsCopyText, IsFull, NoRoom, TellsValidity};
     ghost use Rattle.near_side.specs.NearSides.{Calls, Unfit, every, seen_of};

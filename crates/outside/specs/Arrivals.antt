@@ -1,21 +1,11 @@
 -- What others may do while a run is at work: people file mail, and other programs deliver it.
-use Rattle.std.specs.Prelude.{◌≡◌, ◌++◌, ℕ, Bool, true, false, List, [], ◌∷◌, All, map, Option, None, Some}
+use Rattle.std.specs.Prelude.{◌≡◌, ◌++◌, ℕ, Bool, true, List, All, map}
 use Rattle.mailcore.specs.declared.mailbox.Message.{Message}
 use Rattle.mailcore.specs.Content.{mark_of}
 use Rattle.mailcore.specs.Rise.{Rise}
 use Rattle.mailcore.specs.Stores.{Waiting}
+use Rattle.mailbox.specs.Arrivals.{IsForeign, IsMerge}
 use Rattle.outside.specs.Devices.{Device}
-
--- no mark, or one that is none of the run's
-abbrev pub IsForeign : (ours : List ℕ → Bool) → Option (List ℕ) → Type 0
-IsForeign ours None = Unit {0}
-IsForeign ours (Some mark) = ours mark ≡ false
-
--- one list with the elements of two, those of each in their order
-pub data IsMerge {A : Type 0} : List A → List A → List A → Type 0 where
-  none : IsMerge [] [] []
-  left : (x : A) (xs ys zs : List A) → IsMerge xs ys zs → IsMerge (x ∷ xs) ys (x ∷ zs)
-  right : (y : A) (xs ys zs : List A) → IsMerge xs ys zs → IsMerge xs (y ∷ ys) (y ∷ zs)
 
 -- Others add far messages, under UIDs of at least the next one, and near files, which wait for their UIDs. None of them bears a
 -- mark of the run. Where a run is alone, nobody adds any.

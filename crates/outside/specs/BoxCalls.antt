@@ -1,5 +1,5 @@
 -- What the calls of the boxes do to both mailboxes, and what they tell.
-use Rattle.std.specs.Prelude.{◌≡◌, ◌<◌, ◌≤◌, ℕ, Bool, true, false, not, ◌&&◌, ◌==◌, List, [], ◌∷◌, ◌++◌, filter, Option, None, Some}
+use Rattle.std.specs.Prelude.{◌≡◌, ◌<◌, ◌≤◌, ℕ, true, false, List, [], ◌∷◌, ◌++◌, Option, None, Some}
 use Rattle.device.specs.Calls.{Effect}
 use Rattle.mailcore.specs.declared.side.Side.{Side}
 use Rattle.mailcore.specs.declared.side.Side.TheVariants.{Far, Near}
@@ -7,15 +7,14 @@ use Rattle.mailcore.specs.declared.side.Direction.{Direction}
 use Rattle.mailcore.specs.declared.mailbox.Message.{Message}
 use Rattle.mailcore.specs.declared.listing.Listing.{Listing}
 use Rattle.mailcore.specs.Content.{fit}
-use Rattle.mailcore.specs.FlagSet.{has, DELETED}
-use Rattle.mailcore.specs.Operations.{Shows, ShowsAbove, bytes_of, with_messages}
+use Rattle.mailcore.specs.Operations.{Shows, ShowsAbove, bytes_of}
 use Rattle.mailcore.specs.Sides.{source, target}
 use Rattle.mailcore.specs.Stores.{Store}
-use Rattle.near_box.specs.Mailboxes.{admitted_near}
-use Rattle.near_box.specs.NearContracts.{AdmitsSome}
+use Rattle.mailcore.specs.Mailboxes.{all_admitted, AdmitsSome}
 use Rattle.rules.specs.Copies.{copy_of}
 use Rattle.outside.specs.declared.outside.Carried.{Carried}
 use Rattle.outside.specs.declared.outside.Carried.TheVariants.{Absent, Unfit, Made}
+use Rattle.mailbox.specs.Operations.{Tells}
 use Rattle.outside.specs.Devices.{Device, box, on_box}
 
 -- ---- listings
@@ -28,28 +27,15 @@ ListsFar listing d = Shows Far d.far listing
 abbrev pub ListsNear : (from : ℕ) → Listing → Device → Type 0
 ListsNear from listing d = ShowsAbove Near from d.near.store listing
 
--- a UIDVALIDITY and a UIDNEXT are above 0
-abbrev pub HasNumbers : Listing → Type 0
-HasNumbers listing = (0 < listing.validity) × (0 < listing.next)
-
 -- ---- changes
 
 -- the mailbox of a side changes so
 abbrev pub Turns : Side → (Store → Store) → Effect Device
 Turns side change d d' = d' ≡ on_box side change d
 
--- a near file can be removed whatever its flags; a server removes only what is marked as deleted (RFC 9051, section 6.4.9)
-abbrev pub may_go : Side → Message → Bool
-may_go Far m = has m.flags DELETED
-may_go Near m = true
-
--- the message with this UID is removed, if it may go
-abbrev pub removed : Side → (uid : ℕ) → Store → Store
-removed side uid = with_messages (filter (λ m. not (m.uid == uid && may_go side m)))
-
 -- all waiting files have the UIDs from next on
 abbrev pub Admits : Effect Device
-Admits d d' = d' ≡ record d { near = admitted_near d.near }
+Admits d d' = d' ≡ record d { near = all_admitted d.near }
 
 -- the UIDs of all are set aside, and some of the files have theirs
 pub record AdmitsPart (d d' : Device) : Type 0 where
@@ -73,11 +59,6 @@ pub record MakesCopy (direction : Direction) (uid flags : ℕ) (mark : List ℕ)
   pub least : (box d (target direction)).next ≤ copy
   pub below : copy < next
   pub now : d' ≡ on_box (target direction) (with_copy (copy_of (target direction) copy flags mark bytes) next) d
-
--- the UID that was told, if one was, is that of the copy
-abbrev pub Tells : Option ℕ → (copy : ℕ) → Type 0
-Tells None copy = Unit {0}
-Tells (Some told) copy = told ≡ copy
 
 pub record Carries (direction : Direction) (uid flags : ℕ) (mark : List ℕ) (told : Option ℕ) (d d' : Device) : Type 0 where
   pub makes : MakesCopy direction uid flags mark d d'

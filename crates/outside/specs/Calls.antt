@@ -1,18 +1,17 @@
 -- What a call of the outside does, whether it stops or not, and what it counts.
-use Rattle.std.specs.Prelude.{◌≡◌, ◌<◌, ◌≤◌, ◌+◌, ℕ, Bool, true, false, Result, Ok, Err}
+use Rattle.std.specs.Prelude.{◌≡◌, ◌+◌, if◌then◌else◌, ℕ, Bool, true, false, List, ◌∷◌, ◌++◌, Result, Ok, Err}
 use Rattle.device.specs.Calls.{Seen as DeviceSeen, Effect, Between, Acts, Leaves, Stays, Answers}
 use Rattle.outside.specs.declared.fault.OutsideFault.{OutsideFault}
 use Rattle.outside.specs.declared.fault.OutsideFault.TheVariants.{Stopped, Refused, Box, BadState, BadJournal, NoMemory}
 use Rattle.outside.specs.Devices.{Device}
 
--- an outside as a contract sees it: the device, whether a call has failed since it was opened, and how many calls have
--- stopped, were refused, had another fault of a box, and have made a copy; no number is the greatest
+-- an outside as a contract sees it: the device, whether a call has failed since it was opened, how many calls have stopped, which
+-- faults calls have told, the last first, and how many have made a copy; no number is the greatest
 pub record Seen : Type 0 where
   pub device : Device
   pub is_broken : Bool
   pub stops : ℕ
-  pub refusals : ℕ
-  pub faults : ℕ
+  pub told : List OutsideFault
   pub appends : ℕ
 
 -- the same as any device is seen
@@ -27,8 +26,7 @@ IsStop fault = fault ≡ Stopped
 
 -- a call that answered has made so many copies
 pub record CountsCopies (copies : ℕ) (old new : Seen) : Type 0 where
-  pub refusals : new.refusals ≡ old.refusals
-  pub faults : new.faults ≡ old.faults
+  pub told : new.told ≡ old.told
   pub appends : new.appends ≡ old.appends + copies
 
 -- how many stops a fault tells
@@ -40,24 +38,13 @@ stops_told (BadState line) = 0
 stops_told (BadJournal line) = 0
 stops_told NoMemory = 0
 
--- a refusal and another fault of a box are counted
-abbrev pub IsCounted : OutsideFault → Seen → Seen → Type 0
-IsCounted Stopped old new = Unit {0}
-IsCounted Refused old new = old.refusals < new.refusals
-IsCounted (Box side number) old new = old.faults < new.faults
-IsCounted (BadState line) old new = Unit {0}
-IsCounted (BadJournal line) old new = Unit {0}
-IsCounted NoMemory old new = Unit {0}
-
--- A call that ended with a fault, which is one that it may tell. A stop that it tells is counted once, and no other; where the outside
--- was broken nothing is counted.
+-- A call that ended with a fault, which is one that it may tell. It is noted as it is told, and a stop is counted once, and nothing
+-- else is; where the outside was broken nothing is.
 pub record CountsFault (may_tell : OutsideFault → Type 0) (fault : OutsideFault) (old new : Seen) : Type 0 where
   pub told : may_tell fault
-  pub counted : IsCounted fault old new
+  pub noted : old.is_broken ≡ false → new.told ≡ fault ∷ old.told
   pub stopped : old.is_broken ≡ false → new.stops ≡ old.stops + stops_told fault
-  pub refusals : old.refusals ≤ new.refusals
-  pub faults : old.faults ≤ new.faults
-  pub appends : old.appends ≤ new.appends
+  pub appends : new.appends ≡ old.appends
   pub stuck : old.is_broken ≡ true → new ≡ old
 
 abbrev pub Counts : {T : Type 0} → (copies : T → ℕ) → (may_tell : OutsideFault → Type 0) → Seen → Seen → Result T OutsideFault → Type 0
@@ -127,3 +114,16 @@ Reads honest others tells old new result = Call honest others (λ _. 0) FromBox 
 -- a call of the book that changes the files
 abbrev pub Writes : (honest : Type 0) → (others : Effect Device) → (may_tell : OutsideFault → Type 0) → (does part : Effect Device) → Seen → Seen → Result (Unit {0}) OutsideFault → Type 0
 Writes honest others may_tell does part old new result = Call honest others (λ _. 0) may_tell (λ _. does) (LeavesBy {T = Unit {0}} (λ _. does) part) old new result
+
+-- ---- a run that is not to go on
+
+-- the same outside behind a call that stopped before it had an effect
+abbrev pub stopped : Seen → Seen
+stopped old = if old.is_broken then old else record old { is_broken = true; stops = old.stops + 1; told = Stopped ∷ old.told }
+
+-- ---- what was told
+
+-- this fault is the last that was told, and it was told since
+pub record IsLast (fault : OutsideFault) (old new : Seen) : Type 0 where
+  pub since : List OutsideFault
+  pub now : new.told ≡ fault ∷ (since ++ old.told)

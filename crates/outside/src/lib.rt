@@ -1,6 +1,5 @@
 //! All that a run calls, as one: both boxes and the book.
 #![tactic(auto)]
 
-pub mod far_next;
 pub mod fault;
 pub mod outside;

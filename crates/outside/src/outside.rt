@@ -38,10 +38,11 @@ pub trait Outside {
     ghost use Rattle.book.specs.Commits.{CommitsHalf, CommitsTo};
     ghost use Rattle.outside.specs.Arrivals.{Arrives};
     ghost use Rattle.outside.specs.Devices.{box};
-    ghost use Rattle.outside.specs.Calls.{Call, Changes, FromBook, FromBox, FromShelf, LeavesBy, Reads, Seen, Writes};
+    ghost use Rattle.outside.specs.Calls.{Call, Changes, FromBook, FromBox, FromShelf, LeavesBy, Reads, Seen, Writes, stopped};
     ghost use Rattle.outside.specs.Opened.{IsBook, IsHeld, IsOpen, IsRead, Opened, AreCommitted, TakesCommit, TakesLog, TakesPlan, journal_of, state_of, turned, with_box};
     ghost use Rattle.outside.specs.BookCalls.{FromLog, LeavesUnread, OfBook, ReadsBook};
-    ghost use Rattle.outside.specs.BoxCalls.{Admits, AdmitsPart, Carry, HasNumbers, ListsFar, ListsNear, SetsAside, Turns, copies_made, removed};
+    ghost use Rattle.mailbox.specs.Operations.{HasNumbers, removed};
+    ghost use Rattle.outside.specs.BoxCalls.{Admits, AdmitsPart, Carry, ListsFar, ListsNear, SetsAside, Turns, copies_made};
 
     /// Server, folder and shelf have kept their word so far.
     ghost honest: { Self → Type 0 };
@@ -207,6 +208,13 @@ pub trait Outside {
         ensures opened { opened self.new ≡ opened self.old }
         ensures call { Changes {T = Unit {0}} (honest self.new) (Arrives ours alone) (λ _. Turns side (removed side uid)) Nothing
             (seen self.old) (seen self.new) result };
+
+    /// Stops as a call does that stops before it has an effect: whoever calls it does not let the run go on.
+    fn stop(&mut self) -> OutsideFault
+        ensures was_honest { honest self.new → honest self.old }
+        ensures fault { result ≡ OutsideFault.Stopped }
+        ensures stopped { seen self.new ≡ stopped (seen self.old) }
+        ensures opened { opened self.new ≡ opened self.old };
 
     /// Opens all again, so that calls are answered again. It keeps both mailboxes and the shelf, and nothing else.
     fn reopen(&mut self)

@@ -9,9 +9,10 @@ use Rattle.mailcore.specs.declared.side.Side.{Side}
 use Rattle.mailcore.specs.declared.side.Side.TheVariants as sides
 use Rattle.mailcore.specs.Content.{mark_of}
 use Rattle.mailcore.specs.Stores.{Waiting}
-use Rattle.near_box.specs.Mailboxes.{Near}
+use Rattle.mailcore.specs.Mailboxes.{Mailbox}
 use Rattle.mailbox.specs.Arrivals as box
-use Rattle.outside.specs.Arrivals.{Arrives, IsForeign, IsMerge, none, left}
+use Rattle.mailbox.specs.Arrivals.{IsForeign, IsMerge, none, left}
+use Rattle.outside.specs.Arrivals.{Arrives}
 use Rattle.outside.specs.Devices.{Device}
 use Rattle.pair.specs.Parts.{IsLess, both, put}
 
@@ -39,7 +40,7 @@ quiet ours alone d = record {
 }
 
 -- nobody acts on a mailbox
-pub box_quiet : (side : Side) (ours : List ℕ → Bool) (alone : Bool) (b : Near) → box.Arrives side ours alone b b
+pub box_quiet : (side : Side) (ours : List ℕ → Bool) (alone : Bool) (b : Mailbox) → box.Arrives side ours alone b b
 box_quiet sides.Far ours alone b = record {
   comes = record {
     messages = [];
@@ -84,7 +85,7 @@ alone_right a b h = (and_parts a b h).1
 -- ---- others act on one side
 
 module _ (ours ours' : List ℕ → Bool) (alone alone' : Bool) (less : IsLess ours ours') (lone : alone' ≡ true → alone ≡ true) (d : Device) where
-  pub arrives_at : (side : Side) (b b' : Near) → box.Arrives side ours alone b b' → Arrives ours' alone' (put side b d) (put side b' d)
+  pub arrives_at : (side : Side) (b b' : Mailbox) → box.Arrives side ours alone b b' → Arrives ours' alone' (put side b d) (put side b' d)
   arrives_at sides.Far b b' a = record {
     messages = a.comes.messages;
     next = a.comes.next;
@@ -94,8 +95,8 @@ module _ (ours ours' : List ℕ → Bool) (alone alone' : Bool) (less : IsLess o
     merged = nobody_else d.near.waiting;
     far_foreign = All-weaker _ _ (λ m. is_foreign ours ours' less (mark_of m.bytes)) a.comes.messages a.comes.foreign;
     near_foreign = All-nil _;
-    now = ap (λ (x : Near). put sides.Far x d) a.comes.now;
-    nobody = λ h. ap (λ (x : Near). put sides.Far x d) (a.nobody (lone h));
+    now = ap (λ (x : Mailbox). put sides.Far x d) a.comes.now;
+    nobody = λ h. ap (λ (x : Mailbox). put sides.Far x d) (a.nobody (lone h));
   }
   arrives_at sides.Near b b' a = record {
     messages = [];
@@ -106,6 +107,6 @@ module _ (ours ours' : List ℕ → Bool) (alone alone' : Bool) (less : IsLess o
     merged = a.comes.merged;
     far_foreign = All-nil _;
     near_foreign = All-weaker _ _ (λ f. is_foreign ours ours' less (mark_of f.bytes)) a.comes.files a.comes.foreign;
-    now = ap (λ (x : Near). put sides.Near x d) a.comes.now ∙ same_far (put sides.Near (record b { waiting = a.comes.waiting }) d);
-    nobody = λ h. ap (λ (x : Near). put sides.Near x d) (a.nobody (lone h));
+    now = ap (λ (x : Mailbox). put sides.Near x d) a.comes.now ∙ same_far (put sides.Near (record b { waiting = a.comes.waiting }) d);
+    nobody = λ h. ap (λ (x : Mailbox). put sides.Near x d) (a.nobody (lone h));
   }

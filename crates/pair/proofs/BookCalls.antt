@@ -6,7 +6,7 @@ use Rattle.mailbox.specs.declared.mailbox.Mailbox as mailbox
 use Rattle.device.specs.Calls.{Effect}
 use Rattle.mailcore.specs.declared.side.Side.TheVariants as side
 use Rattle.mailcore.specs.Stores.{Store}
-use Rattle.near_box.specs.Mailboxes.{Near}
+use Rattle.mailcore.specs.Mailboxes.{Mailbox}
 use Rattle.rules.specs.declared.plan.Plan.{Plan}
 use Rattle.rules.specs.declared.state.SyncState.{SyncState}
 use Rattle.sync_state.specs.declared.journal.Logged.{Logged}
@@ -20,11 +20,11 @@ use Rattle.outside.specs.BookCalls as there
 use Rattle.outside.specs.Calls.{Call, FromShelf, LeavesBy, Writes}
 use Rattle.outside.specs.Devices.{Device}
 use Rattle.outside.specs.Opened as opened
-use Rattle.book_part.specs.PartCalls.{LeavesSome, Part, PartChanges}
-use Rattle.book_part.specs.Stops.{Standing, StopsSo}
-use Rattle.book_part.specs.declared.book_part.BookPart.{BookPart}
-use Rattle.book_part.specs.BookParts.{files_of, kept_of, standing_of}
-use Rattle.book_part.specs.Kept.{Kept, AreCommitted, FromLog, IsBook, IsHeld, IsRead, LeavesUnread, OfKept, ReadsFiles, TakesCommit, TakesLog, TakesPlan, journal_of, state_of, turned}
+use Rattle.pair.specs.PartCalls.{LeavesSome, Part, PartChanges}
+use Rattle.pair.specs.Stops.{Standing, StopsSo}
+use Rattle.pair.specs.declared.book_part.BookPart.{BookPart}
+use Rattle.pair.specs.BookParts.{files_of, kept_of, standing_of}
+use Rattle.pair.specs.Kept.{Kept, AreCommitted, FromLog, IsBook, IsHeld, IsRead, LeavesUnread, OfKept, ReadsFiles, TakesCommit, TakesLog, TakesPlan, journal_of, state_of, turned}
 use Rattle.pair.specs.declared.pair.Pair.{Pair}
 use Rattle.pair.specs.Pairs.{Failed, device_of, opened_of}
 use Rattle.pair.specs.Parts.{both, device_with, opened_with}
@@ -77,7 +77,7 @@ are_committed f n (Some k) (Some k') h = record { made = h.made; pending = h.pen
 
 -- ---- a call of the book that was read
 
-of_book : (f n : Bool) (k : Option Kept) (does : Pending → Effect Files) (far : Store) (near : Near) (files files' : Files) → OfKept does k files files'
+of_book : (f n : Bool) (k : Option Kept) (does : Pending → Effect Files) (far : Store) (near : Mailbox) (files files' : Files) → OfKept does k files files'
     → there.OfBook does (opened_with f n k) (record { far = far; near = near; files = files }) (record { far = far; near = near; files = files' })
 of_book f n None does far near files files' h = h
 of_book f n (Some k) does far near files files' h = record { far = refl; near = refl; files = h }
@@ -134,7 +134,7 @@ tells_log f n k logged (Err e) h = from_log f n k logged e h
 
 -- ---- the book is read
 
-reads_so : (f n : Bool) (k : Option Kept) (far : Store) (near : Near) (files files' : Files) → ReadsFiles k files files'
+reads_so : (f n : Bool) (k : Option Kept) (far : Store) (near : Mailbox) (files files' : Files) → ReadsFiles k files files'
     → there.ReadsBook (opened_with f n k) (record { far = far; near = near; files = files }) (record { far = far; near = near; files = files' })
 reads_so f n k far near files files' h =
     (ap (λ (x : Files). record { far = far; near = near; files = x }) h.0, is_held f n k (record { far = far; near = near; files = files }) h.1)

@@ -7,11 +7,10 @@ use Rattle.device.specs.Calls as dev
 use Rattle.device.specs.Calls.{Effect, Nothing, Stays, Follows}
 use Rattle.mailcore.specs.declared.listing.Listing.{Listing}
 use Rattle.mailcore.specs.declared.side.Side.{Side}
-use Rattle.mailcore.specs.declared.side.Side.TheVariants.{Far, Near as NearSide}
+use Rattle.mailcore.specs.declared.side.Side.TheVariants.{Far, Near}
 use Rattle.mailcore.specs.Operations.{marked_from}
 use Rattle.mailcore.specs.Stores.{Store}
-use Rattle.near_box.specs.Mailboxes.{Near}
-use Rattle.near_box.specs.NearContracts.{AdmitsSome}
+use Rattle.mailcore.specs.Mailboxes.{Mailbox, AdmitsSome}
 use Rattle.mailbox.specs.declared.fault.BoxFault.{BoxFault}
 use Rattle.mailbox.specs.declared.fault.BoxFault.TheVariants as boxes
 use Rattle.mailbox.specs.Arrivals as box
@@ -36,12 +35,12 @@ use Rattle.pair.proofs.Ending.{done_call, failed_call, tally}
 -- ---- what is left of a device, of a call that changes and of one that reads
 
 module _ (side : Side) (d : Device) where
-  pub same_there : (b b' : Near) → b' ≡ b → put side b' d ≡ put side b d
-  same_there b b' h = ap (λ (x : Near). put side x d) h
+  pub same_there : (b b' : Mailbox) → b' ≡ b → put side b' d ≡ put side b d
+  same_there b b' h = ap (λ (x : Mailbox). put side x d) h
 
-  pub changes_left : {T : Type 0} (because : BoxFault → Near → Type 0) (does : T → Effect Near) (part : Effect Near) (does' : T → Effect Device) (part' : Effect Device)
-      → ((x : T) (b b' : Near) → does x b b' → does' x (put side b d) (put side b' d)) → ((b b' : Near) → part b b' → part' (put side b d) (put side b' d))
-      → (f : BoxFault) (b b' : Near) → calls.LeavesBy does part because f b b' → LeavesBy does' part' (told side f) (put side b d) (put side b' d)
+  pub changes_left : {T : Type 0} (because : BoxFault → Mailbox → Type 0) (does : T → Effect Mailbox) (part : Effect Mailbox) (does' : T → Effect Device) (part' : Effect Device)
+      → ((x : T) (b b' : Mailbox) → does x b b' → does' x (put side b d) (put side b' d)) → ((b b' : Mailbox) → part b b' → part' (put side b d) (put side b' d))
+      → (f : BoxFault) (b b' : Mailbox) → calls.LeavesBy does part because f b b' → LeavesBy does' part' (told side f) (put side b d) (put side b' d)
   changes_left because does part does' part' all some boxes.Stopped b b' (inl h) = inl (same_there b b' h)
   changes_left because does part does' part' all some boxes.Stopped b b' (inr (inl h)) = inr (inl (record { answer = h.answer; done = all h.answer b b' h.done }))
   changes_left because does part does' part' all some boxes.Stopped b b' (inr (inr h)) = inr (inr (some b b' h))
@@ -51,7 +50,7 @@ module _ (side : Side) (d : Device) where
   changes_left because does part does' part' all some boxes.NoMemory b b' (inr (inl h)) = inr (inl (record { answer = h.answer; done = all h.answer b b' h.done }))
   changes_left because does part does' part' all some boxes.NoMemory b b' (inr (inr h)) = inr (inr (some b b' h))
 
-  pub reads_left : {T : Type 0} (because : BoxFault → Near → Type 0) (tells : T → Near → Type 0) (f : BoxFault) (b b' : Near)
+  pub reads_left : {T : Type 0} (because : BoxFault → Mailbox → Type 0) (tells : T → Mailbox → Type 0) (f : BoxFault) (b b' : Mailbox)
       → calls.LeavesBy (Answers tells) Nothing because f b b' → Stays (put side b d) (put side b' d)
   reads_left because tells boxes.Stopped b b' (inl h) = same_there b b' h
   reads_left because tells boxes.Stopped b b' (inr (inl h)) = same_there b b' h.done.0
@@ -65,16 +64,16 @@ module _ (side : Side) (d : Device) where
 -- ---- calls of a mailbox, in its own words and in those of the device that it stands in
 
 pub record Move (side : Side) (d : Device) (T : Type 0) : Type 1 where
-  pub because : BoxFault → Near → Type 0
-  pub does : T → Effect Near
-  pub part : Effect Near
+  pub because : BoxFault → Mailbox → Type 0
+  pub does : T → Effect Mailbox
+  pub part : Effect Mailbox
   pub does' : T → Effect Device
   pub leaves' : OutsideFault → Effect Device
-  pub all : (x : T) (b b' : Near) → does x b b' → does' x (put side b d) (put side b' d)
-  pub some : (f : BoxFault) (b b' : Near) → calls.LeavesBy does part because f b b' → leaves' (told side f) (put side b d) (put side b' d)
+  pub all : (x : T) (b b' : Mailbox) → does x b b' → does' x (put side b d) (put side b' d)
+  pub some : (f : BoxFault) (b b' : Mailbox) → calls.LeavesBy does part because f b b' → leaves' (told side f) (put side b d) (put side b' d)
 
-module _ {T : Type 0} (side : Side) (d : Device) (because : BoxFault → Near → Type 0) where
-  abbrev reading : (tells : T → Near → Type 0) (tells' : T → Device → Type 0) → ((x : T) (b : Near) → tells x b → tells' x (put side b d)) → Move side d T
+module _ {T : Type 0} (side : Side) (d : Device) (because : BoxFault → Mailbox → Type 0) where
+  abbrev reading : (tells : T → Mailbox → Type 0) (tells' : T → Device → Type 0) → ((x : T) (b : Mailbox) → tells x b → tells' x (put side b d)) → Move side d T
   reading tells tells' so = record {
     because = because;
     does = Answers tells;
@@ -85,8 +84,8 @@ module _ {T : Type 0} (side : Side) (d : Device) (because : BoxFault → Near �
     some = reads_left side d because tells;
   }
 
-  abbrev changing : (does : T → Effect Near) (part : Effect Near) (does' : T → Effect Device) (part' : Effect Device)
-      → ((x : T) (b b' : Near) → does x b b' → does' x (put side b d) (put side b' d)) → ((b b' : Near) → part b b' → part' (put side b d) (put side b' d)) → Move side d T
+  abbrev changing : (does : T → Effect Mailbox) (part : Effect Mailbox) (does' : T → Effect Device) (part' : Effect Device)
+      → ((x : T) (b b' : Mailbox) → does x b b' → does' x (put side b d) (put side b' d)) → ((b b' : Mailbox) → part b b' → part' (put side b d) (put side b' d)) → Move side d T
   changing does part does' part' all some = record {
     because = because;
     does = does;
@@ -98,11 +97,11 @@ module _ {T : Type 0} (side : Side) (d : Device) (because : BoxFault → Near �
   }
 
 module _ (d : Device) where
-  pub box_at : (side : Side) (b : Near) → devices.box (put side b d) side ≡ b.store
+  pub box_at : (side : Side) (b : Mailbox) → devices.box (put side b d) side ≡ b.store
   box_at Far b = refl
-  box_at NearSide b = refl
+  box_at Near b = refl
 
-  abbrev pub opening : (side : Side) → (unfit : BoxFault → Near → Type 0) → Move side d ℕ
+  abbrev pub opening : (side : Side) → (unfit : BoxFault → Mailbox → Type 0) → Move side d ℕ
   opening side unfit = reading side d unfit ops.TellsValidity (λ validity e. validity ≡ (devices.box e side).validity) (λ validity b h. h ∙ sym (ap (λ (s : Store). s.validity) (box_at side b)))
 
   abbrev pub finding : (side : Side) → (mark : List ℕ) → (from : ℕ) → Move side d (Option ℕ)
@@ -111,19 +110,19 @@ module _ (d : Device) where
   abbrev pub listing_far : (from : ℕ) → Move Far d Listing
   listing_far from = reading Far d Never (ops.Lists Far from) ListsFar (λ listing b h. h)
 
-  abbrev pub listing_near : (from : ℕ) → Move NearSide d Listing
-  listing_near from = reading NearSide d Never (ops.Lists NearSide from) (ListsNear from) (λ listing b h. h)
+  abbrev pub listing_near : (from : ℕ) → Move Near d Listing
+  listing_near from = reading Near d Never (ops.Lists Near from) (ListsNear from) (λ listing b h. h)
 
-  pub turned : (side : Side) (change : Store → Store) (b b' : Near) → ops.Turns change b b' → Turns side change (put side b d) (put side b' d)
-  turned Far change b b' h = ap (λ (x : Near). put Far x d) h
-  turned NearSide change b b' h = ap (λ (x : Near). put NearSide x d) h
+  pub turned : (side : Side) (change : Store → Store) (b b' : Mailbox) → ops.Turns change b b' → Turns side change (put side b d) (put side b' d)
+  turned Far change b b' h = ap (λ (x : Mailbox). put Far x d) h
+  turned Near change b b' h = ap (λ (x : Mailbox). put Near x d) h
 
   abbrev pub turning : (side : Side) → (change : Store → Store) → Move side d (Unit {0})
   turning side change = changing side d Never (λ _. ops.Turns change) Nothing (λ _. Turns side change) Nothing (λ _. turned side change) (λ b b' h. absurd h)
 
-  abbrev pub admitting : Move NearSide d (Unit {0})
-  admitting = changing NearSide d (NoRoom NearSide (λ b. length b.waiting)) (λ _. ops.Admits) AdmitsSome (λ _. Admits) AdmitsPart
-      (λ _ b b' h. ap (λ (x : Near). put NearSide x d) h) (λ b b' h. record { far = refl; files = refl; near = h })
+  abbrev pub admitting : Move Near d (Unit {0})
+  admitting = changing Near d (NoRoom Near (λ b. length b.waiting)) (λ _. ops.Admits) AdmitsSome (λ _. Admits) AdmitsPart
+      (λ _ b b' h. ap (λ (x : Mailbox). put Near x d) h) (λ b b' h. record { far = refl; files = refl; near = h })
 
 -- ---- what is told
 
@@ -133,25 +132,25 @@ from_box side boxes.Refused = tt
 from_box side (boxes.Own number) = tt
 from_box side boxes.NoMemory = tt
 
-pub is_told : {T : Type 0} (side : Side) (own ended' cause : Type 0) (others : Effect Near) (because : BoxFault → Near → Type 0) (does : T → Effect Near) (part : Effect Near) (s s' : Seen) (f : BoxFault)
+pub is_told : {T : Type 0} (side : Side) (own ended' cause : Type 0) (others : Effect Mailbox) (because : BoxFault → Mailbox → Type 0) (does : T → Effect Mailbox) (part : Effect Mailbox) (s s' : Seen) (f : BoxFault)
     → (HasCause ended' s s' → cause) → calls.Call {T = T} own ended' others because does part s s' (Err f) → IsTold own cause side because s'.stored (told side f)
 is_told side own ended' cause others because does part s s' boxes.Stopped so h = so (h.cause refl)
-is_told side own ended' cause others because does part s s' boxes.Refused so h = λ k. let l = h.left k in subst (λ (b : Near). because boxes.Refused b) (sym l.behind.0) l.behind.1
+is_told side own ended' cause others because does part s s' boxes.Refused so h = λ k. let l = h.left k in subst (λ (b : Mailbox). because boxes.Refused b) (sym l.behind.0) l.behind.1
 is_told side own ended' cause others because does part s s' (boxes.Own number) so h =
-    (refl, λ k. let l = h.left k in subst (λ (b : Near). because (boxes.Own number) b) (sym l.behind.0) l.behind.1)
+    (refl, λ k. let l = h.left k in subst (λ (b : Mailbox). because (boxes.Own number) b) (sym l.behind.0) l.behind.1)
 is_told side own ended' cause others because does part s s' boxes.NoMemory so h = tt
 
 -- ---- the call of one side is that of the outside
 
 -- what the outside says of a call of the mailbox of a side
-pub record Ends {T : Type 0} (side : Side) (d d' : Device) (move : Move side d T) (now : Near) (honest own cause : Type 0) (others : Effect Device) (c c' : Counts) (result : Result T OutsideFault) : Type 0 where
+pub record Ends {T : Type 0} (side : Side) (d d' : Device) (move : Move side d T) (now : Mailbox) (honest own cause : Type 0) (others : Effect Device) (c c' : Counts) (result : Result T OutsideFault) : Type 0 where
   pub call : Call honest others (λ _. 0) FromBox move.does' move.leaves' (seen_with d c) (seen_with d' c') result
   pub why : IfErr result (IsTold own cause side move.because now)
   pub tallied : Tallied no_copies result c c'
 
 module _ {T : Type 0} (side : Side) (d : Device) (move : Move side d T) (honest own ended' cause : Type 0) (ours ours' : List ℕ → Bool) (alone alone' : Bool) (s s' : Seen)
     (kept : honest → own) (less : IsLess ours ours') (lone : alone' ≡ true → alone ≡ true) (so : HasCause ended' s s' → cause) (was : put side s.stored d ≡ d) where
-  along : (own' : Effect Near) (own'' : Effect Device) → ((b b' : Near) → own' b b' → own'' (put side b d) (put side b' d))
+  along : (own' : Effect Mailbox) (own'' : Effect Device) → ((b b' : Mailbox) → own' b b' → own'' (put side b d) (put side b' d))
       → Follows (box.Arrives side ours alone) own' s.stored s'.stored → Follows (Arrives ours' alone') own'' d (put side s'.stored d)
   along own' own'' f h = record {
     mid = put side h.mid d;
@@ -193,13 +192,13 @@ module _ {F N S : Type 0} {fars : mailbox.Ghosts F} {nears : mailbox.Ghosts N} {
       (λ k. k.0) (less_left fars.ours nears.ours) (alone_left fars.alone nears.alone) (λ k. inr k) refl p.tally c' answer result whole same now h
 
   -- the near mailbox was
-  pub near_ends : (move : Move NearSide (device_of p) T) (near : N) (c' : Counts) (answer : Result T BoxFault) (result : Result T OutsideFault)
-      → p.tally.is_broken ≡ false → result ≡ told_by NearSide answer → c' ≡ ended no_copies (told_by NearSide answer) p.tally
-      → calls.Call (nears.honest near) (nears.ended p.near near) (box.Arrives NearSide nears.ours nears.alone) move.because move.does move.part (nears.seen p.near) (nears.seen near) answer
-      → Ends NearSide (device_of p) (put NearSide (nears.seen near).stored (device_of p)) move (nears.seen near).stored (fars.honest p.far × nears.honest near × (shelves.is_honest ≡ true)) (nears.honest near)
+  pub near_ends : (move : Move Near (device_of p) T) (near : N) (c' : Counts) (answer : Result T BoxFault) (result : Result T OutsideFault)
+      → p.tally.is_broken ≡ false → result ≡ told_by Near answer → c' ≡ ended no_copies (told_by Near answer) p.tally
+      → calls.Call (nears.honest near) (nears.ended p.near near) (box.Arrives Near nears.ours nears.alone) move.because move.does move.part (nears.seen p.near) (nears.seen near) answer
+      → Ends Near (device_of p) (put Near (nears.seen near).stored (device_of p)) move (nears.seen near).stored (fars.honest p.far × nears.honest near × (shelves.is_honest ≡ true)) (nears.honest near)
       (Failed p (HasCause (nears.ended p.near near) (nears.seen p.near) (nears.seen near))) (Arrives (both fars.ours nears.ours) (fars.alone && nears.alone)) p.tally c' result
   near_ends move near c' answer result whole same now h =
-      ends NearSide (device_of p) move _ (nears.honest near) (nears.ended p.near near) _ nears.ours (both fars.ours nears.ours) nears.alone (fars.alone && nears.alone) (nears.seen p.near) (nears.seen near)
+      ends Near (device_of p) move _ (nears.honest near) (nears.ended p.near near) _ nears.ours (both fars.ours nears.ours) nears.alone (fars.alone && nears.alone) (nears.seen p.near) (nears.seen near)
       (λ k. k.1) (less_right fars.ours nears.ours) (alone_right fars.alone nears.alone) (λ k. inr k) refl p.tally c' answer result whole same now h
 
 -- ---- an answer

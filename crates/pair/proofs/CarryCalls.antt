@@ -9,7 +9,7 @@ use Rattle.mailcore.specs.declared.side.Direction.TheVariants.{Pull, Push}
 use Rattle.mailcore.specs.declared.side.Side.{Side}
 use Rattle.mailcore.specs.declared.side.Side.TheVariants as sides
 use Rattle.mailcore.specs.Sides.{target}
-use Rattle.near_box.specs.Mailboxes.{Near}
+use Rattle.mailcore.specs.Mailboxes.{Mailbox}
 use Rattle.mailbox.specs.declared.fault.BoxFault.{BoxFault}
 use Rattle.mailbox.specs.Calls.{HasCause, Never}
 use Rattle.mailbox.specs.Operations.{NoRoom}
@@ -31,7 +31,7 @@ use Rattle.pair.proofs.Ending.{done_call, failed_call, if_err, tallied, tally}
 
 -- ---- what is told
 
-told_so : (own cause cause' : Type 0) (side : Side) (because : BoxFault → Near → Type 0) (b : Near) (e : OutsideFault) → (cause → cause') → IsTold own cause side because b e → IsTold own cause' side because b e
+told_so : (own cause cause' : Type 0) (side : Side) (because : BoxFault → Mailbox → Type 0) (b : Mailbox) (e : OutsideFault) → (cause → cause') → IsTold own cause side because b e → IsTold own cause' side because b e
 told_so own cause cause' side because b fault.Stopped f h = f h
 told_so own cause cause' side because b fault.Refused f h = h
 told_so own cause cause' side because b (fault.Box s number) f h = h
@@ -39,7 +39,7 @@ told_so own cause cause' side because b (fault.BadState line) f h = h
 told_so own cause cause' side because b (fault.BadJournal line) f h = h
 told_so own cause cause' side because b fault.NoMemory f h = h
 
-from_told : (own cause : Type 0) (side : Side) (because : BoxFault → Near → Type 0) (b : Near) (e : OutsideFault) → IsTold own cause side because b e → FromBox e
+from_told : (own cause : Type 0) (side : Side) (because : BoxFault → Mailbox → Type 0) (b : Mailbox) (e : OutsideFault) → IsTold own cause side because b e → FromBox e
 from_told own cause side because b fault.Stopped h = tt
 from_told own cause side because b fault.Refused h = tt
 from_told own cause side because b (fault.Box s number) h = tt
@@ -48,7 +48,7 @@ from_told own cause side because b (fault.BadJournal line) h = absurd h
 from_told own cause side because b fault.NoMemory h = tt
 
 -- what the mailboxes tell of a copy, the source first
-module _ (a b ca cb ca' cb' : Type 0) (sa sb : Side) (ra rb : BoxFault → Near → Type 0) (na nb : Near) where
+module _ (a b ca cb ca' cb' : Type 0) (sa sb : Side) (ra rb : BoxFault → Mailbox → Type 0) (na nb : Mailbox) where
   abbrev Either : (ca cb : Type 0) → OutsideFault → Type 0
   Either ca cb e = IsTold a ca sa ra na e ⊎ IsTold b cb sb rb nb e
 

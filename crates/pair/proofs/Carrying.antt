@@ -9,7 +9,7 @@ use Rattle.mailcore.specs.Content.{copy_text, fit, mark_of}
 use Rattle.mailcore.specs.Operations.{added, bytes_of}
 use Rattle.mailcore.specs.Sides.{source, target}
 use Rattle.std.proofs.lemmas.List.Elements.{All-weaker}
-use Rattle.near_box.specs.Mailboxes.{Near, on_store}
+use Rattle.mailcore.specs.Mailboxes.{Mailbox, on_store}
 use Rattle.rules.specs.Copies.{line_end}
 use Rattle.mailbox.specs.declared.fault.BoxFault.{BoxFault}
 use Rattle.mailbox.specs.declared.fault.BoxFault.TheVariants as boxes
@@ -20,7 +20,8 @@ use Rattle.outside.specs.declared.fault.OutsideFault.{OutsideFault}
 use Rattle.outside.specs.declared.fault.OutsideFault.TheVariants as fault
 use Rattle.outside.specs.declared.outside.Carried.TheVariants.{Absent, Unfit, Made}
 use Rattle.outside.specs.Arrivals.{Arrives}
-use Rattle.outside.specs.BoxCalls.{Carry, SetsAside, Tells}
+use Rattle.mailbox.specs.Operations.{Tells}
+use Rattle.outside.specs.BoxCalls.{Carry, SetsAside}
 use Rattle.outside.specs.Calls.{LeavesBy}
 use Rattle.outside.specs.Devices.{Device}
 use Rattle.pair.specs.Copies.{with_two}
@@ -31,7 +32,7 @@ use Rattle.pair.proofs.Arriving.{box_quiet, is_foreign}
 -- ---- others act on both
 
 module _ (a b ours : List ℕ → Bool) (a1 b1 alone : Bool) (la : IsLess a ours) (lb : IsLess b ours) (na : alone ≡ true → a1 ≡ true) (nb : alone ≡ true → b1 ≡ true) (d : Device) where
-  pub both_arrive : (direction : Direction) (m m' n n' : Near) → box.Arrives (source direction) a a1 m m' → box.Arrives (target direction) b b1 n n'
+  pub both_arrive : (direction : Direction) (m m' n n' : Mailbox) → box.Arrives (source direction) a a1 m m' → box.Arrives (target direction) b b1 n n'
       → Arrives ours alone (with_two direction m n d) (with_two direction m' n' d)
   both_arrive Pull m m' n n' x y = record {
     messages = x.comes.messages;
@@ -42,8 +43,8 @@ module _ (a b ours : List ℕ → Bool) (a1 b1 alone : Bool) (la : IsLess a ours
     merged = y.comes.merged;
     far_foreign = All-weaker _ _ (λ k. is_foreign a ours la (mark_of k.bytes)) x.comes.messages x.comes.foreign;
     near_foreign = All-weaker _ _ (λ k. is_foreign b ours lb (mark_of k.bytes)) y.comes.files y.comes.foreign;
-    now = ap (λ (z : Near). with_two Pull z n' d) x.comes.now ∙ ap (λ (z : Near). with_two Pull (record m { store = record m.store { next = x.comes.next; messages = m.store.messages ++ x.comes.messages } }) z d) y.comes.now;
-    nobody = λ h. ap (λ (z : Near). with_two Pull z n' d) (x.nobody (na h)) ∙ ap (λ (z : Near). with_two Pull m z d) (y.nobody (nb h));
+    now = ap (λ (z : Mailbox). with_two Pull z n' d) x.comes.now ∙ ap (λ (z : Mailbox). with_two Pull (record m { store = record m.store { next = x.comes.next; messages = m.store.messages ++ x.comes.messages } }) z d) y.comes.now;
+    nobody = λ h. ap (λ (z : Mailbox). with_two Pull z n' d) (x.nobody (na h)) ∙ ap (λ (z : Mailbox). with_two Pull m z d) (y.nobody (nb h));
   }
   both_arrive Push m m' n n' x y = record {
     messages = y.comes.messages;
@@ -54,13 +55,13 @@ module _ (a b ours : List ℕ → Bool) (a1 b1 alone : Bool) (la : IsLess a ours
     merged = x.comes.merged;
     far_foreign = All-weaker _ _ (λ k. is_foreign b ours lb (mark_of k.bytes)) y.comes.messages y.comes.foreign;
     near_foreign = All-weaker _ _ (λ k. is_foreign a ours la (mark_of k.bytes)) x.comes.files x.comes.foreign;
-    now = ap (λ (z : Near). with_two Push z n' d) x.comes.now ∙ ap (λ (z : Near). with_two Push (record m { waiting = x.comes.waiting }) z d) y.comes.now;
-    nobody = λ h. ap (λ (z : Near). with_two Push z n' d) (x.nobody (na h)) ∙ ap (λ (z : Near). with_two Push m z d) (y.nobody (nb h));
+    now = ap (λ (z : Mailbox). with_two Push z n' d) x.comes.now ∙ ap (λ (z : Mailbox). with_two Push (record m { waiting = x.comes.waiting }) z d) y.comes.now;
+    nobody = λ h. ap (λ (z : Mailbox). with_two Push z n' d) (x.nobody (na h)) ∙ ap (λ (z : Mailbox). with_two Push m z d) (y.nobody (nb h));
   }
 
   -- the source was called, and nobody acts on the target
-  pub behind_load : (direction : Direction) (n : Near) {m m' : Near} {own : Effect Near} {own' : Effect Device} → Follows (box.Arrives (source direction) a a1) own m m'
-      → ((x : Near) → own x m' → own' (with_two direction x n d) (with_two direction m' n d)) → Follows (Arrives ours alone) own' (with_two direction m n d) (with_two direction m' n d)
+  pub behind_load : (direction : Direction) (n : Mailbox) {m m' : Mailbox} {own : Effect Mailbox} {own' : Effect Device} → Follows (box.Arrives (source direction) a a1) own m m'
+      → ((x : Mailbox) → own x m' → own' (with_two direction x n d) (with_two direction m' n d)) → Follows (Arrives ours alone) own' (with_two direction m n d) (with_two direction m' n d)
   behind_load direction n {m} {m'} e f = record {
     mid = with_two direction e.mid n d;
     before = both_arrive direction m e.mid n n e.before (box_quiet (target direction) b b1 n);
@@ -68,8 +69,8 @@ module _ (a b ours : List ℕ → Bool) (a1 b1 alone : Bool) (la : IsLess a ours
   }
 
   -- the source was called, and then the target
-  pub behind_both : (direction : Direction) {m m' n n' : Near} {own other : Effect Near} {own' : Effect Device} → Follows (box.Arrives (source direction) a a1) own m m'
-      → Follows (box.Arrives (target direction) b b1) other n n' → ((x y : Near) → own x m' → other y n' → own' (with_two direction x y d) (with_two direction m' n' d))
+  pub behind_both : (direction : Direction) {m m' n n' : Mailbox} {own other : Effect Mailbox} {own' : Effect Device} → Follows (box.Arrives (source direction) a a1) own m m'
+      → Follows (box.Arrives (target direction) b b1) other n n' → ((x y : Mailbox) → own x m' → other y n' → own' (with_two direction x y d) (with_two direction m' n' d))
       → Follows (Arrives ours alone) own' (with_two direction m n d) (with_two direction m' n' d)
   behind_both direction {m} {m'} {n} {n'} e h f = record {
     mid = with_two direction e.mid h.mid d;
@@ -99,11 +100,11 @@ left_none does part (fault.BadState line) d d' h = h
 left_none does part (fault.BadJournal line) d d' h = h
 left_none does part fault.NoMemory d d' h = inl h
 
-pub stays_left : {T : Type 0} (does : T → Effect Device) (part : Effect Device) (direction : Direction) (e : OutsideFault) (m m' n : Near) (d : Device) → m' ≡ m → LeavesBy does part e (with_two direction m n d) (with_two direction m' n d)
-stays_left does part direction e m m' n d h = left_none does part e _ _ (ap (λ (z : Near). with_two direction z n d) h)
+pub stays_left : {T : Type 0} (does : T → Effect Device) (part : Effect Device) (direction : Direction) (e : OutsideFault) (m m' n : Mailbox) (d : Device) → m' ≡ m → LeavesBy does part e (with_two direction m n d) (with_two direction m' n d)
+stays_left does part direction e m m' n d h = left_none does part e _ _ (ap (λ (z : Mailbox). with_two direction z n d) h)
 
 -- a call that reads has changed nothing, whatever it tells
-pub read_stays : {T : Type 0} (because : BoxFault → Near → Type 0) (tells : T → Near → Type 0) (f : BoxFault) (m m' : Near) → calls.LeavesBy (ops.Answers tells) Nothing because f m m' → m' ≡ m
+pub read_stays : {T : Type 0} (because : BoxFault → Mailbox → Type 0) (tells : T → Mailbox → Type 0) (f : BoxFault) (m m' : Mailbox) → calls.LeavesBy (ops.Answers tells) Nothing because f m m' → m' ≡ m
 read_stays because tells boxes.Stopped m m' (inl h) = h
 read_stays because tells boxes.Stopped m m' (inr (inl h)) = h.done.0
 read_stays because tells boxes.Stopped m m' (inr (inr h)) = absurd h
@@ -113,22 +114,22 @@ read_stays because tells boxes.NoMemory m m' (inl h) = h
 read_stays because tells boxes.NoMemory m m' (inr (inl h)) = h.done.0
 read_stays because tells boxes.NoMemory m m' (inr (inr h)) = absurd h
 
-pub absent : (direction : Direction) (uid flags : ℕ) (mark : List ℕ) (m m' n : Near) (d : Device) → m' ≡ m → bytes_of uid m.store ≡ None
+pub absent : (direction : Direction) (uid flags : ℕ) (mark : List ℕ) (m m' n : Mailbox) (d : Device) → m' ≡ m → bytes_of uid m.store ≡ None
     → Carry direction uid flags mark Absent (with_two direction m n d) (with_two direction m' n d)
-absent Pull uid flags mark m m' n d h is = (ap (λ (z : Near). with_two Pull z n d) h, is)
-absent Push uid flags mark m m' n d h is = (ap (λ (z : Near). with_two Push z n d) h, is)
+absent Pull uid flags mark m m' n d h is = (ap (λ (z : Mailbox). with_two Pull z n d) h, is)
+absent Push uid flags mark m m' n d h is = (ap (λ (z : Mailbox). with_two Push z n d) h, is)
 
-pub unfit : (direction : Direction) (uid flags : ℕ) (mark bytes : List ℕ) (m m' n : Near) (d : Device) → m' ≡ m → bytes_of uid m.store ≡ Some bytes → fit (source direction) bytes ≡ false
+pub unfit : (direction : Direction) (uid flags : ℕ) (mark bytes : List ℕ) (m m' n : Mailbox) (d : Device) → m' ≡ m → bytes_of uid m.store ≡ Some bytes → fit (source direction) bytes ≡ false
     → Carry direction uid flags mark Unfit (with_two direction m n d) (with_two direction m' n d)
-unfit Pull uid flags mark bytes m m' n d h is bad = (ap (λ (z : Near). with_two Pull z n d) h, record { bytes = bytes; is_there = is; is_unfit = bad })
-unfit Push uid flags mark bytes m m' n d h is bad = (ap (λ (z : Near). with_two Push z n d) h, record { bytes = bytes; is_there = is; is_unfit = bad })
+unfit Pull uid flags mark bytes m m' n d h is bad = (ap (λ (z : Mailbox). with_two Pull z n d) h, record { bytes = bytes; is_there = is; is_unfit = bad })
+unfit Push uid flags mark bytes m m' n d h is bad = (ap (λ (z : Mailbox). with_two Push z n d) h, record { bytes = bytes; is_there = is; is_unfit = bad })
 
 -- ---- a copy is made
 
 tells_uid : (told' : Option ℕ) (uid : ℕ) → told' ≡ Some uid → Tells told' uid
 tells_uid told' uid h = subst (λ (o : Option ℕ). Tells o uid) (sym h) refl
 
-pub made : (direction : Direction) (uid flags : ℕ) (mark bytes text : List ℕ) (told' : Option ℕ) (m m' n n' : Near) (d : Device) → m' ≡ m → bytes_of uid m.store ≡ Some bytes → fit (source direction) bytes ≡ true
+pub made : (direction : Direction) (uid flags : ℕ) (mark bytes text : List ℕ) (told' : Option ℕ) (m m' n n' : Mailbox) (d : Device) → m' ≡ m → bytes_of uid m.store ≡ Some bytes → fit (source direction) bytes ≡ true
     → text ≡ copy_text mark bytes (line_end (target direction)) → ops.Appends (target direction) text flags told' n n'
     → Carry direction uid flags mark (Made told') (with_two direction m n d) (with_two direction m' n' d)
 made Pull uid flags mark bytes text told' m m' n n' d h is good t a = record {
@@ -140,7 +141,7 @@ made Pull uid flags mark bytes text told' m m' n n' d h is good t a = record {
     next = a.uid + 1;
     least = omega (arith, a.gives.0);
     below = omega arith;
-    now = ap (λ (z : Near). with_two Pull z n' d) h ∙ ap (λ (z : Near). with_two Pull m z d) (a.now ∙ ap (λ (x : List ℕ). on_store (added a.uid flags x) n) t);
+    now = ap (λ (z : Mailbox). with_two Pull z n' d) h ∙ ap (λ (z : Mailbox). with_two Pull m z d) (a.now ∙ ap (λ (x : List ℕ). on_store (added a.uid flags x) n) t);
   };
   tells = tells_uid told' a.uid a.gives.1;
 }
@@ -153,22 +154,22 @@ made Push uid flags mark bytes text told' m m' n n' d h is good t a = record {
     next = a.uid + 1;
     least = a.gives.0;
     below = omega arith;
-    now = ap (λ (z : Near). with_two Push z n' d) h ∙ ap (λ (z : Near). with_two Push m z d) (a.now ∙ ap (λ (x : List ℕ). on_store (added a.uid flags x) n) t);
+    now = ap (λ (z : Mailbox). with_two Push z n' d) h ∙ ap (λ (z : Mailbox). with_two Push m z d) (a.now ∙ ap (λ (x : List ℕ). on_store (added a.uid flags x) n) t);
   };
   tells = a.gives.1;
 }
 
-aside : (direction : Direction) (m m' n n' : Near) (d : Device) → m' ≡ m → ops.AppendsPart (target direction) n n' → SetsAside (target direction) (with_two direction m n d) (with_two direction m' n' d)
-aside Pull m m' n n' d h a = record { next = n.store.next + 1; least = omega arith; now = ap (λ (z : Near). with_two Pull z n' d) h ∙ ap (λ (z : Near). with_two Pull m z d) a }
+aside : (direction : Direction) (m m' n n' : Mailbox) (d : Device) → m' ≡ m → ops.AppendsPart (target direction) n n' → SetsAside (target direction) (with_two direction m n d) (with_two direction m' n' d)
+aside Pull m m' n n' d h a = record { next = n.store.next + 1; least = omega arith; now = ap (λ (z : Mailbox). with_two Pull z n' d) h ∙ ap (λ (z : Mailbox). with_two Pull m z d) a }
 aside Push m m' n n' d h a = absurd a
 
-pub not_made : (direction : Direction) (uid flags : ℕ) (mark bytes text : List ℕ) (because : BoxFault → Near → Type 0) (m m' n n' : Near) (d : Device) (f : BoxFault) → m' ≡ m → bytes_of uid m.store ≡ Some bytes → fit (source direction) bytes ≡ true
+pub not_made : (direction : Direction) (uid flags : ℕ) (mark bytes text : List ℕ) (because : BoxFault → Mailbox → Type 0) (m m' n n' : Mailbox) (d : Device) (f : BoxFault) → m' ≡ m → bytes_of uid m.store ≡ Some bytes → fit (source direction) bytes ≡ true
     → text ≡ copy_text mark bytes (line_end (target direction)) → calls.LeavesBy (ops.Appends (target direction) text flags) (ops.AppendsPart (target direction)) because f n n'
     → LeavesBy (Carry direction uid flags mark) (SetsAside (target direction)) (told (target direction) f) (with_two direction m n d) (with_two direction m' n' d)
 not_made direction uid flags mark bytes text because m m' n n' d f h is good t l = by_fault f l
   where
     same : n' ≡ n → with_two direction m' n' d ≡ with_two direction m n d
-    same k = ap (λ (z : Near). with_two direction z n' d) h ∙ ap (λ (z : Near). with_two direction m z d) k
+    same k = ap (λ (z : Mailbox). with_two direction z n' d) h ∙ ap (λ (z : Mailbox). with_two direction m z d) k
 
     by_fault : (f : BoxFault) → calls.LeavesBy (ops.Appends (target direction) text flags) (ops.AppendsPart (target direction)) because f n n'
         → LeavesBy (Carry direction uid flags mark) (SetsAside (target direction)) (told (target direction) f) (with_two direction m n d) (with_two direction m' n' d)

@@ -5,7 +5,7 @@ use Rattle.device.specs.Calls.{Effect, Follows}
 use Rattle.outside.specs.declared.fault.OutsideFault.{OutsideFault}
 use Rattle.outside.specs.declared.fault.OutsideFault.TheVariants as fault
 use Rattle.outside.specs.Arrivals.{Arrives}
-use Rattle.outside.specs.Calls.{Call, IsCounted, stops_told}
+use Rattle.outside.specs.Calls.{Call, stops_told}
 use Rattle.outside.specs.Devices.{Device}
 use Rattle.pair.specs.Tallies.{Counts, Tallied, ended, failed, seen_with}
 use Rattle.pair.proofs.Arriving.{quiet}
@@ -25,24 +25,14 @@ stuck honest ours alone copies may_tell does leaves d c broken may same = record
   };
   counts = record {
     told = may;
-    counted = tt;
+    noted = λ whole. absurd (cc);
     stopped = λ whole. absurd (cc);
-    refusals = omega arith;
-    faults = omega arith;
-    appends = omega arith;
+    appends = refl;
     stuck = λ _. refl;
   };
 }
 
 -- ---- an answer is told as it is
-
-counted_so : (e : OutsideFault) (d d' : Device) (c : Counts) → IsCounted e (seen_with d c) (seen_with d' (failed e c))
-counted_so fault.Stopped d d' c = tt
-counted_so fault.Refused d d' c = omega arith
-counted_so (fault.Box side number) d d' c = omega arith
-counted_so (fault.BadState line) d d' c = tt
-counted_so (fault.BadJournal line) d d' c = tt
-counted_so fault.NoMemory d d' c = tt
 
 module _ {T : Type 0} (honest : Type 0) (others : Effect Device) (copies : T → ℕ) (may_tell : OutsideFault → Type 0) (does : T → Effect Device) (leaves : OutsideFault → Effect Device) (d d' : Device) (c : Counts)
     (whole : c.is_broken ≡ false) where
@@ -58,11 +48,9 @@ module _ {T : Type 0} (honest : Type 0) (others : Effect Device) (copies : T →
     };
     counts = record {
       told = may;
-      counted = counted_so e d d' c;
+      noted = λ _. refl;
       stopped = λ _. omega arith;
-      refusals = omega arith;
-      faults = omega arith;
-      appends = omega arith;
+      appends = refl;
       stuck = λ broken. absurd (cc);
     };
   }
@@ -70,7 +58,7 @@ module _ {T : Type 0} (honest : Type 0) (others : Effect Device) (copies : T →
   pub done_call : (x : T) → (honest → Follows others (does x) d d') → Call honest others copies may_tell does leaves (seen_with d c) (seen_with d' (ended copies (Ok x) c)) (Ok x)
   done_call x done_so = record {
     acts = record { was_whole = whole; is_whole = whole; stops = refl; effect = done_so };
-    counts = record { refusals = refl; faults = refl; appends = omega arith };
+    counts = record { told = refl; appends = omega arith };
   }
 
 -- ---- what was counted

@@ -2,7 +2,7 @@
 use Rattle.std.proofs.Common.{◌≡◌, ◌∙◌, ap, sym, refl, Bool, true, Option, None, Some}
 use Rattle.mailcore.specs.declared.side.Side.TheVariants as side
 use Rattle.outside.specs.Opened as opened
-use Rattle.book_part.specs.Kept.{Kept}
+use Rattle.pair.specs.Kept.{Kept}
 use Rattle.pair.specs.Parts.{opened_with}
 
 pub far_open : (f n : Bool) (k : Option Kept) → opened.IsOpen side.Far (opened_with f n k) → f ≡ true

@@ -3,7 +3,7 @@ use Rattle.std.specs.Prelude.{ℕ, List, Result, Ok, Err}
 use Rattle.device.specs.Calls.{Effect}
 use Rattle.mailcore.specs.declared.side.Direction.{Direction}
 use Rattle.mailcore.specs.Sides.{source, target}
-use Rattle.near_box.specs.Mailboxes.{Near}
+use Rattle.mailcore.specs.Mailboxes.{Mailbox}
 use Rattle.outside.specs.declared.outside.Carried.{Carried}
 use Rattle.outside.specs.declared.fault.OutsideFault.{OutsideFault}
 use Rattle.outside.specs.BoxCalls.{Carry, SetsAside}
@@ -17,5 +17,5 @@ carries direction uid flags mark (Ok carried) = Carry direction uid flags mark c
 carries direction uid flags mark (Err fault) = LeavesBy (Carry direction uid flags mark) (SetsAside (target direction)) fault
 
 -- a device with these mailboxes
-abbrev pub with_two : Direction → (from to : Near) → Device → Device
+abbrev pub with_two : Direction → (from to : Mailbox) → Device → Device
 with_two direction from to d = put (source direction) from (put (target direction) to d)

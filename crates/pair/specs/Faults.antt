@@ -1,7 +1,7 @@
 -- How a fault of a mailbox is told by the outside, and why it is told.
 use Rattle.std.specs.Prelude.{◌≡◌, Result, Ok, Err}
 use Rattle.mailcore.specs.declared.side.Side.{Side}
-use Rattle.near_box.specs.Mailboxes.{Near}
+use Rattle.mailcore.specs.Mailboxes.{Mailbox}
 use Rattle.mailbox.specs.declared.fault.BoxFault.{BoxFault}
 use Rattle.mailbox.specs.declared.fault.BoxFault.TheVariants as box
 use Rattle.outside.specs.declared.fault.OutsideFault.{OutsideFault}
@@ -20,7 +20,7 @@ told_by side (Err fault) = Err (told side fault)
 
 -- A call of the mailbox of this side tells this fault. A stop has this cause. A refusal, and a fault of its own, which names this side,
 -- are told of the mailbox as it is now, for its reason, where the device below has kept its word.
-abbrev pub IsTold : (honest cause : Type 0) → Side → (because : BoxFault → Near → Type 0) → (now : Near) → OutsideFault → Type 0
+abbrev pub IsTold : (honest cause : Type 0) → Side → (because : BoxFault → Mailbox → Type 0) → (now : Mailbox) → OutsideFault → Type 0
 IsTold honest cause side because now outside.Stopped = cause
 IsTold honest cause side because now outside.Refused = honest → because box.Refused now
 IsTold honest cause side because now (outside.Box named number) = (named ≡ side) × (honest → because (box.Own number) now)

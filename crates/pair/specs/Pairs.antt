@@ -7,7 +7,7 @@ use Rattle.mailcore.specs.declared.side.Direction.{Direction}
 use Rattle.mailcore.specs.declared.side.Side.{Side}
 use Rattle.mailcore.specs.declared.side.Side.TheVariants.{Far, Near}
 use Rattle.mailcore.specs.Sides.{source, target}
-use Rattle.near_box.specs.Mailboxes.{Near as Box}
+use Rattle.mailcore.specs.Mailboxes.{Mailbox as Box}
 use Rattle.book.specs.declared.book.Pending.{Pending}
 use Rattle.book.specs.Shelves.{Files}
 use Rattle.mailbox.specs.declared.fault.BoxFault.{BoxFault}
@@ -19,7 +19,7 @@ use Rattle.outside.specs.BookCalls.{OfBook}
 use Rattle.outside.specs.Calls.{Call, Changes, Reads, Seen, Writes}
 use Rattle.outside.specs.Devices.{Device}
 use Rattle.outside.specs.Opened.{Opened}
-use Rattle.book_part.specs.BookParts.{files_of, kept_of, standing_of}
+use Rattle.pair.specs.BookParts.{files_of, kept_of, standing_of}
 use Rattle.pair.specs.declared.pair.Pair.{Pair}
 use Rattle.pair.specs.Faults.{IsTold}
 use Rattle.pair.specs.Parts.{both, device_with, opened_with}

@@ -37,38 +37,19 @@ pub record Tallied {T : Type 0} (copies : T → ℕ) (result : Result T OutsideF
   pub counted : old.is_broken ≡ false → new ≡ ended copies result old
   pub stuck : old.is_broken ≡ true → new ≡ old
 
--- ---- the numbers that an outside shows
+-- ---- what an outside shows
 
--- 1 for a refusal
-abbrev pub is_refusal : OutsideFault → ℕ
-is_refusal Stopped = 0
-is_refusal Refused = 1
-is_refusal (Box side number) = 0
-is_refusal (BadState line) = 0
-is_refusal (BadJournal line) = 0
-is_refusal NoMemory = 0
-
--- 1 for another fault of a box
-abbrev pub is_box_fault : OutsideFault → ℕ
-is_box_fault Stopped = 0
-is_box_fault Refused = 0
-is_box_fault (Box side number) = 1
-is_box_fault (BadState line) = 0
-is_box_fault (BadJournal line) = 0
-is_box_fault NoMemory = 0
-
--- the sum of a number of each fault
-abbrev pub total : (OutsideFault → ℕ) → List OutsideFault → ℕ
-total f [] = 0
-total f (fault ∷ faults) = f fault + total f faults
+-- how many of these faults are stops
+abbrev pub stops_in : List OutsideFault → ℕ
+stops_in [] = 0
+stops_in (fault ∷ faults) = stops_told fault + stops_in faults
 
 -- an outside with this device
 abbrev pub seen_with : Device → Counts → Seen
 seen_with device counts = record {
   device = device;
   is_broken = counts.is_broken;
-  stops = total stops_told counts.told;
-  refusals = total is_refusal counts.told;
-  faults = total is_box_fault counts.told;
+  stops = stops_in counts.told;
+  told = counts.told;
   appends = counts.copies;
 }

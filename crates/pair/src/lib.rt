@@ -1,6 +1,8 @@
 //! The outside of a run over any two mailboxes and any shelf.
 #![tactic(auto)]
 
+pub mod book_part;
+mod book_told;
 mod copying;
 pub mod pair;
 mod plan_written;

@@ -2,21 +2,21 @@
 
 ghost use Rattle.std.specs.Prelude.{◌≡◌, true, false, None, Ok, IfErr, IfOk, OnOk, IsErrOf, length};
 ghost use Rattle.mailcore.specs.declared.side.Side.TheVariants as sides;
-ghost use Rattle.book_part.specs.BookParts.{files_of, standing_of};
+ghost use Rattle.pair.specs.BookParts.{files_of, standing_of};
 
+use crate::book_part::BookPart;
 use crate::copying::copy;
 use crate::plan_written::begin_synced;
 use crate::run_ended::commit_synced;
 use crate::tally::Tally;
 use book::shelf::Shelf;
-use book_part::book_part::BookPart;
+use mailbox::far_next::FarNext;
 use mailbox::mailbox::Mailbox;
 use mailcore::flags::Flags;
 use mailcore::listing::Listing;
 use mailcore::side::{Direction, Side};
 use mailcore::tuid::Tuid;
 use mailcore::uid::Uid;
-use outside::far_next::FarNext;
 use outside::fault::OutsideFault;
 use outside::outside::{Carried, Outside};
 use rules::plan::Plan;
@@ -106,14 +106,14 @@ impl<F: Mailbox + Drop, N: Mailbox + Drop, S: Shelf + Drop> Outside for Pair<F, 
     ghost use Rattle.book.specs.BookLogs.{begun, as_done, logged_more};
     ghost use Rattle.book.specs.Commits.{CommitsHalf, CommitsTo};
     ghost use Rattle.outside.specs.Devices.{box};
-    ghost use Rattle.outside.specs.Calls.{FromBook, FromBox, FromShelf, LeavesBy};
+    ghost use Rattle.outside.specs.Calls.{FromBook, FromBox, FromShelf, LeavesBy, stopped};
     ghost use Rattle.outside.specs.Opened.{AreCommitted, IsBook, IsHeld, IsOpen, IsRead, turned, with_box};
     ghost use Rattle.outside.specs.Opened.{TakesCommit, TakesLog, TakesPlan};
     ghost use Rattle.outside.specs.BookCalls.{FromLog, LeavesUnread, ReadsBook};
-    ghost use Rattle.outside.specs.BoxCalls.{Admits, AdmitsPart, Carry, HasNumbers, ListsFar, ListsNear, SetsAside, Turns};
-    ghost use Rattle.outside.specs.BoxCalls.{copies_made, removed};
+    ghost use Rattle.mailbox.specs.Operations.{HasNumbers, removed, NoRoom};
+    ghost use Rattle.outside.specs.BoxCalls.{Admits, AdmitsPart, Carry, ListsFar, ListsNear, SetsAside, Turns};
+    ghost use Rattle.outside.specs.BoxCalls.{copies_made};
     ghost use Rattle.mailbox.specs.Calls.{Never};
-    ghost use Rattle.mailbox.specs.Operations.{NoRoom};
     ghost use Rattle.pair.specs.Parts.{both};
     ghost use Rattle.pair.specs.Tallies.{Tallied, no_copies};
     ghost use Rattle.pair.specs.Pairs.{BookCall, BoxChange, BoxRead, PairCall, honest_of, opened_of, seen_of};
@@ -452,6 +452,18 @@ impl<F: Mailbox + Drop, N: Mailbox + Drop, S: Shelf + Drop> Outside for Pair<F, 
                 self.tally.end_at(Side::Near, answer)
             }
         }
+    }
+
+    fn stop(&mut self) -> OutsideFault
+        ensures was_honest { honest_of self.new → honest_of self.old }
+        ensures fault { result ≡ OutsideFault.Stopped }
+        ensures stopped { seen_of self.new ≡ stopped (seen_of self.old) }
+        ensures opened { opened_of self.new ≡ opened_of self.old }
+    {
+        if !self.tally.is_broken() {
+            self.tally.stop();
+        }
+        OutsideFault::Stopped
     }
 
     fn reopen(&mut self)

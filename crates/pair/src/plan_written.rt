@@ -8,13 +8,13 @@ ghost use Rattle.book.specs.BookLogs.{begun};
 ghost use Rattle.mailbox.specs.Arrivals.{Arrives};
 ghost use Rattle.mailbox.specs.Calls.{HasCause};
 ghost use Rattle.outside.specs.Calls.{FromBook};
-ghost use Rattle.book_part.specs.PartCalls.{PartChanges};
-ghost use Rattle.book_part.specs.BookParts.{files_of, kept_of, standing_of};
-ghost use Rattle.book_part.specs.Kept.{OfKept, TakesPlan, turned};
+ghost use Rattle.pair.specs.PartCalls.{PartChanges};
+ghost use Rattle.pair.specs.BookParts.{files_of, kept_of, standing_of};
+ghost use Rattle.pair.specs.Kept.{OfKept, TakesPlan, turned};
 
+use crate::book_part::BookPart;
 use crate::tally::told;
 use book::shelf::Shelf;
-use book_part::book_part::BookPart;
 use mailbox::mailbox::Mailbox;
 use mailcore::side::Side;
 use outside::fault::OutsideFault;

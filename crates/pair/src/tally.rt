@@ -93,6 +93,13 @@ impl Tally {
         answer
     }
 
+    /// No call is answered any more, as behind a stop.
+    pub fn stop(&mut self)
+        ensures { self.new ≡ failed OutsideFault.Stopped self.old }
+    {
+        self.fail(OutsideFault::Stopped);
+    }
+
     /// Calls are answered again.
     pub fn reopen(&mut self)
         ensures { self.new ≡ record self.old { is_broken = false } }

@@ -3,12 +3,12 @@
 use crate::failure::Failure;
 use crate::server::{TrialLink, account_of};
 use book::mem_shelf::MemShelf;
-use book_part::book_part::BookPart;
 use far_side::far_side::FarSide;
 use maildir::mem_folder::MemFolder;
 use maildir::meta::Meta;
 use near_side::near_side::NearSide;
 use outside::outside::Outside;
+use pair::book_part::BookPart;
 use pair::pair::Pair;
 use rules::options::Options;
 use runner::fault::RunFault;

@@ -25,13 +25,13 @@ use Rattle.mailcore.specs.declared.side.Side.{Side}
 use Rattle.runner.specs.declared.fault.RunFault.{RunFault}
 use Rattle.runner.specs.declared.pass.Pass.{Pass}
 use Rattle.runner.specs.declared.fault.RunFault.TheVariants as run
-use Rattle.runner.specs.Faults.{IsCaused, IsLastRun, LeavesRun, Reasons, because, call_fault, or_unread, stops_met}
-use Rattle.runner.specs.Parts.{IsStuck, Left}
+use Rattle.runner.specs.Faults.{IsCaused, IsLastRun, Reasons, because, call_fault, or_refused, or_unread, stops_met}
+use Rattle.runner.specs.Parts.{IsStuck, Left, TellsMore}
 use Rattle.runner.specs.Answers.{Answers, IsAsked, Moves, RunsBy, as_read, run_of}
 use Rattle.runner.specs.Attempts.{AnswersAt, AnswersLast, AtOpening, Began, ChangedLast, HasNoNext, MetBefore, MetStops, TellsNoNext, TriedAt, failed_before, found_by}
 use Rattle.runner.specs.Finding.{FindsAt, FindsLast}
 use Rattle.runner.specs.Validities.{IsKept, TellsChanged}
-use Rattle.runner.proofs.PartCalls.{TellsNoBook}
+use Rattle.runner.proofs.PartCalls.{TellsNoBook, broken_or_whole, caused_after, caused_told, more_after, more_none}
 use Rattle.runner.proofs.Passes.{planned_state, run_of_state, unplanned_state}
 use Rattle.runner.proofs.Readings.{no_line, underway_files, unread_left}
 use Rattle.runner.proofs.Validities.{changed_before, kept_arrives, kept_next, kept_read}
@@ -211,13 +211,6 @@ failed_at_most s = either s.is_broken
     either true = omega arith
     either false = omega arith
 
-broken_or_whole : (s : Seen) → (s.is_broken ≡ true) ⊎ (s.is_broken ≡ false)
-broken_or_whole s = either s.is_broken
-  where
-    either : (b : Bool) → (b ≡ true) ⊎ (b ≡ false)
-    either true = inl refl
-    either false = inr refl
-
 -- an attempt that found the outside whole was the first only where it had not failed before
 whole_few : (n : ℕ) (start now s1 : Seen) → (n ≡ 0 → now ≡ start) → s1 ≡ found_by n now → s1.is_broken ≡ false → failed_before start ≤ n
 whole_few n start now s1 first e whole = by_first (cases_eq n 0)
@@ -281,20 +274,20 @@ stuck_first n start now s1 s2 r z first e stuck = λ b.
 pub stuck_more : {T : Type 0} (n : ℕ) (start now s1 s2 : Seen) (r : Result T RunFault) → (n ≡ 0 → now ≡ start) → s1 ≡ found_by n now → IsStuck s1 s2 r → n + 1 ≤ 1 → start.is_broken ≡ true → s2 ≡ start
 stuck_more n start now s1 s2 r first e stuck l b = let k = stuck_first n start now s1 s2 r (omega (arith, l)) first e stuck b in k.1
 
--- a fault that is counted in one attempt is counted in all
-pub caused_since : (c : Reasons) (repeats : Type 0) (unread : OutsideFault → Type 0) (f : RunFault) (s0 s1 s2 : Seen) → s0.refusals ≤ s1.refusals → s0.faults ≤ s1.faults → s0.appends ≤ s1.appends → (f ≡ run.Stopped → ⊥) → (c.repeats → repeats) → ((e : OutsideFault) → c.unread e → unread e) → IsCaused c f s1 s2
-    → IsCaused (or_unread unread (because (λ side. Unit {0}) repeats)) f s0 s2
-caused_since c repeats unread run.Stopped s0 s1 s2 r b a n g u k = absurd (n refl)
-caused_since c repeats unread (run.Refused step) s0 s1 s2 r b a n g u k = omega (arith, r, k)
-caused_since c repeats unread (run.ValidityChanged side) s0 s1 s2 r b a n g u k = tt
-caused_since c repeats unread (run.BadState line) s0 s1 s2 r b a n g u (inl k) = inl k
-caused_since c repeats unread (run.BadState line) s0 s1 s2 r b a n g u (inr k) = inr (u (out.BadState line) k)
-caused_since c repeats unread (run.BadJournal line) s0 s1 s2 r b a n g u k = u (out.BadJournal line) k
-caused_since c repeats unread (run.StoreFault side code) s0 s1 s2 r b a n g u (inl k) = inl (omega (arith, b, k))
-caused_since c repeats unread (run.StoreFault side code) s0 s1 s2 r b a n g u (inr (inl k)) = inr (inl (omega (arith, r, k)))
-caused_since c repeats unread (run.StoreFault side code) s0 s1 s2 r b a n g u (inr (inr k)) = inr (inr (record { far = k.far; protocol = k.protocol; copied = let m = k.copied in omega (arith, a, m) }))
-caused_since c repeats unread run.MarksRepeat s0 s1 s2 r b a n g u k = g k
-caused_since c repeats unread run.NoMemory s0 s1 s2 r b a n g u k = tt
+-- nothing that was told is lost where the outside is opened again
+pub more_found : (n : ℕ) (start now s1 : Seen) → TellsMore start now → s1 ≡ found_by n now → TellsMore start s1
+more_found n start now s1 p e = more_after start now s1 p (more_none now s1 (ap (λ (s : Seen). s.told) e))
+
+-- a fault that is told in one attempt is told in all
+pub caused_since : {c : Reasons} (h : Type 0) (a u : Device → Type 0) (repeats : Type 0) (unread : OutsideFault → Type 0) (f : RunFault) (s0 s1 s2 : Seen) → TellsMore s0 s1 → s0.appends ≤ s1.appends → (f ≡ run.Stopped → ⊥) → Left c h a u f s1 s2 → (c.repeats → repeats) → ((e : OutsideFault) → c.unread e → unread e)
+    → IsCaused (or_unread unread (or_refused (λ step. Unit {0}) (because (λ side. Unit {0}) repeats))) f s0 s2
+caused_since {c} h a u repeats unread f s0 s1 s2 more appends other l g k =
+    caused_told c (or_unread unread (or_refused (λ step. Unit {0}) (because (λ side. Unit {0}) repeats))) f s0 s2 (record { changed = λ side t. tt; repeats = g; unread = k; refused = λ step t. tt; unstepped = λ t. tt })
+    (caused_after c f s0 s1 s2 (λ is. absurd (other is)) more appends l.caused)
+
+-- a step that is told as refused has its reason
+pub refused_for : {c : Reasons} (h : Type 0) (a u : Device → Type 0) (f : RunFault) (s0 s1 : Seen) (step : ℕ) → f ≡ run.Refused step → Left c h a u f s0 s1 → c.refused step
+refused_for {c} h a u f s0 s1 step is l = let told : IsCaused c (run.Refused step) s0 s1 = subst (λ (x : RunFault). IsCaused c x s0 s1) is l.caused in told.0
 
 -- ---- the last attempt
 
@@ -326,12 +319,12 @@ last_finds ours alone opening n fixed start now s1 stream drawn pass first undra
   finds = finds;
 }
 
-pub changed_last : (ours : List ℕ → Bool) (alone : Bool) (opening : Opening) (h repeats : Type 0) (unread : OutsideFault → Type 0) (n tries : ℕ) (fixed : Option ℕ) (start now s1 s2 : Seen) (stream drawn : Stream) (side : Side) (f : RunFault) → (n ≡ 0 → now ≡ start) → (n ≡ 0 → drawn ≡ stream) → Moves stream drawn → s1 ≡ found_by n now → TriedAt ours alone opening fixed now.device
-    → n < tries → f ≡ run.ValidityChanged side → h → IsCaused (or_unread unread (because (TellsChanged h alone s1.device s2.device) repeats)) f s1 s2 → ChangedLast ours alone opening tries side start.device stream s2.device
+pub changed_last : {reasons : Reasons} (ours : List ℕ → Bool) (alone : Bool) (opening : Opening) (h : Type 0) (a u : Device → Type 0) (n tries : ℕ) (fixed : Option ℕ) (start now s1 s2 : Seen) (stream drawn : Stream) (side : Side) (f : RunFault) → (n ≡ 0 → now ≡ start) → (n ≡ 0 → drawn ≡ stream) → Moves stream drawn → s1 ≡ found_by n now → TriedAt ours alone opening fixed now.device
+    → n < tries → f ≡ run.ValidityChanged side → h → Left reasons h a u f s1 s2 → (reasons.changed side → TellsChanged h alone s1.device s2.device side) → ChangedLast ours alone opening tries side start.device stream s2.device
 unfolding began_at
-changed_last ours alone opening h repeats unread n tries fixed start now s1 s2 stream drawn side f first undrawn moved e t few is honest caused =
+changed_last {reasons} ours alone opening h a u n tries fixed start now s1 s2 stream drawn side f first undrawn moved e t few is honest l tells =
     let b = began_at ours alone opening n fixed start now s1 stream drawn first undrawn moved e t in
-    let told : TellsChanged h alone s1.device s2.device side = subst (λ (x : RunFault). IsCaused (or_unread unread (because (TellsChanged h alone s1.device s2.device) repeats)) x s1 s2) is caused in
+    let told : TellsChanged h alone s1.device s2.device side = tells (subst (λ (x : RunFault). IsCaused reasons x s1 s2) is l.caused) in
     let held = underway_files ours alone opening s1.device b.underway in
     record {
       earlier = n;
@@ -348,15 +341,3 @@ greatest_since alone h a b c d r fixed now k e s p held is tells unfixed honest 
     let here : Holds c.files s p = subst (λ (f : Files). Holds f s p) (sym kept.files) held in
     let told = tells k.0 honest s p here is in
     (unfixed k.0 honest s p here is, (told.0, kept_next alone a c d kept told.1))
-
--- what is left by a fault after attempts in which the counts did not fall
-pub leaves_since : (u : Device → Type 0) (f : RunFault) (s0 s1 s2 : Seen) → s0.refusals ≤ s1.refusals → s0.faults ≤ s1.faults → LeavesRun u f s1 s2 → LeavesRun u f s0 s2
-leaves_since u run.Stopped s0 s1 s2 r b k = k
-leaves_since u (run.Refused step) s0 s1 s2 r b k = k
-leaves_since u (run.StoreFault side code) s0 s1 s2 r b (k, inl h) = (k, inl (omega arith))
-leaves_since u (run.StoreFault side code) s0 s1 s2 r b (k, inr h) = (k, inr (omega arith))
-leaves_since u (run.ValidityChanged side) s0 s1 s2 r b k = k
-leaves_since u (run.BadState line) s0 s1 s2 r b k = k
-leaves_since u (run.BadJournal line) s0 s1 s2 r b k = k
-leaves_since u run.MarksRepeat s0 s1 s2 r b k = k
-leaves_since u run.NoMemory s0 s1 s2 r b k = k

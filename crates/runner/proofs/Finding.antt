@@ -34,7 +34,8 @@ use Rattle.step_laws.specs.Steps.{Boxes, after, boxes_of, own, step_after, box a
 use Rattle.step_laws.specs.OwnLaws.{is_own}
 use Rattle.step_laws.proofs.Fold.{after-more}
 use Rattle.run_laws.specs.CommitLaws.{results_of}
-use Rattle.outside.specs.Arrivals.{Arrives, IsForeign}
+use Rattle.mailbox.specs.Arrivals.{IsForeign}
+use Rattle.outside.specs.Arrivals.{Arrives}
 use Rattle.outside.specs.BookCalls.{OfBook}
 use Rattle.outside.specs.Calls.{Seen}
 use Rattle.outside.specs.Devices.{Device, box}

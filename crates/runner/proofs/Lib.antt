@@ -1,4 +1,5 @@
 pub mod PartCalls
+pub mod StepParts
 pub mod Stages
 pub mod Wholes
 pub mod NextSteps

@@ -1,18 +1,20 @@
 -- From the calls of the outside to parts, and from parts to longer ones.
-use Rattle.std.proofs.Common.{◌≡◌, ◌⊎◌, ◌≤◌, ◌<◌, ◌+◌, inl, inr, ⊎_elim, ℕ, true, false, Option, Result, Ok, Err, refl, sym, ◌∙◌, ap, subst, arith}
+use Rattle.std.proofs.Common.{◌≡◌, ◌⊎◌, ◌≤◌, ◌<◌, ◌+◌, ◌++◌, inl, inr, ℕ, Bool, true, false, List, [], ◌∷◌, Option, Result, Ok, Err, refl, sym, ◌∙◌, ap, subst, append_assoc, arith}
 use Rattle.device.specs.Calls.{Effect}
 use Rattle.mailcore.specs.declared.side.Side.{Side}
+use Rattle.mailcore.specs.declared.side.Side.TheVariants.{Far}
 use Rattle.sync_state.specs.declared.journal.Logged.{Logged}
 use Rattle.outside.specs.declared.fault.OutsideFault.{OutsideFault}
 use Rattle.outside.specs.declared.fault.OutsideFault.TheVariants as out
 use Rattle.outside.specs.BookCalls.{FromLog}
-use Rattle.outside.specs.Calls.{Call, FromBook, FromBox, IsCounted, Seen, stops_told}
+use Rattle.outside.specs.Calls.{Call, FromBook, FromBox, IsLast, Seen, stops_told}
 use Rattle.outside.specs.Devices.{Device}
 use Rattle.outside.specs.Opened.{Opened}
 use Rattle.runner.specs.declared.fault.RunFault.{RunFault}
 use Rattle.runner.specs.declared.fault.RunFault.TheVariants as run
-use Rattle.runner.specs.Faults.{IsCaused, IsLost, LeavesRun, Reasons, call_fault, step_fault, stops_met}
-use Rattle.runner.specs.Parts.{Left, Never, NoLess, Part, PartOr, Passed}
+use Rattle.runner.specs.Going.{number_at}
+use Rattle.runner.specs.Faults.{IsCaused, IsLost, IsRefusal, LeavesRun, Reasons, RefusedAt, call_fault, step_fault, stops_met}
+use Rattle.runner.specs.Parts.{InStep, Left, NoLess, PartOr, Passed, TellsMore}
 
 -- ---- a bad line of the state or the journal
 
@@ -67,26 +69,71 @@ line_of_log opened logged e h = record {
 pub line_of_shelf : {reasons : Reasons} (e : OutsideFault) → reasons.unread e → HasLine reasons e
 line_of_shelf e u = record { state = λ line is. inr u; journal = λ line is. u }
 
+-- ---- what was told
+
+pub more_none : (s0 s1 : Seen) → s1.told ≡ s0.told → TellsMore s0 s1
+more_none s0 s1 e = record { since = []; now = e }
+
+pub more_after : (s0 s1 s2 : Seen) → TellsMore s0 s1 → TellsMore s1 s2 → TellsMore s0 s2
+more_after s0 s1 s2 p q = record { since = q.since ++ p.since; now = q.now ∙ ap (λ (l : List OutsideFault). q.since ++ l) p.now ∙ sym (append_assoc q.since p.since s0.told) }
+
+pub last_after : (e : OutsideFault) (s0 s1 s2 : Seen) → TellsMore s0 s1 → IsLast e s1 s2 → IsLast e s0 s2
+last_after e s0 s1 s2 p q = record { since = q.since ++ p.since; now = q.now ∙ ap (λ (l : List OutsideFault). e ∷ (q.since ++ l)) p.now ∙ ap (λ (l : List OutsideFault). e ∷ l) (sym (append_assoc q.since p.since s0.told)) }
+
+refusal_after : (side : Side) (number : ℕ) (s0 s1 s2 : Seen) → TellsMore s0 s1 → IsRefusal side number s1 s2 → IsRefusal side number s0 s2
+refusal_after side number s0 s1 s2 p k = record { far = k.far; no = k.no; last = last_after out.Refused s0 s1 s2 p k.last }
+
+-- what may be told after more was told
+pub caused_after : (reasons : Reasons) (f : RunFault) (s0 s1 s2 : Seen) → (f ≡ run.Stopped → (s1.is_broken ≡ true) ⊎ (s1.stops < s2.stops) → (s0.is_broken ≡ true) ⊎ (s0.stops < s2.stops)) → TellsMore s0 s1 → s0.appends ≤ s1.appends → IsCaused reasons f s1 s2 → IsCaused reasons f s0 s2
+caused_after reasons run.Stopped s0 s1 s2 stop p a h = stop refl h
+caused_after reasons (run.Refused step) s0 s1 s2 stop p a h = (h.0, last_after out.Refused s0 s1 s2 p h.1)
+caused_after reasons (run.StoreFault side code) s0 s1 s2 stop p a (inl h) = inl (last_after (out.Box side code) s0 s1 s2 p h)
+caused_after reasons (run.StoreFault side code) s0 s1 s2 stop p a (inr (inl h)) = inr (inl (record { far = h.far; protocol = h.protocol; copied = let k = h.copied in omega (arith, a, k) }))
+caused_after reasons (run.StoreFault side code) s0 s1 s2 stop p a (inr (inr h)) = inr (inr (h.0, refusal_after side code s0 s1 s2 p h.1))
+caused_after reasons (run.ValidityChanged side) s0 s1 s2 stop p a h = h
+caused_after reasons (run.BadState line) s0 s1 s2 stop p a h = h
+caused_after reasons (run.BadJournal line) s0 s1 s2 stop p a h = h
+caused_after reasons run.MarksRepeat s0 s1 s2 stop p a h = h
+caused_after reasons run.NoMemory s0 s1 s2 stop p a h = tt
+
+pub leaves_after : (u : Device → Type 0) (f : RunFault) (s0 s1 s2 : Seen) → TellsMore s0 s1 → LeavesRun u f s1 s2 → LeavesRun u f s0 s2
+leaves_after u run.Stopped s0 s1 s2 p k = k
+leaves_after u (run.Refused step) s0 s1 s2 p k = (k.0, last_after out.Refused s0 s1 s2 p k.1)
+leaves_after u (run.StoreFault side code) s0 s1 s2 p (k, inl h) = (k, inl (last_after (out.Box side code) s0 s1 s2 p h))
+leaves_after u (run.StoreFault side code) s0 s1 s2 p (k, inr h) = (k, inr (refusal_after side code s0 s1 s2 p h))
+leaves_after u (run.ValidityChanged side) s0 s1 s2 p k = k
+leaves_after u (run.BadState line) s0 s1 s2 p k = k
+leaves_after u (run.BadJournal line) s0 s1 s2 p k = k
+leaves_after u run.MarksRepeat s0 s1 s2 p k = k
+leaves_after u run.NoMemory s0 s1 s2 p k = k
+
 -- ---- why a fault is told
 
 abbrev StopCount : OutsideFault → Seen → Seen → Type 0
 StopCount e old new = e ≡ out.Stopped → (old.is_broken ≡ true) ⊎ (old.stops < new.stops)
 
-caused_by : (reasons : Reasons) (e : OutsideFault) (number : ℕ) (s0 s1 : Seen) → StopCount e s0 s1 → IsCounted e s0 s1 → HasLine reasons e → IsCaused reasons (step_fault e number) s0 s1
-caused_by reasons out.Stopped number s0 s1 stop h t = stop refl
-caused_by reasons out.Refused number s0 s1 stop h t = h
-caused_by reasons (out.Box side code) number s0 s1 stop h t = inl h
-caused_by reasons (out.BadState line) number s0 s1 stop h t = t.state line refl
-caused_by reasons (out.BadJournal line) number s0 s1 stop h t = t.journal line refl
-caused_by reasons out.NoMemory number s0 s1 stop h t = tt
+-- one that is no stop is noted
+abbrev IsNoted : OutsideFault → Seen → Seen → Type 0
+IsNoted e old new = (e ≡ out.Stopped → ⊥) → IsLast e old new
 
-called_by : (reasons : Reasons) (e : OutsideFault) (s0 s1 : Seen) → StopCount e s0 s1 → IsCounted e s0 s1 → HasLine reasons e → IsCaused reasons (call_fault e) s0 s1
-called_by reasons out.Stopped s0 s1 stop h t = stop refl
-called_by reasons out.Refused s0 s1 stop h t = inr (inl h)
-called_by reasons (out.Box side code) s0 s1 stop h t = inl h
-called_by reasons (out.BadState line) s0 s1 stop h t = t.state line refl
-called_by reasons (out.BadJournal line) s0 s1 stop h t = t.journal line refl
-called_by reasons out.NoMemory s0 s1 stop h t = tt
+caused_by : (reasons : Reasons) (e : OutsideFault) (number : ℕ) (s0 s1 : Seen) → StopCount e s0 s1 → IsNoted e s0 s1 → HasLine reasons e → (e ≡ out.Refused → reasons.refused number) → IsCaused reasons (step_fault e number) s0 s1
+caused_by reasons out.Stopped number s0 s1 stop h t r = stop refl
+caused_by reasons out.Refused number s0 s1 stop h t r = (r refl, h (λ e. cc))
+caused_by reasons (out.Box side code) number s0 s1 stop h t r = inl (h (λ e. cc))
+caused_by reasons (out.BadState line) number s0 s1 stop h t r = t.state line refl
+caused_by reasons (out.BadJournal line) number s0 s1 stop h t r = t.journal line refl
+caused_by reasons out.NoMemory number s0 s1 stop h t r = tt
+
+refusal : (s0 s1 : Seen) → IsLast out.Refused s0 s1 → IsRefusal Far 2 s0 s1
+refusal s0 s1 h = record { far = refl; no = refl; last = h }
+
+called_by : (reasons : Reasons) (e : OutsideFault) (s0 s1 : Seen) → StopCount e s0 s1 → IsNoted e s0 s1 → HasLine reasons e → reasons.unstepped → IsCaused reasons (call_fault e) s0 s1
+called_by reasons out.Stopped s0 s1 stop h t u = stop refl
+called_by reasons out.Refused s0 s1 stop h t u = inr (inr (u, refusal s0 s1 (h (λ e. cc))))
+called_by reasons (out.Box side code) s0 s1 stop h t u = inl (h (λ e. cc))
+called_by reasons (out.BadState line) s0 s1 stop h t u = t.state line refl
+called_by reasons (out.BadJournal line) s0 s1 stop h t u = t.journal line refl
+called_by reasons out.NoMemory s0 s1 stop h t u = tt
 
 -- ---- how many stops it tells
 
@@ -120,18 +167,18 @@ no_stop reasons run.NoMemory s whole h = refl
 
 -- ---- what a fault leaves
 
-pub after_step : (u : Device → Type 0) (e : OutsideFault) (number : ℕ) (s0 s1 : Seen) → IsCounted e s0 s1 → TellsNoBook e → u s1.device → LeavesRun u (step_fault e number) s0 s1
+pub after_step : (u : Device → Type 0) (e : OutsideFault) (number : ℕ) (s0 s1 : Seen) → IsNoted e s0 s1 → TellsNoBook e → u s1.device → LeavesRun u (step_fault e number) s0 s1
 after_step u out.Stopped number s0 s1 h t k = k
-after_step u out.Refused number s0 s1 h t k = k
-after_step u (out.Box side code) number s0 s1 h t k = (k, inl h)
+after_step u out.Refused number s0 s1 h t k = (k, h (λ e. cc))
+after_step u (out.Box side code) number s0 s1 h t k = (k, inl (h (λ e. cc)))
 after_step u (out.BadState line) number s0 s1 h t k = t
 after_step u (out.BadJournal line) number s0 s1 h t k = t
 after_step u out.NoMemory number s0 s1 h t k = k
 
-pub after_call : (u : Device → Type 0) (e : OutsideFault) (s0 s1 : Seen) → IsCounted e s0 s1 → TellsNoBook e → u s1.device → LeavesRun u (call_fault e) s0 s1
+pub after_call : (u : Device → Type 0) (e : OutsideFault) (s0 s1 : Seen) → IsNoted e s0 s1 → TellsNoBook e → u s1.device → LeavesRun u (call_fault e) s0 s1
 after_call u out.Stopped s0 s1 h t k = k
-after_call u out.Refused s0 s1 h t k = (k, inr h)
-after_call u (out.Box side code) s0 s1 h t k = (k, inl h)
+after_call u out.Refused s0 s1 h t k = (k, inr (refusal s0 s1 (h (λ e. cc))))
+after_call u (out.Box side code) s0 s1 h t k = (k, inl (h (λ e. cc)))
 after_call u (out.BadState line) s0 s1 h t k = t
 after_call u (out.BadJournal line) s0 s1 h t k = t
 after_call u out.NoMemory s0 s1 h t k = k
@@ -139,7 +186,7 @@ after_call u out.NoMemory s0 s1 h t k = k
 -- the same for a weaker condition
 pub leaves_map : (u v : Device → Type 0) (f : RunFault) (s0 s1 : Seen) → (u s1.device → v s1.device) → LeavesRun u f s0 s1 → LeavesRun v f s0 s1
 leaves_map u v run.Stopped s0 s1 g k = g k
-leaves_map u v (run.Refused step) s0 s1 g k = g k
+leaves_map u v (run.Refused step) s0 s1 g k = (g k.0, k.1)
 leaves_map u v (run.StoreFault side code) s0 s1 g k = (g k.0, k.1)
 leaves_map u v (run.ValidityChanged side) s0 s1 g k = g k
 leaves_map u v (run.BadState line) s0 s1 g k = k
@@ -148,6 +195,13 @@ leaves_map u v run.MarksRepeat s0 s1 g k = g k
 leaves_map u v run.NoMemory s0 s1 g k = g k
 
 -- ---- one call
+
+pub broken_or_whole : (s : Seen) → (s.is_broken ≡ true) ⊎ (s.is_broken ≡ false)
+broken_or_whole s = either s.is_broken
+  where
+    either : (b : Bool) → (b ≡ true) ⊎ (b ≡ false)
+    either true = inl refl
+    either false = inr refl
 
 module _ {T : Type 0} (honest : Type 0) (from : Device → Type 0) (others : Effect Device) (copies : T → ℕ) (tells : OutsideFault → Type 0) (does : T → Effect Device) (leaves : OutsideFault → Effect Device) (s0 s1 : Seen) where
   -- that went
@@ -158,37 +212,51 @@ module _ {T : Type 0} (honest : Type 0) (from : Device → Type 0) (others : Eff
       record {
         is_whole = a.is_whole;
         stops = a.stops;
-        refusals = n.refusals;
-        faults = n.faults;
+        told = n.told;
         appends = n.appends;
         reaches = λ h at. let e = a.effect h in f e.mid at e.before e.behind;
       }
 
   no_less : (e : OutsideFault) → Call honest others copies tells does leaves s0 s1 (Err e) → NoLess s0 s1
-  no_less e c = let a = c.acts in let n = c.counts in record { stops = a.no_less; refusals = n.refusals; faults = n.faults; appends = n.appends }
+  no_less e c = let a = c.acts in let n = c.counts in record { stops = a.no_less; told = more (broken_or_whole s0); appends = omega (arith, n.appends) }
+    where
+      more : (s0.is_broken ≡ true) ⊎ (s0.is_broken ≡ false) → TellsMore s0 s1
+      more (inl b) = let n = c.counts in more_none s0 s1 (ap (λ (s : Seen). s.told) (n.stuck b))
+      more (inr w) = let n = c.counts in record { since = e ∷ []; now = n.noted w }
+
+  -- a fault that is no stop is noted: the outside had not failed before
+  noted : (e : OutsideFault) → Call honest others copies tells does leaves s0 s1 (Err e) → IsNoted e s0 s1
+  noted e c other = last (broken_or_whole s0)
+    where
+      last : (s0.is_broken ≡ true) ⊎ (s0.is_broken ≡ false) → IsLast e s0 s1
+      last (inl b) = let a = c.acts in absurd (other (a.stuck b).0)
+      last (inr w) = let n = c.counts in record { since = []; now = n.noted w }
 
   -- that had a fault while a step was performed
-  pub left_step : {reasons : Reasons} (underway : Device → Type 0) (number : ℕ) (e : OutsideFault) → Call honest others copies tells does leaves s0 s1 (Err e) → (tells e → HasLine reasons e) → ((m : Device) → from s0.device → others s0.device m → leaves e m s1.device → tells e → TellsNoBook e × underway s1.device) → Left reasons honest from underway (step_fault e number) s0 s1
-  left_step underway number e c line f =
+  pub left_step : (underway : Device → Type 0) (number : ℕ) (opened : Option Opened) (e : OutsideFault) → Call honest others copies tells does leaves s0 s1 (Err e) → (tells e → HasLine (InStep number opened honest (from s0.device) s1.device) e)
+      → ((m : Device) → from s0.device → others s0.device m → leaves out.Refused m s1.device → RefusedAt (number_at opened) s1.device)
+      → ((m : Device) → from s0.device → others s0.device m → leaves e m s1.device → tells e → TellsNoBook e × underway s1.device) → Left (InStep number opened honest (from s0.device) s1.device) honest from underway (step_fault e number) s0 s1
+  left_step underway number opened e c line held f =
       let a = c.acts in
       let n = c.counts in
+      let refused : e ≡ out.Refused → honest → from s0.device → RefusedAt (number_at opened) s1.device = (λ is h at. let k = a.left h in held k.mid at k.before (subst (λ (x : OutsideFault). leaves x k.mid s1.device) is k.behind)) in
       record {
-        caused = caused_by _ e number s0 s1 a.counted n.counted (line n.told);
+        caused = caused_by _ e number s0 s1 a.counted (noted e c) (line n.told) (λ is. (refl, refused is));
         no_less = no_less e c;
         stops = λ whole. n.stopped whole ∙ ap (λ (k : ℕ). s0.stops + k) (sym (step_stops e number));
-        left = λ h at. let k = a.left h in let r = f k.mid at k.before k.behind n.told in after_step underway e number s0 s1 n.counted r.0 r.1;
+        left = λ h at. let k = a.left h in let r = f k.mid at k.before k.behind n.told in after_step underway e number s0 s1 (noted e c) r.0 r.1;
       }
 
   -- that had one else
-  pub left_call : {reasons : Reasons} (underway : Device → Type 0) (e : OutsideFault) → Call honest others copies tells does leaves s0 s1 (Err e) → (tells e → HasLine reasons e) → ((m : Device) → from s0.device → others s0.device m → leaves e m s1.device → tells e → TellsNoBook e × underway s1.device) → Left reasons honest from underway (call_fault e) s0 s1
-  left_call underway e c line f =
+  pub left_call : {reasons : Reasons} (underway : Device → Type 0) (e : OutsideFault) → reasons.unstepped → Call honest others copies tells does leaves s0 s1 (Err e) → (tells e → HasLine reasons e) → ((m : Device) → from s0.device → others s0.device m → leaves e m s1.device → tells e → TellsNoBook e × underway s1.device) → Left reasons honest from underway (call_fault e) s0 s1
+  left_call underway e unstepped c line f =
       let a = c.acts in
       let n = c.counts in
       record {
-        caused = called_by _ e s0 s1 a.counted n.counted (line n.told);
+        caused = called_by _ e s0 s1 a.counted (noted e c) (line n.told) unstepped;
         no_less = no_less e c;
         stops = λ whole. n.stopped whole ∙ ap (λ (k : ℕ). s0.stops + k) (sym (call_stops e));
-        left = λ h at. let k = a.left h in let r = f k.mid at k.before k.behind n.told in after_call underway e s0 s1 n.counted r.0 r.1;
+        left = λ h at. let k = a.left h in let r = f k.mid at k.before k.behind n.told in after_call underway e s0 s1 (noted e c) r.0 r.1;
       }
 
 -- on an outside that had failed before none goes, and it changes nothing
@@ -202,7 +270,7 @@ module _ {T : Type 0} (honest : Type 0) (others : Effect Device) (copies : T →
 -- ---- no call
 
 pub passed_none : (honest : Type 0) (from to : Device → Type 0) (s : Seen) → s.is_broken ≡ false → (from s.device → to s.device) → Passed honest from to 0 s s
-passed_none honest from to s whole f = record { is_whole = whole; stops = refl; refusals = refl; faults = refl; appends = omega arith; reaches = λ h at. f at }
+passed_none honest from to s whole f = record { is_whole = whole; stops = refl; told = refl; appends = omega arith; reaches = λ h at. f at }
 
 -- ---- one part after another
 
@@ -210,49 +278,30 @@ pub passed_after : (h0 h1 : Type 0) (a b c : Device → Type 0) (m n : ℕ) (s0 
 passed_after h0 h1 a b c m n s0 s1 s2 honest p q = record {
   is_whole = q.is_whole;
   stops = q.stops ∙ p.stops;
-  refusals = q.refusals ∙ p.refusals;
-  faults = q.faults ∙ p.faults;
+  told = q.told ∙ p.told;
   appends = omega (arith, p.appends, q.appends);
   reaches = λ h at. q.reaches h (p.reaches (honest h) at);
 }
 
--- what may be told once the counts before it stood still
-later : (reasons : Reasons) (f : RunFault) (s0 s1 s2 : Seen) → s1.is_broken ≡ false → s1.stops ≡ s0.stops → s1.refusals ≡ s0.refusals → s1.faults ≡ s0.faults → s0.appends ≤ s1.appends → IsCaused reasons f s1 s2 → IsCaused reasons f s0 s2
-later reasons run.Stopped s0 s1 s2 w s r b a h = ⊎_elim (λ k. cc) (λ k. inr (omega arith)) h
-later reasons (run.Refused step) s0 s1 s2 w s r b a h = omega arith
-later reasons (run.StoreFault side code) s0 s1 s2 w s r b a (inl h) = inl (omega arith)
-later reasons (run.StoreFault side code) s0 s1 s2 w s r b a (inr (inl h)) = inr (inl (omega arith))
-later reasons (run.StoreFault side code) s0 s1 s2 w s r b a (inr (inr h)) = inr (inr (record { far = h.far; protocol = h.protocol; copied = let k = h.copied in omega arith }))
-later reasons (run.ValidityChanged side) s0 s1 s2 w s r b a h = h
-later reasons (run.BadState line) s0 s1 s2 w s r b a h = h
-later reasons (run.BadJournal line) s0 s1 s2 w s r b a h = h
-later reasons run.MarksRepeat s0 s1 s2 w s r b a h = h
-later reasons run.NoMemory s0 s1 s2 w s r b a h = tt
-
-leaves_later : (u : Device → Type 0) (f : RunFault) (s0 s1 s2 : Seen) → s1.refusals ≡ s0.refusals → s1.faults ≡ s0.faults → LeavesRun u f s1 s2 → LeavesRun u f s0 s2
-leaves_later u run.Stopped s0 s1 s2 r b k = k
-leaves_later u (run.Refused step) s0 s1 s2 r b k = k
-leaves_later u (run.StoreFault side code) s0 s1 s2 r b (k, inl h) = (k, inl (omega arith))
-leaves_later u (run.StoreFault side code) s0 s1 s2 r b (k, inr h) = (k, inr (omega arith))
-leaves_later u (run.ValidityChanged side) s0 s1 s2 r b k = k
-leaves_later u (run.BadState line) s0 s1 s2 r b k = k
-leaves_later u (run.BadJournal line) s0 s1 s2 r b k = k
-leaves_later u run.MarksRepeat s0 s1 s2 r b k = k
-leaves_later u run.NoMemory s0 s1 s2 r b k = k
+stop_after : {f : RunFault} (s0 s1 s2 : Seen) → s1.is_broken ≡ false → s1.stops ≡ s0.stops → f ≡ run.Stopped → (s1.is_broken ≡ true) ⊎ (s1.stops < s2.stops) → (s0.is_broken ≡ true) ⊎ (s0.stops < s2.stops)
+stop_after s0 s1 s2 whole same is (inl broken) = absurd (cc)
+stop_after s0 s1 s2 whole same is (inr more) = inr (omega (arith, same, more))
 
 pub left_after : {reasons : Reasons} (h0 h1 : Type 0) (a b underway : Device → Type 0) (m : ℕ) (f : RunFault) (s0 s1 s2 : Seen) → (h1 → h0) → Passed h0 a b m s0 s1 → Left reasons h1 b underway f s1 s2 → Left reasons h1 a underway f s0 s2
-left_after {reasons} h0 h1 a b underway m f s0 s1 s2 honest p q = record {
-  caused = later reasons f s0 s1 s2 p.is_whole p.stops p.refusals p.faults (omega (arith, p.appends)) q.caused;
-  no_less = let n = q.no_less in record { stops = omega (arith, p.stops, n.stops); refusals = omega (arith, p.refusals, n.refusals); faults = omega (arith, p.faults, n.faults); appends = omega (arith, p.appends, n.appends) };
-  stops = λ _. q.stops p.is_whole ∙ ap (λ (k : ℕ). k + stops_met f) p.stops;
-  left = λ h at. leaves_later underway f s0 s1 s2 p.refusals p.faults (q.left h (p.reaches (honest h) at));
-}
+left_after {reasons} h0 h1 a b underway m f s0 s1 s2 honest p q =
+    let more = more_none s0 s1 p.told in
+    record {
+      caused = caused_after reasons f s0 s1 s2 (stop_after s0 s1 s2 p.is_whole p.stops) more (omega (arith, p.appends)) q.caused;
+      no_less = let n = q.no_less in record { stops = omega (arith, p.stops, n.stops); told = more_after s0 s1 s2 more n.told; appends = omega (arith, p.appends, n.appends) };
+      stops = λ _. q.stops p.is_whole ∙ ap (λ (k : ℕ). k + stops_met f) p.stops;
+      left = λ h at. leaves_after underway f s0 s1 s2 more (q.left h (p.reaches (honest h) at));
+    }
 
 -- a fault of the run's own, behind a part that went
 pub left_here : {reasons : Reasons} (h : Type 0) (a b underway : Device → Type 0) (m : ℕ) (f : RunFault) (s0 s1 : Seen) → Passed h a b m s0 s1 → IsCaused reasons f s1 s1 → (b s1.device → LeavesRun underway f s0 s1) → Left reasons h a underway f s0 s1
 left_here {reasons} h a b underway m f s0 s1 p caused g = record {
-  caused = later reasons f s0 s1 s1 p.is_whole p.stops p.refusals p.faults (omega (arith, p.appends)) caused;
-  no_less = record { stops = omega (arith, p.stops); refusals = omega (arith, p.refusals); faults = omega (arith, p.faults); appends = omega (arith, p.appends) };
+  caused = caused_after reasons f s0 s1 s1 (stop_after s0 s1 s1 p.is_whole p.stops) (more_none s0 s1 p.told) (omega (arith, p.appends)) caused;
+  no_less = record { stops = omega (arith, p.stops); told = more_none s0 s1 p.told; appends = omega (arith, p.appends) };
   stops = λ _. omega (arith, p.stops, no_stop reasons f s1 p.is_whole caused);
   left = λ honest at. g (p.reaches honest at);
 }
@@ -260,8 +309,8 @@ left_here {reasons} h a b underway m f s0 s1 p caused g = record {
 -- a copy that was made and not found
 pub left_lost : {reasons : Reasons} (h : Type 0) (a underway : Device → Type 0) (m : ℕ) (s0 s1 : Seen) → 0 < m → Passed h a (λ d. ⊥) m s0 s1 → (side : Side) (number : ℕ) → ((s0.appends < s1.appends) → IsLost side number s0 s1) → Left reasons h a underway (run.StoreFault side number) s0 s1
 left_lost h a underway m s0 s1 some p side number lost = record {
-  caused = inr (inr (lost (omega (arith, some, p.appends))));
-  no_less = record { stops = omega (arith, p.stops); refusals = omega (arith, p.refusals); faults = omega (arith, p.faults); appends = omega (arith, p.appends) };
+  caused = inr (inl (lost (omega (arith, some, p.appends))));
+  no_less = record { stops = omega (arith, p.stops); told = more_none s0 s1 p.told; appends = omega (arith, p.appends) };
   stops = λ _. omega (arith, p.stops);
   left = λ honest at. absurd (p.reaches honest at);
 }
@@ -272,8 +321,7 @@ pub passed_weaker : (h : Type 0) (a a' b b' : Device → Type 0) (m n : ℕ) (s0
 passed_weaker h a a' b b' m n s0 s1 same f g p = record {
   is_whole = p.is_whole;
   stops = p.stops;
-  refusals = p.refusals;
-  faults = p.faults;
+  told = p.told;
   appends = omega (arith, p.appends);
   reaches = λ honest at. g s1.device (p.reaches honest (f s0.device at));
 }
@@ -295,8 +343,7 @@ pub passed_with : (p h : Type 0) (a b : Device → Type 0) (n : ℕ) (s0 s1 : Se
 passed_with p h a b n s0 s1 k = record {
   is_whole = k.is_whole;
   stops = k.stops;
-  refusals = k.refusals;
-  faults = k.faults;
+  told = k.told;
   appends = k.appends;
   reaches = λ honest at. (at.0, k.reaches honest at.1);
 }
@@ -311,15 +358,19 @@ pub record AreReasons (c c' : Reasons) : Type 0 where
   pub changed : (side : Side) → c.changed side → c'.changed side
   pub repeats : c.repeats → c'.repeats
   pub unread : (e : OutsideFault) → c.unread e → c'.unread e
+  pub refused : (step : ℕ) → c.refused step → c'.refused step
+  pub unstepped : c.unstepped → c'.unstepped
 
-caused_told : (c c' : Reasons) (f : RunFault) (s0 s1 : Seen) → AreReasons c c' → IsCaused c f s0 s1 → IsCaused c' f s0 s1
+pub caused_told : (c c' : Reasons) (f : RunFault) (s0 s1 : Seen) → AreReasons c c' → IsCaused c f s0 s1 → IsCaused c' f s0 s1
 caused_told c c' run.Stopped s0 s1 k h = h
-caused_told c c' (run.Refused step) s0 s1 k h = h
+caused_told c c' (run.Refused step) s0 s1 k h = (k.refused step h.0, h.1)
 caused_told c c' (run.ValidityChanged side) s0 s1 k h = k.changed side h
 caused_told c c' (run.BadState line) s0 s1 k (inl h) = inl h
 caused_told c c' (run.BadState line) s0 s1 k (inr h) = inr (k.unread (out.BadState line) h)
 caused_told c c' (run.BadJournal line) s0 s1 k h = k.unread (out.BadJournal line) h
-caused_told c c' (run.StoreFault side code) s0 s1 k h = h
+caused_told c c' (run.StoreFault side code) s0 s1 k (inl h) = inl h
+caused_told c c' (run.StoreFault side code) s0 s1 k (inr (inl h)) = inr (inl h)
+caused_told c c' (run.StoreFault side code) s0 s1 k (inr (inr h)) = inr (inr (k.unstepped h.0, h.1))
 caused_told c c' run.MarksRepeat s0 s1 k h = k.repeats h
 caused_told c c' run.NoMemory s0 s1 k h = h
 
@@ -329,16 +380,6 @@ left_told c c' h a underway f s0 s1 k l = record { caused = caused_told c c' f s
 pub part_told : {T : Type 0} (c c' : Reasons) (h : Type 0) (a underway : Device → Type 0) (copies : T → ℕ) (reaches : T → Device → Type 0) (s0 s1 : Seen) (r : Result T RunFault) → AreReasons c c' → PartOr c h a underway copies reaches s0 s1 r → PartOr c' h a underway copies reaches s0 s1 r
 part_told c c' h a underway copies reaches s0 s1 (Ok x) k p = p
 part_told c c' h a underway copies reaches s0 s1 (Err e) k p = left_told c c' h a underway e s0 s1 k p
-
--- a part that never tells one
-none_told : (c : Reasons) → AreReasons Never c
-none_told c = record { changed = λ side n. absurd n; repeats = λ n. absurd n; unread = λ e n. absurd n }
-
-pub left_never : {c : Reasons} (h : Type 0) (a underway : Device → Type 0) (f : RunFault) (s0 s1 : Seen) → Left Never h a underway f s0 s1 → Left c h a underway f s0 s1
-left_never h a underway f s0 s1 l = left_told Never _ h a underway f s0 s1 (none_told _) l
-
-pub part_never : {T : Type 0} (c : Reasons) (h : Type 0) (a underway : Device → Type 0) (copies : T → ℕ) (reaches : T → Device → Type 0) (s0 s1 : Seen) (r : Result T RunFault) → Part h a underway copies reaches s0 s1 r → PartOr c h a underway copies reaches s0 s1 r
-part_never c h a underway copies reaches s0 s1 r p = part_told Never _ h a underway copies reaches s0 s1 r (none_told _) p
 
 -- ---- the same part that leaves another condition
 

@@ -18,7 +18,8 @@ use Rattle.outside.specs.declared.fault.OutsideFault.TheVariants as out
 use Rattle.outside.specs.declared.outside.Carried.{Carried}
 use Rattle.outside.specs.declared.outside.Carried.TheVariants.{Absent, Unfit, Made}
 use Rattle.outside.specs.Arrivals.{Arrives}
-use Rattle.outside.specs.BoxCalls.{Carry, SetsAside, Tells, Turns, removed}
+use Rattle.mailbox.specs.Operations.{Tells, removed}
+use Rattle.outside.specs.BoxCalls.{Carry, SetsAside, Turns}
 use Rattle.outside.specs.Calls.{DoesSome, LeavesBy}
 use Rattle.outside.specs.Devices.{Device, box}
 use Rattle.outside.specs.Opened.{Opened}
@@ -32,7 +33,8 @@ use Rattle.underway.proofs.Expunging.{stands_deleted}
 use Rattle.underway.proofs.Flagging.{clear_made, clear_none, none_made, set_made}
 use Rattle.underway.proofs.Moves.{IsMoved, midway_arrives, midway_set_aside, moved}
 use Rattle.underway.proofs.Plain.{any_whole}
-use Rattle.runner.specs.Going.{AtBegun, AtCopied, AtDone, AtMoment, AtReady, AtSought, CopiesUnder, FoundCopy, Ready, log_at, next_at, plan_at}
+use Rattle.runner.specs.Going.{AtBegun, AtCopied, AtDone, AtMoment, AtReady, AtSought, CopiesUnder, FoundCopy, Ready, log_at, next_at, number_at, plan_at}
+use Rattle.runner.specs.Faults.{RefusedAt}
 use Rattle.runner.proofs.Wholes.{removed_is}
 
 -- what is known of the world is known of it again
@@ -117,6 +119,24 @@ module _ (ours : List ℕ → Bool) (alone : Bool) (opening : Opening) (opened :
 
   pub copied_underway : (d : Device) → AtCopied ours alone opening opened d → Underway ours alone opening d
   copied_underway d = planned _ d (λ w at. stands_at w d (inr (Copied at.0, at.1)))
+
+  -- ---- and in each the files hold the plan, of which it is the next step
+
+  stands_held : (w : World) (d : Device) → Stands ours alone w opening.options plan log false d → RefusedAt (number_at opened) d
+  stands_held w d (inl k) = let x = k.1 in record { state = w.state; written = record { journal = record { plan = plan; log = log }; is_torn = false }; held = x.files; next = refl }
+  stands_held w d (inr k) = let x = k.1 in record { state = w.state; written = record { journal = record { plan = plan; log = log }; is_torn = false }; held = x.files; next = refl }
+
+  pub ready_held : (is_taken_up : Bool) (d : Device) → AtReady ours alone opening opened is_taken_up d → RefusedAt (number_at opened) d
+  ready_held is_taken_up d k = let s = k.since in stands_held s.world d (stands_of s.world is_taken_up d s.holds)
+
+  pub begun_held : (is_made : Bool) (d : Device) → AtBegun ours alone opening opened is_made d → RefusedAt (number_at opened) d
+  begun_held is_made d k = let s = k.since in stands_held s.world d (begun_stands s.world is_made d s.holds)
+
+  pub done_held : (logged : Logged) (d : Device) → AtDone ours alone opening opened logged d → RefusedAt (number_at opened) d
+  done_held logged d k = let s = k.since in stands_held s.world d (inr (logged, s.holds))
+
+  pub copied_held : (d : Device) → AtCopied ours alone opening opened d → RefusedAt (number_at opened) d
+  copied_held d k = let s = k.since in let at = s.holds in stands_held s.world d (inr (Copied at.0, at.1))
 
   -- a plan that was just made stands where its log says, and may be taken up
   pub either_ready : (is_taken_up : Bool) (d : Device) → AtReady ours alone opening opened false d → AtReady ours alone opening opened is_taken_up d

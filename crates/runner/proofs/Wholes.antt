@@ -13,7 +13,8 @@ use Rattle.mailcore.specs.Sides.{target}
 use Rattle.rules.specs.declared.plan.Step.TheVariants as step
 use Rattle.rules.specs.FlagRule.{with_deleted}
 use Rattle.step_laws.specs.Steps.{Boxes, changed_uid, step_after, without, box as messages_in, with_box as with_messages_in}
-use Rattle.outside.specs.BoxCalls.{Turns, may_go, removed}
+use Rattle.mailbox.specs.Operations.{may_go, removed}
+use Rattle.outside.specs.BoxCalls.{Turns}
 use Rattle.outside.specs.Devices.{Device}
 use Rattle.underway.specs.Moments.{boxes_at}
 use Rattle.underway.proofs.Flagged.{flagged_same}

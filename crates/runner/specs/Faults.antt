@@ -1,15 +1,17 @@
 -- How the faults of the outside are told by a run, and what a fault of a run says.
-use Rattle.std.specs.Prelude.{◌≡◌, ◌<◌, ◌⊎◌, ◌+◌, ◌^◌, ℕ, true}
+use Rattle.std.specs.Prelude.{◌≡◌, ◌<◌, ◌⊎◌, ◌+◌, ◌^◌, ℕ, true, length}
 use Rattle.mailcore.specs.declared.side.Side.{Side}
 use Rattle.mailcore.specs.declared.side.Side.TheVariants.{Far}
 use Rattle.rules.specs.declared.state.SyncState.{SyncState}
+use Rattle.sync_state.specs.declared.journal.WrittenJournal.{WrittenJournal}
 use Rattle.book.specs.declared.book.Pending.{Pending}
+use Rattle.book.specs.declared.book.Pending.TheVariants.{Planned}
 use Rattle.book.specs.Books.{Holds}
 use Rattle.book.specs.Shelves.{Files}
 use Rattle.outside.specs.declared.fault.OutsideFault.{OutsideFault}
 use Rattle.outside.specs.declared.fault.OutsideFault.TheVariants as out
 use Rattle.outside.specs.BookCalls.{TellsFiles}
-use Rattle.outside.specs.Calls.{Seen}
+use Rattle.outside.specs.Calls.{IsLast, Seen}
 use Rattle.outside.specs.Devices.{Device}
 use Rattle.runner.specs.declared.fault.RunFault.{RunFault}
 use Rattle.runner.specs.declared.fault.RunFault.TheVariants as run
@@ -51,6 +53,23 @@ pub record IsLost (side : Side) (number : ℕ) (old new : Seen) : Type 0 where
   pub protocol : number ≡ 3
   pub copied : old.appends < new.appends
 
+-- a refusal that is told as fault 2 of the far box, since no step was performed
+pub record IsRefusal (side : Side) (number : ℕ) (old new : Seen) : Type 0 where
+  pub far : side ≡ Far
+  pub no : number ≡ 2
+  pub last : IsLast out.Refused old new
+
+-- the files hold a plan, of which the steps before this one are logged, and no other
+pub record RefusedAt (step : ℕ) (d : Device) : Type 0 where
+  pub state : SyncState
+  pub written : WrittenJournal
+  pub held : Holds d.files state (Planned written)
+  pub next : step ≡ length written.journal.log + 1
+
+-- a step is told as refused only where it is the next one of the plan that the files hold
+abbrev pub TellsRefused : (honest from : Type 0) → Device → (step : ℕ) → Type 0
+TellsRefused honest from d step = honest → from → RefusedAt step d
+
 -- the files hold no book, and this is the first line that shows it
 abbrev pub TellsUnread : (honest : Type 0) → Device → OutsideFault → Type 0
 TellsUnread honest d fault = honest → TellsFiles fault d.files
@@ -68,41 +87,51 @@ abbrev pub TellsNoRun : (honest : Type 0) → Device → OutsideFault → Type 0
 TellsNoRun honest d fault = honest → TellsFiles fault d.files ⊎ IsLastRun d.files fault
 
 -- what stands behind faults of the run's own: that a side's UIDVALIDITY has changed, that marks repeat, and that a line of the state
--- or the journal is bad
+-- or the journal is bad; and behind a refusal: that it is one of this step, or of a call by which no step was performed
 pub record Reasons : Type 1 where
   pub changed : Side → Type 0
   pub repeats : Type 0
   pub unread : OutsideFault → Type 0
+  pub refused : (step : ℕ) → Type 0
+  pub unstepped : Type 0
 
--- where the shelf was read, no line of it is bad
+-- while a step is performed: a refusal is one of it
+abbrev pub performing : (refused : (step : ℕ) → Type 0) → Reasons
+performing refused = record { changed = λ side. ⊥; repeats = ⊥; unread = λ fault. ⊥; refused = refused; unstepped = ⊥ }
+
+-- while none is, once the shelf was read: no line of it is bad
 abbrev pub because : (changed : Side → Type 0) → (repeats : Type 0) → Reasons
-because changed repeats = record { changed = changed; repeats = repeats; unread = λ fault. ⊥ }
+because changed repeats = record { changed = changed; repeats = repeats; unread = λ fault. ⊥; refused = λ step. ⊥; unstepped = Unit {0} }
 
 -- where it is read too
 abbrev pub or_unread : (unread : OutsideFault → Type 0) → Reasons → Reasons
 or_unread unread reasons = record reasons { unread = unread }
 
--- A call stopped, was refused or had another fault, by the counts; the faults of the run's own have their reasons. Line 0 of the state:
--- its run is not the one before, or the UID of a copy is taken.
+-- where steps are performed too
+abbrev pub or_refused : (refused : (step : ℕ) → Type 0) → Reasons → Reasons
+or_refused refused reasons = record reasons { refused = refused }
+
+-- A call stopped, was refused or had another fault, which is the last that was told; the faults of the run's own have their reasons.
+-- Line 0 of the state: its run is not the one before, or the UID of a copy is taken.
 abbrev pub IsCaused : Reasons → RunFault → Seen → Seen → Type 0
 IsCaused reasons run.Stopped old new = (old.is_broken ≡ true) ⊎ (old.stops < new.stops)
-IsCaused reasons (run.Refused step) old new = old.refusals < new.refusals
+IsCaused reasons (run.Refused step) old new = reasons.refused step × IsLast out.Refused old new
 IsCaused reasons (run.ValidityChanged side) old new = reasons.changed side
 IsCaused reasons (run.BadState line) old new = (line ≡ 0) ⊎ reasons.unread (out.BadState line)
 IsCaused reasons (run.BadJournal line) old new = reasons.unread (out.BadJournal line)
-IsCaused reasons (run.StoreFault side number) old new = (old.faults < new.faults) ⊎ ((old.refusals < new.refusals) ⊎ IsLost side number old new)
+IsCaused reasons (run.StoreFault side number) old new = IsLast (out.Box side number) old new ⊎ (IsLost side number old new ⊎ (reasons.unstepped × IsRefusal side number old new))
 IsCaused reasons run.MarksRepeat old new = reasons.repeats
 IsCaused reasons run.NoMemory old new = Unit {0}
 
 -- ---- what a fault leaves of a run that is underway
 
--- It is underway still. Neither the state nor the journal is found bad then, and a fault of a box is one that it told.
+-- It is underway still. Neither the state nor the journal is found bad then, and a refusal or a fault of a box is the last that was told.
 abbrev pub LeavesRun : (underway : Device → Type 0) → RunFault → Seen → Seen → Type 0
 LeavesRun underway run.Stopped old new = underway new.device
-LeavesRun underway (run.Refused step) old new = underway new.device
+LeavesRun underway (run.Refused step) old new = underway new.device × IsLast out.Refused old new
 LeavesRun underway (run.ValidityChanged side) old new = underway new.device
 LeavesRun underway (run.BadState line) old new = ⊥
 LeavesRun underway (run.BadJournal line) old new = ⊥
-LeavesRun underway (run.StoreFault side number) old new = underway new.device × ((old.faults < new.faults) ⊎ (old.refusals < new.refusals))
+LeavesRun underway (run.StoreFault side number) old new = underway new.device × (IsLast (out.Box side number) old new ⊎ IsRefusal side number old new)
 LeavesRun underway run.MarksRepeat old new = underway new.device
 LeavesRun underway run.NoMemory old new = underway new.device

@@ -1,24 +1,30 @@
 -- What a part of a run reaches, or leaves.
-use Rattle.std.specs.Prelude.{◌≡◌, ◌≤◌, ◌+◌, ℕ, true, false, Result, Ok, Err, IsErrAnd}
+use Rattle.std.specs.Prelude.{◌≡◌, ◌≤◌, ◌+◌, ◌++◌, ℕ, true, false, List, Option, Result, Ok, Err, IsErrAnd}
+use Rattle.outside.specs.declared.fault.OutsideFault.{OutsideFault}
 use Rattle.outside.specs.Calls.{Seen}
 use Rattle.outside.specs.Devices.{Device}
+use Rattle.outside.specs.Opened.{Opened}
 use Rattle.runner.specs.declared.fault.RunFault.{RunFault}
 use Rattle.runner.specs.declared.fault.RunFault.TheVariants.{Stopped}
-use Rattle.runner.specs.Faults.{IsCaused, LeavesRun, Reasons, because, stops_met}
+use Rattle.runner.specs.Faults.{IsCaused, LeavesRun, Reasons, RefusedAt, TellsRefused, because, or_refused, performing, stops_met}
+use Rattle.runner.specs.Going.{number_at}
 
--- none of the counts falls
+-- what was told before stands behind what was told since
+pub record TellsMore (old new : Seen) : Type 0 where
+  pub since : List OutsideFault
+  pub now : new.told ≡ since ++ old.told
+
+-- neither count falls, and nothing that was told is lost
 pub record NoLess (old new : Seen) : Type 0 where
   pub stops : old.stops ≤ new.stops
-  pub refusals : old.refusals ≤ new.refusals
-  pub faults : old.faults ≤ new.faults
+  pub told : TellsMore old new
   pub appends : old.appends ≤ new.appends
 
 -- a part that answered: no call of it had a fault, it has made so many copies, and it leads from one condition to another
 pub record Passed (honest : Type 0) (from to : Device → Type 0) (copies : ℕ) (old new : Seen) : Type 0 where
   pub is_whole : new.is_broken ≡ false
   pub stops : new.stops ≡ old.stops
-  pub refusals : new.refusals ≡ old.refusals
-  pub faults : new.faults ≡ old.faults
+  pub told : new.told ≡ old.told
   pub appends : new.appends ≡ old.appends + copies
   pub reaches : honest → from old.device → to new.device
 
@@ -34,12 +40,29 @@ abbrev pub PartOr : {T : Type 0} → Reasons → (honest : Type 0) → (from und
 PartOr reasons honest from underway copies reaches old new (Ok answer) = Passed honest from (reaches answer) (copies answer) old new
 PartOr reasons honest from underway copies reaches old new (Err fault) = Left reasons honest from underway fault old new
 
+-- no reason at all
 abbrev pub Never : Reasons
-Never = because (λ side. ⊥) ⊥
+Never = performing (λ step. ⊥)
 
--- a part that tells no such thing
+-- none but a refusal
+abbrev pub Unstepped : Reasons
+Unstepped = because (λ side. ⊥) ⊥
+
+-- a part that performs no step, and tells no fault of the run's own
 abbrev pub Part : {T : Type 0} → (honest : Type 0) → (from underway : Device → Type 0) → (copies : T → ℕ) → (reaches : T → Device → Type 0) → Seen → Seen → Result T RunFault → Type 0
-Part honest from underway copies reaches old new result = PartOr Never honest from underway copies reaches old new result
+Part honest from underway copies reaches old new result = PartOr Unstepped honest from underway copies reaches old new result
+
+-- a refusal is told of the step of this number, and the files hold the plan of which it is the next step
+abbrev pub InStep : (number : ℕ) → Option Opened → (honest from : Type 0) → Device → Reasons
+InStep number opened honest from d = performing (λ step. (step ≡ number) × (honest → from → RefusedAt (number_at opened) d))
+
+-- a part that performs the step of this number, and tells no fault of the run's own
+abbrev pub StepPart : {T : Type 0} → (number : ℕ) → Option Opened → (honest : Type 0) → (from underway : Device → Type 0) → (copies : T → ℕ) → (reaches : T → Device → Type 0) → Seen → Seen → Result T RunFault → Type 0
+StepPart number opened honest from underway copies reaches old new result = PartOr (InStep number opened honest (from old.device) new.device) honest from underway copies reaches old new result
+
+-- a part that performs steps of the plan that the files hold, and may tell a fault of the run's own, for these reasons
+abbrev pub RunPart : {T : Type 0} → Reasons → (honest : Type 0) → (from underway : Device → Type 0) → (copies : T → ℕ) → (reaches : T → Device → Type 0) → Seen → Seen → Result T RunFault → Type 0
+RunPart reasons honest from underway copies reaches old new result = PartOr (or_refused (TellsRefused honest (from old.device) new.device) reasons) honest from underway copies reaches old new result
 
 -- on an outside that had failed before, a part stops and changes nothing
 abbrev pub IsStuck : {T : Type 0} → (old new : Seen) → Result T RunFault → Type 0

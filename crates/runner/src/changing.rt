@@ -6,7 +6,7 @@ ghost use Rattle.sync_state.specs.declared.journal.Logged.TheVariants.{Done};
 ghost use Rattle.step_laws.specs.Steps.{changed_uid};
 ghost use Rattle.underway.specs.Conditions.{Underway};
 ghost use Rattle.underway.specs.Openings.{Opening};
-ghost use Rattle.runner.specs.Parts.{Part};
+ghost use Rattle.runner.specs.Parts.{StepPart};
 ghost use Rattle.runner.specs.Going.{IsGoing, AtBegun, AtDone, AtReady, logged_of, made_by, next_at, sets_first};
 
 use crate::fault::{RunFault, step_fault};
@@ -41,6 +41,13 @@ fn changed_uid(direction: Direction, far: Uid, near: Uid) -> Uid
     }
 }
 
+/// Whether flags are set by a call of their own: not where the step only clears some.
+fn sets_first(flags: &FlagStep) -> bool
+    ensures { result ≡ sets_first flags.now.set flags.now.cleared }
+{
+    !flags.set.is_empty() || flags.cleared.is_empty()
+}
+
 /// Sets the flags, if the step sets any.
 fn set_flags<O: Outside>(outside: &mut O, number: usize, flags: &FlagStep) -> Result<(), RunFault>
     ghost opening: { Opening }
@@ -50,11 +57,13 @@ fn set_flags<O: Outside>(outside: &mut O, number: usize, flags: &FlagStep) -> Re
     requires whole { (O.seen outside.old).is_broken ≡ false }
     ensures was_honest { O.honest outside.new → O.honest outside.old }
     ensures opened { O.opened outside.new ≡ O.opened outside.old }
-    ensures part { Part (O.honest outside.new) (AtReady O.ours O.alone opening (O.opened outside.old) true)
-        (Underway O.ours O.alone opening) (λ _. 0) (λ _. AtBegun O.ours O.alone opening (O.opened outside.old)
-        (sets_first flags.now.set flags.now.cleared)) (O.seen outside.old) (O.seen outside.new) result }
+    ensures idle { sets_first flags.now.set flags.now.cleared ≡ false → O.seen outside.new ≡ O.seen outside.old }
+    ensures part { StepPart number (O.opened outside.old) (O.honest outside.new)
+        (AtReady O.ours O.alone opening (O.opened outside.old) true) (Underway O.ours O.alone opening) (λ _. 0)
+        (λ _. AtBegun O.ours O.alone opening (O.opened outside.old) (sets_first flags.now.set flags.now.cleared)) (O.seen outside.old)
+        (O.seen outside.new) result }
 {
-    if flags.set.is_empty() && !flags.cleared.is_empty() {
+    if !sets_first(flags) {
         return Ok(());
     }
     let side = flags.direction.target();
@@ -74,9 +83,11 @@ fn clear_flags<O: Outside>(outside: &mut O, number: usize, flags: &FlagStep) -> 
     requires whole { (O.seen outside.old).is_broken ≡ false }
     ensures was_honest { O.honest outside.new → O.honest outside.old }
     ensures opened { O.opened outside.new ≡ O.opened outside.old }
-    ensures part { Part (O.honest outside.new) (AtBegun O.ours O.alone opening (O.opened outside.old)
-        (sets_first flags.now.set flags.now.cleared)) (Underway O.ours O.alone opening) (λ _. 0)
-        (λ _. AtDone O.ours O.alone opening (O.opened outside.old) Done) (O.seen outside.old) (O.seen outside.new) result }
+    ensures idle { flags.now.cleared ≡ 0 → O.seen outside.new ≡ O.seen outside.old }
+    ensures part { StepPart number (O.opened outside.old) (O.honest outside.new)
+        (AtBegun O.ours O.alone opening (O.opened outside.old) (sets_first flags.now.set flags.now.cleared))
+        (Underway O.ours O.alone opening) (λ _. 0) (λ _. AtDone O.ours O.alone opening (O.opened outside.old) Done) (O.seen outside.old)
+        (O.seen outside.new) result }
 {
     if flags.cleared.is_empty() {
         return Ok(());
@@ -103,9 +114,9 @@ pub(crate) fn carry_flags<O: Outside>(
     ensures was_honest { O.honest outside.new → O.honest outside.old }
     ensures opened { O.opened outside.new ≡ O.opened outside.old }
     ensures fits { IfOk result (λ r. logged_of r ≡ Done) }
-    ensures part { Part (O.honest outside.new) (AtReady O.ours O.alone opening (O.opened outside.old) true)
-        (Underway O.ours O.alone opening) made_by (λ r. AtDone O.ours O.alone opening (O.opened outside.old) (logged_of r))
-        (O.seen outside.old) (O.seen outside.new) result }
+    ensures part { StepPart number (O.opened outside.old) (O.honest outside.new)
+        (AtReady O.ours O.alone opening (O.opened outside.old) true) (Underway O.ours O.alone opening) made_by
+        (λ r. AtDone O.ours O.alone opening (O.opened outside.old) (logged_of r)) (O.seen outside.old) (O.seen outside.new) result }
 {
     set_flags(outside, number, flags)?;
     clear_flags(outside, number, flags)?;
@@ -126,9 +137,9 @@ pub(crate) fn mark_deleted<O: Outside>(
     ensures was_honest { O.honest outside.new → O.honest outside.old }
     ensures opened { O.opened outside.new ≡ O.opened outside.old }
     ensures fits { IfOk result (λ r. logged_of r ≡ Done) }
-    ensures part { Part (O.honest outside.new) (AtReady O.ours O.alone opening (O.opened outside.old) true)
-        (Underway O.ours O.alone opening) made_by (λ r. AtDone O.ours O.alone opening (O.opened outside.old) (logged_of r))
-        (O.seen outside.old) (O.seen outside.new) result }
+    ensures part { StepPart number (O.opened outside.old) (O.honest outside.new)
+        (AtReady O.ours O.alone opening (O.opened outside.old) true) (Underway O.ours O.alone opening) made_by
+        (λ r. AtDone O.ours O.alone opening (O.opened outside.old) (logged_of r)) (O.seen outside.old) (O.seen outside.new) result }
 {
     let side = direction.target();
     let uid = changed_uid(direction, far, near);
@@ -151,9 +162,9 @@ pub(crate) fn remove<O: Outside>(
     ensures was_honest { O.honest outside.new → O.honest outside.old }
     ensures opened { O.opened outside.new ≡ O.opened outside.old }
     ensures fits { IfOk result (λ r. logged_of r ≡ Done) }
-    ensures part { Part (O.honest outside.new) (AtReady O.ours O.alone opening (O.opened outside.old) true)
-        (Underway O.ours O.alone opening) made_by (λ r. AtDone O.ours O.alone opening (O.opened outside.old) (logged_of r))
-        (O.seen outside.old) (O.seen outside.new) result }
+    ensures part { StepPart number (O.opened outside.old) (O.honest outside.new)
+        (AtReady O.ours O.alone opening (O.opened outside.old) true) (Underway O.ours O.alone opening) made_by
+        (λ r. AtDone O.ours O.alone opening (O.opened outside.old) (logged_of r)) (O.seen outside.old) (O.seen outside.new) result }
 {
     match outside.expunge(side, uid) {
         Ok(()) => Ok(StepResult::Plain),

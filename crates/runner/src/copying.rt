@@ -6,7 +6,7 @@ ghost use Rattle.sync_state.specs.JournalText.{LogsNew};
 ghost use Rattle.sync_state.specs.declared.journal.Logged.TheVariants.{Copied};
 ghost use Rattle.underway.specs.Conditions.{Underway};
 ghost use Rattle.underway.specs.Openings.{Opening};
-ghost use Rattle.runner.specs.Parts.{Part};
+ghost use Rattle.runner.specs.Parts.{StepPart};
 ghost use Rattle.runner.specs.Going.{IsGoing, AtCopied, AtDone, AtReady, AtSought, CopiesUnder, FoundCopy, logged_of, made_by, next_at, plan_at};
 ghost use Rattle.runner.specs.Finding.{OfSame, copy_at, copy_under, told_found};
 
@@ -31,9 +31,9 @@ fn seek<O: Outside>(
     requires next { CopiesUnder (O.opened outside.old) direction mark }
     ensures was_honest { O.honest outside.new → O.honest outside.old }
     ensures opened { O.opened outside.new ≡ O.opened outside.old }
-    ensures part { Part (O.honest outside.new) (AtReady O.ours O.alone opening (O.opened outside.old) true)
-        (Underway O.ours O.alone opening) (λ _. 0) (AtSought O.ours O.alone opening (O.opened outside.old)) (O.seen outside.old)
-        (O.seen outside.new) result }
+    ensures part { StepPart number (O.opened outside.old) (O.honest outside.new)
+        (AtReady O.ours O.alone opening (O.opened outside.old) true) (Underway O.ours O.alone opening) (λ _. 0)
+        (AtSought O.ours O.alone opening (O.opened outside.old)) (O.seen outside.old) (O.seen outside.new) result }
     ensures found { IfOk result (λ found. O.honest outside.new → AtReady O.ours O.alone opening (O.opened outside.old) true
         (O.seen outside.old).device → OfSame O.ours (O.seen outside.old).device (λ d. found ≡ copy_under
         (plan_at (O.opened outside.old)) direction mark d)) }
@@ -58,8 +58,9 @@ fn find_copy<O: Outside>(
     requires next { CopiesUnder (O.opened outside.old) direction mark }
     ensures was_honest { O.honest outside.new → O.honest outside.old }
     ensures opened { O.opened outside.new ≡ O.opened outside.old }
-    ensures part { Part (O.honest outside.new) (AtCopied O.ours O.alone opening (O.opened outside.old)) (Underway O.ours O.alone opening)
-        (λ _. 0) (FoundCopy O.ours O.alone opening (O.opened outside.old)) (O.seen outside.old) (O.seen outside.new) result }
+    ensures part { StepPart number (O.opened outside.old) (O.honest outside.new)
+        (AtCopied O.ours O.alone opening (O.opened outside.old)) (Underway O.ours O.alone opening) (λ _. 0)
+        (FoundCopy O.ours O.alone opening (O.opened outside.old)) (O.seen outside.old) (O.seen outside.new) result }
 {
     let side = direction.target();
     let from = first_uid(outside, side);
@@ -85,9 +86,9 @@ fn copy<O: Outside>(
     ensures opened { O.opened outside.new ≡ O.opened outside.old }
     ensures fits { IfOk result (λ r. LogsNew (logged_of r)) }
     ensures made { IfOk result (λ r. told_found r ≡ None) }
-    ensures part { Part (O.honest outside.new) (AtReady O.ours O.alone opening (O.opened outside.old) false)
-        (Underway O.ours O.alone opening) made_by (λ r. AtDone O.ours O.alone opening (O.opened outside.old) (logged_of r))
-        (O.seen outside.old) (O.seen outside.new) result }
+    ensures part { StepPart number (O.opened outside.old) (O.honest outside.new)
+        (AtReady O.ours O.alone opening (O.opened outside.old) false) (Underway O.ours O.alone opening) made_by
+        (λ r. AtDone O.ours O.alone opening (O.opened outside.old) (logged_of r)) (O.seen outside.old) (O.seen outside.new) result }
 {
     let carried = match outside.carry(direction, uid, mark, flags) {
         Ok(carried) => carried,
@@ -125,9 +126,9 @@ pub(crate) fn bring<O: Outside>(
     ensures found { IfOk result (λ r. O.honest outside.new → AtReady O.ours O.alone opening (O.opened outside.old) is_taken_up
         (O.seen outside.old).device → OfSame O.ours (O.seen outside.old).device (λ d. told_found r ≡ copy_at
         (plan_at (O.opened outside.old)) (step.New direction uid flags mark) d)) }
-    ensures part { Part (O.honest outside.new) (AtReady O.ours O.alone opening (O.opened outside.old) is_taken_up)
-        (Underway O.ours O.alone opening) made_by (λ r. AtDone O.ours O.alone opening (O.opened outside.old) (logged_of r))
-        (O.seen outside.old) (O.seen outside.new) result }
+    ensures part { StepPart number (O.opened outside.old) (O.honest outside.new)
+        (AtReady O.ours O.alone opening (O.opened outside.old) is_taken_up) (Underway O.ours O.alone opening) made_by
+        (λ r. AtDone O.ours O.alone opening (O.opened outside.old) (logged_of r)) (O.seen outside.old) (O.seen outside.new) result }
 {
     if !is_taken_up {
         return copy(outside, number, direction, uid, flags, mark);

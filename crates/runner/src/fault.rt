@@ -25,8 +25,8 @@ pub enum RunFault {
     /// The journal is bad, from this line on.
     #[error("bad journal {0}")]
     BadJournal(usize),
-    /// Another fault of this side's box, by its number. Number 3 of the far box is also told where a copy was made whose UID was not
-    /// told, and no message bears its mark.
+    /// Another fault of this side's box, by its number. Number 2 of the far box is also told where it said no to a call that performs no
+    /// step, and number 3 where a copy was made whose UID was not told, and no message bears its mark.
     #[error("store fault {0:?} {1}")]
     StoreFault(Side, u8),
     /// 64 marks in a row had been drawn already.

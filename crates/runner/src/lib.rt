@@ -9,6 +9,7 @@ pub mod pass;
 pub mod pending;
 pub mod performed;
 pub mod planning;
+pub mod progress;
 pub mod run;
 pub mod settle;
 pub mod steps;

@@ -4,16 +4,16 @@ ghost use Rattle.std.specs.Prelude.{◌≡◌, None, Some, OnOk, IfOk, true, fal
 ghost use Rattle.book.specs.declared.book.Pending.TheVariants.{Missing};
 ghost use Rattle.book.specs.Books.{mended};
 ghost use Rattle.book.specs.BookLogs.{begun};
-ghost use Rattle.outside.specs.BoxCalls.{HasNumbers};
+ghost use Rattle.mailbox.specs.Operations.{HasNumbers};
 ghost use Rattle.outside.specs.Opened.{IsBook, IsHeld, IsOpen, IsRead, TakesPlan, state_of, turned, with_box};
 ghost use Rattle.underway.specs.Conditions.{Underway};
 ghost use Rattle.underway.specs.Openings.{Opening};
 ghost use Rattle.runner.specs.Faults.{TellsUnread, because, or_unread};
-ghost use Rattle.runner.specs.Parts.{IsStuck, Never, Part, PartOr};
+ghost use Rattle.runner.specs.Parts.{IsStuck, Part, PartOr, Unstepped};
 ghost use Rattle.runner.specs.Validities.{BothSame, HasSame, HaveValidities, IsKept, KeepsValidities, LeavesBoxes, TellsChange, TellsOther, recorded_in};
 ghost use Rattle.runner.specs.Going.{AreOpen, AtReady};
 ghost use Rattle.runner.specs.Finding.{FindsSame};
-ghost use Rattle.runner.specs.Before.{BothListed, FarListed, HasNoPlan, HasNone, HasPlan, IsClear, IsKnown, IsMade, IsTakenUp};
+ghost use Rattle.runner.specs.Before.{BothListed, FarListed, HasNoJournal, HasNoPlan, HasNone, HasPlan, IsClear, IsKnown, IsMade, IsTakenUp};
 
 use crate::fault::{RunFault, call_fault};
 use mailcore::listing::Listing;
@@ -30,7 +30,7 @@ pub(crate) fn recall<O: Outside>(outside: &mut O) -> Result<(), RunFault>
     ensures kept { OnOk result (O.honest outside.new → IsKept O.alone (O.seen outside.old).device (O.seen outside.new).device) }
     ensures stuck { IsStuck (O.seen outside.old) (O.seen outside.new) result }
     ensures same { OnOk result (O.honest outside.new → FindsSame O.ours (O.seen outside.old).device (O.seen outside.new).device) }
-    ensures part { PartOr (or_unread (TellsUnread (O.honest outside.new) (O.seen outside.new).device) Never) (O.honest outside.new)
+    ensures part { PartOr (or_unread (TellsUnread (O.honest outside.new) (O.seen outside.new).device) Unstepped) (O.honest outside.new)
         (Underway O.ours O.alone opening) (Underway O.ours O.alone opening)
         (λ _. 0) (λ _. IsKnown O.ours O.alone opening (O.opened outside.new)) (O.seen outside.old) (O.seen outside.new) result }
 {
@@ -47,6 +47,7 @@ pub(crate) fn forget<O: Outside>(outside: &mut O) -> Result<(), RunFault>
     requires whole { (O.seen outside.old).is_broken ≡ false }
     ensures was_honest { O.honest outside.new → O.honest outside.old }
     ensures state { OnOk result (state_of (O.opened outside.new) ≡ state_of (O.opened outside.old)) }
+    ensures gone { OnOk result (HasNoPlan (O.opened outside.old) → HasNoJournal (O.opened outside.new)) }
     ensures stores { OnOk result (LeavesBoxes (O.honest outside.new) O.alone (O.seen outside.old).device (O.seen outside.new).device) }
     ensures part { Part (O.honest outside.new) (IsKnown O.ours O.alone opening (O.opened outside.old)) (Underway O.ours O.alone opening)
         (λ _. 0) (λ _. IsKnown O.ours O.alone opening (O.opened outside.new)) (O.seen outside.old) (O.seen outside.new) result }

@@ -7,7 +7,7 @@ ghost use Rattle.underway.specs.Conditions.{Underway};
 ghost use Rattle.underway.specs.Endings.{IsDone};
 ghost use Rattle.underway.specs.Openings.{Opening};
 ghost use Rattle.runner.specs.Faults.{TellsUnread, because, or_unread};
-ghost use Rattle.runner.specs.Parts.{IsStuck, Part, PartOr};
+ghost use Rattle.runner.specs.Parts.{IsStuck, Part, PartOr, RunPart, Unstepped};
 ghost use Rattle.runner.specs.Validities.{LeavesBoxes, TellsChange, TellsChanged, TellsUnlessSame};
 ghost use Rattle.runner.specs.Going.{AreOpen, AtReady, IsGoing, log_at, next_at, plan_at};
 ghost use Rattle.runner.specs.Before.{HasNoPlan, HasPlan, IsKnown, IsTakenUp};
@@ -19,6 +19,7 @@ use crate::fault::{RunFault, call_fault};
 use crate::opening::{clear, forget, list_both, open_boxes, recall, untear, write_plan};
 use crate::pass::Pass;
 use crate::planning::{make_plan, passed_over};
+use crate::progress::Progress;
 use crate::steps::carry_out;
 use mailcore::side::Side;
 use mailcore::uid::Uid;
@@ -81,11 +82,12 @@ fn propose<O: Outside, R: Rng>(
 }
 
 /// Makes a plan and carries it out.
-fn begin<O: Outside, R: Rng>(
+fn begin<O: Outside, R: Rng, P: Progress>(
     alloc: Global,
     outside: &mut O,
     options: &Options,
     rng: &mut R,
+    progress: &P,
 ) -> Result<Pass, RunFault>
     ghost opening: { Opening }
     requires none { HasNoPlan (O.opened outside.old) }
@@ -102,19 +104,23 @@ fn begin<O: Outside, R: Rng>(
     ensures found { IfOk result (λ pass. O.honest outside.new → IsChosen O.ours O.alone opening (O.opened outside.old)
         options.now (R.stream rng.old) (O.seen outside.old).device
         → OfSame O.ours (O.seen outside.old).device (λ d. FindsBy (O.opened outside.old) d pass)) }
-    ensures part { PartOr (because (TellsUnlessSame (O.honest outside.new) (O.opened outside.old) (O.seen outside.old).device)
+    ensures part { RunPart (because (TellsUnlessSame (O.honest outside.new) (O.opened outside.old) (O.seen outside.old).device)
         (HasRepeats (R.stream rng.old))) (O.honest outside.new)
         (IsChosen O.ours O.alone opening (O.opened outside.old) options.now (R.stream rng.old)) (Underway O.ours O.alone opening) made_in
         (λ _. AtEnd O.ours O.alone opening) (O.seen outside.old) (O.seen outside.new) result }
 {
     let unfit = propose(alloc, outside, options, rng)?;
-    let performed = carry_out(alloc, outside, false)?;
+    let performed = carry_out(alloc, outside, false, progress)?;
     conclude(outside, false)?;
     Ok(Pass::Ran(performed, unfit))
 }
 
 /// Goes on with a plan that is pending.
-fn resume<O: Outside>(alloc: Global, outside: &mut O) -> Result<Pass, RunFault>
+fn resume<O: Outside, P: Progress>(
+    alloc: Global,
+    outside: &mut O,
+    progress: &P,
+) -> Result<Pass, RunFault>
     ghost opening: { Opening }
     requires book { IsBook (O.opened outside.old) }
     requires plan { HasPlan (O.opened outside.old) }
@@ -128,11 +134,11 @@ fn resume<O: Outside>(alloc: Global, outside: &mut O) -> Result<Pass, RunFault>
     ensures found { IfOk result (λ pass. O.honest outside.new → IsTakenUp O.ours O.alone opening (O.opened outside.old)
         (O.seen outside.old).device
         → OfSame O.ours (O.seen outside.old).device (λ d. FindsBy (O.opened outside.old) d pass)) }
-    ensures part { Part (O.honest outside.new) (IsTakenUp O.ours O.alone opening (O.opened outside.old)) (Underway O.ours O.alone opening)
-        made_in (λ _. AtEnd O.ours O.alone opening) (O.seen outside.old) (O.seen outside.new) result }
+    ensures part { RunPart Unstepped (O.honest outside.new) (IsTakenUp O.ours O.alone opening (O.opened outside.old))
+        (Underway O.ours O.alone opening) made_in (λ _. AtEnd O.ours O.alone opening) (O.seen outside.old) (O.seen outside.new) result }
 {
     untear(outside)?;
-    let performed = carry_out(alloc, outside, true)?;
+    let performed = carry_out(alloc, outside, true, progress)?;
     conclude(outside, true)?;
     Ok(Pass::Finished(performed))
 }
@@ -153,11 +159,12 @@ fn skip<O: Outside>(outside: &mut O) -> Result<Pass, RunFault>
 }
 
 /// Finishes the plan that is pending, or makes one and carries it out.
-fn work<O: Outside, R: Rng>(
+fn work<O: Outside, R: Rng, P: Progress>(
     alloc: Global,
     outside: &mut O,
     options: &Options,
     rng: &mut R,
+    progress: &P,
 ) -> Result<Pass, RunFault>
     ghost opening: { Opening }
     requires book { IsBook (O.opened outside.old) }
@@ -175,24 +182,25 @@ fn work<O: Outside, R: Rng>(
     ensures found { IfOk result (λ pass. O.honest outside.new → IsKnownEntry O.ours O.alone opening (O.opened outside.old)
         (run_of (O.opened outside.old) + 1) options.now (R.stream rng.old) (O.seen outside.old).device
         → OfSame O.ours (O.seen outside.old).device (λ d. FindsBy (O.opened outside.old) d pass)) }
-    ensures part { PartOr (because (TellsUnlessSame (O.honest outside.new) (O.opened outside.old) (O.seen outside.old).device)
+    ensures part { RunPart (because (TellsUnlessSame (O.honest outside.new) (O.opened outside.old) (O.seen outside.old).device)
         (HasRepeats (R.stream rng.old))) (O.honest outside.new)
         (IsKnownEntry O.ours O.alone opening (O.opened outside.old) (run_of (O.opened outside.old) + 1) options.now (R.stream rng.old))
         (Underway O.ours O.alone opening) made_in (λ _. AtEnd O.ours O.alone opening) (O.seen outside.old) (O.seen outside.new) result }
 {
     if outside.pending().is_some() {
-        resume(alloc, outside)
+        resume(alloc, outside, progress)
     } else {
-        begin(alloc, outside, options, rng)
+        begin(alloc, outside, options, rng, progress)
     }
 }
 
 /// Opens both boxes first.
-fn open_and_work<O: Outside, R: Rng>(
+fn open_and_work<O: Outside, R: Rng, P: Progress>(
     alloc: Global,
     outside: &mut O,
     options: &Options,
     rng: &mut R,
+    progress: &P,
 ) -> Result<Pass, RunFault>
     ghost opening: { Opening }
     requires book { IsBook (O.opened outside.old) }
@@ -209,22 +217,23 @@ fn open_and_work<O: Outside, R: Rng>(
     ensures found { IfOk result (λ pass. O.honest outside.new → IsKnownEntry O.ours O.alone opening (O.opened outside.old)
         (run_of (O.opened outside.old) + 1) options.now (R.stream rng.old) (O.seen outside.old).device
         → OfSame O.ours (O.seen outside.old).device (λ d. FindsBy (O.opened outside.old) d pass)) }
-    ensures part { PartOr (because (TellsChange (O.honest outside.new) O.alone (O.opened outside.old) (O.seen outside.old).device
+    ensures part { RunPart (because (TellsChange (O.honest outside.new) O.alone (O.opened outside.old) (O.seen outside.old).device
         (O.seen outside.new).device) (HasRepeats (R.stream rng.old))) (O.honest outside.new)
         (IsKnownEntry O.ours O.alone opening (O.opened outside.old) (run_of (O.opened outside.old) + 1) options.now (R.stream rng.old))
         (Underway O.ours O.alone opening) made_in (λ _. AtEnd O.ours O.alone opening) (O.seen outside.old) (O.seen outside.new) result }
 {
     open_boxes(outside)?;
-    work(alloc, outside, options, rng)
+    work(alloc, outside, options, rng, progress)
 }
 
 /// Carries out the run of this number, once the shelf was read.
-fn take_up<O: Outside, R: Rng>(
+fn take_up<O: Outside, R: Rng, P: Progress>(
     alloc: Global,
     outside: &mut O,
     run: u64,
     options: &Options,
     rng: &mut R,
+    progress: &P,
 ) -> Result<Pass, RunFault>
     ghost opening: { Opening }
     requires book { IsBook (O.opened outside.old) }
@@ -241,7 +250,7 @@ fn take_up<O: Outside, R: Rng>(
     ensures found { IfOk result (λ pass. O.honest outside.new → IsKnownEntry O.ours O.alone opening (O.opened outside.old)
         run options.now (R.stream rng.old) (O.seen outside.old).device
         → OfSame O.ours (O.seen outside.old).device (λ d. FindsBy (O.opened outside.old) d pass)) }
-    ensures part { PartOr (because (TellsChange (O.honest outside.new) O.alone (O.opened outside.old) (O.seen outside.old).device
+    ensures part { RunPart (because (TellsChange (O.honest outside.new) O.alone (O.opened outside.old) (O.seen outside.old).device
         (O.seen outside.new).device) (HasRepeats (R.stream rng.old))) (O.honest outside.new)
         (IsKnownEntry O.ours O.alone opening (O.opened outside.old) run options.now (R.stream rng.old)) (Underway O.ours O.alone opening)
         made_in (λ _. Reaches O.ours O.alone opening run) (O.seen outside.old) (O.seen outside.new) result }
@@ -253,18 +262,19 @@ fn take_up<O: Outside, R: Rng>(
     if run - last > 1 {
         return Err(RunFault::BadState(0));
     }
-    open_and_work(alloc, outside, options, rng)
+    open_and_work(alloc, outside, options, rng, progress)
 }
 
 /// Carries out the run of this number, or goes on with it where its plan is pending.
 ///
 /// `BadState(0)`: the last run recorded is not the one before. `Stopped`: taken up again, it goes on where it stopped.
-pub fn pass<O: Outside, R: Rng>(
+pub fn pass<O: Outside, R: Rng, P: Progress>(
     alloc: Global,
     outside: &mut O,
     run: u64,
     options: &Options,
     rng: &mut R,
+    progress: &P,
 ) -> Result<Pass, RunFault>
     ghost opening: { Opening }
 
@@ -300,8 +310,10 @@ pub fn pass<O: Outside, R: Rng>(
 
     // A run that is underway is still underway after any fault, and over where it answers. `ValidityChanged` comes only where that
     // side's UIDVALIDITY is not the recorded one, far before near, and nothing has changed then; `MarksRepeat` only where the generator's
-    // draws do; a line of the state or the journal is told only where the files that stand there hold no book, but line 0 of the state.
-    ensures part { PartOr (or_unread (TellsUnread (O.honest outside.new) (O.seen outside.new).device)
+    // draws do; a line of the state or the journal is told only where the files that stand there hold no book, but line 0 of the state. A
+    // refusal or a fault of a box is the last that was told, and a step that is told as refused is the next one of the plan that the files
+    // then hold, if the run is underway.
+    ensures part { RunPart (or_unread (TellsUnread (O.honest outside.new) (O.seen outside.new).device)
         (because (TellsChanged (O.honest outside.new) O.alone (O.seen outside.old).device (O.seen outside.new).device)
         (HasRepeats (R.stream rng.old))))
         (O.honest outside.new) (IsEntry O.ours O.alone opening run options.now (R.stream rng.old)) (Underway O.ours O.alone opening)
@@ -313,5 +325,5 @@ pub fn pass<O: Outside, R: Rng>(
         → IsOpening opening.world → IsDone opening.world opening.options (O.seen outside.new).device) }
 {
     recall(outside)?;
-    take_up(alloc, outside, run, options, rng)
+    take_up(alloc, outside, run, options, rng, progress)
 }

@@ -6,8 +6,8 @@ ghost use Rattle.rules.specs.Opening.{IsOpening};
 ghost use Rattle.underway.specs.Conditions.{IsOver, Underway};
 ghost use Rattle.underway.specs.Endings.{IsDone};
 ghost use Rattle.underway.specs.Openings.{Opening};
-ghost use Rattle.runner.specs.Faults.{IsCaused, LeavesRun, TellsNoRun, because, or_unread};
-ghost use Rattle.runner.specs.Parts.{IsStuck, Never, PartOr};
+ghost use Rattle.runner.specs.Faults.{IsCaused, LeavesRun, RefusedAt, TellsNoRun, because, or_refused, or_unread};
+ghost use Rattle.runner.specs.Parts.{IsStuck, PartOr, RunPart, Unstepped};
 ghost use Rattle.runner.specs.Validities.{IsKept, TellsChanged};
 ghost use Rattle.runner.specs.Results.{HasResults, IsTold};
 ghost use Rattle.runner.specs.Finding.{FindsAt, FindsLast, FindsSame};
@@ -16,6 +16,7 @@ ghost use Rattle.runner.specs.Attempts.{AnswersAt, AnswersLast, AtOpening, Chang
 
 use crate::fault::{RunFault, call_fault};
 use crate::pass::{Pass, Settled};
+use crate::progress::Progress;
 use crate::run::pass;
 use outside::outside::Outside;
 use rand_core::Rng;
@@ -30,7 +31,7 @@ fn next_run<O: Outside>(outside: &mut O) -> Result<u64, RunFault>
     ensures greatest { HasNoNext (O.honest outside.new) O.alone (O.seen outside.old).device (O.seen outside.new).device result }
     ensures same { OnOk result (O.honest outside.new → FindsSame O.ours (O.seen outside.old).device (O.seen outside.new).device) }
     ensures stuck { IsStuck (O.seen outside.old) (O.seen outside.new) result }
-    ensures part { PartOr (or_unread (TellsNoRun (O.honest outside.new) (O.seen outside.new).device) Never) (O.honest outside.new)
+    ensures part { PartOr (or_unread (TellsNoRun (O.honest outside.new) (O.seen outside.new).device) Unstepped) (O.honest outside.new)
         (AtOpening O.ours O.alone opening) (AtOpening O.ours O.alone opening)
         (λ _. 0) (λ number d. (number ≡ opening.world.state.run + 1) × AtOpening O.ours O.alone opening d) (O.seen outside.old)
         (O.seen outside.new) result }
@@ -58,7 +59,7 @@ fn fix_run<O: Outside>(outside: &mut O, run: &mut Option<u64>) -> Result<u64, Ru
     ensures greatest { run.old ≡ None → HasNoNext (O.honest outside.new) O.alone (O.seen outside.old).device (O.seen outside.new).device result }
     ensures same { OnOk result (O.honest outside.new → FindsSame O.ours (O.seen outside.old).device (O.seen outside.new).device) }
     ensures stuck { IsStuck (O.seen outside.old) (O.seen outside.new) result }
-    ensures part { PartOr (or_unread (TellsNoRun (O.honest outside.new) (O.seen outside.new).device) Never) (O.honest outside.new)
+    ensures part { PartOr (or_unread (TellsNoRun (O.honest outside.new) (O.seen outside.new).device) Unstepped) (O.honest outside.new)
         (TriedAt O.ours O.alone opening run.old) (TriedAt O.ours O.alone opening run.new)
         (λ _. 0) (λ _. TriedAt O.ours O.alone opening run.new) (O.seen outside.old) (O.seen outside.new) result }
 {
@@ -71,12 +72,13 @@ fn fix_run<O: Outside>(outside: &mut O, run: &mut Option<u64>) -> Result<u64, Ru
 }
 
 /// One attempt.
-fn attempt<O: Outside, R: Rng>(
+fn attempt<O: Outside, R: Rng, P: Progress>(
     alloc: Global,
     outside: &mut O,
     run: &mut Option<u64>,
     options: &Options,
     rng: &mut R,
+    progress: &P,
 ) -> Result<Pass, RunFault>
     ghost opening: { Opening }
     requires whole { (number : ℕ) → run.old ≡ Some number → (O.seen outside.old).is_broken ≡ false }
@@ -92,7 +94,7 @@ fn attempt<O: Outside, R: Rng>(
     ensures greatest { run.old ≡ None → HasNoNext (O.honest outside.new) O.alone (O.seen outside.old).device (O.seen outside.new).device result }
     ensures unfixed { run.old ≡ None → OfFiles (O.honest outside.new) (O.seen outside.old).device (λ s p. s.run + 1 ≡ 2 ^ 64 → run.new ≡ None) }
     ensures stuck { IsStuck (O.seen outside.old) (O.seen outside.new) result }
-    ensures part { PartOr (or_unread (TellsNoRun (O.honest outside.new) (O.seen outside.new).device)
+    ensures part { RunPart (or_unread (TellsNoRun (O.honest outside.new) (O.seen outside.new).device)
         (because (TellsChanged (O.honest outside.new) O.alone (O.seen outside.old).device (O.seen outside.new).device)
         (HasRepeats (R.stream rng.old))))
         (O.honest outside.new) (IsTried O.ours O.alone opening options.now (R.stream rng.old) run.old)
@@ -100,7 +102,7 @@ fn attempt<O: Outside, R: Rng>(
         made_in (λ _. IsOver O.ours O.alone opening) (O.seen outside.old) (O.seen outside.new) result }
 {
     let number = fix_run(outside, run)?;
-    pass(alloc, outside, number, options, rng)
+    pass(alloc, outside, number, options, rng, progress)
 }
 
 /// Opens all again, but for the first attempt.
@@ -118,12 +120,13 @@ fn again<O: Outside>(outside: &mut O, tried: u32)
 ///
 /// `Stopped`: each attempt met a stop, as the first does where the outside had failed before. Another fault is answered at once.
 /// `BadState(2)`: the state's run is the greatest number. Whoever goes on after a fault calls `reopen` first, or loses an attempt.
-pub fn settle<O: Outside, R: Rng>(
+pub fn settle<O: Outside, R: Rng, P: Progress>(
     alloc: Global,
     outside: &mut O,
     options: &Options,
     tries: u32,
     rng: &mut R,
+    progress: &P,
 ) -> Result<Settled, RunFault>
     ghost opening: { Opening }
     ensures was_honest { O.honest outside.new → O.honest outside.old }
@@ -165,12 +168,18 @@ pub fn settle<O: Outside, R: Rng>(
         → FromOpening (O.honest outside.new) O.ours O.alone opening options.now (R.stream rng.old) (O.seen outside.old).device
         (ChangedLast O.ours O.alone opening tries side (O.seen outside.old).device (R.stream rng.old) (O.seen outside.new).device)) }
 
-    // A refusal, another fault of a box, or a copy that was lost stands in the counts, and marks repeat only where the draws do. A line of
-    // the state or the journal is told only where the files that stand there hold no book from it on, but line 0 of the state, and but
-    // `BadState(2)` where their run has the greatest number.
+    // A refusal or another fault of a box is the last that was told, unless it is that of a copy that was lost, and marks repeat only where
+    // the draws do. A line of the state or the journal is told only where the files that stand there hold no book from it on, but line 0
+    // of the state, and but `BadState(2)` where their run has the greatest number.
     ensures caused { IfErr result (λ fault. (fault ≡ RunFault.Stopped → ⊥)
         → IsCaused (or_unread (TellsNoRun (O.honest outside.new) (O.seen outside.new).device)
-        (because (λ side. Unit {0}) (WillRepeat (R.stream rng.old)))) fault (O.seen outside.old) (O.seen outside.new)) }
+        (or_refused (λ step. Unit {0}) (because (λ side. Unit {0}) (WillRepeat (R.stream rng.old))))) fault (O.seen outside.old)
+        (O.seen outside.new)) }
+
+    // From an opening, a step that is told as refused is the next one of the plan that the files then hold.
+    ensures refused { IfErr result (λ fault. (step : ℕ) → fault ≡ RunFault.Refused step
+        → FromOpening (O.honest outside.new) O.ours O.alone opening options.now (R.stream rng.old) (O.seen outside.old).device
+        (RefusedAt step (O.seen outside.new).device)) }
 
     // Behind the greatest run number there is no other.
     ensures greatest { HasNoNext (O.honest outside.new) O.alone (O.seen outside.old).device (O.seen outside.new).device result }
@@ -185,7 +194,7 @@ pub fn settle<O: Outside, R: Rng>(
     let mut run = None;
     for tried in 0..tries {
         again(outside, tried);
-        match attempt(alloc, outside, &mut run, options, rng) {
+        match attempt(alloc, outside, &mut run, options, rng, progress) {
             Ok(last) => {
                 return Ok(Settled { stops: tried, last });
             }

@@ -9,7 +9,7 @@ ghost use Rattle.outside.specs.BookCalls.{FromLog, OfBook};
 ghost use Rattle.outside.specs.Opened.{TakesLog, turned};
 ghost use Rattle.underway.specs.Conditions.{Underway};
 ghost use Rattle.underway.specs.Openings.{Opening};
-ghost use Rattle.runner.specs.Parts.{Part};
+ghost use Rattle.runner.specs.Parts.{Never, RunPart, StepPart};
 ghost use Rattle.runner.specs.Going.{IsGoing, AtDone, AtReady, FitsNext, HasLogged, log_at, logged_of, logs_of, made, made_by, next_at, number_at, plan_at, steps_of};
 ghost use Rattle.runner.specs.Finding.{AreFoundSo, IsFoundSo, OfSame, copy_at, told_found};
 ghost use Rattle.outside.specs.Calls.{Writes};
@@ -19,6 +19,7 @@ use crate::copying::bring;
 use crate::fault::{RunFault, step_fault};
 use crate::pending::next_step;
 use crate::performed::{Performed, StepResult};
+use crate::progress::{Progress, tell_logged};
 use outside::fault::OutsideFault;
 use outside::outside::Outside;
 use rules::plan::Step;
@@ -42,9 +43,9 @@ fn perform<O: Outside>(
     ensures found { IfOk result (λ r. O.honest outside.new → AtReady O.ours O.alone opening (O.opened outside.old) is_taken_up
         (O.seen outside.old).device → OfSame O.ours (O.seen outside.old).device (λ d. told_found r ≡ copy_at
         (plan_at (O.opened outside.old)) step.now d)) }
-    ensures part { Part (O.honest outside.new) (AtReady O.ours O.alone opening (O.opened outside.old) is_taken_up)
-        (Underway O.ours O.alone opening) made_by (λ r. AtDone O.ours O.alone opening (O.opened outside.old) (logged_of r))
-        (O.seen outside.old) (O.seen outside.new) result }
+    ensures part { StepPart number (O.opened outside.old) (O.honest outside.new)
+        (AtReady O.ours O.alone opening (O.opened outside.old) is_taken_up) (Underway O.ours O.alone opening) made_by
+        (λ r. AtDone O.ours O.alone opening (O.opened outside.old) (logged_of r)) (O.seen outside.old) (O.seen outside.new) result }
 {
     match *step {
         Step::New {
@@ -113,9 +114,9 @@ fn log<O: Outside>(outside: &mut O, number: usize, became: &StepResult) -> Resul
     requires fits { FitsNext (next_at (O.opened outside.old)) (logged_of became.now) }
     ensures was_honest { O.honest outside.new → O.honest outside.old }
     ensures opened { OnOk result (HasLogged (O.opened outside.old) (O.opened outside.new) (logged_of became.now ∷ [])) }
-    ensures part { Part (O.honest outside.new) (AtDone O.ours O.alone opening (O.opened outside.old) (logged_of became.now))
-        (Underway O.ours O.alone opening) (λ _. 0) (λ _. AtReady O.ours O.alone opening (O.opened outside.new) false) (O.seen outside.old)
-        (O.seen outside.new) result }
+    ensures part { StepPart number (O.opened outside.old) (O.honest outside.new)
+        (AtDone O.ours O.alone opening (O.opened outside.old) (logged_of became.now)) (Underway O.ours O.alone opening) (λ _. 0)
+        (λ _. AtReady O.ours O.alone opening (O.opened outside.new) false) (O.seen outside.old) (O.seen outside.new) result }
 {
     match write(outside, number, logged_as(became)) {
         Ok(()) => Ok(()),
@@ -141,20 +142,22 @@ fn advance<O: Outside>(
     ensures fits { IfOk result (λ p. FitsStep p.step (logged_of p.result)) }
     ensures found { IfOk result (λ p. O.honest outside.new → AtReady O.ours O.alone opening (O.opened outside.old) is_taken_up
         (O.seen outside.old).device → OfSame O.ours (O.seen outside.old).device (λ d. IsFoundSo (plan_at (O.opened outside.old)) d p)) }
-    ensures part { Part (O.honest outside.new) (AtReady O.ours O.alone opening (O.opened outside.old) is_taken_up)
-        (Underway O.ours O.alone opening) (λ p. made_by p.result) (λ _. AtReady O.ours O.alone opening (O.opened outside.new) false)
-        (O.seen outside.old) (O.seen outside.new) result }
+    ensures part { StepPart number (O.opened outside.old) (O.honest outside.new)
+        (AtReady O.ours O.alone opening (O.opened outside.old) is_taken_up) (Underway O.ours O.alone opening) (λ p. made_by p.result)
+        (λ _. AtReady O.ours O.alone opening (O.opened outside.new) false) (O.seen outside.old) (O.seen outside.new) result }
 {
     let result = perform(outside, number, &step, is_taken_up)?;
     log(outside, number, &result)?;
     Ok(Performed { step, result })
 }
 
-/// Performs and logs the steps that are not logged yet, in order, and gives what became of them.
-pub(crate) fn carry_out<O: Outside>(
+/// Performs and logs the steps that are not logged yet, in order, and gives what became of them. How many are logged is told before
+/// the first of them, and after each.
+pub(crate) fn carry_out<O: Outside, P: Progress>(
     alloc: Global,
     outside: &mut O,
     is_taken_up: bool,
+    progress: &P,
 ) -> Result<Vec<Performed>, RunFault>
     ghost opening: { Opening }
     requires going { IsGoing (O.opened outside.old) }
@@ -168,16 +171,18 @@ pub(crate) fn carry_out<O: Outside>(
     ensures found { IfOk result (λ performed. O.honest outside.new → AtReady O.ours O.alone opening (O.opened outside.old) is_taken_up
         (O.seen outside.old).device → OfSame O.ours (O.seen outside.old).device (λ d. AreFoundSo (plan_at (O.opened outside.old)) d
         performed.items)) }
-    ensures part { Part (O.honest outside.new) (AtReady O.ours O.alone opening (O.opened outside.old) is_taken_up)
+    ensures part { RunPart Never (O.honest outside.new) (AtReady O.ours O.alone opening (O.opened outside.old) is_taken_up)
         (Underway O.ours O.alone opening) (λ performed. made performed.items)
         (λ _. AtReady O.ours O.alone opening (O.opened outside.new) is_taken_up) (O.seen outside.old) (O.seen outside.new) result }
 {
     let mut performed = Vec::new(alloc);
+    tell_logged(outside, progress);
     while let Some((number, step)) = next_step(outside) {
         let Ok(()) = performed.try_reserve(1) else {
             return Err(RunFault::NoMemory);
         };
         let one = advance(outside, number, step, is_taken_up)?;
+        tell_logged(outside, progress);
         let Ok(()) = performed.push(one) else {
             return Err(RunFault::NoMemory);
         };

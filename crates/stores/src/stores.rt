@@ -11,6 +11,7 @@ use config::config::{ImapStore, MaildirStore};
 use mailcore::mailbox_name::MailboxName;
 use mailcore::side::Side;
 use outside::outside::Outside;
+use runner::progress::Progress;
 
 /// Stores whose mailboxes can be listed, and nothing else: through this trait no mailbox is made or synchronised.
 pub trait BoxLists {
@@ -31,11 +32,17 @@ pub trait BoxLists {
     fn server_words(&mut self) -> Option<String>;
 }
 
+/// What is done over a mailbox while it is open.
+pub trait Work {
+    /// What it comes to.
+    type Answer;
+
+    /// Does it, over both sides of the mailbox and its state, and tells how far it is.
+    fn over<O: Outside, P: Progress>(self, outside: &mut O, progress: &P) -> Self::Answer;
+}
+
 /// Stores whose mailboxes can be synchronised.
 pub trait Stores: BoxLists {
-    /// Both sides of a mailbox, and its state.
-    type Outside: Outside;
-
     /// Whether the near folder of a mailbox has the state of a former run.
     fn has_state(&mut self, place: ChannelBox<'_>) -> Result<bool, StoreFault>;
 
@@ -43,9 +50,12 @@ pub trait Stores: BoxLists {
     fn make(&mut self, side: Side, place: ChannelBox<'_>) -> Result<(), StoreFault>
         requires { covers place.of.channel.now.create side ≡ true };
 
-    /// Opens both sides of a mailbox, takes its lock, and lends them as one outside. The lock is held until the next call of `outside`, or
-    /// until the stores are dropped.
-    fn outside(&mut self, place: ChannelBox<'_>) -> Result<&mut Self::Outside, StoreFault>;
+    /// Opens both sides of a mailbox, and does this over them. Its lock is held as long.
+    fn work_over<W: Work + Drop>(
+        &mut self,
+        place: ChannelBox<'_>,
+        work: W,
+    ) -> Result<W::Answer, StoreFault>;
 
     /// What stopped the run over the mailbox that was opened last, if it was stopped and this is known. It is told once.
     fn stop_cause(&mut self) -> Option<StopCause>;

@@ -6,9 +6,10 @@ use test_scripts::told::Told;
 use test_scripts::words::Words;
 
 /// The words that the lines begin with.
-const WORDS: [&str; 21] = [
+const WORDS: [&str; 22] = [
     "far", "near", "box", "in", "stop", "refuse", "state", "journal", "unread", "cut", "left",
-    "synced", "locked", "shut", "barred", "fault", "unmade", "skipped", "alert", "words", "show",
+    "steps", "synced", "locked", "shut", "barred", "fault", "unmade", "skipped", "alert", "words",
+    "show",
 ];
 
 /// The lines that a case has so far, as they stand.

@@ -14,6 +14,7 @@
 //! | `unread BOX PATH` | this process may not read the message of this path: it is told where a run is stopped |
 //! | `cut BOX STORE WHY` | a stop of its run is the server's of this store: `unreached`, `connection_refused`, `ended` or `dismissed` |
 //! | `left BOX PATH` | the file of this path cannot get a UID: it is told behind a run |
+//! | `steps BOX` | how far its run was told to be is told behind the question for it: `0/2 1/2 2/2` |
 //! | `synced BOX` | the near folder has the state of a former run, where the mailbox is absent on a side |
 //! | `locked BOX` | another process holds its lock |
 //! | `shut NAME` | a store of this name does not list its mailboxes, or a mailbox of this name is not lent |
@@ -36,4 +37,5 @@ pub mod play;
 mod run_line;
 mod said;
 mod server_faults;
+mod steps;
 mod work;

@@ -4,6 +4,7 @@ use crate::facts::Facts;
 use crate::lent_box::{LentBox, box_named};
 use crate::said::Said;
 use crate::server_faults::{run_fault, server_fault};
+use crate::steps::Steps;
 use config::config::{ImapStore, MaildirStore};
 use device::trouble::Trouble;
 use mailcore::mailbox_name::MailboxName;
@@ -14,8 +15,7 @@ use stores::channel_box::ChannelBox;
 use stores::fault::{ListFault, ServerFault, StoreFault};
 use stores::notice::Notice;
 use stores::stop_cause::StopCause;
-use stores::stores::{BoxLists, Stores};
-use test_run::stage::MemOutside;
+use stores::stores::{BoxLists, Stores, Work};
 use test_scripts::failure::Failure;
 use test_scripts::told::Told;
 
@@ -127,6 +127,15 @@ impl<'a> MemStores<'a> {
         Ok(())
     }
 
+    /// Tells how far the run over a mailbox was told to be, where the case asks for it.
+    fn tell_steps(&mut self, name: &str, steps: &Steps) {
+        if self.facts.has("steps", name) {
+            self.asked.text("steps");
+            steps.tell_all(&mut self.asked);
+            self.asked.end();
+        }
+    }
+
     fn push_box(&mut self, name: &str) -> Result<(), Failure> {
         let lent = box_named(self.alloc, self.facts, name)?;
         Ok(self.boxes.push(lent)?)
@@ -208,8 +217,6 @@ impl BoxLists for MemStores<'_> {
 }
 
 impl Stores for MemStores<'_> {
-    type Outside = MemOutside;
-
     fn has_state(&mut self, place: ChannelBox<'_>) -> Result<bool, StoreFault> {
         self.ask("has_state ", place.near.as_str());
         Ok(self.facts.has("synced", place.far.as_str()))
@@ -229,15 +236,22 @@ impl Stores for MemStores<'_> {
         Ok(())
     }
 
-    fn outside(&mut self, place: ChannelBox<'_>) -> Result<&mut MemOutside, StoreFault> {
+    fn work_over<W: Work + Drop>(
+        &mut self,
+        place: ChannelBox<'_>,
+        work: W,
+    ) -> Result<W::Answer, StoreFault> {
         self.is_untold = false;
         self.ask("outside ", place.far.as_str());
         self.lend(place.of.far_store.name.as_str(), place.far.as_str())?;
         self.is_untold = true;
-        match self.boxes.last_mut() {
-            Some(one) => Ok(&mut one.outside),
+        let steps = Steps::new(self.alloc);
+        let answer = match self.boxes.last_mut() {
+            Some(one) => Ok(work.over(&mut one.outside, &steps)),
             None => Err(StoreFault::Box(RunFault::Stopped)),
-        }
+        };
+        self.tell_steps(place.far.as_str(), &steps);
+        answer
     }
 
     fn stop_cause(&mut self) -> Option<StopCause> {

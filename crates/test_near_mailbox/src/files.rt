@@ -1,5 +1,6 @@
 //! What stands in a folder, seen from outside its mailbox.
 
+use crate::stopped_at::tell_notes;
 use maildir::disk_folder::DiskFolder;
 use maildir::folder::{Folder, Place};
 use maildir::mem_folder::MemFolder;
@@ -21,6 +22,9 @@ pub trait OpenFolder: Folder + Drop {
     /// How many calls have stopped.
     fn stop_count(&self) -> usize;
 
+    /// Tells where it stopped and which files it left out, as far as it notes that.
+    fn tell_notes(&self, told: &mut Told);
+
     /// Adds all files that stand there, in any order.
     fn add_files(&self, rt: &HostRuntime, files: &mut Vec<Standing>) -> Result<(), Failure>;
 }
@@ -29,6 +33,9 @@ impl OpenFolder for MemFolder {
     fn stop_count(&self) -> usize {
         self.stops()
     }
+
+    /// It notes nothing.
+    fn tell_notes(&self, _: &mut Told) {}
 
     fn add_files(&self, rt: &HostRuntime, files: &mut Vec<Standing>) -> Result<(), Failure> {
         let alloc = rt.alloc();
@@ -55,6 +62,10 @@ impl OpenFolder for MemFolder {
 impl OpenFolder for DiskFolder<HostRuntime> {
     fn stop_count(&self) -> usize {
         self.stops()
+    }
+
+    fn tell_notes(&self, told: &mut Told) {
+        tell_notes(told, self);
     }
 
     /// The process stands in the folder.

@@ -51,7 +51,7 @@
 //! |---|---|
 //! | `sync` | the names in the folder are synced |
 //! | `reopen` | the folder is opened again after a stop |
-//! | `show` | the files in the folder, the calls that were made of it since the mailbox was opened, and how many calls have stopped so far |
+//! | `show` | the files in the folder, the calls that were made of it since the mailbox was opened, and how many calls have stopped so far; of a folder on a disk also where it stopped since it was opened (`, at PATH: WHY`) and which files were left out (`; left out: PATH`) |
 //!
 //! In memory, in new folders in which the same files stand, and which stop otherwise:
 //!
@@ -71,4 +71,5 @@ mod operation;
 pub mod play;
 mod seat;
 mod stop;
+mod stopped_at;
 mod trial;

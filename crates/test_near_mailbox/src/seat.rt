@@ -183,6 +183,7 @@ fn tell_folder<F: OpenFolder>(
     }
     told.text("; stops: ");
     told.number(folder.inner().stop_count() as u64);
+    folder.inner().tell_notes(told);
     told.end();
     if folder.is_short() {
         return Err(Failure::NoMemory);

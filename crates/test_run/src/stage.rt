@@ -5,13 +5,13 @@ ghost use Rattle.pair.specs.Pairs.{seen_of};
 
 use crate::calls::{BoxSchedule, Schedule};
 use book::mem_shelf::MemShelf;
-use book_part::book_part::BookPart;
 use mailcore::mailbox::{Mailbox, Message};
 use mailcore::octets::Octets;
 use mailcore::uid::Uid;
 use mem_mailbox::kind::{OfFar, OfNear};
 use mem_mailbox::mem_mailbox::MemMailbox;
 use mem_mailbox::mem_store::MemStore;
+use pair::book_part::BookPart;
 use pair::pair::Pair;
 use rules::options::Options;
 use rules::state::SyncState;

@@ -1,6 +1,6 @@
 //! The run of a trial, over any outside.
 
-ghost use Rattle.std.specs.Prelude.{◌≡◌, ◌≤◌, IfErr, IfOk, IsErrOf, OnOk, true};
+ghost use Rattle.std.specs.Prelude.{◌≡◌, ◌≤◌, IfErr, IfOk, IsErrOf, OnOk, true, ℕ};
 ghost use Rattle.mailcore.specs.declared.side.Side.{Side};
 ghost use Rattle.rules.specs.Opening.{IsOpening};
 ghost use Rattle.underway.specs.Conditions.{IsOver, Underway};
@@ -8,7 +8,7 @@ ghost use Rattle.underway.specs.Endings.{IsDone};
 ghost use Rattle.underway.specs.Openings.{Opening};
 ghost use Rattle.runner.specs.Answers.{WillRepeat};
 ghost use Rattle.runner.specs.Attempts.{AnswersLast, ChangedLast, FromOpening, HasNoNext, MetBefore, MetStops, failed_before};
-ghost use Rattle.runner.specs.Faults.{IsCaused, LeavesRun, TellsNoRun, because, or_unread};
+ghost use Rattle.runner.specs.Faults.{IsCaused, LeavesRun, RefusedAt, TellsNoRun, because, or_refused, or_unread};
 ghost use Rattle.runner.specs.Parts.{IsStuck};
 ghost use Rattle.trial.specs.Openings.{trial_stream};
 
@@ -50,7 +50,11 @@ pub fn settle_trial<O: Outside>(
         (ChangedLast O.ours O.alone opening tries side (O.seen outside.old).device trial_stream (O.seen outside.new).device)) }
     ensures caused { IfErr result (λ fault. (fault ≡ RunFault.Stopped → ⊥)
         → IsCaused (or_unread (TellsNoRun (O.honest outside.new) (O.seen outside.new).device)
-        (because (λ side. Unit {0}) (WillRepeat trial_stream))) fault (O.seen outside.old) (O.seen outside.new)) }
+        (or_refused (λ step. Unit {0}) (because (λ side. Unit {0}) (WillRepeat trial_stream)))) fault (O.seen outside.old)
+        (O.seen outside.new)) }
+    ensures refused { IfErr result (λ fault. (step : ℕ) → fault ≡ RunFault.Refused step
+        → FromOpening (O.honest outside.new) O.ours O.alone opening options.now trial_stream (O.seen outside.old).device
+        (RefusedAt step (O.seen outside.new).device)) }
     ensures greatest { HasNoNext (O.honest outside.new) O.alone (O.seen outside.old).device (O.seen outside.new).device result }
 
     // Each attempt but the last met one stop, and each of all where that is what is answered, and no other call stopped.
@@ -59,5 +63,12 @@ pub fn settle_trial<O: Outside>(
     ensures ended { IfErr result (λ fault. (fault ≡ RunFault.Stopped → ⊥) → MetBefore tries (O.seen outside.old) (O.seen outside.new)) }
     ensures stuck { tries ≤ 1 → IsStuck (O.seen outside.old) (O.seen outside.new) result }
 {
-    settle(alloc, outside, options, tries, &mut TrialGenerator::new())
+    settle(
+        alloc,
+        outside,
+        options,
+        tries,
+        &mut TrialGenerator::new(),
+        &(),
+    )
 }

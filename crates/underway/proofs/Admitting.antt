@@ -2,11 +2,11 @@
 use Rattle.std.proofs.Common.{◌≡◌, ◌≤◌, ◌+◌, ℕ, Bool, List, [], ◌∷◌, ◌++◌, length, take, drop, refl, ◌∙◌, ap, subst, arith, append_assoc, length-append}
 use Rattle.std.proofs.lemmas.List.{take-append-drop}
 use Rattle.mailcore.specs.declared.mailbox.Message.{Message}
-use Rattle.mailcore.specs.declared.side.Side.TheVariants.{Far, Near as NearSide}
+use Rattle.mailcore.specs.declared.side.Side.TheVariants.{Far, Near}
 use Rattle.mailcore.specs.Rise.{Rise}
 use Rattle.mailcore.specs.Stores.{Waiting, numbered}
 use Rattle.mailcore.proofs.OperationLemmas.{is_store-numbered}
-use Rattle.near_box.specs.Mailboxes.{Near, numbered_near}
+use Rattle.mailcore.specs.Mailboxes.{Mailbox, some_admitted}
 use Rattle.rules.specs.declared.state.SyncState.{SyncState}
 use Rattle.rules.specs.Admission.{numbered_under}
 use Rattle.rules.specs.World.{World, store}
@@ -46,18 +46,18 @@ drop_whole [] = refl
 drop_whole (f ∷ fs) = drop_whole fs
 
 -- the first of them have theirs
-pub grows_numbered : (alone : Bool) (w : World) (s : SyncState) (count : ℕ) (d d' : Device) → d'.far ≡ d.far → d'.near ≡ numbered_near count d.near → Grows alone w (world_at d s) → Grows alone w (world_at d' s)
+pub grows_numbered : (alone : Bool) (w : World) (s : SyncState) (count : ℕ) (d d' : Device) → d'.far ≡ d.far → d'.near ≡ some_admitted count d.near → Grows alone w (world_at d s) → Grows alone w (world_at d' s)
 grows_numbered alone w s count d d' far_is near_is g =
-    let n : Near = d.near in
+    let n : Mailbox = d.near in
     let first : List Waiting = take count n.waiting in
     let few = take_few count n.waiting in
-    let now : World = record { far = d.far; near = (numbered_near count n).store; waiting = drop count n.waiting; state = s } in
+    let now : World = record { far = d.far; near = (some_admitted count n).store; waiting = drop count n.waiting; state = s } in
     let v = g.validity in
     let there : now ≡ world_at d' s = rw (far_is, near_is) refl in
     subst (λ (x : World). Grows alone w x) there (record {
       in_order = record { far = g.in_order.far; near = is_store-numbered n.store first (n.store.next + length n.waiting) (omega arith) g.in_order.near; pairs = g.in_order.pairs };
       state = g.state;
-      validity = two (λ side. (store now side).validity ≡ (store w side).validity) (v Far) (v NearSide);
+      validity = two (λ side. (store now side).validity ≡ (store w side).validity) (v Far) (v Near);
       far_next = g.far_next;
       far_added = g.far_added;
       far = g.far;

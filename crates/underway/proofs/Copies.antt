@@ -5,7 +5,7 @@ use Rattle.std.specs.Option.{option_map}
 use Rattle.std.proofs.lemmas.Bool.{both_ways}
 use Rattle.std.proofs.lemmas.List.Elements.{All-nil, All-cons, All-contains}
 use Rattle.mailcore.specs.declared.side.Side.{Side}
-use Rattle.mailcore.specs.declared.side.Side.TheVariants.{Far, Near as NearSide}
+use Rattle.mailcore.specs.declared.side.Side.TheVariants.{Far, Near}
 use Rattle.mailcore.specs.declared.side.Direction.{Direction}
 use Rattle.mailcore.specs.declared.side.Direction.TheVariants.{Pull, Push}
 use Rattle.mailcore.specs.declared.mailbox.Message.{Message}
@@ -30,7 +30,8 @@ use Rattle.step_laws.proofs.Copying.{uid_given-new}
 use Rattle.step_laws.proofs.Fold.{fit-more, given-more, rises-more}
 use Rattle.step_laws.proofs.OwnPlan.{plan_step_own, not_found, found_after}
 use Rattle.run_laws.specs.CommitLaws.{results_of}
-use Rattle.outside.specs.BoxCalls.{Carries, IsUnfit, Tells, with_copy}
+use Rattle.mailbox.specs.Operations.{Tells}
+use Rattle.outside.specs.BoxCalls.{Carries, IsUnfit, with_copy}
 use Rattle.outside.specs.Devices.{Device, box, on_box}
 use Rattle.underway.specs.Plans.{IsPlanned, begun, first_uid, next_of}
 use Rattle.underway.specs.Moments.{IsSought, Midway, Stands, boxes_at}
@@ -40,11 +41,11 @@ use Rattle.underway.proofs.Sources.{IsSource, source_of, source_bytes, seen_byte
 
 messages_at : (d : Device) (side : Side) → messages_in (boxes_at d) side ≡ (box d side).messages
 messages_at d Far = refl
-messages_at d NearSide = refl
+messages_at d Near = refl
 
 own_at : (test : Test) (b : Boxes) (side : Side) → messages_in (own test b) side ≡ own_in test side (messages_in b side)
 own_at test b Far = refl
-own_at test b NearSide = refl
+own_at test b Near = refl
 
 same_mark : (mark : List ℕ) (o : Option (List ℕ)) → is_mark o mark ≡ is_the mark o
 same_mark mark None = refl
@@ -71,9 +72,9 @@ copied_boxes Push copy next d = refl
 
 copied_validity : (dir : Direction) (copy : Message) (next : ℕ) (d : Device) (k : Side) → (box (on_box (target dir) (with_copy copy next) d) k).validity ≡ (box d k).validity
 copied_validity Pull copy next d Far = refl
-copied_validity Pull copy next d NearSide = refl
+copied_validity Pull copy next d Near = refl
 copied_validity Push copy next d Far = refl
-copied_validity Push copy next d NearSide = refl
+copied_validity Push copy next d Near = refl
 
 copied_files : (dir : Direction) (copy : Message) (next : ℕ) (d : Device) → (on_box (target dir) (with_copy copy next) d).files ≡ d.files
 copied_files Pull copy next d = refl
@@ -88,9 +89,9 @@ copied_between : (dir : Direction) (uid flags : ℕ) (mark : List ℕ) (copy nex
     ((box d k).next ≤ (box (on_box (target dir) (with_copy m next) d) k).next)
     × All (λ u. ((box d k).next ≤ u) × (u < (box (on_box (target dir) (with_copy m next) d) k).next)) (uid_given k (step.New dir uid flags mark) (Some copy))
 copied_between Pull uid flags mark copy next m d least below Far = (omega arith, All-nil (λ u. (d.far.next ≤ u) × (u < d.far.next)))
-copied_between Pull uid flags mark copy next m d least below NearSide = (omega arith, All-cons (λ u. (d.near.store.next ≤ u) × (u < next)) copy [] (least, below) (All-nil (λ u. (d.near.store.next ≤ u) × (u < next))))
+copied_between Pull uid flags mark copy next m d least below Near = (omega arith, All-cons (λ u. (d.near.store.next ≤ u) × (u < next)) copy [] (least, below) (All-nil (λ u. (d.near.store.next ≤ u) × (u < next))))
 copied_between Push uid flags mark copy next m d least below Far = (omega arith, All-cons (λ u. (d.far.next ≤ u) × (u < next)) copy [] (least, below) (All-nil (λ u. (d.far.next ≤ u) × (u < next))))
-copied_between Push uid flags mark copy next m d least below NearSide = (omega arith, All-nil (λ u. (d.near.store.next ≤ u) × (u < d.near.store.next)))
+copied_between Push uid flags mark copy next m d least below Near = (omega arith, All-nil (λ u. (d.near.store.next ≤ u) × (u < d.near.store.next)))
 
 module _ (ours : List ℕ → Bool) (alone : Bool) (w : World) (options : Options) (plan : Plan) (log : List Logged) (sound : IsInOrder w) (dir : Direction) (uid flags : ℕ) (mark : List ℕ) (is : next_of plan.steps log ≡ Some (step.New dir uid flags mark)) where
   abbrev s : Step

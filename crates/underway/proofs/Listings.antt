@@ -2,9 +2,9 @@
 use Rattle.std.proofs.Common.{◌≡◌, ◌≤◌, ◌<◌, ℕ, Bool, true, false, List, [], ◌∷◌, ◌++◌, map, refl, sym, ◌∙◌, ap, subst, arith}
 use Rattle.std.proofs.lemmas.List.Elements.{All-weaker}
 use Rattle.mailcore.specs.declared.mailbox.Message.{Message}
-use Rattle.mailcore.specs.declared.side.Side.TheVariants.{Far, Near as NearSide}
+use Rattle.mailcore.specs.declared.side.Side.TheVariants.{Far, Near}
 use Rattle.mailcore.proofs.RiseLemmas.{rise-ends}
-use Rattle.near_box.specs.Mailboxes.{Near}
+use Rattle.mailcore.specs.Mailboxes.{Mailbox}
 use Rattle.rules.specs.declared.entry.Entry.{Entry}
 use Rattle.rules.specs.declared.options.Options.{Options}
 use Rattle.rules.specs.declared.plan.Plan.{Plan}
@@ -37,7 +37,7 @@ listed_grows alone w s d m g h =
     record {
       in_order = record { far = g.in_order.far; near = h.in_order.near; pairs = h.in_order.pairs };
       state = h.state;
-      validity = two (λ side. (store (listed_world s d m) side).validity ≡ (store w side).validity) (v Far) (n NearSide);
+      validity = two (λ side. (store (listed_world s d m) side).validity ≡ (store w side).validity) (v Far) (n Near);
       far_next = g.far_next;
       far_added = g.far_added;
       far = g.far;
@@ -60,7 +60,7 @@ names_below alone w now g b =
       pulled = let k = b.pulled in omega arith;
       pushed = let k = b.pushed in omega arith;
       far = All-weaker (λ (e : Entry). uid_of Far e < w.far.next) (λ (e : Entry). uid_of Far e < now.far.next) (λ e k. omega arith) w.state.entries b.far;
-      near = All-weaker (λ (e : Entry). uid_of NearSide e < w.near.next) (λ (e : Entry). uid_of NearSide e < now.near.next) (λ e k. omega arith) w.state.entries b.near;
+      near = All-weaker (λ (e : Entry). uid_of Near e < w.near.next) (λ (e : Entry). uid_of Near e < now.near.next) (λ e k. omega arith) w.state.entries b.near;
     })
 
 module _ (ours : List ℕ → Bool) (alone : Bool) where
@@ -73,8 +73,8 @@ module _ (ours : List ℕ → Bool) (alone : Bool) where
       let v = l.validity in
       subst (λ (x : Device). Listed ours alone w x) (sym a.now) (record {
         files = l.files;
-        validity = two (λ side. (box now side).validity ≡ (store w side).validity) (v Far) (v NearSide);
-        next = two (λ side. (store w side).next ≤ (box now side).next) (omega arith) (next NearSide);
+        validity = two (λ side. (box now side).validity ≡ (store w side).validity) (v Far) (v Near);
+        next = two (λ side. (store w side).next ≤ (box now side).next) (omega arith) (next Near);
         boxes = λ marks mine. own_arrived ours w marks d.far.messages d.near.store.messages a.messages d.far.next a.next mine far_next a.rise a.far_foreign ∙ l.boxes marks mine;
         nobody = λ e. subst (λ (x : Device). (boxes_at x ≡ boxes_of w) × (x.near.waiting ≡ [])) (sym (a.nobody e) ∙ a.now) (l.nobody e);
       })
@@ -111,5 +111,5 @@ module _ (ours : List ℕ → Bool) (alone : Bool) where
         validity = λ side. rw (same side) (l.validity side);
         rises = λ side. rw (same side, given-none side plan.steps) (l.next side);
         boxes = ap (λ (b : Boxes). own (is_own w p.marks) b) boxes ∙ own_is ∙ sym (after-none plan.steps (boxes_of w));
-        nobody = λ e. (ap (λ (b : Boxes). own (is_own w p.marks) b) boxes ∙ own_is ∙ sym (boxes ∙ (l.nobody e).0), ap (λ (n : Near). n.waiting) near ∙ (l.nobody e).1);
+        nobody = λ e. (ap (λ (b : Boxes). own (is_own w p.marks) b) boxes ∙ own_is ∙ sym (boxes ∙ (l.nobody e).0), ap (λ (n : Mailbox). n.waiting) near ∙ (l.nobody e).1);
       }

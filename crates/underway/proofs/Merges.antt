@@ -1,6 +1,6 @@
 -- Lists with the elements of two.
 use Rattle.std.proofs.Common.{◌≡◌, List, [], ◌∷◌, ◌++◌, refl, ap}
-use Rattle.outside.specs.Arrivals.{IsMerge, none, left, right}
+use Rattle.mailbox.specs.Arrivals.{IsMerge, none, left, right}
 
 -- a merge with a list, and with another one
 pub merge_more : {A : Type 0} (xs ys zs fs ws : List A) → IsMerge xs ys zs → IsMerge zs fs ws → (vs : List A) × IsMerge xs vs ws

@@ -1,11 +1,11 @@
 -- How what others add, a change of one mailbox, and another journal move a device that is midway in a plan.
 use Rattle.std.proofs.Common.{◌≡◌, ◌≤◌, ℕ, Bool, List, [], ◌++◌, refl, sym, ◌∙◌, ap, subst}
 use Rattle.mailcore.specs.declared.side.Side.{Side}
-use Rattle.mailcore.specs.declared.side.Side.TheVariants.{Far, Near as NearSide}
+use Rattle.mailcore.specs.declared.side.Side.TheVariants.{Far, Near}
 use Rattle.mailcore.specs.declared.mailbox.Message.{Message}
 use Rattle.mailcore.specs.Operations.{with_messages}
 use Rattle.mailcore.proofs.RiseLemmas.{rise-ends}
-use Rattle.near_box.specs.Mailboxes.{Near}
+use Rattle.mailcore.specs.Mailboxes.{Mailbox}
 use Rattle.rules.specs.declared.options.Options.{Options}
 use Rattle.rules.specs.declared.plan.Plan.{Plan}
 use Rattle.rules.specs.World.{World, store}
@@ -37,9 +37,9 @@ moved_to Far change d = record {
   waiting = refl;
   files = refl;
 }
-moved_to NearSide change d = record {
-  validity = two (λ k. (box (on_box NearSide (with_messages change) d) k).validity ≡ (box d k).validity) refl refl;
-  next = two (λ k. (box (on_box NearSide (with_messages change) d) k).next ≡ (box d k).next) refl refl;
+moved_to Near change d = record {
+  validity = two (λ k. (box (on_box Near (with_messages change) d) k).validity ≡ (box d k).validity) refl refl;
+  next = two (λ k. (box (on_box Near (with_messages change) d) k).next ≡ (box d k).next) refl refl;
   boxes = refl;
   waiting = refl;
   files = refl;
@@ -50,7 +50,7 @@ moved side change d d' is = subst (λ (x : Device). IsMoved d x (with_messages_i
 
 pub same_boxes : (d d' : Device) → d'.far ≡ d.far → d'.near ≡ d.near → (side : Side) → box d' side ≡ box d side
 same_boxes d d' far near Far = far
-same_boxes d d' far near NearSide = ap (λ (n : Near). n.store) near
+same_boxes d d' far near Near = ap (λ (n : Mailbox). n.store) near
 
 module _ (ours : List ℕ → Bool) (alone : Bool) (w : World) (options : Options) (plan : Plan) where
   -- ---- others
@@ -63,10 +63,10 @@ module _ (ours : List ℕ → Bool) (alone : Bool) (w : World) (options : Option
         planned = at.planned;
         files = at.files;
         fit = at.fit;
-        validity = two (λ side. (box now side).validity ≡ (store w side).validity) (at.validity Far) (at.validity NearSide);
+        validity = two (λ side. (box now side).validity ≡ (store w side).validity) (at.validity Far) (at.validity Near);
         rises = two (λ side. Rises side (store w side).next plan.steps (results_of results) (box now side).next)
             (rise-raised w.far.next (given Far plan.steps (results_of results)) d.far.next a.next (at.rises Far) (rise-ends d.far.next _ a.next a.rise))
-            (at.rises NearSide);
+            (at.rises Near);
         boxes = own_arrived ours w at.planned.marks d.far.messages d.near.store.messages a.messages d.far.next a.next at.planned.are_ours far_next a.rise a.far_foreign ∙ at.boxes;
         nobody = λ e. subst (λ (x : Device). (own (is_own w at.planned.marks) (boxes_at x) ≡ boxes_at x) × (x.near.waiting ≡ [])) (sym (a.nobody e) ∙ a.now) (at.nobody e);
       })
@@ -95,19 +95,19 @@ module _ (ours : List ℕ → Bool) (alone : Bool) (w : World) (options : Option
     planned = at.planned;
     files = at.files;
     fit = at.fit;
-    validity = two (λ k. (box (on_box Far (λ s. record s { next = next }) d) k).validity ≡ (store w k).validity) (at.validity Far) (at.validity NearSide);
+    validity = two (λ k. (box (on_box Far (λ s. record s { next = next }) d) k).validity ≡ (store w k).validity) (at.validity Far) (at.validity Near);
     rises = two (λ k. Rises k (store w k).next plan.steps (results_of results) (box (on_box Far (λ s. record s { next = next }) d) k).next)
-        (rise-raised w.far.next (given Far plan.steps (results_of results)) d.far.next next (at.rises Far) le) (at.rises NearSide);
+        (rise-raised w.far.next (given Far plan.steps (results_of results)) d.far.next next (at.rises Far) le) (at.rises Near);
     boxes = at.boxes;
     nobody = at.nobody;
   }
-  set_aside_to NearSide log torn results is_half d next le at = record {
+  set_aside_to Near log torn results is_half d next le at = record {
     planned = at.planned;
     files = at.files;
     fit = at.fit;
-    validity = two (λ k. (box (on_box NearSide (λ s. record s { next = next }) d) k).validity ≡ (store w k).validity) (at.validity Far) (at.validity NearSide);
-    rises = two (λ k. Rises k (store w k).next plan.steps (results_of results) (box (on_box NearSide (λ s. record s { next = next }) d) k).next)
-        (at.rises Far) (rise-raised w.near.next (given NearSide plan.steps (results_of results)) d.near.store.next next (at.rises NearSide) le);
+    validity = two (λ k. (box (on_box Near (λ s. record s { next = next }) d) k).validity ≡ (store w k).validity) (at.validity Far) (at.validity Near);
+    rises = two (λ k. Rises k (store w k).next plan.steps (results_of results) (box (on_box Near (λ s. record s { next = next }) d) k).next)
+        (at.rises Far) (rise-raised w.near.next (given Near plan.steps (results_of results)) d.near.store.next next (at.rises Near) le);
     boxes = at.boxes;
     nobody = at.nobody;
   }

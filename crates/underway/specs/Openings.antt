@@ -11,7 +11,7 @@ use Rattle.rules.specs.World.{World, IsInOrder, NamesBelow, store}
 use Rattle.book.specs.declared.book.Pending.{Pending}
 use Rattle.book.specs.declared.book.Pending.TheVariants.{Missing, Useless, Planned}
 use Rattle.book.specs.Books.{Holds}
-use Rattle.outside.specs.Arrivals.{IsMerge}
+use Rattle.mailbox.specs.Arrivals.{IsMerge}
 use Rattle.outside.specs.Devices.{Device}
 
 -- the world that a run is made on, the options of its plan, and those of the call

@@ -1,7 +1,7 @@
 use Rattle.std.proofs.Common.{◌≡◌, ◌==◌, not, ◌&&◌, rules, ◌∙◌, ℕ, Bool, true, false, refl, [], ◌∷◌, List, filter}
 use Rattle.std.proofs.lemmas.Fn.{filter_same}
 use Rattle.mailcore.specs.declared.mailbox.Message.{Message}
-use Rattle.outside.specs.BoxCalls.{may_go}
+use Rattle.mailbox.specs.Operations.{may_go}
 use Rattle.mem_mailbox.proofs.mem_store.expunge.Goals as goal
 
 pub returns : goal.returns

@@ -1,10 +1,10 @@
-use Rattle.std.proofs.Common.{◌≡◌, ◌==◌, ◌∙◌, true, sym, subst, Bool}
-use Rattle.std.proofs.lemmas.Bool.{eqb-true}
+use Rattle.std.proofs.Common.{◌≡◌, ◌==◌, ◌∙◌, ℕ, true, ap, sym, subst, Bool}
+use Rattle.std.proofs.lemmas.Bool.{both_ways, eqb-true}
 use Rattle.sync_state.specs.declared.journal.Logged.TheVariants.{Done}
 use Rattle.underway.specs.Conditions.{Underway}
 use Rattle.runner.specs.Going.{AtBegun, sets_first}
 use Rattle.runner.proofs.PartCalls.{from_box, left_step, line_of_box, passed_call, passed_none}
-use Rattle.runner.proofs.Stages.{begun_arrives, begun_underway, clear_called, clear_uncalled, done_underway, left_by}
+use Rattle.runner.proofs.Stages.{begun_arrives, begun_held, begun_underway, clear_called, clear_uncalled, done_underway, left_by}
 use Rattle.runner.proofs.Wholes.{sets_none, sets_where_none}
 use Rattle.runner.proofs.changing.clear_flags.Goals as goal
 
@@ -40,7 +40,8 @@ returns-in-Err-clause-part g c =
     let f = c.args.flags.now in
     let made = sets_first f.set f.cleared in
     let s1 = g.O.Outside.seen c.remove_flags.new.self in
-    rw c.step_fault.ensures (left_step _ _ _ _ _ _ _ _ _ _ c.args.number _ c.in-Err.ensures.call (line_of_box _)
+    rw c.step_fault.ensures (left_step _ _ _ _ _ _ _ _ _ _ c.args.number opened _ c.in-Err.ensures.call (line_of_box _)
+    (λ m at a own. rw own (begun_held ours alone g.opening opened made m (begun_arrives ours alone g.opening opened made _ m a at)))
     (λ m at a own told. (
       from_box c.in-Err.fault told,
       left_by (Underway ours alone g.opening) _ _ c.in-Err.fault m s1.device own
@@ -48,3 +49,9 @@ returns-in-Err-clause-part g c =
           absurd
           (λ x does. done_underway ours alone g.opening opened Done s1.device (clear_called ours alone g.opening opened f.direction f.far f.near f.set f.cleared c.requires.1.1.0 made (sets_none f.set f.cleared) _ m s1.device a at (rw (c.target-side.ensures, c.changed_uid-uid.ensures) at does))),
     )))
+
+pub returns-in-Ok-clause-idle : goal.returns-in-Ok-clause-idle
+returns-in-Ok-clause-idle g c = λ e. absurd (both_ways (c.args.flags.now.cleared == 0) (sym c.is_empty.ensures ∙ c.if-is_empty.false) (ap (λ (x : ℕ). x == 0) e))
+
+pub returns-in-Err-clause-idle : goal.returns-in-Err-clause-idle
+returns-in-Err-clause-idle g c = λ e. absurd (both_ways (c.args.flags.now.cleared == 0) (sym c.is_empty.ensures ∙ c.if-is_empty.false) (ap (λ (x : ℕ). x == 0) e))

@@ -3,7 +3,7 @@ use Rattle.rules.specs.declared.plan.Step.TheVariants as step
 use Rattle.sync_state.specs.declared.journal.Logged.TheVariants.{Done}
 use Rattle.underway.specs.Conditions.{Underway}
 use Rattle.runner.proofs.PartCalls.{from_box, left_step, line_of_box, passed_call}
-use Rattle.runner.proofs.Stages.{left_by, done_underway, ready_arrives, ready_underway, whole_made}
+use Rattle.runner.proofs.Stages.{done_underway, left_by, ready_arrives, ready_held, ready_underway, whole_made}
 use Rattle.runner.proofs.Wholes.{marked}
 use Rattle.runner.proofs.changing.mark_deleted.Goals as goal
 
@@ -31,7 +31,8 @@ returns-in-Err-clause-part g c =
     let far = c.args.far in
     let near = c.args.near in
     let s1 = g.O.Outside.seen c.add_flags.new.self in
-    rw c.step_fault.ensures (left_step _ _ _ _ _ _ _ _ _ _ c.args.number _ c.in-Err.ensures.call (line_of_box _)
+    rw c.step_fault.ensures (left_step _ _ _ _ _ _ _ _ _ _ c.args.number opened _ c.in-Err.ensures.call (line_of_box _)
+    (λ m at a own. rw own (ready_held ours alone g.opening opened true m (ready_arrives ours alone g.opening opened true _ m a at)))
     (λ m at a own told. (
       from_box c.in-Err.fault told,
       left_by (Underway ours alone g.opening) _ _ c.in-Err.fault m s1.device own

@@ -2,7 +2,7 @@ use Rattle.std.proofs.Common.{true}
 use Rattle.sync_state.specs.declared.journal.Logged.TheVariants.{Done}
 use Rattle.underway.specs.Conditions.{Underway}
 use Rattle.runner.proofs.PartCalls.{from_box, left_step, line_of_box, passed_call}
-use Rattle.runner.proofs.Stages.{left_by, done_underway, expunge_made, ready_arrives, ready_underway}
+use Rattle.runner.proofs.Stages.{done_underway, expunge_made, left_by, ready_arrives, ready_held, ready_underway}
 use Rattle.runner.proofs.changing.remove.Goals as goal
 
 pub expunge-requires : goal.expunge-requires
@@ -27,7 +27,8 @@ returns-in-Err-clause-part g c =
     let side = c.args.side in
     let uid = c.args.uid in
     let s1 = g.O.Outside.seen c.expunge.new.self in
-    rw c.step_fault.ensures (left_step _ _ _ _ _ _ _ _ _ _ c.args.number _ c.in-Err.ensures.call (line_of_box _)
+    rw c.step_fault.ensures (left_step _ _ _ _ _ _ _ _ _ _ c.args.number opened _ c.in-Err.ensures.call (line_of_box _)
+    (λ m at a own. rw own (ready_held ours alone g.opening opened true m (ready_arrives ours alone g.opening opened true _ m a at)))
     (λ m at a own told. (
       from_box c.in-Err.fault told,
       left_by (Underway ours alone g.opening) _ _ c.in-Err.fault m s1.device own

@@ -1,8 +1,10 @@
-use Rattle.std.proofs.Common.{true}
+use Rattle.std.proofs.Common.{◌≡◌, ◌∙◌, Bool, true, false, sym, subst, arith}
+use Rattle.std.proofs.lemmas.Bool.{both_ways}
+use Rattle.std.proofs.lemmas.Grind.{common_steps}
 use Rattle.underway.specs.Conditions.{Underway}
-use Rattle.runner.specs.Going.{sets_first}
-use Rattle.runner.proofs.PartCalls.{from_box, left_step, line_of_box, passed_call}
-use Rattle.runner.proofs.Stages.{begun_underway, left_by, ready_arrives, ready_underway, set_called}
+use Rattle.runner.specs.Going.{AtBegun, sets_first}
+use Rattle.runner.proofs.PartCalls.{from_box, left_step, line_of_box, passed_call, passed_none}
+use Rattle.runner.proofs.Stages.{begun_underway, left_by, ready_arrives, ready_held, ready_underway, set_called, set_none}
 use Rattle.runner.proofs.changing.set_flags.Goals as goal
 
 pub add_flags-requires : goal.add_flags-requires
@@ -25,7 +27,8 @@ returns-in-Err-clause-part g c =
     let opened = g.O.Outside.opened c.args.outside.now in
     let f = c.args.flags.now in
     let s1 = g.O.Outside.seen c.add_flags.new.self in
-    rw c.step_fault.ensures (left_step _ _ _ _ _ _ _ _ _ _ c.args.number _ c.in-Err.ensures.call (line_of_box _)
+    rw c.step_fault.ensures (left_step _ _ _ _ _ _ _ _ _ _ c.args.number opened _ c.in-Err.ensures.call (line_of_box _)
+    (λ m at a own. rw own (ready_held ours alone g.opening opened true m (ready_arrives ours alone g.opening opened true _ m a at)))
     (λ m at a own told. (
       from_box c.in-Err.fault told,
       left_by (Underway ours alone g.opening) _ _ c.in-Err.fault m s1.device own
@@ -33,3 +36,23 @@ returns-in-Err-clause-part g c =
           absurd
           (λ x does. begun_underway ours alone g.opening opened true s1.device (set_called ours alone g.opening opened f.direction f.far f.near f.set f.cleared c.requires.1.1.0 true _ m s1.device a at (rw (c.target-side.ensures, c.changed_uid-uid.ensures) at does))),
     )))
+
+pub returns-then-not-sets_first-clause-part : goal.returns-then-not-sets_first-clause-part
+returns-then-not-sets_first-clause-part g c =
+    let ours = g.O.Outside.ours in
+    let alone = g.O.Outside.alone in
+    let opened = g.O.Outside.opened c.args.outside.now in
+    let f = c.args.flags.now in
+    let s0 = g.O.Outside.seen c.args.outside.now in
+    let down : c.sets_first.result ≡ false = grind (arith, common_steps) in
+    passed_none _ _ _ _ c.requires.1.1.1 (λ at. subst (λ (b : Bool). AtBegun ours alone g.opening opened b s0.device) (sym down ∙ c.sets_first.ensures) (set_none ours alone g.opening opened f.direction f.far f.near f.set f.cleared c.requires.1.1.0 _ at))
+
+pub returns-in-Ok-clause-idle : goal.returns-in-Ok-clause-idle
+returns-in-Ok-clause-idle g c = λ e.
+    let up : c.sets_first.result ≡ true = grind (arith, common_steps) in
+    absurd (both_ways _ e (sym c.sets_first.ensures ∙ up))
+
+pub returns-in-Err-clause-idle : goal.returns-in-Err-clause-idle
+returns-in-Err-clause-idle g c = λ e.
+    let up : c.sets_first.result ≡ true = grind (arith, common_steps) in
+    absurd (both_ways _ e (sym c.sets_first.ensures ∙ up))

@@ -1,6 +1,6 @@
 use Rattle.std.proofs.Common.{◌≡◌, true, false, arith}
 use Rattle.std.proofs.lemmas.Grind.{common_steps}
-use Rattle.runner.proofs.PartCalls.{part_after}
+use Rattle.runner.proofs.StepParts.{step_after}
 use Rattle.runner.proofs.Finding.{made_fresh, made_sought}
 use Rattle.runner.proofs.copying.bring.Goals as goal
 
@@ -9,7 +9,7 @@ returns-in-None-clause-part g c =
     let s1 = g.O.Outside.seen c.seek.new.outside in
     let rest = rw c.seek.ensures.opened at c.copy-in-None.ensures.part in
     let up : c.args.is_taken_up ≡ true = grind (arith, common_steps) in
-    rw up (part_after _ _ _ _ _ _ _ _ _ s1 _ _ c.copy-in-None.ensures.was_honest (rw c.in-None.is at c.in_ok-copy.ensures.part) rest)
+    rw up (step_after _ (g.O.Outside.opened c.args.outside.now) _ _ _ _ _ _ _ _ s1 _ _ c.copy-in-None.ensures.was_honest (rw c.in-None.is at c.in_ok-copy.ensures.part) rest)
 
 pub returns-in-None-clause-found : goal.returns-in-None-clause-found
 returns-in-None-clause-found g c =

@@ -1,9 +1,10 @@
-use Rattle.std.proofs.Common.{None, refl, rules, arith}
+use Rattle.std.proofs.Common.{None, false, refl, rules, arith}
 use Rattle.std.proofs.lemmas.Result.{err_from_is_err_and}
 use Rattle.mailcore.specs.declared.side.Side.TheVariants.{Far, Near}
 use Rattle.runner.specs.Going.{AtCopied, CopiesUnder}
-use Rattle.runner.proofs.PartCalls.{from_box, left_after, left_lost, left_step, line_of_box, passed_after, passed_call}
-use Rattle.runner.proofs.Stages.{carry_left, carry_told, carry_untold, never_absent, never_unfit}
+use Rattle.runner.proofs.StepParts.{step_left_after}
+use Rattle.runner.proofs.PartCalls.{from_box, left_lost, left_step, line_of_box, passed_after, passed_call}
+use Rattle.runner.proofs.Stages.{carry_left, carry_told, carry_untold, never_absent, never_unfit, ready_arrives, ready_held}
 use Rattle.runner.proofs.copying.copy.Goals as goal
 
 pub carry-requires-clause-far_open : goal.carry-requires-clause-far_open
@@ -23,7 +24,8 @@ returns-in-Err-clause-part g c =
     let alone = g.O.Outside.alone in
     let opened = g.O.Outside.opened c.args.outside.now in
     let s1 = g.O.Outside.seen c.carry.new.self in
-    rw c.step_fault.ensures (left_step _ _ _ _ _ _ _ _ _ _ c.args.number _ c.in-Err.ensures.call (line_of_box _)
+    rw c.step_fault.ensures (left_step _ _ _ _ _ _ _ _ _ _ c.args.number opened _ c.in-Err.ensures.call (line_of_box _)
+    (λ m at a own. rw own (ready_held ours alone g.opening opened false m (ready_arrives ours alone g.opening opened false _ m a at)))
     (λ m at a own told. (from_box c.in-Err.fault told, carry_left ours alone g.opening opened c.args.direction c.args.uid c.args.flags c.args.mark c.requires.1.1 c.in-Err.fault _ m s1.device a at own)))
 
 pub returns-in-Absent-clause-part : goal.returns-in-Absent-clause-part
@@ -61,7 +63,7 @@ returns-in_err-copy-in-None-clause-part g c =
     let s1 = g.O.Outside.seen c.carry.new.self in
     let e = err_from_is_err_and c.from_residual.result c.from_residual.ensures.1 in
     let rest = rw c.carry.ensures.opened at c.in_err-copy-in-None.ensures.part in
-    rw (e.1, e.2) (left_after _ _ _ (AtCopied ours alone g.opening opened) _ 1 _ _ s1 _ c.in_err-copy-in-None.ensures.was_honest
+    rw (e.1, e.2) (step_left_after _ opened _ _ _ (AtCopied ours alone g.opening opened) _ 1 _ _ s1 _ c.in_err-copy-in-None.ensures.was_honest
     (passed_call _ _ _ _ _ _ _ _ _ _ _ (rw (c.in-Made.is, c.in-None.is) at c.in-Ok.ensures.call)
     (λ m at a own. carry_untold ours alone g.opening opened c.args.direction c.args.uid c.args.flags c.args.mark c.requires.1.1 None _ m s1.device a at own))
     rest)

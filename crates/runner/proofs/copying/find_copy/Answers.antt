@@ -1,5 +1,5 @@
 use Rattle.runner.proofs.PartCalls.{from_box, left_step, line_of_box, passed_call}
-use Rattle.runner.proofs.Stages.{copied_arrives, copied_underway, copy_told}
+use Rattle.runner.proofs.Stages.{copied_arrives, copied_held, copied_underway, copy_told}
 use Rattle.runner.specs.Going.{FoundCopy}
 use Rattle.std.proofs.Common.{sym, subst}
 use Rattle.outside.specs.Devices.{Device}
@@ -18,7 +18,8 @@ returns-in-Err-clause-part g c =
     let ours = g.O.Outside.ours in
     let alone = g.O.Outside.alone in
     let opened = g.O.Outside.opened c.args.outside.now in
-    rw c.step_fault.ensures (left_step _ _ _ _ _ _ _ _ _ _ c.args.number _ c.in-Err.ensures.call (line_of_box _)
+    rw c.step_fault.ensures (left_step _ _ _ _ _ _ _ _ _ _ c.args.number opened _ c.in-Err.ensures.call (line_of_box _)
+    (λ m at a own. rw own (copied_held ours alone g.opening opened m (copied_arrives ours alone g.opening opened _ m a at)))
     (λ m at a own told. (from_box c.in-Err.fault told, rw own (copied_underway ours alone g.opening opened m (copied_arrives ours alone g.opening opened _ m a at)))))
 
 pub find_mark-requires : goal.find_mark-requires

@@ -1,6 +1,6 @@
 use Rattle.std.proofs.Common.{true}
 use Rattle.runner.proofs.PartCalls.{from_box, left_step, line_of_box, passed_call}
-use Rattle.runner.proofs.Stages.{ready_arrives, ready_underway, sought_told}
+use Rattle.runner.proofs.Stages.{ready_arrives, ready_held, ready_underway, sought_told}
 use Rattle.runner.proofs.Finding.{seek_told}
 use Rattle.runner.proofs.copying.seek.Goals as goal
 
@@ -17,7 +17,8 @@ returns-in-Err-clause-part g c =
     let ours = g.O.Outside.ours in
     let alone = g.O.Outside.alone in
     let opened = g.O.Outside.opened c.args.outside.now in
-    rw c.step_fault.ensures (left_step _ _ _ _ _ _ _ _ _ _ c.args.number _ c.in-Err.ensures.call (line_of_box _)
+    rw c.step_fault.ensures (left_step _ _ _ _ _ _ _ _ _ _ c.args.number opened _ c.in-Err.ensures.call (line_of_box _)
+    (λ m at a own. rw own (ready_held ours alone g.opening opened true m (ready_arrives ours alone g.opening opened true _ m a at)))
     (λ m at a own told. (from_box c.in-Err.fault told, rw own (ready_underway ours alone g.opening opened true m (ready_arrives ours alone g.opening opened true _ m a at)))))
 
 pub find_mark-requires : goal.find_mark-requires

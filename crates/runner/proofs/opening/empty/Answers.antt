@@ -23,7 +23,7 @@ returns-in-Err-clause-part g c =
     let alone = g.O.Outside.alone in
     let opened = g.O.Outside.opened c.args.outside.now in
     let s1 = g.O.Outside.seen c.discard.new.self in
-    rw c.call_fault.ensures (left_call _ _ _ _ _ _ _ _ _ _ _ c.in-Err.ensures.call (line_of_book _) (λ m at a own told. (
+    rw c.call_fault.ensures (left_call _ _ _ _ _ _ _ _ _ _ _ tt c.in-Err.ensures.call (line_of_book _) (λ m at a own told. (
       from_book c.in-Err.fault told,
       left_by (Underway ours alone g.opening) _ _ c.in-Err.fault m s1.device own
           (let k = known_arrives ours alone g.opening opened _ m a (none_known ours alone g.opening opened _ at) in k.underway)

@@ -1,12 +1,27 @@
-use Rattle.std.proofs.Common.{◌≡◌, false, is_some, arith}
+use Rattle.std.proofs.Common.{◌≡◌, Option, Some, None, true, false, is_some, arith}
 use Rattle.std.proofs.lemmas.Grind.{common_steps}
 use Rattle.underway.specs.Conditions.{Underway}
 use Rattle.underway.proofs.Arrived.{underway_arrives}
-use Rattle.runner.specs.Before.{HasNoPlan}
+use Rattle.book.specs.declared.book.Pending.{Pending}
+use Rattle.book.specs.declared.book.Pending.TheVariants.{Missing, Useless, Planned}
+use Rattle.book.specs.Books.{IsPlanned}
+use Rattle.outside.specs.Opened.{Opened}
+use Rattle.underway.specs.Openings.{IsIdle}
+use Rattle.runner.specs.Before.{HasNoPlan, HasPlan}
 use Rattle.runner.proofs.PartCalls.{from_book, left_call, line_of_book, passed_call}
-use Rattle.runner.proofs.Readings.{forgot, half_forgot, has_none, none_of, stores_kept}
+use Rattle.runner.proofs.Readings.{forgot, half_forgot, has_none, has_plan, none_of, some_of, stores_kept}
 use Rattle.runner.proofs.Stages.{left_by}
+use Rattle.runner.proofs.Validities.{missing_here}
 use Rattle.runner.proofs.opening.forget.Goals as goal
+
+never_both : (opened : Option Opened) → HasPlan opened → HasNoPlan opened → ⊥
+never_both None h n = h
+never_both (Some o) h n = of_pending o.pending h n
+  where
+    of_pending : (p : Pending) → IsPlanned p → IsIdle p → ⊥
+    of_pending Missing h n = h
+    of_pending Useless h n = h
+    of_pending (Planned written) h n = n
 
 pub returns-in-Ok-clause-part : goal.returns-in-Ok-clause-part
 returns-in-Ok-clause-part g c =
@@ -24,7 +39,7 @@ returns-in-Err-clause-part g c =
     let opened = g.O.Outside.opened c.args.outside.now in
     let i : is_some c.pending.result ≡ false = grind (arith, common_steps) in
     let none : HasNoPlan opened = has_none opened c.requires.1.0 (none_of _ c.pending.result _ c.pending.ensures i) in
-    rw c.call_fault.ensures (left_call _ _ _ _ _ _ _ _ _ _ _ c.in-Err.ensures.call (line_of_book _) (λ m at a own told. (
+    rw c.call_fault.ensures (left_call _ _ _ _ _ _ _ _ _ _ _ tt c.in-Err.ensures.call (line_of_book _) (λ m at a own told. (
       from_book c.in-Err.fault told,
       left_by (Underway ours alone g.opening) _ _ c.in-Err.fault m s1.device own
           (underway_arrives ours alone g.opening _ m a at.underway)
@@ -34,3 +49,13 @@ returns-in-Err-clause-part g c =
 
 pub returns-in-Ok-clause-stores : goal.returns-in-Ok-clause-stores
 returns-in-Ok-clause-stores g c = λ honest alone. let w = c.in-Ok.ensures.call in let acts = w.acts in let e = acts.effect honest in stores_kept g.O.Outside.ours g.O.Outside.alone g.opening _ _ e.mid _ c.requires.1.0 e.before e.behind alone
+
+pub returns-then-is_some-clause-gone : goal.returns-then-is_some-clause-gone
+returns-then-is_some-clause-gone g c = λ none.
+    let opened = g.O.Outside.opened c.args.outside.now in
+    let i : is_some c.pending.result ≡ true = grind (arith, common_steps) in
+    let j = some_of _ c.pending.result _ c.pending.ensures i in
+    absurd (never_both opened (has_plan opened j.0 j.1) none)
+
+pub returns-in-Ok-clause-gone : goal.returns-in-Ok-clause-gone
+returns-in-Ok-clause-gone g c = λ none. rw c.in-Ok.ensures.opened (missing_here (g.O.Outside.opened c.args.outside.now) none)

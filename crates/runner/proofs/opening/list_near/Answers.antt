@@ -20,7 +20,7 @@ returns-in-Ok-clause-part g c =
 pub returns-in-Err-clause-part : goal.returns-in-Err-clause-part
 returns-in-Err-clause-part g c =
     let opened = g.O.Outside.opened c.args.outside.now in
-    rw c.call_fault.ensures (left_call _ _ _ _ _ _ _ _ _ _ _ c.in-Err.ensures.call (line_of_box _) (λ m at a own told. (from_box c.in-Err.fault told, rw own (clear_underway g.O.Outside.ours g.O.Outside.alone g.opening opened true m (clear_arrives g.O.Outside.ours g.O.Outside.alone g.opening opened true _ m a at.clear)))))
+    rw c.call_fault.ensures (left_call _ _ _ _ _ _ _ _ _ _ _ tt c.in-Err.ensures.call (line_of_box _) (λ m at a own told. (from_box c.in-Err.fault told, rw own (clear_underway g.O.Outside.ours g.O.Outside.alone g.opening opened true m (clear_arrives g.O.Outside.ours g.O.Outside.alone g.opening opened true _ m a at.clear)))))
 
 pub returns-in-Ok-clause-validities : goal.returns-in-Ok-clause-validities
 returns-in-Ok-clause-validities g c = λ honest. let w = c.in-Ok.ensures.call in let acts = w.acts in let e = acts.effect honest in read_validities g.O.Outside.ours g.O.Outside.alone _ e.mid _ e.before e.behind.0

@@ -24,7 +24,7 @@ returns-else-before-validity-clause-part g c =
 
 pub returns-in-Err-clause-part : goal.returns-in-Err-clause-part
 returns-in-Err-clause-part g c =
-    rw c.call_fault.ensures (left_call _ _ _ _ _ _ _ _ _ _ _ c.in-Err.ensures.call (line_of_box _) (λ m at a own told. (from_box c.in-Err.fault told, rw own (underway_arrives g.O.Outside.ours g.O.Outside.alone g.opening _ m a at.underway))))
+    rw c.call_fault.ensures (left_call _ _ _ _ _ _ _ _ _ _ _ tt c.in-Err.ensures.call (line_of_box _) (λ m at a own told. (from_box c.in-Err.fault told, rw own (underway_arrives g.O.Outside.ours g.O.Outside.alone g.opening _ m a at.underway))))
 
 pub returns-then-before-validity-clause-kept : goal.returns-then-before-validity-clause-kept
 returns-then-before-validity-clause-kept g c = λ honest. let w = c.in-Ok.ensures.call in let acts = w.acts in let e = acts.effect honest in same_read g.O.Outside.ours g.O.Outside.alone (g.O.Outside.opened c.args.outside.now) c.args.side _ e.mid _ c.in-Some.before c.in-Ok.validity (sym c.recorded_validity-recorded.ensures ∙ c.in-Some.is) e.before e.behind.0 e.behind.1 c.if-before-validity.true

@@ -15,7 +15,7 @@ returns-in-Err-clause-part g c =
     let ours = g.O.Outside.ours in
     let alone = g.O.Outside.alone in
     let s1 = g.O.Outside.seen c.open_book.new.self in
-    rw c.call_fault.ensures (left_call _ _ _ _ _ _ _ _ _ _ _ c.in-Err.ensures.call
+    rw c.call_fault.ensures (left_call _ _ _ _ _ _ _ _ _ _ _ tt c.in-Err.ensures.call
     (λ told. line_of_shelf _ (λ honest. let w = c.in-Err.ensures.call in let acts = w.acts in let l = acts.left honest in unread_files c.in-Err.fault l.mid s1.device l.behind.0 l.behind.1))
     (λ m at a own told. unread_left ours alone g.opening c.in-Err.fault m s1.device (underway_arrives ours alone g.opening _ m a at) own.0 own.1 told))
 

@@ -19,7 +19,7 @@ returns-in-Err-clause-part g c =
     let opened = g.O.Outside.opened c.args.outside.now in
     let plan = c.args.plan in
     let s1 = g.O.Outside.seen c.begin.new.self in
-    rw c.call_fault.ensures (left_call _ _ _ _ _ _ _ _ _ _ _ c.in-Err.ensures.call (line_of_book _) (λ m at a own told. (
+    rw c.call_fault.ensures (left_call _ _ _ _ _ _ _ _ _ _ _ tt c.in-Err.ensures.call (line_of_book _) (λ m at a own told. (
       from_book c.in-Err.fault told,
       left_by (Underway ours alone g.opening) _ _ c.in-Err.fault m s1.device own
           (let p = made_arrives ours alone g.opening opened plan _ m a at in clear_underway ours alone g.opening opened true m p.clear)

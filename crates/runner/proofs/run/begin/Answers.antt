@@ -1,13 +1,14 @@
 use Rattle.std.proofs.Common.{rules}
 use Rattle.std.proofs.lemmas.Result.{err_from_is_err_and}
-use Rattle.runner.proofs.PartCalls.{left_after, left_never, passed_after}
+use Rattle.runner.proofs.StepParts.{left_unstepped, steps_told, unrefused_told}
+use Rattle.runner.proofs.PartCalls.{left_after, passed_after, left_told}
 use Rattle.runner.proofs.Passes.{none_few, ran_answers, takes_commit, whole_steps}
 use Rattle.runner.proofs.Told.{told, told_whole}
 use Rattle.runner.proofs.Finding.{all_new, same_none}
 use Rattle.runner.proofs.run.begin.Goals as goal
 
 pub carry_out-requires : goal.carry_out-requires
-carry_out-requires g c κs within = (search rules, (c.in_ok-unfit.ensures.going, (let p = c.in_ok-unfit.ensures.part in p.is_whole)))
+carry_out-requires g c κs within = (search rules, (search rules, (c.in_ok-unfit.ensures.going, (let p = c.in_ok-unfit.ensures.part in p.is_whole))))
 
 pub conclude-requires : goal.conclude-requires
 conclude-requires g c κs within =
@@ -23,11 +24,18 @@ conclude-requires g c κs within =
       ),
     )
 
+pub returns-in_err-unfit-clause-part : goal.returns-in_err-unfit-clause-part
+returns-in_err-unfit-clause-part g c =
+    let e = err_from_is_err_and c.from_residual.result c.from_residual.ensures.1 in
+    rw (e.1, e.2) (left_told _ _ _ _ _ _ _ _ (unrefused_told _ _ (λ step n. n)) c.in_err-unfit.ensures.part)
+
 pub returns-in_err-performed-clause-part : goal.returns-in_err-performed-clause-part
 returns-in_err-performed-clause-part g c =
     let e = err_from_is_err_and c.from_residual-in_err-performed.result c.from_residual-in_err-performed.ensures.1 in
     let s1 = g.O.Outside.seen c.propose.new.outside in
-    rw (e.1, e.2) (left_never _ _ _ _ _ _ (left_after _ _ _ _ _ _ _ _ s1 _ c.in_err-performed.ensures.was_honest c.in_ok-unfit.ensures.part c.in_err-performed.ensures.part))
+    let honest = c.in_err-performed.ensures.was_honest in
+    let proposed = c.in_ok-unfit.ensures.part in
+    rw (e.1, e.2) (left_after _ _ _ _ _ _ _ _ s1 _ honest proposed (left_told _ _ _ _ _ _ _ _ (steps_told _ _ (λ step t h at. t h (proposed.reaches (honest h) at))) c.in_err-performed.ensures.part))
 
 pub returns-in_err-conclude-clause-part : goal.returns-in_err-conclude-clause-part
 returns-in_err-conclude-clause-part g c =
@@ -35,10 +43,10 @@ returns-in_err-conclude-clause-part g c =
     let s1 = g.O.Outside.seen c.propose.new.outside in
     let s2 = g.O.Outside.seen c.carry_out.new.outside in
     let so_far = passed_after _ _ _ _ _ _ _ _ s1 _ c.in_ok-performed.ensures.was_honest c.in_ok-unfit.ensures.part c.in_ok-performed.ensures.part in
-    rw (e.1, e.2) (left_never _ _ _ _ _ _ (left_after _ _ _ _ _ _ _ _ s2 _ c.in_err-conclude.ensures.was_honest so_far c.in_err-conclude.ensures.part))
+    rw (e.1, e.2) (left_unstepped _ _ _ _ _ _ tt (left_after _ _ _ _ _ _ _ _ s2 _ c.in_err-conclude.ensures.was_honest so_far c.in_err-conclude.ensures.part))
 
 pub returns-clause-answer : goal.returns-clause-answer
-returns-clause-answer g c = ran_answers (g.O.Outside.opened c.args.outside.now) c.in_ok-performed.performed c.in_ok-unfit.unfit c.requires.1.1.0
+returns-clause-answer g c = ran_answers (g.O.Outside.opened c.args.outside.now) c.in_ok-performed.performed c.in_ok-unfit.unfit c.requires.1.1.1.0
 
 pub returns-clause-runs : goal.returns-clause-runs
 returns-clause-runs g c = rw (whole_steps (g.O.Outside.opened c.propose.new.outside) c.in_ok-performed.performed.items c.in_ok-unfit.ensures.log c.in_ok-performed.ensures.steps) c.in_ok-unfit.ensures.run

@@ -5,14 +5,15 @@ use Rattle.runner.specs.Going.{plan_at}
 use Rattle.std.proofs.lemmas.Result.{err_from_is_err_and}
 use Rattle.book.specs.Books.{mended}
 use Rattle.outside.specs.Opened.{turned}
-use Rattle.runner.proofs.PartCalls.{left_after, passed_after}
+use Rattle.runner.proofs.StepParts.{left_unstepped, steps_told}
+use Rattle.runner.proofs.PartCalls.{left_after, passed_after, left_told}
 use Rattle.runner.proofs.Passes.{book_few, finished_answers, mended_book, mended_going, mended_rest, takes_commit}
 use Rattle.runner.proofs.Told.{told, told_rest}
 use Rattle.runner.proofs.Finding.{mended_plan, same_then}
 use Rattle.runner.proofs.run.resume.Goals as goal
 
 pub carry_out-requires : goal.carry_out-requires
-carry_out-requires g c κs within = (search rules, (rw c.in_ok-untear.ensures.opened (mended_going (g.O.Outside.opened c.args.outside.now) c.requires.1.1.0 c.requires.1.1.1), (let p = c.in_ok-untear.ensures.part in p.is_whole)))
+carry_out-requires g c κs within = (search rules, (search rules, (rw c.in_ok-untear.ensures.opened (mended_going (g.O.Outside.opened c.args.outside.now) c.requires.1.1.1.0 c.requires.1.1.1.1), (let p = c.in_ok-untear.ensures.part in p.is_whole))))
 
 pub conclude-requires : goal.conclude-requires
 conclude-requires g c κs within =
@@ -22,17 +23,24 @@ conclude-requires g c κs within =
       (
         h.going,
         (
-          takes_commit (g.O.Outside.opened c.untear.new.outside) (g.O.Outside.opened c.carry_out.new.outside) c.in_ok-performed.performed.items (rw c.in_ok-untear.ensures.opened (book_few (turned mended old) (mended_book old c.requires.1.0))) h c.in_ok-performed.ensures.steps,
+          takes_commit (g.O.Outside.opened c.untear.new.outside) (g.O.Outside.opened c.carry_out.new.outside) c.in_ok-performed.performed.items (rw c.in_ok-untear.ensures.opened (book_few (turned mended old) (mended_book old c.requires.1.1.0))) h c.in_ok-performed.ensures.steps,
           c.in_ok-performed.ensures.ended,
         ),
       ),
     )
 
+pub returns-in_err-untear-clause-part : goal.returns-in_err-untear-clause-part
+returns-in_err-untear-clause-part g c =
+    let e = err_from_is_err_and c.from_residual.result c.from_residual.ensures.1 in
+    rw (e.1, e.2) (left_unstepped _ _ _ _ _ _ tt c.in_err-untear.ensures.part)
+
 pub returns-in_err-performed-clause-part : goal.returns-in_err-performed-clause-part
 returns-in_err-performed-clause-part g c =
     let e = err_from_is_err_and c.from_residual-in_err-performed.result c.from_residual-in_err-performed.ensures.1 in
     let s1 = g.O.Outside.seen c.untear.new.outside in
-    rw (e.1, e.2) (left_after _ _ _ _ _ _ _ _ s1 _ c.in_err-performed.ensures.was_honest c.in_ok-untear.ensures.part c.in_err-performed.ensures.part)
+    let honest = c.in_err-performed.ensures.was_honest in
+    let untorn = c.in_ok-untear.ensures.part in
+    rw (e.1, e.2) (left_after _ _ _ _ _ _ _ _ s1 _ honest untorn (left_told _ _ _ _ _ _ _ _ (steps_told _ _ (λ step t h at. t h (untorn.reaches (honest h) at))) c.in_err-performed.ensures.part))
 
 pub returns-in_err-conclude-clause-part : goal.returns-in_err-conclude-clause-part
 returns-in_err-conclude-clause-part g c =
@@ -40,12 +48,12 @@ returns-in_err-conclude-clause-part g c =
     let s1 = g.O.Outside.seen c.untear.new.outside in
     let s2 = g.O.Outside.seen c.carry_out.new.outside in
     let so_far = passed_after _ _ _ _ _ _ _ _ s1 _ c.in_ok-performed.ensures.was_honest c.in_ok-untear.ensures.part c.in_ok-performed.ensures.part in
-    rw (e.1, e.2) (left_after _ _ _ _ _ _ _ _ s2 _ c.in_err-conclude.ensures.was_honest so_far c.in_err-conclude.ensures.part)
+    rw (e.1, e.2) (left_unstepped _ _ _ _ _ _ tt (left_after _ _ _ _ _ _ _ _ s2 _ c.in_err-conclude.ensures.was_honest so_far c.in_err-conclude.ensures.part))
 
 pub returns-clause-answer : goal.returns-clause-answer
 returns-clause-answer g c =
     let old = g.O.Outside.opened c.args.outside.now in
-    finished_answers old c.in_ok-performed.performed (mended_rest old c.in_ok-performed.performed.items c.requires.1.1.0 (rw (← c.in_ok-untear.ensures.opened) c.in_ok-performed.ensures.steps))
+    finished_answers old c.in_ok-performed.performed (mended_rest old c.in_ok-performed.performed.items c.requires.1.1.1.0 (rw (← c.in_ok-untear.ensures.opened) c.in_ok-performed.ensures.steps))
 
 pub returns-clause-results : goal.returns-clause-results
 returns-clause-results g c = λ h.

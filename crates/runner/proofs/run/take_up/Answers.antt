@@ -1,6 +1,7 @@
 use Rattle.std.proofs.Common.{◌≡◌, ◌≤◌, ◌+◌, inl, refl, arith, rules}
 use Rattle.runner.specs.Answers.{IsKnownEntry, Reaches, run_of}
-use Rattle.runner.proofs.PartCalls.{left_here, part_never, part_weaker, passed_none}
+use Rattle.runner.proofs.StepParts.{part_unstepped, run_weaker}
+use Rattle.runner.proofs.PartCalls.{left_here, part_weaker, passed_none}
 use Rattle.runner.proofs.Passes.{end_reaches, known_least, run_of_state}
 use Rattle.runner.proofs.PlanFacts.{moved_none}
 use Rattle.runner.proofs.Readings.{book_read}
@@ -9,10 +10,10 @@ use Rattle.runner.proofs.Finding.{finds_none}
 use Rattle.runner.proofs.run.take_up.Goals as goal
 
 pub state-requires : goal.state-requires
-state-requires g c = record { read = book_read (g.O.Outside.opened c.args.outside.now) c.requires.1.1.0 }
+state-requires g c = record { read = book_read (g.O.Outside.opened c.args.outside.now) c.requires.1.1.1.0 }
 
 pub skip-requires : goal.skip-requires
-skip-requires g c κs within = (search rules, (book_read (g.O.Outside.opened c.args.outside.now) c.requires.1.1.0, c.requires.1.1.1))
+skip-requires g c κs within = (search rules, (book_read (g.O.Outside.opened c.args.outside.now) c.requires.1.1.1.0, c.requires.1.1.1.1))
 
 pub returns-then-run-last-clause-part : goal.returns-then-run-last-clause-part
 returns-then-run-last-clause-part g c =
@@ -21,7 +22,7 @@ returns-then-run-last-clause-part g c =
     let opened = g.O.Outside.opened c.args.outside.now in
     let same = run_of_state opened c.state.result.now c.state.ensures.state in
     let le : c.args.run ≤ run_of opened = omega (arith, same, c.if-run-last.true) in
-    part_weaker _ _ _ _ _ _ _ (λ x. Reaches ours alone g.opening c.args.run) _ _ _ (λ d k. k.known) (λ x d k. record { underway = k.underway; done = λ e. k.done (omega (arith, le, e)) }) (part_never _ _ _ _ _ _ _ _ _ c.skip.ensures.part)
+    part_weaker _ _ _ _ _ _ _ (λ x. Reaches ours alone g.opening c.args.run) _ _ _ (λ d k. k.known) (λ x d k. record { underway = k.underway; done = λ e. k.done (omega (arith, le, e)) }) (part_unstepped _ _ _ _ _ _ _ _ _ tt c.skip.ensures.part)
 
 pub returns-clause-part : goal.returns-clause-part
 returns-clause-part g c =
@@ -30,7 +31,7 @@ returns-clause-part g c =
     let opened = g.O.Outside.opened c.args.outside.now in
     let same = run_of_state opened c.state.result.now c.state.ensures.state in
     let is : c.args.run ≡ run_of opened + 1 = omega (arith, same, c.if-run-last.false, c.if-run-last-gt1.false) in
-    part_weaker _ _ _ _ _ _ _ (λ x. Reaches ours alone g.opening c.args.run) _ _ _ (λ d k. record { most = let m = k.most in omega (arith, is, m); asked = k.asked; known = k.known }) (λ x d k. end_reaches ours alone g.opening c.args.run d k) c.open_and_work.ensures.part
+    run_weaker _ _ _ _ _ _ _ (λ x. Reaches ours alone g.opening c.args.run) _ _ _ (λ d k. record { most = let m = k.most in omega (arith, is, m); asked = k.asked; known = k.known }) (λ x d k. end_reaches ours alone g.opening c.args.run d k) c.open_and_work.ensures.part (λ step t. t)
 
 pub returns-then-run-last-gt1-clause-part : goal.returns-then-run-last-gt1-clause-part
 returns-then-run-last-gt1-clause-part g c =
@@ -40,7 +41,7 @@ returns-then-run-last-gt1-clause-part g c =
     let s = g.O.Outside.seen c.args.outside.now in
     let same = run_of_state opened c.state.result.now c.state.ensures.state in
     let entry = IsKnownEntry ours alone g.opening opened c.args.run c.args.options.now (g.R.Rng.stream c.args.rng.now) in
-    left_here _ entry entry _ 0 _ s s (passed_none _ entry entry s c.requires.1.1.1 (λ k. k)) (inl refl) (λ k. let m = k.most in let l = known_least ours alone g.opening opened s.device k.known in omega (arith, same, m, l, c.if-run-last.false, c.if-run-last-gt1.true))
+    left_here _ entry entry _ 0 _ s s (passed_none _ entry entry s c.requires.1.1.1.1 (λ k. k)) (inl refl) (λ k. let m = k.most in let l = known_least ours alone g.opening opened s.device k.known in omega (arith, same, m, l, c.if-run-last.false, c.if-run-last-gt1.true))
 
 pub returns-then-run-last-clause-moved : goal.returns-then-run-last-clause-moved
 returns-then-run-last-clause-moved g c = moved_none _

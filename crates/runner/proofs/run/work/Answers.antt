@@ -2,7 +2,8 @@ use Rattle.std.proofs.Common.{◌≡◌, true, false, is_some, arith}
 use Rattle.std.proofs.lemmas.Grind.{common_steps}
 use Rattle.runner.specs.Answers.{AtEnd}
 use Rattle.runner.specs.Before.{HasNoPlan}
-use Rattle.runner.proofs.PartCalls.{part_never, part_weaker}
+use Rattle.runner.proofs.PartCalls.{part_told, part_weaker}
+use Rattle.runner.proofs.StepParts.{calls_told, run_weaker}
 use Rattle.runner.proofs.Passes.{known_planned, known_unplanned}
 use Rattle.runner.proofs.PlanFacts.{moved_none}
 use Rattle.runner.proofs.Readings.{book_read, has_none, has_plan, none_of, some_of}
@@ -16,7 +17,7 @@ returns-then-is_some-clause-part g c =
     let opened = g.O.Outside.opened c.args.outside.now in
     let i : is_some c.pending.result ≡ true = grind (arith, common_steps) in
     let j = some_of _ c.pending.result _ c.pending.ensures i in
-    part_weaker _ _ _ _ _ _ _ (λ x. AtEnd ours alone g.opening) _ _ _ (λ d k. known_planned ours alone g.opening opened d (has_plan opened j.0 j.1) k.most k.known) (λ x d k. k) (part_never _ _ _ _ _ _ _ _ _ c.resume.ensures.part)
+    part_weaker _ _ _ _ _ _ _ (λ x. AtEnd ours alone g.opening) _ _ _ (λ d k. known_planned ours alone g.opening opened d (has_plan opened j.0 j.1) k.most k.known) (λ x d k. k) (part_told _ _ _ _ _ _ _ _ _ _ (calls_told _ _ (λ step t h k. t h (known_planned ours alone g.opening opened _ (has_plan opened j.0 j.1) k.most k.known)) tt) c.resume.ensures.part)
 
 pub returns-else-is_some-clause-part : goal.returns-else-is_some-clause-part
 returns-else-is_some-clause-part g c =
@@ -24,8 +25,8 @@ returns-else-is_some-clause-part g c =
     let alone = g.O.Outside.alone in
     let opened = g.O.Outside.opened c.args.outside.now in
     let i : is_some c.pending.result ≡ false = grind (arith, common_steps) in
-    let none : HasNoPlan opened = has_none opened (book_read opened c.requires.1.1.0) (none_of _ c.pending.result _ c.pending.ensures i) in
-    part_weaker _ _ _ _ _ _ _ (λ x. AtEnd ours alone g.opening) _ _ _ (λ d k. record { asked = k.asked; none = known_unplanned ours alone g.opening opened d none k.most k.known }) (λ x d k. k) c.begin.ensures.part
+    let none : HasNoPlan opened = has_none opened (book_read opened c.requires.1.1.1.0) (none_of _ c.pending.result _ c.pending.ensures i) in
+    run_weaker _ _ _ _ _ _ _ (λ x. AtEnd ours alone g.opening) _ _ _ (λ d k. record { asked = k.asked; none = known_unplanned ours alone g.opening opened d none k.most k.known }) (λ x d k. k) c.begin.ensures.part (λ step t. t)
 
 pub returns-then-is_some-clause-moved : goal.returns-then-is_some-clause-moved
 returns-then-is_some-clause-moved g c = moved_none _
@@ -45,7 +46,7 @@ returns-else-is_some-clause-told g c =
     let alone = g.O.Outside.alone in
     let opened = g.O.Outside.opened c.args.outside.now in
     let i : is_some c.pending.result ≡ false = grind (arith, common_steps) in
-    let none : HasNoPlan opened = has_none opened (book_read opened c.requires.1.1.0) (none_of _ c.pending.result _ c.pending.ensures i) in
+    let none : HasNoPlan opened = has_none opened (book_read opened c.requires.1.1.1.0) (none_of _ c.pending.result _ c.pending.ensures i) in
     told_from c.begin.result _ _ _ _ (λ h k. record { asked = k.asked; none = known_unplanned ours alone g.opening opened _ none k.most k.known }) c.begin.ensures.told
 
 pub returns-then-is_some-clause-found : goal.returns-then-is_some-clause-found
@@ -63,5 +64,5 @@ returns-else-is_some-clause-found g c =
     let alone = g.O.Outside.alone in
     let opened = g.O.Outside.opened c.args.outside.now in
     let i : is_some c.pending.result ≡ false = grind (arith, common_steps) in
-    let none : HasNoPlan opened = has_none opened (book_read opened c.requires.1.1.0) (none_of _ c.pending.result _ c.pending.ensures i) in
+    let none : HasNoPlan opened = has_none opened (book_read opened c.requires.1.1.1.0) (none_of _ c.pending.result _ c.pending.ensures i) in
     told_from c.begin.result _ _ _ _ (λ h k. record { asked = k.asked; none = known_unplanned ours alone g.opening opened _ none k.most k.known }) c.begin.ensures.found

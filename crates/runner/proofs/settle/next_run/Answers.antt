@@ -25,7 +25,7 @@ returns-else-last-clause-part g c =
 pub returns-in-Err-clause-part : goal.returns-in-Err-clause-part
 returns-in-Err-clause-part g c =
     let s1 = g.O.Outside.seen c.open_book.new.self in
-    rw c.call_fault.ensures (left_call _ _ _ _ _ _ _ _ _ _ _ c.in-Err.ensures.call
+    rw c.call_fault.ensures (left_call _ _ _ _ _ _ _ _ _ _ _ tt c.in-Err.ensures.call
     (λ told. line_of_shelf _ (λ honest. let w = c.in-Err.ensures.call in let acts = w.acts in let l = acts.left honest in inl (unread_files c.in-Err.fault l.mid s1.device l.behind.0 l.behind.1)))
     (λ m at a own told. opening_left g.O.Outside.ours g.O.Outside.alone g.opening c.in-Err.fault _ m s1.device at a own.0 own.1 told))
 

@@ -2,10 +2,11 @@ use Rattle.std.proofs.Common.{◌≤◌, Ok, Err, refl, ap, subst, sym, arith}
 use Rattle.outside.specs.Calls.{Seen}
 use Rattle.underway.specs.Conditions.{Underway}
 use Rattle.runner.specs.declared.pass.Pass.{Pass}
+use Rattle.runner.specs.Answers.{WillRepeat}
 use Rattle.runner.specs.Attempts.{IsTried}
 use Rattle.runner.specs.Faults.{TellsNoRun}
-use Rattle.runner.proofs.Attempts.{caused_since, changed_last, failed_few, found_device, greatest_since, kept_none, last_answers, last_finds, leaves_since, met_before, moved_twice, stops_kept, stops_more, stuck_first, stuck_more, tried_underway}
-use Rattle.runner.proofs.PartCalls.{leaves_map}
+use Rattle.runner.proofs.Attempts.{caused_since, changed_last, failed_few, found_device, greatest_since, kept_none, last_answers, last_finds, met_before, more_found, moved_twice, refused_for, stops_kept, stops_more, stuck_first, stuck_more, tried_underway}
+use Rattle.runner.proofs.PartCalls.{leaves_after, leaves_map, more_after, more_none}
 use Rattle.runner.proofs.Passes.{over_alike}
 use Rattle.runner.proofs.PlanFacts.{moved_none}
 use Rattle.runner.proofs.settle.settle.Goals as goal
@@ -15,8 +16,7 @@ loop-tried-init g c = record {
   was_honest = λ h. h;
   moved = moved_none _;
   stops = omega arith;
-  refusals = omega arith;
-  faults = omega arith;
+  told = more_none _ _ refl;
   appends = omega arith;
   first = λ z. refl;
   unfixed = λ z. refl;
@@ -43,15 +43,12 @@ loop-tried-preserved g c =
     let device = found_device tried now s1 e in
     let part = rw c.in-Err-Stopped.field-0-is at c.in-Err-Stopped.ensures.part in
     let n = part.no_less in
-    let refusals = ap (λ (s : Seen). s.refusals) e in
-    let faults = ap (λ (s : Seen). s.faults) e in
     let appends = ap (λ (s : Seen). s.appends) e in
     record {
       was_honest = λ h. i.was_honest (c.again.ensures.was_honest (c.attempt.ensures.was_honest h));
       moved = moved_twice _ _ _ i.moved c.attempt.ensures.moved;
       stops = stops_more _ _ _ tried s0 now s1 s2 _ i.stops i.first e c.attempt.ensures.stuck part;
-      refusals = let k = i.refusals in let m = n.refusals in omega (arith, k, refusals, m);
-      faults = let k = i.faults in let m = n.faults in omega (arith, k, faults, m);
+      told = more_after s0 s1 s2 (more_found tried s0 now s1 i.told e) n.told;
       appends = let k = i.appends in let m = n.appends in omega (arith, k, appends, m);
       first = λ z. absurd (omega (arith, z));
       unfixed = λ z. absurd (omega (arith, z));
@@ -125,9 +122,7 @@ returns-in-Err-clause-left g c = λ h asked at.
     let after = IsTried ours alone g.opening options (g.R.Rng.stream c.attempt.new.rng) c.attempt.new.run in
     let left = part.left h (subst before (sym device) (i.left (c.again.ensures.was_honest (c.attempt.ensures.was_honest h)) asked at)) in
     let s0 = g.O.Outside.seen c.args.outside.now in
-    let refusals : s0.refusals ≤ s1.refusals = (let k = i.refusals in let r = ap (λ (s : Seen). s.refusals) e in omega (arith, k, r)) in
-    let faults : s0.faults ≤ s1.faults = (let k = i.faults in let r = ap (λ (s : Seen). s.faults) e in omega (arith, k, r)) in
-    leaves_since (Underway ours alone g.opening) c.in-Err.fault s0 s1 s2 refusals faults (leaves_map after (Underway ours alone g.opening) c.in-Err.fault s1 s2 (λ k. tried_underway ours alone g.opening c.attempt.new.run s2.device k.tried) left)
+    leaves_after (Underway ours alone g.opening) c.in-Err.fault s0 s1 s2 (more_found c.loop-tried.tried s0 now s1 i.told e) (leaves_map after (Underway ours alone g.opening) c.in-Err.fault s1 s2 (λ k. tried_underway ours alone g.opening c.attempt.new.run s2.device k.tried) left)
 
 pub returns-in-Err-clause-changed : goal.returns-in-Err-clause-changed
 returns-in-Err-clause-changed g c = λ side is h asked at.
@@ -137,21 +132,29 @@ returns-in-Err-clause-changed g c = λ side is h asked at.
     let s1 = g.O.Outside.seen c.again.new.outside in
     let s2 = g.O.Outside.seen c.attempt.new.outside in
     let t = i.left (c.again.ensures.was_honest (c.attempt.ensures.was_honest h)) asked at in
-    let part = c.in-Err.ensures.part in
-    changed_last g.O.Outside.ours g.O.Outside.alone g.opening _ _ (TellsNoRun (g.O.Outside.honest c.attempt.new.outside) (g.O.Outside.seen c.attempt.new.outside).device) c.loop-tried.tried c.args.tries c.loop-tried.run s0 now s1 s2 _ _ side c.in-Err.fault i.first i.undrawn i.moved c.again.ensures.seen t.tried (omega arith) is h part.caused
+    changed_last g.O.Outside.ours g.O.Outside.alone g.opening _ _ _ c.loop-tried.tried c.args.tries c.loop-tried.run s0 now s1 s2 _ _ side c.in-Err.fault i.first i.undrawn i.moved c.again.ensures.seen t.tried (omega arith) is h c.in-Err.ensures.part (λ told. told)
 
 pub returns-in-Err-clause-caused : goal.returns-in-Err-clause-caused
 returns-in-Err-clause-caused g c = λ other.
     let i = c.loop-tried.invariant in
     let e = c.again.ensures.seen in
     let s0 = g.O.Outside.seen c.args.outside.now in
+    let now = g.O.Outside.seen c.loop-tried.outside in
     let s1 = g.O.Outside.seen c.again.new.outside in
     let s2 = g.O.Outside.seen c.attempt.new.outside in
-    let part = c.in-Err.ensures.part in
-    let refusals : s0.refusals ≤ s1.refusals = (let k = i.refusals in let r = ap (λ (s : Seen). s.refusals) e in omega (arith, k, r)) in
-    let faults : s0.faults ≤ s1.faults = (let k = i.faults in let r = ap (λ (s : Seen). s.faults) e in omega (arith, k, r)) in
     let appends : s0.appends ≤ s1.appends = (let k = i.appends in let r = ap (λ (s : Seen). s.appends) e in omega (arith, k, r)) in
-    caused_since _ _ (TellsNoRun (g.O.Outside.honest c.attempt.new.outside) (g.O.Outside.seen c.attempt.new.outside).device) c.in-Err.fault s0 s1 s2 refusals faults appends other (λ k. (g.R.Rng.stream c.loop-tried.rng, i.moved, k)) (λ e t. t) part.caused
+    caused_since _ _ _ (WillRepeat (g.R.Rng.stream c.args.rng.now)) (TellsNoRun (g.O.Outside.honest c.attempt.new.outside) (g.O.Outside.seen c.attempt.new.outside).device) c.in-Err.fault s0 s1 s2 (more_found c.loop-tried.tried s0 now s1 i.told e) appends other c.in-Err.ensures.part (λ k. (g.R.Rng.stream c.loop-tried.rng, i.moved, k)) (λ e t. t)
+
+pub returns-in-Err-clause-refused : goal.returns-in-Err-clause-refused
+returns-in-Err-clause-refused g c = λ step is h asked at.
+    let i = c.loop-tried.invariant in
+    let now = g.O.Outside.seen c.loop-tried.outside in
+    let s1 = g.O.Outside.seen c.again.new.outside in
+    let s2 = g.O.Outside.seen c.attempt.new.outside in
+    let before = IsTried g.O.Outside.ours g.O.Outside.alone g.opening c.args.options.now (g.R.Rng.stream c.loop-tried.rng) c.loop-tried.run in
+    let device = found_device c.loop-tried.tried now s1 c.again.ensures.seen in
+    let told = refused_for _ _ _ c.in-Err.fault s1 s2 step is c.in-Err.ensures.part in
+    told h (subst before (sym device) (i.left (c.again.ensures.was_honest (c.attempt.ensures.was_honest h)) asked at))
 
 pub returns-in-Err-clause-ended : goal.returns-in-Err-clause-ended
 returns-in-Err-clause-ended g c = λ other.

@@ -4,6 +4,7 @@ use Rattle.book.specs.Books.{Holds}
 use Rattle.rules.specs.declared.state.SyncState.{SyncState}
 use Rattle.runner.specs.Answers.{IsAsked, Moves}
 use Rattle.runner.specs.Attempts.{AtOpening, IsTried, MetStops}
+use Rattle.runner.specs.Parts.{TellsMore}
 use Rattle.runner.specs.Validities.{IsKept}
 use Rattle.runner.proofs.settle.settle.Given as goal
 
@@ -20,8 +21,7 @@ invariant-loop-tried g l =
       was_honest : g.O.Outside.honest l.outside → g.O.Outside.honest l.fn.outside;
       moved : Moves (g.R.Rng.stream l.fn.rng) (g.R.Rng.stream l.rng);
       stops : MetStops l.tried start now;
-      refusals : start.refusals ≤ now.refusals;
-      faults : start.faults ≤ now.faults;
+      told : TellsMore start now;
       appends : start.appends ≤ now.appends;
       first : l.tried ≡ 0 → now ≡ start;
       unfixed : l.tried ≡ 0 → l.run ≡ None;

@@ -2,6 +2,7 @@ use Rattle.std.proofs.Common.{[], ◌∷◌}
 use Rattle.runner.specs.Going.{HasLogged, logged_of}
 use Rattle.runner.proofs.PartCalls.{left_step, line_of_log, passed_call}
 use Rattle.runner.proofs.Logging.{takes_log, has_logged, log_made, log_left}
+use Rattle.runner.proofs.Stages.{done_arrives, done_held}
 use Rattle.runner.proofs.steps.log.Goals as goal
 
 pub write-requires : goal.write-requires
@@ -33,5 +34,6 @@ returns-in-Err-clause-part g c =
     let opened = g.O.Outside.opened c.args.outside.now in
     let s1 = g.O.Outside.seen c.write.new.outside in
     let logged = logged_of c.args.became.now in
-    rw c.step_fault.ensures (left_step _ _ _ _ _ _ _ _ _ _ c.args.number _ (rw c.logged_as.ensures at c.in-Err.ensures.call) (line_of_log opened logged _)
+    rw c.step_fault.ensures (left_step _ _ _ _ _ _ _ _ _ _ c.args.number opened _ (rw c.logged_as.ensures at c.in-Err.ensures.call) (line_of_log opened logged _)
+    (λ m at a own. rw own (done_held ours alone g.opening opened logged m (done_arrives ours alone g.opening opened logged _ m a at)))
     (λ m at a own told. log_left ours alone g.opening opened logged c.in-Err.fault _ m s1.device c.requires.1.0 a at told own))

@@ -18,3 +18,6 @@ returns-clause-changed g c = rw c.new.ensures at c.settle.ensures.changed
 
 pub returns-clause-caused : goal.returns-clause-caused
 returns-clause-caused g c = rw c.new.ensures at c.settle.ensures.caused
+
+pub returns-clause-refused : goal.returns-clause-refused
+returns-clause-refused g c = rw c.new.ensures at c.settle.ensures.refused

@@ -4,7 +4,7 @@ use Rattle.mailcore.specs.declared.side.Side.TheVariants.{Far}
 use Rattle.imap_session.specs.NamedMessages.{swept}
 use Rattle.imap_client.specs.Calls.{each_one}
 use Rattle.imap_client.specs.Sessions.{server_of}
-use Rattle.outside.specs.BoxCalls.{removed}
+use Rattle.mailbox.specs.Operations.{removed}
 use Rattle.far_side.proofs.OpenCalls.{Called, still_logged_in, still_named, turns}
 use Rattle.far_side.proofs.Operations.{swept_same}
 use Rattle.far_side.proofs.far_side.FarSideMailbox.expunge.Goals as goal

@@ -1,5 +1,5 @@
 use Rattle.std.proofs.lemmas.Result.{err_from_is_err_and}
-use Rattle.outside.specs.BoxCalls.{removed}
+use Rattle.mailbox.specs.Operations.{removed}
 use Rattle.mailbox.specs.Calls.{Never}
 use Rattle.mem_mailbox.specs.Views.{near_of}
 use Rattle.mem_mailbox.proofs.MemCalls.{ends, fails, turned}

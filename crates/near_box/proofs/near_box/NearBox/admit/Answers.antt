@@ -1,7 +1,8 @@
 use Rattle.std.proofs.Common.{◌≡◌, ◌<◌, ◌+◌, ◌^◌, ◌⊎◌, length, ap, ◌∙◌, arith, subst}
 use Rattle.std.proofs.lemmas.Result.{err_from_is_err_and}
 use Rattle.near_box.specs.declared.survey.Survey.{Survey}
-use Rattle.near_box.specs.Mailboxes.{IsMailbox, near_of, admitted_near}
+use Rattle.mailcore.specs.Mailboxes.{all_admitted}
+use Rattle.near_box.specs.Mailboxes.{IsMailbox, near_of}
 use Rattle.near_box.specs.NearEffects.{Admitting, admitted_all, set_aside_all}
 use Rattle.near_box.specs.Surveys.{Surveys}
 use Rattle.near_box.proofs.AdmissionLemmas.{admission_stopped, admitted_surveys, admitted_whole, given, none_of_length, nothing_to_admit}
@@ -34,7 +35,7 @@ returns-clause-effect g c = λ honest.
     let surveys : Surveys box.survey box.fresh s = box.surveys c.in_ok-begin.ensures.ready honest in
     let room_begun : begun.survey.meta.next + length begun.survey.waiting.items < 2 ^ 32 = omega (arith, c.in-Some.ensures.0, c.len.ensures) in
     let room : box.survey.meta.next + length box.survey.waiting.items < 2 ^ 32 = subst (λ (v : Survey). v.meta.next + length v.waiting.items < 2 ^ 32) c.begin.ensures.same.0 room_begun in
-    elim c.if-count-gt0.branch as (λ _. near_of box.fresh (g.F.Folder.seen c.if-count-gt0.self.folder).stored ≡ admitted_near (near_of box.fresh s)) [
+    elim c.if-count-gt0.branch as (λ _. near_of box.fresh (g.F.Folder.seen c.if-count-gt0.self.folder).stored ≡ all_admitted (near_of box.fresh s)) [
       | then-count-gt0+in_ok-give_uids w ↦
           ap (λ b. near_of box.fresh (g.F.Folder.seen b.folder).stored) w.self-is
           ∙ ap (near_of box.fresh) (w.in_ok-give_uids.ensures.effect honest)

@@ -1,5 +1,5 @@
 use Rattle.mailcore.specs.Operations.{flags_added}
-use Rattle.near_box.specs.Mailboxes.{on_store}
+use Rattle.mailcore.specs.Mailboxes.{on_store}
 use Rattle.near_side.proofs.NearCalls.{turns}
 use Rattle.near_side.proofs.near_side.NearSideMailbox.add_flags.Goals as goal
 

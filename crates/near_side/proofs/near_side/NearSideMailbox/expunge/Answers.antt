@@ -1,7 +1,8 @@
 use Rattle.mailcore.specs.declared.side.Side.TheVariants as side
 use Rattle.near_box.specs.Boxes.{mailbox_of, stored_in}
-use Rattle.near_box.specs.Mailboxes.{near_of, on_store}
-use Rattle.outside.specs.BoxCalls.{removed}
+use Rattle.mailcore.specs.Mailboxes.{on_store}
+use Rattle.near_box.specs.Mailboxes.{near_of}
+use Rattle.mailbox.specs.Operations.{removed}
 use Rattle.near_side.proofs.NearCalls.{turns}
 use Rattle.near_side.proofs.Removals.{removes_one}
 use Rattle.near_side.proofs.near_side.NearSideMailbox.expunge.Goals as goal

@@ -3,12 +3,12 @@ use Rattle.std.specs.Prelude.{IfOk, if◌then◌else◌}
 use Rattle.mailcore.specs.Operations.{bytes_of}
 use Rattle.near_box.specs.declared.near_fault.NearFault.{NearFault}
 use Rattle.near_box.specs.Boxes.{mailbox_of}
-use Rattle.near_box.specs.Mailboxes.{Near}
+use Rattle.mailcore.specs.Mailboxes.{Mailbox}
 use Rattle.mailbox.specs.Operations.{Loads}
 use Rattle.near_side.proofs.NearCalls.{reads}
 use Rattle.near_side.proofs.near_side.NearSideMailbox.load.Goals as goal
 
-loaded : (uid : ℕ) (body : List ℕ) (n : Near) (answer : Result Bool NearFault) → IfOk answer (λ is_there. bytes_of uid n.store ≡ (if is_there then Some body else None))
+loaded : (uid : ℕ) (body : List ℕ) (n : Mailbox) (answer : Result Bool NearFault) → IfOk answer (λ is_there. bytes_of uid n.store ≡ (if is_there then Some body else None))
     → IfOk answer (λ is_there. Loads uid body is_there n)
 loaded uid body n (Ok true) h = h
 loaded uid body n (Ok false) h = h

@@ -1,7 +1,7 @@
 use Rattle.std.proofs.Common.{◌∙◌, sym, inl, inr, refl}
 use Rattle.book.specs.Commits.{CommitsHalf, CommitsTo}
 use Rattle.outside.specs.Calls.{FromBook}
-use Rattle.book_part.specs.BookParts.{kept_of}
+use Rattle.pair.specs.BookParts.{kept_of}
 use Rattle.pair.specs.Pairs.{device_of}
 use Rattle.pair.proofs.BookCalls as books
 use Rattle.pair.proofs.Ending.{at_ok, on_ok, stuck}

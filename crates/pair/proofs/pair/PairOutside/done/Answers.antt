@@ -3,7 +3,7 @@ use Rattle.book.specs.Books.{Turns, TurnsHalf, torn}
 use Rattle.book.specs.BookLogs.{as_done, logged_more}
 use Rattle.outside.specs.BookCalls as there
 use Rattle.pair.specs.Pairs.{opened_of, device_of}
-use Rattle.book_part.specs.BookParts.{kept_of}
+use Rattle.pair.specs.BookParts.{kept_of}
 use Rattle.pair.proofs.BookCalls as books
 use Rattle.pair.proofs.Ending.{on_ok, stuck}
 use Rattle.pair.proofs.pair.PairOutside.done.Goals as goal

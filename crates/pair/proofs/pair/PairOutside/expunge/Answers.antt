@@ -1,7 +1,7 @@
 use Rattle.std.proofs.Common.{◌∙◌, sym, inl, refl}
 use Rattle.mailcore.specs.declared.side.Side.TheVariants as side
-use Rattle.outside.specs.BoxCalls.{removed}
-use Rattle.book_part.specs.BookParts.{kept_of}
+use Rattle.mailbox.specs.Operations.{removed}
+use Rattle.pair.specs.BookParts.{kept_of}
 use Rattle.pair.specs.Pairs.{device_of}
 use Rattle.pair.proofs.BoxCalls.{far_ends, near_ends, turning}
 use Rattle.pair.proofs.Ending.{stuck}

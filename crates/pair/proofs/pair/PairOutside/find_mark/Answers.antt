@@ -1,6 +1,6 @@
 use Rattle.std.proofs.Common.{◌∙◌, sym, refl}
 use Rattle.mailcore.specs.declared.side.Side.TheVariants as side
-use Rattle.book_part.specs.BookParts.{kept_of}
+use Rattle.pair.specs.BookParts.{kept_of}
 use Rattle.pair.specs.Pairs.{device_of}
 use Rattle.pair.proofs.BoxCalls.{far_ends, finding, near_ends}
 use Rattle.pair.proofs.Ending.{stuck}

@@ -1,7 +1,7 @@
 use Rattle.std.proofs.Common.{◌∙◌, sym, refl}
 use Rattle.mailcore.specs.declared.side.Side.TheVariants as side
-use Rattle.outside.specs.BoxCalls.{HasNumbers}
-use Rattle.book_part.specs.BookParts.{kept_of}
+use Rattle.mailbox.specs.Operations.{HasNumbers}
+use Rattle.pair.specs.BookParts.{kept_of}
 use Rattle.pair.specs.Pairs.{device_of}
 use Rattle.pair.proofs.BoxCalls.{if_ok, listing_near, near_ends}
 use Rattle.pair.proofs.Ending.{stuck}

@@ -1,7 +1,7 @@
 use Rattle.std.proofs.Common.{◌∙◌, sym, inl, refl}
 use Rattle.book.specs.Books.{Turns, TurnsHalf, mended}
 use Rattle.outside.specs.Calls.{FromBook}
-use Rattle.book_part.specs.BookParts.{kept_of}
+use Rattle.pair.specs.BookParts.{kept_of}
 use Rattle.pair.specs.Pairs.{device_of}
 use Rattle.pair.proofs.BookCalls as books
 use Rattle.pair.proofs.Ending.{on_ok, stuck}

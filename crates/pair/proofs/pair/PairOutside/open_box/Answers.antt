@@ -1,7 +1,7 @@
 use Rattle.std.proofs.Common.{◌∙◌, sym, refl}
 use Rattle.mailcore.specs.declared.side.Side.TheVariants as side
 use Rattle.pair.specs.Pairs.{CannotOpen, device_of}
-use Rattle.book_part.specs.BookParts.{kept_of}
+use Rattle.pair.specs.BookParts.{kept_of}
 use Rattle.pair.proofs.BoxCalls.{far_ends, near_ends, on_ok, opening}
 use Rattle.pair.proofs.Ending.{stuck}
 use Rattle.pair.proofs.Opening.{far_opened, near_opened}

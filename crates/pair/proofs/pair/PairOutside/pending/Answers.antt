@@ -1,5 +1,5 @@
 use Rattle.std.proofs.Common.{◌∙◌}
-use Rattle.book_part.specs.BookParts.{kept_of}
+use Rattle.pair.specs.BookParts.{kept_of}
 use Rattle.pair.proofs.BookCalls as books
 use Rattle.pair.proofs.pair.PairOutside.pending.Goals as goal
 

@@ -1,4 +1,4 @@
-use Rattle.book_part.specs.BookParts.{kept_of}
+use Rattle.pair.specs.BookParts.{kept_of}
 use Rattle.pair.proofs.BookCalls as books
 use Rattle.pair.proofs.pair.PairOutside.state.Goals as goal
 

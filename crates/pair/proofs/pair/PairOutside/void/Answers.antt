@@ -3,7 +3,7 @@ use Rattle.book.specs.Books.{Turns, TurnsHalf, torn}
 use Rattle.book.specs.BookLogs.{logged_more}
 use Rattle.sync_state.specs.declared.journal.Logged.TheVariants.{Void}
 use Rattle.outside.specs.Calls.{FromBook}
-use Rattle.book_part.specs.BookParts.{kept_of}
+use Rattle.pair.specs.BookParts.{kept_of}
 use Rattle.pair.specs.Pairs.{device_of}
 use Rattle.pair.proofs.BookCalls as books
 use Rattle.pair.proofs.Ending.{on_ok, stuck}

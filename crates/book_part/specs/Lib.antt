@@ -1,5 +1,0 @@
-pub mod BookFaults
-pub mod BookParts
-pub mod Kept
-pub mod PartCalls
-pub mod Stops

@@ -1,2 +1,0 @@
-pub mod Boths
-pub mod Parts

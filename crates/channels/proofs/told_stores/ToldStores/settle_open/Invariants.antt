@@ -1,6 +1,0 @@
-use Rattle.channels.specs.Openings.{first_on}
-use Rattle.channels.proofs.told_stores.ToldStores.settle_open.Given as goal
-
--- what follows from an opening is not handed up: nothing is known of what the stores lend
-abbrev pub ghost-settle_lent : goal.ghost-settle_lent
-ghost-settle_lent g a = first_on (g.S.Outside.Outside.seen a.outside.now).device a.options.now

@@ -1,4 +1,0 @@
-pub mod Mailboxes
-pub mod Changing
-pub mod FarCalls
-pub mod StopCalls

@@ -1,0 +1,5 @@
+mod Again
+mod Arrivals
+pub mod PlanReads
+mod Rests
+mod Stops

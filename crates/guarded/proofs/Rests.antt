@@ -1,0 +1,32 @@
+-- Calls that left all as it was, but for what others added.
+use Rattle.std.proofs.Common.{◌≡◌, ℕ, Bool, false, List, Ok, refl, sym, ◌∙◌, subst, arith}
+use Rattle.outside.specs.Arrivals.{Arrives}
+use Rattle.outside.specs.Calls.{Reads, Seen}
+use Rattle.outside.specs.Devices.{Device}
+use Rattle.guarded.proofs.Arrivals.{arrives_again, quiet}
+
+pub record Rests (honest : Type 0) (ours : List ℕ → Bool) (alone : Bool) (old new : Seen) : Type 0 where
+  pub was_whole : old.is_broken ≡ false
+  pub is_whole : new.is_broken ≡ false
+  pub stops : new.stops ≡ old.stops
+  pub told : new.told ≡ old.told
+  pub appends : new.appends ≡ old.appends
+  pub added : honest → Arrives ours alone old.device new.device
+
+-- no call
+pub rests_none : (honest : Type 0) (ours : List ℕ → Bool) (alone : Bool) (s : Seen) → s.is_broken ≡ false → Rests honest ours alone s s
+rests_none honest ours alone s whole = record { was_whole = whole; is_whole = whole; stops = refl; told = refl; appends = refl; added = λ h. quiet ours alone s.device }
+
+-- one more call that answers what is so
+pub rests_read : {T : Type 0} (h1 h2 : Type 0) (ours : List ℕ → Bool) (alone : Bool) (tells : T → Device → Type 0) (answer : T) (old mid new : Seen) → Rests h1 ours alone old mid → (h2 → h1) → Reads h2 (Arrives ours alone) tells mid new (Ok answer) → Rests h2 ours alone old new
+rests_read h1 h2 ours alone tells answer old mid new r before c = record {
+  was_whole = r.was_whole;
+  is_whole = c.acts.is_whole;
+  stops = c.acts.stops ∙ r.stops;
+  told = c.counts.told ∙ r.told;
+  appends = let k = c.counts.appends in let l = r.appends in omega arith;
+  added = λ h.
+      let f = c.acts.effect h in
+      let then : Arrives ours alone mid.device new.device = subst (λ (d : Device). Arrives ours alone mid.device d) (sym f.behind.0) f.before in
+      arrives_again ours alone old.device mid.device new.device (r.added (before h)) then;
+}

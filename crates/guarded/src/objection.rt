@@ -1,0 +1,24 @@
+//! Why a run is not to go on.
+
+use device::trouble::Trouble;
+use maildir::folder::FileName;
+
+/// Why a run is not to go on.
+#[derive(Drop)]
+pub enum Objection {
+    /// A near message that the plan takes to be removed is there, under this name.
+    Standing(FileName),
+    /// Whether one is there cannot be looked up: the system said this of the folder.
+    Unlooked(Trouble),
+    /// The far mailbox lists the message of this UID, and does not give it.
+    Withheld(u32),
+    /// This UID was given to a copy, and an entry of the state has it already.
+    GivenAgain(u32),
+    /// The far mailbox is to give UIDs from `next` on, and has given `known` before.
+    Anew {
+        /// Its UIDNEXT.
+        next: u32,
+        /// The greatest far UID that the state knows.
+        known: u32,
+    },
+}

@@ -1,0 +1,71 @@
+//! A link to a server, of which it is known how a connection came to its end.
+
+ghost use Rattle.std.specs.Prelude.{◌≡◌};
+
+use imap_link::link::{Link, LinkFault};
+use std::cell::Cell;
+use std::rc::Rc;
+
+/// How a connection came to its end.
+#[derive(Clone, Copy, PartialEq, Eq)]
+pub enum LinkEnd {
+    /// It was not made: the server cannot be reached.
+    Unreached,
+    /// It broke, or the server closed it.
+    Ended,
+}
+
+/// Where it is noted how the last connection came to its end. None: it stands, or none was asked for.
+pub(crate) type NotedEnd = Rc<Cell<Option<LinkEnd>>>;
+
+/// A link that passes each call on, and notes how its connection came to its end. A new connection is noted anew.
+#[derive(Drop)]
+pub struct NotedLink<L> {
+    link: L,
+    end: NotedEnd,
+}
+
+impl<L: Link> NotedLink<L> {
+    /// This link, which notes there how its connection came to its end.
+    pub(crate) fn new(link: L, end: NotedEnd) -> Self
+        ensures { result.link ≡ link }
+    {
+        NotedLink { link, end }
+    }
+}
+
+impl<L: Link> Link for NotedLink<L> {
+    ghost honest = { λ noted. L.honest noted.link };
+
+    ghost line = { λ noted. L.line noted.link };
+
+    ghost stops = { λ noted. L.stops noted.link };
+
+    ghost sound = { λ noted kept. L.sound noted.link kept };
+
+    fn send(&mut self, bytes: &[u8]) -> Result<(), LinkFault> {
+        let answer = self.link.send(bytes);
+        if answer == Err(LinkFault::Stopped) {
+            self.end.set(Some(LinkEnd::Ended));
+        }
+        answer
+    }
+
+    fn recv(&mut self, piece: &mut [u8]) -> Result<usize, LinkFault> {
+        let answer = self.link.recv(piece);
+        if matches!(answer, Ok(0) | Err(LinkFault::Stopped)) {
+            self.end.set(Some(LinkEnd::Ended));
+        }
+        answer
+    }
+
+    fn reconnect(&mut self) -> Result<(), LinkFault> {
+        let answer = self.link.reconnect();
+        if answer == Err(LinkFault::Stopped) {
+            self.end.set(Some(LinkEnd::Unreached));
+        } else {
+            self.end.set(None);
+        }
+        answer
+    }
+}

@@ -1,6 +1,0 @@
-use Rattle.std.proofs.Common.{true}
-use Rattle.near_part.proofs.StopCalls.{open_stops}
-use Rattle.near_part.proofs.near_part.NearPart.admit.Goals as goal
-
-pub returns-clause-stops : goal.returns-clause-stops
-returns-clause-stops g c = rw c.told_by.ensures (open_stops true c.args.self.now.desk c.in-Open.near c.admit.new.self c.admit.result c.in-Open.is c.admit.ensures.ends)

@@ -1,6 +1,0 @@
-use Rattle.std.proofs.Common.{false}
-use Rattle.near_part.proofs.StopCalls.{open_stops}
-use Rattle.near_part.proofs.near_part.NearPart.find_mark.Goals as goal
-
-pub returns-clause-stops : goal.returns-clause-stops
-returns-clause-stops g c = rw c.told_by.ensures (open_stops false c.args.self.now.desk c.in-Open.near c.find_mark.new.self c.find_mark.result c.in-Open.is c.find_mark.ensures.ends)

@@ -1,7 +1,0 @@
-//! The UIDNEXT of the far mailbox.
-
-/// An outside that knows the UIDNEXT of its far mailbox (RFC 9051, section 2.3.1.1).
-pub trait FarNext {
-    /// The UIDNEXT that was told when the far mailbox was opened, if it is open and nothing has changed since.
-    fn far_next(&self) -> Option<u32>;
-}

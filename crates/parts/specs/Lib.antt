@@ -1,3 +1,0 @@
-pub mod Tallies
-pub mod Devices
-pub mod Drafts

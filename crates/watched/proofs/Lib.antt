@@ -1,3 +1,0 @@
-mod Again
-mod Arrivals
-pub mod PlanReads
