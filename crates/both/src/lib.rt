@@ -2,3 +2,4 @@
 #![tactic(auto)]
 
 pub mod both;
+pub mod sides;

@@ -3,6 +3,7 @@
 
 mod account;
 mod asked;
+mod guarded_work;
 mod last_box;
 pub mod mail_stores;
 mod names;

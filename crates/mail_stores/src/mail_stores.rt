@@ -1,15 +1,18 @@
 //! The real stores: servers over TCP, and folders of a disk.
 
 use crate::asked::Asked;
+use crate::guarded_work::GuardedSides;
 use crate::last_box::{BoxPlace, LastBox, cause_of, path_texts};
 use crate::names::is_servable;
 use crate::notes::Notes;
 use crate::notices::Notices;
-use crate::reach::{GuardedSides, Reach};
+use crate::reach::{NearParts, Reach, RealSides};
 use crate::server::{AskFault, RealLink, is_word};
-use crate::sessions::{Standing, end, stands_at, stands_with, take_at};
+use crate::sessions::Sessions;
 use crate::told::{list_fault, lock_fault, make_fault, unlisted, unreached};
+use both::sides::Sides;
 use config::config::{ImapStore, MaildirStore};
+use far_side::far_side::FarSide;
 use far_side::logged_in::LoggedIn;
 use imap_link::fault::FarFault;
 use imap_link::link::Link;
@@ -17,7 +20,7 @@ use mailcore::mailbox_name::MailboxName;
 use mailcore::side::Side;
 use near_places::home::Home;
 use near_places::lock::{Lock, LockFault};
-use outside::outside::Outside;
+use near_places::refusal::Refusal;
 use runner::progress::Progress;
 use std::alloc::AllocError;
 use std::fs::File;
@@ -45,7 +48,7 @@ where
     /// The store whose server was asked last.
     asked: Option<Asked>,
     notices: Notices,
-    standing: Standing<R>,
+    sessions: Sessions<RealLink<R>>,
     /// What is known of the mailbox that was open last.
     last: LastBox,
 }
@@ -68,7 +71,7 @@ impl<R: Net + Files<File = File> + Clock + AllocGlobal + Clone + Drop, P: Progre
             progress,
             asked: None,
             notices: Notices::new(alloc),
-            standing: None,
+            sessions: Sessions::new(),
             last: LastBox::none(alloc),
         }
     }
@@ -89,23 +92,16 @@ impl<R: Net + Files<File = File> + Clock + AllocGlobal + Clone + Drop, P: Progre
 
     /// A session at the server of this store: the one that stands, or a new one.
     fn session_at(&mut self, store: &ImapStore) -> Result<LoggedIn<RealLink<R>>, AskFault> {
-        match take_at(&mut self.standing, store.name.as_str()) {
+        match self.sessions.take_at(store.name.as_str()) {
             Some(session) => Ok(session),
             None => self.reach.log_in(store),
-        }
-    }
-
-    /// Keeps a session, if it goes on.
-    fn keep(&mut self, store: &ImapStore, session: LoggedIn<RealLink<R>>) {
-        if let Ok(name) = String::from_str(self.reach.rt.alloc(), store.name.as_str()) {
-            self.standing = stands_with(name, session);
         }
     }
 
     /// The names of the mailboxes at the server of a store. A session that stood before may have been ended by the server meanwhile: then
     /// a new one is asked.
     fn names_at(&mut self, store: &ImapStore) -> Result<Vec<MailboxName>, AskFault> {
-        if stands_at(&self.standing, store.name.as_str()) {
+        if self.sessions.stands_at(store.name.as_str()) {
             match self.names_over(store) {
                 Err(AskFault::Far(FarFault::Stopped)) => self.reach.notes.renew(),
                 names => return names,
@@ -116,10 +112,11 @@ impl<R: Net + Files<File = File> + Clock + AllocGlobal + Clone + Drop, P: Progre
 
     /// The names that the session at the server of a store tells.
     fn names_over(&mut self, store: &ImapStore) -> Result<Vec<MailboxName>, AskFault> {
-        let mut session = self.session_at(store)?;
-        let names = session.list().map_err(AskFault::Far);
-        self.keep(store, session);
-        names
+        let session = self.session_at(store)?;
+        let alloc = self.reach.rt.alloc();
+        self.sessions
+            .list(alloc, store.name.as_str(), session)
+            .map_err(AskFault::Far)
     }
 
     /// Those of these near names that a server can have. The others are noted.
@@ -154,12 +151,10 @@ impl<R: Net + Files<File = File> + Clock + AllocGlobal + Clone + Drop, P: Progre
             return Err(make_fault(FarFault::Refused));
         }
         match self.session_at(store) {
-            Ok(session) => {
-                let mut session = session;
-                let made = session.create(name);
-                self.keep(store, session);
-                made.map_err(make_fault)
-            }
+            Ok(session) => self
+                .sessions
+                .create(alloc, store.name.as_str(), session, name)
+                .map_err(make_fault),
             Err(fault) => {
                 let why = self.reach.notes.server_fault(fault);
                 Err(unreached(alloc, store, why))
@@ -174,59 +169,79 @@ impl<R: Net + Files<File = File> + Clock + AllocGlobal + Clone + Drop, P: Progre
         work: W,
     ) -> Result<W::Answer, LockFault> {
         let folder = self.reach.folder_of(place)?;
-        let _lock = Lock::take(&self.reach.rt, folder.as_str())?;
+        let lock = Lock::take(&self.reach.rt, folder.as_str())?;
         let sides = self.open_sides(place, folder.as_str())?;
-        let (sides, answer) = work_with(sides, work, &self.progress);
-        self.close(place, folder.as_str(), sides);
+        let (alloc, fresh) = (self.reach.rt.alloc(), self.reach.fresh);
+        let (sides, answer) = sides.work(&lock, alloc, fresh, work, &self.progress);
+        self.note_end(place, folder.as_str(), &sides);
+        self.keep(place.of.far_store, sides);
         Ok(answer)
     }
 
-    /// Opens both sides of a mailbox, over the session that stands, if one does.
+    /// Both sides of a mailbox. Nothing of them is open.
     fn open_sides(
         &mut self,
         place: ChannelBox<'_>,
         folder: &str,
-    ) -> Result<GuardedSides<R>, LockFault> {
-        let store = place.of.far_store;
-        let session = take_at(&mut self.standing, store.name.as_str());
-        self.reach
-            .guarded_sides(place, folder, session)
-            .map_err(LockFault::Refused)
+    ) -> Result<RealSides<R>, LockFault> {
+        let near = self.reach.near_parts(folder).map_err(LockFault::Refused)?;
+        match self.far_side(place) {
+            Ok(far) => Ok(sides_of(far, near)),
+            Err(refusal) => Err(LockFault::Refused(refusal)),
+        }
     }
 
-    /// Closes both sides of a mailbox: what stopped the run over them is noted, and which files were left out, and the session is kept,
-    /// if it goes on.
-    fn close(&mut self, place: ChannelBox<'_>, folder: &str, sides: GuardedSides<R>) {
-        let alloc = self.reach.rt.alloc();
+    /// The far side of a mailbox: over the session that stands, if one does, or else over a link that is not connected yet.
+    fn far_side(&mut self, place: ChannelBox<'_>) -> Result<FarSide<RealLink<R>>, Refusal> {
         let store = place.of.far_store;
-        let (sides, look) = sides.into_parts();
-        let (far, near, book) = sides.into_parts();
-        let (near, book) = (near.into_folder(), book.into_shelf());
-        let place = BoxPlace {
-            store: store.name.as_str(),
-            folder,
-        };
-        let refused = look.take_objection();
+        let account = self.reach.account(place)?;
+        match self.sessions.take_at(store.name.as_str()) {
+            Some(session) => Ok(FarSide::over(account, session)),
+            None => {
+                let link = self.reach.link(store)?;
+                Ok(FarSide::new(self.reach.rt.alloc(), account, link))
+            }
+        }
+    }
+
+    /// Notes what stopped the run over a mailbox, and which files it left out.
+    fn note_end(&mut self, place: ChannelBox<'_>, folder: &str, sides: &RealSides<R>) {
+        let alloc = self.reach.rt.alloc();
+        let GuardedSides { sides, guard } = sides;
+        let refused = guard.take_objection();
+        let (near, shelf) = (sides.folder.stop(), sides.shelf.stop());
         let notes = &self.reach.notes;
+        let store = place.of.far_store.name.as_str();
+        let place = BoxPlace { store, folder };
         self.last = LastBox {
-            cause: cause_of(alloc, place, refused, near.stop(), book.stop(), notes).ok(),
-            left_out: path_texts(alloc, folder, near.left_out()),
+            cause: cause_of(alloc, place, refused, near, shelf, notes).ok(),
+            left_out: path_texts(alloc, folder, sides.folder.left_out()),
         };
-        if let Some(session) = far.into_session() {
-            self.keep(store, session);
+    }
+
+    /// Keeps the session of the far side of a mailbox at this store, if it goes on.
+    fn keep(&mut self, store: &ImapStore, sides: RealSides<R>) {
+        if let Some(session) = sides.into_session() {
+            let alloc = self.reach.rt.alloc();
+            self.sessions.keep(alloc, store.name.as_str(), session);
         }
     }
 }
 
-/// Does this over an outside, and gives that back beside what it came to.
-fn work_with<O: Outside, W: Work + Drop, P: Progress>(
-    outside: O,
-    work: W,
-    progress: &P,
-) -> (O, W::Answer) {
-    let mut outside = outside;
-    let answer = work.over(&mut outside, progress);
-    (outside, answer)
+/// Both sides of a mailbox.
+fn sides_of<R: Net + Files<File = File> + Clock + AllocGlobal + Clone + Drop>(
+    far: FarSide<RealLink<R>>,
+    near: NearParts<R>,
+) -> RealSides<R> {
+    let NearParts {
+        folder,
+        shelf,
+        look,
+    } = near;
+    GuardedSides {
+        sides: Sides { far, folder, shelf },
+        guard: look,
+    }
 }
 
 impl<R: Net + Files<File = File> + Clock + AllocGlobal + Clone + Drop, P: Progress> BoxLists
@@ -301,6 +316,6 @@ impl<R: Net + Files<File = File> + Clock + AllocGlobal + Clone + Drop, P: Progre
     }
 
     fn end(&mut self) {
-        end(&mut self.standing);
+        self.sessions.end();
     }
 }

@@ -10,7 +10,7 @@ use stores::notice::Notice;
 pub(crate) struct Notices {
     alloc: Global,
     coming: Vec<Notice>,
-    /// The mailboxes that were noted: store, colon, name.
+    /// The mailboxes that were noted, in order: store, colon, name.
     skipped: Vec<String>,
 }
 
@@ -51,16 +51,15 @@ impl Notices {
     fn try_skip(&mut self, store: &str, name: &str) -> Result<(), AllocError> {
         let alloc = self.alloc;
         let place = format!(in alloc; "{store}:{name}")?;
-        if self
+        let Err(at) = self
             .skipped
-            .iter()
-            .any(|noted| noted.as_str() == place.as_str())
-        {
+            .binary_search_by(|noted| noted.as_str().cmp(place.as_str()))
+        else {
             return Ok(());
-        }
+        };
         let store = String::from_str(alloc, store)?;
         let name = String::from_str(alloc, name)?;
-        self.skipped.push(place)?;
+        self.skipped.insert(at, place)?;
         self.coming.push(Notice::Skipped(store, name))?;
         Ok(())
     }

@@ -1,25 +1,22 @@
 //! How the mailboxes of a configuration are reached: servers over TCP, and folders of a disk.
 
 use crate::account::account_of;
+use crate::guarded_work::GuardedSides;
 use crate::notes::Notes;
 use crate::server::{AskFault, RealLink, link_to, log_in};
 use book::disk_shelf::{DiskShelf, name_of};
 use book::shelf;
-use both::both::Both;
 use config::config::{ImapStore, MaildirStore};
 use device::DeviceFault;
-use far_side::far_side::FarSide;
+use far_side::account::Account;
 use far_side::logged_in::LoggedIn;
-use guarded::guarded_outside::GuardedOutside;
 use guarded::near_look::NearLook;
 use maildir::disk_folder::DiskFolder;
 use near_places::boxes::{NearBoxes, near_boxes};
 use near_places::home::Home;
 use near_places::lock::LockFault;
 use near_places::refusal::Refusal;
-use near_side::near_side::NearSide;
-use pair::book_part::BookPart;
-use pair::pair::Pair;
+use std::alloc::AllocError;
 use std::fs;
 use std::fs::File;
 use std::io::ErrorKind;
@@ -28,11 +25,17 @@ use std::num::NonZeroU32;
 use std::rt::{Clock, Files};
 use stores::channel_box::ChannelBox;
 
-/// Both sides of a mailbox, and its book, which lies in the folder of the near side.
-type BothSides<R> = Both<RealLink<R>, DiskFolder<R>, DiskShelf<R>>;
+/// What is open of a mailbox at a server and of one in a folder, whose book lies in that folder too. A look into the folder says whether a
+/// run is to go on.
+pub(crate) type RealSides<R> = GuardedSides<RealLink<R>, DiskFolder<R>, DiskShelf<R>, NearLook<R>>;
 
-/// The same, whose calls stop where a look into the near side says that the run is not to go on.
-pub(crate) type GuardedSides<R> = GuardedOutside<BothSides<R>, NearLook<R>>;
+/// The near side of a mailbox: its folder, its book, and the look into it.
+#[derive(Drop)]
+pub(crate) struct NearParts<R: Files<File = File> + AllocGlobal + Clone + Drop> {
+    pub(crate) folder: DiskFolder<R>,
+    pub(crate) shelf: DiskShelf<R>,
+    pub(crate) look: NearLook<R>,
+}
 
 /// Where the mailboxes of a user are. Nothing of them is open.
 #[derive(Drop)]
@@ -91,51 +94,30 @@ impl<R: Net + Files<File = File> + Clock + AllocGlobal + Clone + Drop> Reach<R> 
         Ok(self.home.folder_of(alloc, place.of.near_store, place.near)?)
     }
 
-    /// Both sides of a mailbox, with a look into the near one: over this session, or else a link that is not connected yet; and a folder
-    /// that is not read yet.
-    pub(crate) fn guarded_sides(
-        &self,
-        place: ChannelBox<'_>,
-        folder: &str,
-        session: Option<LoggedIn<RealLink<R>>>,
-    ) -> Result<GuardedSides<R>, Refusal> {
-        let look = NearLook::new(self.rt.clone()?, String::from_str(self.rt.alloc(), folder)?);
-        let both = self.both_sides(place, folder, session)?;
-        Ok(GuardedOutside::new(both, look))
+    /// A link to the server of a store, which is not connected yet.
+    pub(crate) fn link(&self, store: &ImapStore) -> Result<RealLink<R>, AllocError> {
+        link_to(&self.rt, store, &self.notes)
     }
 
-    /// Both sides of a mailbox.
-    fn both_sides(
-        &self,
-        place: ChannelBox<'_>,
-        folder: &str,
-        session: Option<LoggedIn<RealLink<R>>>,
-    ) -> Result<BothSides<R>, Refusal> {
-        let alloc = self.rt.alloc();
-        let near = DiskFolder::new(self.rt.clone()?, folder)?;
-        let book = DiskShelf::new(self.rt.clone()?, folder)?;
-        let far = self.far_side(place, session)?;
-        let near = NearSide::new(alloc, near, self.fresh);
-        Ok(Pair::new(alloc, far, near, BookPart::new(alloc, book)))
-    }
-
-    /// The far side of a mailbox.
-    fn far_side(
-        &self,
-        place: ChannelBox<'_>,
-        session: Option<LoggedIn<RealLink<R>>>,
-    ) -> Result<FarSide<RealLink<R>>, Refusal> {
+    /// Who logs in for the far side of a mailbox.
+    pub(crate) fn account(&self, place: ChannelBox<'_>) -> Result<Account, Refusal> {
         let alloc = self.rt.alloc();
         let store = place.of.far_store;
-        let Some(account) = account_of(alloc, store, place.far)? else {
-            return Err(Refusal::cannot_open(alloc, store.name.as_str()));
-        };
-        match session {
-            Some(session) => Ok(FarSide::over(account, session)),
-            None => {
-                let link = link_to(&self.rt, store, &self.notes)?;
-                Ok(FarSide::new(alloc, account, link))
-            }
+        match account_of(alloc, store, place.far)? {
+            Some(account) => Ok(account),
+            None => Err(Refusal::cannot_open(alloc, store.name.as_str())),
         }
+    }
+
+    /// The near side of a mailbox: nothing of it is read yet.
+    pub(crate) fn near_parts(&self, folder: &str) -> Result<NearParts<R>, Refusal> {
+        let look = NearLook::new(self.rt.clone()?, String::from_str(self.rt.alloc(), folder)?);
+        let shelf = DiskShelf::new(self.rt.clone()?, folder)?;
+        let folder = DiskFolder::new(self.rt.clone()?, folder)?;
+        Ok(NearParts {
+            folder,
+            shelf,
+            look,
+        })
     }
 }

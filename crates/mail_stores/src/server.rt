@@ -39,9 +39,9 @@ pub(crate) fn link_to<R: Net + AllocGlobal + Clone + Drop>(
 ) -> Result<RealLink<R>, AllocError> {
     let alloc = rt.alloc();
     let address = address_of(alloc, store)?;
+    let (words, end) = (notes.words.clone()?, notes.end.clone()?);
     let link = TcpLink::noting(rt.clone()?, address.as_str(), notes.unreached.clone()?)?;
-    let link = FaceLink::new(alloc, link, notes.words.clone()?);
-    Ok(NotedLink::new(link, notes.end.clone()?))
+    Ok(NotedLink::new(FaceLink::new(alloc, link, words), end))
 }
 
 /// The address of a store's server: its host and its port. An IPv6 address stands in brackets.

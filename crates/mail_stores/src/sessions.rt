@@ -1,68 +1,99 @@
 //! The session that stands at a server between the mailboxes of its store.
 
-use crate::server::RealLink;
+ghost use Rattle.imap_client.specs.Requests.{IsWord};
+
 use far_side::logged_in::LoggedIn;
+use imap_link::fault::FarFault;
 use imap_link::link::Link;
-use std::net::Net;
+use mailcore::mailbox_name::MailboxName;
+use std::alloc::Global;
 
 /// A session at the server of an IMAP store, whose user has logged in.
 #[derive(Drop)]
-pub(crate) struct StoreSession<R: Net + AllocGlobal + Clone + Drop>
-where
-    RealLink<R>: Link,
-{
+pub(crate) struct StoreSession<L: Link> {
     /// The name of the store.
     store: String,
-    session: LoggedIn<RealLink<R>>,
+    session: LoggedIn<L>,
 }
 
-/// The session that stands, if one does.
-pub(crate) type Standing<R> = Option<StoreSession<R>>;
+/// The sessions at servers. One stands at a time.
+#[derive(Drop)]
+pub(crate) struct Sessions<L: Link> {
+    standing: Option<StoreSession<L>>,
+}
 
-/// This session, if it goes on.
-pub(crate) fn stands_with<R: Net + AllocGlobal + Clone + Drop>(
-    store: String,
-    session: LoggedIn<RealLink<R>>,
-) -> Standing<R> {
-    if session.is_ready() {
-        Some(StoreSession { store, session })
-    } else {
-        None
+impl<L: Link + Drop> Sessions<L> {
+    /// None stands.
+    pub(crate) fn new() -> Self {
+        Sessions { standing: None }
     }
-}
 
-/// Whether a session stands at the server of this store.
-pub(crate) fn stands_at<R: Net + AllocGlobal + Clone + Drop>(
-    standing: &Standing<R>,
-    store: &str,
-) -> bool {
-    standing
-        .as_ref()
-        .is_some_and(|stands| stands.store.as_str() == store)
-}
-
-/// Takes out the session at the server of this store. One at another is ended.
-pub(crate) fn take_at<R: Net + AllocGlobal + Clone + Drop>(
-    standing: &mut Standing<R>,
-    store: &str,
-) -> Option<LoggedIn<RealLink<R>>> {
-    let stands = standing.take()?;
-    if stands.store.as_str() == store {
-        Some(stands.session)
-    } else {
-        log_out(stands.session);
-        None
+    /// Whether a session stands at the server of this store.
+    pub(crate) fn stands_at(&self, store: &str) -> bool {
+        self.standing
+            .as_ref()
+            .is_some_and(|stands| stands.store.as_str() == store)
     }
-}
 
-/// Ends the session that stands.
-pub(crate) fn end<R: Net + AllocGlobal + Clone + Drop>(standing: &mut Standing<R>) {
-    if let Some(stands) = standing.take() {
-        log_out(stands.session);
+    /// Takes out the session at the server of this store. One at another is ended.
+    pub(crate) fn take_at(&mut self, store: &str) -> Option<LoggedIn<L>> {
+        let stands = self.standing.take()?;
+        if stands.store.as_str() == store {
+            Some(stands.session)
+        } else {
+            log_out(stands.session);
+            None
+        }
+    }
+
+    /// The session at the server of this store stands then, if it goes on.
+    pub(crate) fn keep(&mut self, alloc: Global, store: &str, session: LoggedIn<L>) {
+        if !session.is_ready() {
+            return;
+        }
+        if let Ok(store) = String::from_str(alloc, store) {
+            self.standing = Some(StoreSession { store, session });
+        }
+    }
+
+    /// The names of the mailboxes at the server of this store, which this session tells. It stands then, if it goes on.
+    pub(crate) fn list(
+        &mut self,
+        alloc: Global,
+        store: &str,
+        session: LoggedIn<L>,
+    ) -> Result<Vec<MailboxName>, FarFault> {
+        let mut session = session;
+        let names = session.list();
+        self.keep(alloc, store, session);
+        names
+    }
+
+    /// Makes a mailbox at the server of this store, over this session. It stands then, if it goes on.
+    pub(crate) fn create(
+        &mut self,
+        alloc: Global,
+        store: &str,
+        session: LoggedIn<L>,
+        name: &[u8],
+    ) -> Result<(), FarFault>
+        requires { IsWord name.now }
+    {
+        let mut session = session;
+        let made = session.create(name);
+        self.keep(alloc, store, session);
+        made
+    }
+
+    /// Ends the session that stands.
+    pub(crate) fn end(&mut self) {
+        if let Some(stands) = self.standing.take() {
+            log_out(stands.session);
+        }
     }
 }
 
 /// Ends a session. That the server does not answer is no fault.
-fn log_out<R: Net + AllocGlobal + Clone + Drop>(session: LoggedIn<RealLink<R>>) {
+fn log_out<L: Link + Drop>(session: LoggedIn<L>) {
     let _ = session.into_session().logout();
 }

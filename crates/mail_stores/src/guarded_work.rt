@@ -1,0 +1,48 @@
+//! A work over both sides of a mailbox, with a guard.
+
+use book::shelf::Shelf;
+use both::sides::Sides;
+use far_side::logged_in::LoggedIn;
+use guarded::guard::Guard;
+use guarded::guarded_outside::GuardedOutside;
+use imap_link::link::Link;
+use maildir::folder::Folder;
+use near_places::lock::Lock;
+use runner::progress::Progress;
+use std::alloc::Global;
+use std::num::NonZeroU32;
+use stores::stores::Work;
+
+/// Both sides of a mailbox, with the guard of the runs over them.
+#[derive(Drop)]
+pub(crate) struct GuardedSides<L: Link, F: Folder, S: Shelf, G> {
+    pub(crate) sides: Sides<L, F, S>,
+    pub(crate) guard: G,
+}
+
+impl<L: Link + Drop, F: Folder + Drop, S: Shelf + Drop, G: Guard + Drop> GuardedSides<L, F, S, G> {
+    /// Does this over both sides, while the lock of the mailbox is held. Its calls stop where the guard says no. All is closed then, and is
+    /// given back beside what the work came to. The UIDVALIDITY of the near mailbox is `fresh` where it has none.
+    pub(crate) fn work<W: Work + Drop, P: Progress>(
+        self,
+        _lock: &Lock,
+        alloc: Global,
+        fresh: NonZeroU32,
+        work: W,
+        progress: &P,
+    ) -> (Self, W::Answer) {
+        let GuardedSides { sides, guard } = self;
+        let mut outside = GuardedOutside::new(sides.together(alloc, fresh), guard);
+        let answer = work.over(&mut outside, progress);
+        let (both, guard) = outside.into_parts();
+        let sides = Sides::of(both);
+        (GuardedSides { sides, guard }, answer)
+    }
+
+    /// Gives the session of the far side, if its user has logged in and it goes on.
+    pub(crate) fn into_session(self) -> Option<LoggedIn<L>> {
+        let GuardedSides { sides, .. } = self;
+        let Sides { far, .. } = sides;
+        far.into_session()
+    }
+}
