@@ -66,7 +66,7 @@ merge_none : {A : Type 0} (xs : List A) → IsMerge xs [] xs
 merge_none [] = none
 merge_none (x ∷ xs) = left x xs [] xs (merge_none xs)
 
-grows_none : (alone : Bool) (w : World) → IsInOrder w → Grows alone w w
+pub grows_none : (alone : Bool) (w : World) → IsInOrder w → Grows alone w w
 grows_none alone w order = record {
   in_order = order;
   state = refl;
@@ -88,7 +88,7 @@ pub done_is_unplanned : DoneIsUnplanned
 done_is_unplanned ours alone opening d options over order =
     let x = over.holds in
     let k = x.alike in
-    let b = names_below over.world opening.options (own_world over.world k.marks (world_at d x.state)) over.grows.in_order over.below k.alike in
+    let b = names_below over.world opening.options (own_world over.world x.marks (world_at d x.state)) over.grows.in_order over.below k.alike in
     record {
       pending = x.pending;
       idle = x.idle;

@@ -22,7 +22,8 @@ use std::alloc::{AllocError, Global};
 
 /// How many messages a run copies, in both directions together: so many marks its plan wants. Takes no memory.
 pub fn news(far: &Listing, near: &Listing, state: &SyncState, options: &Options) -> usize
-    ensures { result ≡ count_new (scene far.now near.now state.now options.now) }
+    ensures counted { result ≡ count_new (scene far.now near.now state.now options.now) }
+    ensures few { result < 2 ^ 63 }
 {
     count_new(Direction::Pull, state.max_pulled, far, state, options)
         + count_new(Direction::Push, state.max_pushed, near, state, options)

@@ -25,7 +25,7 @@ use Rattle.mailcore.specs.declared.side.Side.{Side}
 use Rattle.runner.specs.declared.fault.RunFault.{RunFault}
 use Rattle.runner.specs.declared.pass.Pass.{Pass}
 use Rattle.runner.specs.declared.fault.RunFault.TheVariants as run
-use Rattle.runner.specs.Faults.{IsCaused, IsLastRun, Reasons, because, call_fault, or_refused, or_unread, stops_met}
+use Rattle.runner.specs.Faults.{IsCaused, IsLastRun, Reasons, because, call_fault, or_beyond, or_refused, or_unread, stops_met}
 use Rattle.runner.specs.Parts.{IsStuck, Left, TellsMore}
 use Rattle.runner.specs.Answers.{Answers, IsAsked, Moves, RunsBy, as_read, run_of}
 use Rattle.runner.specs.Attempts.{AnswersAt, AnswersLast, AtOpening, Began, ChangedLast, HasNoNext, MetBefore, MetStops, TellsNoNext, TriedAt, failed_before, found_by}
@@ -155,7 +155,7 @@ last_run (Some o) last m d' e is held n =
       greatest = ap (λ (s : SyncState). s.run + 1) same ∙ n;
     }
 
-last_read : (opened : Option Opened) (last s : SyncState) (p : Pending) (d : Device) → state_of opened ≡ Some last → IsHeld opened d → Holds d.files s p → last.run ≡ s.run
+pub last_read : (opened : Option Opened) (last s : SyncState) (p : Pending) (d : Device) → state_of opened ≡ Some last → IsHeld opened d → Holds d.files s p → last.run ≡ s.run
 last_read None last s p d e held k = absurd held
 last_read (Some o) last s p d e held k =
     let same : o.state ≡ last = cc in
@@ -279,11 +279,15 @@ pub more_found : (n : ℕ) (start now s1 : Seen) → TellsMore start now → s1 
 more_found n start now s1 p e = more_after start now s1 p (more_none now s1 (ap (λ (s : Seen). s.told) e))
 
 -- a fault that is told in one attempt is told in all
-pub caused_since : {c : Reasons} (h : Type 0) (a u : Device → Type 0) (repeats : Type 0) (unread : OutsideFault → Type 0) (f : RunFault) (s0 s1 s2 : Seen) → TellsMore s0 s1 → s0.appends ≤ s1.appends → (f ≡ run.Stopped → ⊥) → Left c h a u f s1 s2 → (c.repeats → repeats) → ((e : OutsideFault) → c.unread e → unread e)
-    → IsCaused (or_unread unread (or_refused (λ step. Unit {0}) (because (λ side. Unit {0}) repeats))) f s0 s2
-caused_since {c} h a u repeats unread f s0 s1 s2 more appends other l g k =
-    caused_told c (or_unread unread (or_refused (λ step. Unit {0}) (because (λ side. Unit {0}) repeats))) f s0 s2 (record { changed = λ side t. tt; repeats = g; unread = k; refused = λ step t. tt; unstepped = λ t. tt })
+pub caused_since : {c : Reasons} (h : Type 0) (a u : Device → Type 0) (repeats beyond : Type 0) (unread : OutsideFault → Type 0) (f : RunFault) (s0 s1 s2 : Seen) → TellsMore s0 s1 → s0.appends ≤ s1.appends → (f ≡ run.Stopped → ⊥) → Left c h a u f s1 s2 → (c.repeats → repeats) → (c.beyond → beyond) → ((e : OutsideFault) → c.unread e → unread e)
+    → IsCaused (or_unread unread (or_refused (λ step. Unit {0}) (or_beyond beyond (because (λ side. Unit {0}) repeats)))) f s0 s2
+caused_since {c} h a u repeats beyond unread f s0 s1 s2 more appends other l g b k =
+    caused_told c (or_unread unread (or_refused (λ step. Unit {0}) (or_beyond beyond (because (λ side. Unit {0}) repeats)))) f s0 s2 (record { changed = λ side t. tt; repeats = g; beyond = b; unread = k; refused = λ step t. tt; unstepped = λ t. tt })
     (caused_after c f s0 s1 s2 (λ is. absurd (other is)) more appends l.caused)
+
+-- the first attempt fixes the run, so that it is not beyond the next one
+pub beyond_later : (tried tries : ℕ) (fixed : Option ℕ) (honest : Type 0) → (tried ≡ 0 → fixed ≡ None) → tried < tries → (fixed ≡ None → honest → ⊥) → honest → 1 < tries
+beyond_later tried tries fixed honest unfixed few told h = ⊎_elim (λ z. absurd (told (unfixed z) h)) (λ f. omega (arith, f, few)) (cases_eq tried 0)
 
 -- a step that is told as refused has its reason
 pub refused_for : {c : Reasons} (h : Type 0) (a u : Device → Type 0) (f : RunFault) (s0 s1 : Seen) (step : ℕ) → f ≡ run.Refused step → Left c h a u f s0 s1 → c.refused step

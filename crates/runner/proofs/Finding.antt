@@ -1,5 +1,5 @@
 -- Whether a copy is told as found: what stands on its side as others add messages, and what stands there before a step.
-use Rattle.std.proofs.Common.{◌≡◌, ◌<◌, ◌+◌, inl, inr, ℕ, Bool, true, false, cond, List, [], ◌∷◌, ◌++◌, length, drop, Option, Some, None, Result, Ok, Err, IfOk, OnOk, refl, sym, ◌∙◌, ap, subst, arith, length-append}
+use Rattle.std.proofs.Common.{◌≡◌, inl, inr, ℕ, Bool, true, false, cond, List, [], ◌∷◌, ◌++◌, length, drop, Option, Some, None, Result, Ok, Err, IfOk, OnOk, refl, sym, ◌∙◌, ap, subst, arith, length-append}
 use Rattle.std.specs.Prelude.{All, Contains, find, nat_eq, nat_le, ◌&&◌}
 use Rattle.std.specs.Cmp.Lexicographic.{pointwise, bytes_decides}
 use Rattle.std.specs.Option.{option_map}
@@ -9,7 +9,6 @@ use Rattle.std.proofs.lemmas.List.Elements.{All-contains, All-cons, All-head, Al
 use Rattle.mailcore.specs.declared.side.Side.{Side}
 use Rattle.mailcore.specs.declared.side.Side.TheVariants.{Far, Near}
 use Rattle.mailcore.specs.declared.side.Direction.{Direction}
-use Rattle.mailcore.specs.declared.side.Direction.TheVariants.{Pull, Push}
 use Rattle.mailcore.specs.declared.mailbox.Message.{Message}
 use Rattle.mailcore.specs.Content.{mark_of}
 use Rattle.mailcore.specs.Operations.{is_mark, marked_among, marked_from}
@@ -19,10 +18,9 @@ use Rattle.rules.specs.declared.plan.Plan.{Plan}
 use Rattle.rules.specs.declared.plan.Step.{Step}
 use Rattle.rules.specs.declared.plan.Step.TheVariants as step
 use Rattle.rules.specs.declared.state.SyncState.{SyncState}
-use Rattle.rules.specs.World.{World, scene_of}
+use Rattle.rules.specs.World.{World}
 use Rattle.rules.proofs.Walks.{Contains-filter_map}
-use Rattle.planner.specs.Written.{marks_of, mark_of as mark_in}
-use Rattle.planner.proofs.Theorem.{in_turn}
+use Rattle.planner.specs.Written.{mark_of as mark_in}
 use Rattle.sync_state.specs.declared.journal.Logged.{Logged}
 use Rattle.sync_state.specs.declared.journal.Logged.TheVariants.{Copied, Done}
 use Rattle.book.specs.declared.book.Pending.{Pending}
@@ -44,6 +42,7 @@ use Rattle.underway.specs.Moments.{IsSought, Midway, Stands, boxes_at}
 use Rattle.underway.specs.Openings.{Opening}
 use Rattle.underway.specs.Plans.{IsPlanned, first_uid, next_of}
 use Rattle.underway.proofs.Copies.{sought}
+use Rattle.underway.proofs.Ends.{marks_are}
 use Rattle.underway.proofs.NextSteps.{next_contained, result_is, result_less, results_more}
 use Rattle.runner.specs.declared.fault.RunFault.{RunFault}
 use Rattle.runner.specs.declared.pass.Pass.{Pass}
@@ -116,9 +115,6 @@ same_joined ours h0 h1 a b c (Ok x) honest p q = λ h. same_then ours a b c (p (
 same_joined ours h0 h1 a b c (Err e) honest p q = tt
 
 -- ---- the marks of a plan
-
-marks_are : (ours : List ℕ → Bool) (w : World) (options : Options) (plan : Plan) (p : IsPlanned ours w options plan) → marks_of plan.steps ≡ p.marks
-marks_are ours w options plan p = in_turn (scene_of w options) (scene_of w options) refl p.marks plan.steps (p.are_marks).count (p.is_plan).steps
 
 is_ours : (ours : List ℕ → Bool) (w : World) (options : Options) (plan : Plan) (s : Step) (mark : List ℕ) → IsPlanned ours w options plan → Contains plan.steps s → mark_in s ≡ Some mark → ours mark ≡ true
 is_ours ours w options plan s mark p c e =

@@ -91,7 +91,9 @@ caused_after reasons (run.StoreFault side code) s0 s1 s2 stop p a (inl h) = inl 
 caused_after reasons (run.StoreFault side code) s0 s1 s2 stop p a (inr (inl h)) = inr (inl (record { far = h.far; protocol = h.protocol; copied = let k = h.copied in omega (arith, a, k) }))
 caused_after reasons (run.StoreFault side code) s0 s1 s2 stop p a (inr (inr h)) = inr (inr (h.0, refusal_after side code s0 s1 s2 p h.1))
 caused_after reasons (run.ValidityChanged side) s0 s1 s2 stop p a h = h
-caused_after reasons (run.BadState line) s0 s1 s2 stop p a h = h
+caused_after reasons (run.BadState line) s0 s1 s2 stop p a (inl (z, inl b)) = inl (z, inl b)
+caused_after reasons (run.BadState line) s0 s1 s2 stop p a (inl (z, inr l)) = inl (z, inr (last_after (out.BadState line) s0 s1 s2 p l))
+caused_after reasons (run.BadState line) s0 s1 s2 stop p a (inr h) = inr h
 caused_after reasons (run.BadJournal line) s0 s1 s2 stop p a h = h
 caused_after reasons run.MarksRepeat s0 s1 s2 stop p a h = h
 caused_after reasons run.NoMemory s0 s1 s2 stop p a h = tt
@@ -116,11 +118,15 @@ StopCount e old new = e ≡ out.Stopped → (old.is_broken ≡ true) ⊎ (old.st
 abbrev IsNoted : OutsideFault → Seen → Seen → Type 0
 IsNoted e old new = (e ≡ out.Stopped → ⊥) → IsLast e old new
 
+bad_line : (reasons : Reasons) (line : ℕ) (s0 s1 : Seen) → IsLast (out.BadState line) s0 s1 → (line ≡ 0) ⊎ reasons.unread (out.BadState line) → IsCaused reasons (run.BadState line) s0 s1
+bad_line reasons line s0 s1 l (inl z) = inl (z, inr l)
+bad_line reasons line s0 s1 l (inr u) = inr u
+
 caused_by : (reasons : Reasons) (e : OutsideFault) (number : ℕ) (s0 s1 : Seen) → StopCount e s0 s1 → IsNoted e s0 s1 → HasLine reasons e → (e ≡ out.Refused → reasons.refused number) → IsCaused reasons (step_fault e number) s0 s1
 caused_by reasons out.Stopped number s0 s1 stop h t r = stop refl
 caused_by reasons out.Refused number s0 s1 stop h t r = (r refl, h (λ e. cc))
 caused_by reasons (out.Box side code) number s0 s1 stop h t r = inl (h (λ e. cc))
-caused_by reasons (out.BadState line) number s0 s1 stop h t r = t.state line refl
+caused_by reasons (out.BadState line) number s0 s1 stop h t r = bad_line reasons line s0 s1 (h (λ e. cc)) (t.state line refl)
 caused_by reasons (out.BadJournal line) number s0 s1 stop h t r = t.journal line refl
 caused_by reasons out.NoMemory number s0 s1 stop h t r = tt
 
@@ -131,7 +137,7 @@ called_by : (reasons : Reasons) (e : OutsideFault) (s0 s1 : Seen) → StopCount 
 called_by reasons out.Stopped s0 s1 stop h t u = stop refl
 called_by reasons out.Refused s0 s1 stop h t u = inr (inr (u, refusal s0 s1 (h (λ e. cc))))
 called_by reasons (out.Box side code) s0 s1 stop h t u = inl (h (λ e. cc))
-called_by reasons (out.BadState line) s0 s1 stop h t u = t.state line refl
+called_by reasons (out.BadState line) s0 s1 stop h t u = bad_line reasons line s0 s1 (h (λ e. cc)) (t.state line refl)
 called_by reasons (out.BadJournal line) s0 s1 stop h t u = t.journal line refl
 called_by reasons out.NoMemory s0 s1 stop h t u = tt
 
@@ -357,6 +363,7 @@ add_none n = omega arith
 pub record AreReasons (c c' : Reasons) : Type 0 where
   pub changed : (side : Side) → c.changed side → c'.changed side
   pub repeats : c.repeats → c'.repeats
+  pub beyond : c.beyond → c'.beyond
   pub unread : (e : OutsideFault) → c.unread e → c'.unread e
   pub refused : (step : ℕ) → c.refused step → c'.refused step
   pub unstepped : c.unstepped → c'.unstepped
@@ -365,7 +372,8 @@ pub caused_told : (c c' : Reasons) (f : RunFault) (s0 s1 : Seen) → AreReasons 
 caused_told c c' run.Stopped s0 s1 k h = h
 caused_told c c' (run.Refused step) s0 s1 k h = (k.refused step h.0, h.1)
 caused_told c c' (run.ValidityChanged side) s0 s1 k h = k.changed side h
-caused_told c c' (run.BadState line) s0 s1 k (inl h) = inl h
+caused_told c c' (run.BadState line) s0 s1 k (inl (z, inl b)) = inl (z, inl (k.beyond b))
+caused_told c c' (run.BadState line) s0 s1 k (inl (z, inr l)) = inl (z, inr l)
 caused_told c c' (run.BadState line) s0 s1 k (inr h) = inr (k.unread (out.BadState line) h)
 caused_told c c' (run.BadJournal line) s0 s1 k h = k.unread (out.BadJournal line) h
 caused_told c c' (run.StoreFault side code) s0 s1 k (inl h) = inl h

@@ -1,5 +1,5 @@
 -- How the parts of a run join.
-use Rattle.std.proofs.Common.{◌≡◌, ◌⊎◌, ◌≤◌, ◌+◌, ◌-◌, inl, inr, ℕ, Bool, true, List, [], ◌∷◌, All, length, drop, Option, Some, None, unwrap_or, Result, Ok, Err, IfOk, OnOk, Vec, refl, sym, ◌∙◌, ap, subst, arith, length-append}
+use Rattle.std.proofs.Common.{◌≡◌, ◌⊎◌, ◌≤◌, ◌<◌, ◌+◌, ◌-◌, inl, inr, ℕ, Bool, true, List, [], ◌∷◌, All, length, drop, Option, Some, None, unwrap_or, Result, Ok, Err, IfOk, IsErr, OnOk, Vec, refl, sym, ◌∙◌, ap, subst, arith, length-append}
 use Rattle.std.proofs.lemmas.List.{length-drop, length-map}
 use Rattle.std.specs.Global.{Global}
 use Rattle.rand_core.specs.Stream.{Stream}
@@ -22,6 +22,7 @@ use Rattle.book.specs.declared.book.Pending.TheVariants.{Missing, Useless, Plann
 use Rattle.book.specs.Books.{Fits, Holds, IsPlanned as HasPlanned, mended}
 use Rattle.book.specs.BookLogs.{begun}
 use Rattle.book.specs.Commits.{CommitsHalf, CommitsTo, IsFinished}
+use Rattle.book.specs.Shelves.{Files}
 use Rattle.book.proofs.KnownBooks.{book_known}
 use Rattle.outside.specs.Arrivals.{Arrives}
 use Rattle.outside.specs.BookCalls.{OfBook}
@@ -41,14 +42,15 @@ use Rattle.runner.specs.declared.fault.RunFault.TheVariants as run
 use Rattle.runner.specs.declared.pass.Pass.{Pass}
 use Rattle.runner.specs.declared.pass.Pass.TheVariants.{Already, Ran, Finished}
 use Rattle.runner.specs.declared.performed.Performed.{Performed}
-use Rattle.runner.specs.Faults.{IsCaused, LeavesRun, Reasons}
-use Rattle.runner.specs.Answers.{Answers, AnswersTo, AreUnfit, AtEnd, IsAsked, IsDrawn, IsEntry, IsPlanFault, IsRest, IsRestOf, IsRun, Reaches, RunsBy, as_read, made_in, run_of}
-use Rattle.runner.specs.Before.{AreShown, BothListed, HasNoPlan, HasNone, HasPlan, IsKnown, IsMade, IsTakenUp}
+use Rattle.runner.specs.Faults.{IsBeyond, IsCaused, LeavesRun, Reasons}
+use Rattle.runner.specs.Answers.{Answers, AnswersTo, AreUnfit, AtEnd, HasRepeats, IsAsked, IsDrawn, IsEntry, IsPlanFault, IsRest, IsRestOf, IsRun, Reaches, RepeatsIn, RunsBy, as_read, made_in, run_of}
+use Rattle.runner.specs.Before.{AreShown, BothListed, HasNoPlan, HasNone, HasPlan, IsEmptied, IsKnown, IsMade, IsTakenUp}
 use Rattle.runner.specs.Going.{AreOpen, AtReady, HasLogged, HasUntorn, IsGoing, IsUntorn, log_at, logged_of, logs_of, next_at, no_journal, plan_at, steps_of}
 use Rattle.runner.specs.Parts.{PartOr}
+use Rattle.runner.specs.Validities.{IsKept}
 use Rattle.runner.proofs.Logging.{of_book}
 use Rattle.runner.specs.Results.{PassedOver}
-use Rattle.runner.proofs.PlanFacts.{no_pairs, unfit_by}
+use Rattle.runner.proofs.PlanFacts.{count_is, no_pairs, unfit_by}
 use Rattle.runner.proofs.Readings.{planned_files, turned_open, turned_state}
 use Rattle.runner.proofs.Stages.{ready_arrives, stands_of}
 
@@ -215,6 +217,35 @@ pub stores_joined : (alone : Bool) (h0 h1 : Type 0) (d0 d1 d2 : Device) (r : Res
 stores_joined alone h0 h1 d0 d1 d2 (Ok p) k f g = λ is h e. let x = k is h e in let same = g (f h) e in (x.0 ∙ ap (λ (d : Device). d.far) same, x.1 ∙ ap (λ (d : Device). d.near) same)
 stores_joined alone h0 h1 d0 d1 d2 (Err e) k f g = tt
 
+-- the run that was read is that of the files
+read_run : (opened : Option Opened) (d : Device) (s : SyncState) (p : Pending) → IsHeld opened d → Holds d.files s p → run_of opened ≡ s.run
+read_run None d s p held now = absurd held
+read_run (Some o) d s p held now = let e = book_known d.files o.state s o.pending p held now in ap (λ (x : SyncState). x.run) e.0
+
+-- a run beyond the next one
+pub beyond_read : (opened : Option Opened) (d : Device) (run : ℕ) → IsHeld opened d → run_of opened + 1 < run → IsBeyond run d
+beyond_read None d run held more = absurd held
+beyond_read (Some o) d run held more = record { state = o.state; pending = o.pending; held = held; beyond = more }
+
+pub beyond_held : (alone : Bool) (opened : Option Opened) (run : ℕ) (h0 h1 : Type 0) (d0 : Device) (s1 s2 : Seen) (r : Result Pass RunFault) → (run_of opened + 1 < run → IsErr r × (s2 ≡ s1)) → (h1 → h0) → (h0 → IsHeld opened d0) → (h0 → IsKept alone d0 s1.device)
+    → h1 → (s : SyncState) (p : Pending) → Holds d0.files s p → s.run + 1 < run → IsErr r × IsKept alone d0 s2.device
+beyond_held alone opened run h0 h1 d0 s1 s2 r told f held kept h s p now more =
+    let same = read_run opened d0 s p (held (f h)) now in
+    let t = told (omega (arith, same, more)) in
+    (t.0, subst (λ (x : Seen). IsKept alone d0 x.device) (sym t.1) (kept (f h)))
+
+-- a journal without a plan goes
+pub emptied_held : (opened : Option Opened) (d0 d1 d2 : Device) (h0 h1 : Type 0) (r : Result Pass RunFault) → IfOk r (λ pass. pass ≡ Already → h1 → IsHeld opened d1 → IsEmptied opened d2) → (h1 → h0) → (h0 → IsHeld opened d0) → (h0 → d1.files ≡ d0.files)
+    → IfOk r (λ pass. pass ≡ Already → h1 → (s : SyncState) → (p : Pending) → Holds d0.files s p → IsIdle p → Holds d2.files s Missing)
+emptied_held opened d0 d1 d2 h0 h1 (Err e) k f held same = tt
+emptied_held opened d0 d1 d2 h0 h1 (Ok pass) k f held same = λ is h s p now idle. by_opened opened (held (f h)) (same (f h)) (λ there. k is h there) s p now idle
+  where
+    by_opened : (opened : Option Opened) → IsHeld opened d0 → d1.files ≡ d0.files → (IsHeld opened d1 → IsEmptied opened d2) → (s : SyncState) (p : Pending) → Holds d0.files s p → IsIdle p → Holds d2.files s Missing
+    by_opened None there is g s p now idle = absurd there
+    by_opened (Some o) there is g s p now idle =
+        let e = book_known d0.files o.state s o.pending p there now in
+        subst (λ (x : SyncState). Holds d2.files x Missing) e.0 (g (subst (λ (f : Files). Holds f o.state o.pending) (sym is) there) (subst IsIdle (sym e.1) idle))
+
 module _ (ours : List ℕ → Bool) (alone : Bool) (opening : Opening) where
   -- ---- the plan of two listings
 
@@ -247,13 +278,27 @@ module _ (ours : List ℕ → Bool) (alone : Bool) (opening : Opening) where
         unfit_by ours w o.state options far near (first ∙ sym g.state) k.0 unfit are,
       )) both.since
 
+  -- as many marks are wanted as that world has new messages
+  pub repeats_since : (opened : Option Opened) (options : Options) (stream : Stream) (far near : Listing) (honest from : Type 0) (d : Device) → RepeatsIn opened stream far near options → (honest → from → BothListed ours alone opening opened far near d) → HasRepeats alone opening honest from options stream
+  repeats_since None options stream far near honest from d k listed = absurd k
+  repeats_since (Some o) options stream far near honest from d k listed = record {
+    count = count_new (scene far near o.state options);
+    repeats = k;
+    wanted = λ h at.
+        let both = listed h at in
+        let c = both.clear in
+        let read = c.state in
+        let first : o.state ≡ opening.world.state = cc in
+        since_map alone opening _ _ (λ w g s. count_is ours w o.state options far near (first ∙ sym g.state) s.0) both.since;
+  }
+
   -- ---- the end
 
   pub ended_at : (opened : Option Opened) (is_taken_up : Bool) (d m d' : Device) → IsGoing opened → next_at opened ≡ None → Arrives ours alone d m → AtReady ours alone opening opened is_taken_up d → OfBook CommitsTo opened m d' → AtEnd ours alone opening d'
   ended_at opened is_taken_up d m d' g none a k t =
       let r = ready_arrives ours alone opening opened is_taken_up d m a k in
       let does = of_book CommitsTo opened m d' g.untorn t in
-      since_map alone opening _ _ (λ w grows at. ended ours alone w opening.options (plan_at opened) (log_at opened) none m d' grows.in_order (stands_of ours alone opening opened w is_taken_up m at) does) r.since
+      since_map alone opening _ _ (λ w grows at. (marks_of (plan_at opened).steps, ended ours alone w opening.options (plan_at opened) (log_at opened) none m d' grows.in_order (stands_of ours alone opening opened w is_taken_up m at) does)) r.since
 
   split_done : (d : Device) → Since alone opening (λ w. PlannedAt ours alone w opening.options d ⊎ DoneAt ours alone w opening.options d) → Underway ours alone opening d
   split_done d s = by_world s.holds

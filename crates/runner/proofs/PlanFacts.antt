@@ -24,7 +24,7 @@ use Rattle.rand_core.specs.Stream.{Stream}
 use Rattle.mailbox.specs.Operations.{HasNumbers}
 use Rattle.outside.specs.Opened.{IsRead, Opened, TakesPlan, state_of}
 use Rattle.underway.specs.Plans.{IsPlanned, first_uid}
-use Rattle.runner.specs.Answers.{AreDrawn, Moves, run_of}
+use Rattle.runner.specs.Answers.{AreDrawn, Moves, RepeatsFor, RepeatsIn, run_of}
 use Rattle.runner.specs.Before.{AreShown, HasNoJournal}
 use Rattle.runner.proofs.Fitness.{count_same, highest_same, notes_same, steps_same, unfit_same}
 
@@ -63,6 +63,11 @@ pub journal_read : (opened : Option Opened) → HasNoJournal opened → IsRead o
 journal_read None h = h
 journal_read (Some o) h = tt
 
+-- marks repeat before there is one for each new message, by what was read
+pub repeats_in : (opened : Option Opened) (s : SyncState) (stream : Stream) (far near : Listing) (options : Options) → state_of opened ≡ Some s → RepeatsFor stream (count_new (scene far near s options)) → RepeatsIn opened stream far near options
+repeats_in None s stream far near options e k = cc
+repeats_in (Some o) s stream far near options e k = let same : o.state ≡ s = cc in subst (λ (x : SyncState). RepeatsFor stream (count_new (scene far near x options))) (sym same) k
+
 -- ---- it is the plan of the world that the listings show
 
 module _ (ours : List ℕ → Bool) (w : World) (s : SyncState) (options : Options) (far near : Listing) (state : s ≡ w.state) (shown : AreShown w.state.max_pushed w far near) where
@@ -78,14 +83,16 @@ module _ (ours : List ℕ → Bool) (w : World) (s : SyncState) (options : Optio
   pub unfit_by : (unfit : List (Side × ℕ)) → unfit ≡ all_unfit listed → unfit ≡ all_unfit (scene_of w options)
   unfit_by unfit e = e ∙ ap (λ (x : Scene). all_unfit x) above_is ∙ unfit_same (scene_of w options) w.state.max_pushed w.near.messages least
 
+  pub count_is : count_new listed ≡ count_new (scene_of w options)
+  count_is = ap (λ (x : Scene). count_new x) above_is ∙ count_same (scene_of w options) w.state.max_pushed w.near.messages least
+
   pub planned_by : (plan : Plan) (stream : Stream) → AreDrawn stream far near s options (marks_of plan.steps) → All (λ mark. ours mark ≡ true) (marks_of plan.steps) → plan.run ≡ s.run + 1
       → plan.far ≡ side_with far (highest_after listed Pull) → plan.near ≡ side_with near (highest_after listed Push) → plan.steps ≡ all_steps listed (marks_of plan.steps) → plan.notes ≡ all_notes listed → IsPlanned ours w options plan
   planned_by plan stream drawn mine run far_side near_side steps notes =
       let marks = marks_of plan.steps in
       let base : Scene = scene_of w options in
       let from = w.state.max_pushed in
-      let count = ap (λ (x : Scene). count_new x) above_is ∙ count_same base from w.near.messages least in
-      let each : length marks ≡ count_new base = (let d = drawn.drawn in d.are_all) ∙ count in
+      let each : length marks ≡ count_new base = (let d = drawn.drawn in d.are_all) ∙ count_is in
       record {
         marks = marks;
         are_marks = record { count = each; each = drawn.each; differ = drawn.differ };

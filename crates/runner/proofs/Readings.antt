@@ -31,7 +31,7 @@ use Rattle.underway.specs.Openings.{IsIdle, Opening, Unplanned}
 use Rattle.underway.proofs.Arrived.{alike_filed, pending_arrives, underway_arrives}
 use Rattle.underway.proofs.Growth.{files_same, since_map, unplanned_arrives, unplanned_filed}
 use Rattle.underway.proofs.Moves.{midway_filed}
-use Rattle.runner.specs.Before.{HasNoPlan, HasNone, HasPlan, IsClear, IsKnown, IsTakenUp}
+use Rattle.runner.specs.Before.{HasNoPlan, HasNone, HasPlan, IsClear, IsEmptied, IsKnown, IsTakenUp}
 use Rattle.runner.specs.Going.{AreOpen, AtReady}
 use Rattle.runner.proofs.PartCalls.{TellsNoBook}
 
@@ -193,7 +193,7 @@ module _ (ours : List ℕ → Bool) (alone : Bool) (opening : Opening) where
   filed_done : (o : Opened) (q : Pending) (m d' : Device) → TurnsIdle o.pending q → Holds m.files o.state o.pending → d'.far ≡ m.far → d'.near ≡ m.near → Holds d'.files o.state q → (w : World) → DoneAt ours alone w opening.options m → DoneAt ours alone w opening.options d'
   filed_done o q m d' t held far near now w x =
       let e = book_known m.files o.state x.state o.pending x.pending held x.files in
-      record { state = x.state; pending = q; idle = idle_kept o.pending q t (subst IsIdle (sym e.1) x.idle); files = subst (λ (s : SyncState). Holds d'.files s q) e.0 now; alike = alike_filed ours alone w opening.options m d' x.state far near x.alike }
+      record { state = x.state; pending = q; idle = idle_kept o.pending q t (subst IsIdle (sym e.1) x.idle); files = subst (λ (s : SyncState). Holds d'.files s q) e.0 now; marks = x.marks; alike = alike_filed ours alone w opening.options x.marks m d' x.state far near x.alike }
 
   filed_underway : (o : Opened) (q : Pending) (m d' : Device) → TurnsIdle o.pending q → Holds m.files o.state o.pending → d'.far ≡ m.far → d'.near ≡ m.near → Holds d'.files o.state q → Underway ours alone opening m → Underway ours alone opening d'
   filed_underway o q m d' t held far near now (inl u) = inl (filed_unplanned o q m d' t held far near now u)
@@ -208,6 +208,10 @@ module _ (ours : List ℕ → Bool) (alone : Bool) (opening : Opening) where
       let n = known_arrives (Some o) d m a k in
       let now = t.files o.state n.held in
       record { underway = filed_underway o Missing m d' (inr (none, tt)) n.held t.far t.near now n.underway; held = now }
+
+  pub forgot_held : (opened : Option Opened) (d m d' : Device) → IsRead opened → Arrives ours alone d m → IsHeld opened d → OfBook (λ p. Turns p Missing) opened m d' → IsEmptied opened d'
+  forgot_held None d m d' read a held t = held
+  forgot_held (Some o) d m d' read a held t = λ idle. t.files o.state (held_arrives (Some o) d m a held)
 
   pub half_forgot : (opened : Option Opened) (d m d' : Device) → HasNoPlan opened → Arrives ours alone d m → IsKnown ours alone opening opened d → OfBook (λ p. TurnsHalf p Missing) opened m d' → Underway ours alone opening d'
   half_forgot None d m d' none a k t = absurd none

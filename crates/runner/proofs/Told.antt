@@ -1,8 +1,8 @@
 -- What is told of a run: the copies stand in the state that a commit makes, and the steps are those of the plan of its world.
-use Rattle.std.proofs.Common.{◌≡◌, ℕ, All, List, [], ◌∷◌, ◌++◌, length, drop, take, Bool, false, Option, Some, None, unwrap_or, Result, Ok, Err, IfOk, refl, sym, ◌∙◌, ap, subst}
+use Rattle.std.proofs.Common.{◌≡◌, ℕ, All, List, [], ◌∷◌, ◌++◌, length, drop, take, Bool, false, Option, Some, None, unwrap_or, Result, Ok, Err, IfOk, sym, ◌∙◌, ap, subst}
 use Rattle.std.specs.Prelude.{Contains, IsPermutation}
 use Rattle.std.proofs.lemmas.List.{take-append-drop}
-use Rattle.std.proofs.lemmas.List.Elements.{All-append, All-cons, All-contains_itself, All-head, All-nil, All-tail, All-weaker, Contains-append_left, Contains-append_right}
+use Rattle.std.proofs.lemmas.List.Elements.{All-cons, All-contains_itself, All-head, All-nil, All-tail, All-weaker, Contains-append_left, Contains-append_right}
 use Rattle.std.proofs.lemmas.List.Sorted.{Contains-permutation}
 use Rattle.mailcore.specs.declared.side.Side.{Side}
 use Rattle.mailcore.specs.declared.side.Direction.TheVariants.{Pull, Push}
@@ -11,8 +11,8 @@ use Rattle.rules.specs.declared.plan.Plan.{Plan}
 use Rattle.rules.specs.declared.plan.Step.{Step}
 use Rattle.rules.specs.declared.plan.Step.TheVariants as step
 use Rattle.rules.specs.declared.state.SyncState.{SyncState}
+use Rattle.planner.specs.Written.{marks_of}
 use Rattle.sync_state.specs.JournalText.{FitsStep}
-use Rattle.sync_state.specs.declared.journal.Journal.{Journal}
 use Rattle.sync_state.specs.declared.journal.Logged.{Logged}
 use Rattle.book.specs.declared.book.Pending.{Pending}
 use Rattle.book.specs.declared.book.Pending.TheVariants.{Missing, Useless, Planned}
@@ -25,6 +25,7 @@ use Rattle.outside.specs.Arrivals.{Arrives}
 use Rattle.outside.specs.BookCalls.{OfBook}
 use Rattle.outside.specs.Devices.{Device}
 use Rattle.outside.specs.Opened.{AreCommitted, IsHeld, Opened, journal_in}
+use Rattle.underway.specs.Endings.{EndedUnder}
 use Rattle.underway.specs.Openings.{Opening}
 use Rattle.underway.specs.Plans.{IsPlanned}
 use Rattle.underway.proofs.Ends.{ended, whole_at}
@@ -148,7 +149,7 @@ module _ (ours : List ℕ → Bool) (alone : Bool) (opening : Opening) where
       record {
         steps = sym (take-append-drop n (plan_at old).steps) ∙ ap (λ (l : List Step). before ++ l) (sym steps);
         copies = subst (λ (l : List Step). Fit l (results_of (logs_of ps))) (sym steps) (fit_rest (plan_at old).steps (log_at old) (logs_of ps) logged);
-        over = since_map alone opening _ _ (λ w grows k. (k.ended, subst (λ (p : Plan). IsPlanned ours w opening.options p) h.plan k.planned)) ends;
+        over = since_map alone opening _ _ (λ w grows k. (subst (λ (p : Plan). EndedUnder ours alone w opening.options (marks_of p.steps) d) h.plan k.ended, subst (λ (p : Plan). IsPlanned ours w opening.options p) h.plan k.planned)) ends;
       }
 
   pub told_rest : (old now : Option Opened) (ps : List Performed) (d : Device) → HasLogged old now (logs_of ps) → steps_of ps ≡ drop (length (log_at old)) (plan_at old).steps → EndsBy ours alone opening (plan_at now) (log_at now) d

@@ -1,5 +1,5 @@
 -- What a run answers, and where it leads.
-use Rattle.std.specs.Prelude.{◌≡◌, ◌≢◌, ◌≤◌, ◌+◌, All, AllPairs, ℕ, Bool, true, false, List, drop, length, Option, None, Some}
+use Rattle.std.specs.Prelude.{◌≡◌, ◌≢◌, ◌≤◌, ◌<◌, ◌+◌, ◌^◌, All, AllPairs, ℕ, Bool, true, false, List, drop, length, Option, None, Some}
 use Rattle.rand_core.specs.Stream.{Stream}
 use Rattle.mailcore.specs.declared.side.Side.{Side}
 use Rattle.mailcore.specs.declared.listing.Listing.{Listing}
@@ -10,6 +10,7 @@ use Rattle.rules.specs.declared.plan.Step.{Step}
 use Rattle.rules.specs.declared.state.SyncState.{SyncState}
 use Rattle.rules.specs.Outcome.{count_new}
 use Rattle.rules.specs.Scene.{scene}
+use Rattle.rules.specs.World.{scene_of}
 use Rattle.planner.specs.Written.{all_steps, all_unfit, marks_of}
 use Rattle.book.specs.declared.book.Pending.{Pending}
 use Rattle.book.specs.declared.book.Pending.TheVariants.{Missing, Useless, Planned}
@@ -45,13 +46,22 @@ pub record AreDrawn (stream : Stream) (far near : Listing) (state : SyncState) (
 abbrev pub Moves : (old new : Stream) → Type 0
 Moves old new = (pairs : ℕ) × (new ≡ after_pairs old pairs)
 
--- so many draws in a row give marks that were drawn before, before there are as many marks as some plan wants
-abbrev pub HasRepeats : Stream → Type 0
-HasRepeats stream = (count : ℕ) × Repeats stream count
+-- So many draws in a row give marks that were drawn before, before there are as many as are wanted. Two listings have no room for more
+-- messages than this; without a bound it would be so of every generator, since there are only so many marks.
+pub record RepeatsFor (stream : Stream) (count : ℕ) : Type 0 where
+  pub few : count < 2 ^ 63
+  pub repeats : Repeats stream count
 
--- or they do so later
-abbrev pub WillRepeat : Stream → Type 0
-WillRepeat stream = (drawn : Stream) × (Moves stream drawn) × HasRepeats drawn
+-- one is wanted for each new message of two listings
+abbrev pub RepeatsIn : Option Opened → Stream → (far near : Listing) → Options → Type 0
+RepeatsIn None stream far near options = ⊥
+RepeatsIn (Some o) stream far near options = RepeatsFor stream (count_new (scene far near o.state options))
+
+-- one for each new message of some world since the opening, where the outside has kept its word and began so
+pub record HasRepeats (alone : Bool) (opening : Opening) (honest from : Type 0) (options : Options) (stream : Stream) : Type 0 where
+  pub count : ℕ
+  pub repeats : RepeatsFor stream count
+  pub wanted : honest → from → Since alone opening (λ w. count ≡ count_new (scene_of w options))
 
 -- all steps of the plan of two listings, under the first marks of a generator
 abbrev pub IsDrawn : Option Opened → Stream → (far near : Listing) → Options → List Step → Type 0

@@ -4,16 +4,18 @@ use Rattle.rand_core.specs.Stream.{Stream}
 use Rattle.mailcore.specs.declared.side.Side.{Side}
 use Rattle.rules.specs.declared.options.Options.{Options}
 use Rattle.rules.specs.declared.state.SyncState.{SyncState}
+use Rattle.rules.specs.Outcome.{count_new}
+use Rattle.rules.specs.World.{scene_of}
 use Rattle.book.specs.declared.book.Pending.{Pending}
 use Rattle.book.specs.Books.{Holds}
 use Rattle.outside.specs.Calls.{Seen}
 use Rattle.outside.specs.Devices.{Device}
 use Rattle.underway.specs.Conditions.{IsPending, Underway}
-use Rattle.underway.specs.Openings.{Opening, Unplanned}
+use Rattle.underway.specs.Openings.{Opening, Since, Unplanned}
 use Rattle.runner.specs.declared.fault.RunFault.{RunFault}
 use Rattle.runner.specs.declared.fault.RunFault.TheVariants as run
 use Rattle.runner.specs.declared.pass.Pass.{Pass}
-use Rattle.runner.specs.Answers.{Answers, IsAsked, Moves, RunsBy, as_read}
+use Rattle.runner.specs.Answers.{Answers, IsAsked, Moves, RepeatsFor, RunsBy, as_read}
 use Rattle.runner.specs.Validities.{HasChanged, IsKept}
 
 -- ---- where a run stands between two attempts
@@ -65,6 +67,15 @@ pub record ChangedLast (ours : List ℕ → Bool) (alone : Bool) (opening : Open
   pub began : Began ours alone opening earlier start stream
   pub changed : (s : SyncState) (p : Pending) → Holds began.device.files s p → HasChanged (as_read s p) side began.device
   pub kept : IsKept alone began.device d
+
+-- in some attempt marks repeat: so many draws do from where the generator stood then, before there is a mark for each new message of some
+-- world since the opening
+pub record WillRepeat (honest : Type 0) (ours : List ℕ → Bool) (alone : Bool) (opening : Opening) (options : Options) (stream : Stream) (start : Device) : Type 0 where
+  pub drawn : Stream
+  pub moved : Moves stream drawn
+  pub count : ℕ
+  pub repeats : RepeatsFor drawn count
+  pub wanted : FromOpening honest ours alone opening options stream start (Since alone opening (λ w. count ≡ count_new (scene_of w options)))
 
 -- ---- the greatest number
 

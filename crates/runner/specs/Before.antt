@@ -29,6 +29,11 @@ abbrev pub HasNoJournal : Option Opened → Type 0
 HasNoJournal None = ⊥
 HasNoJournal (Some o) = o.pending ≡ Missing
 
+-- where no plan was pending, the files hold what was read of the state, and no journal
+abbrev pub IsEmptied : Option Opened → Device → Type 0
+IsEmptied None d = ⊥
+IsEmptied (Some o) d = IsIdle o.pending → Holds d.files o.state Missing
+
 -- the files hold what was read
 pub record IsKnown (ours : List ℕ → Bool) (alone : Bool) (opening : Opening) (opened : Option Opened) (d : Device) : Type 0 where
   pub underway : Underway ours alone opening d

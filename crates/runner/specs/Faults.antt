@@ -86,38 +86,54 @@ pub record IsLastRun (files : Files) (fault : OutsideFault) : Type 0 where
 abbrev pub TellsNoRun : (honest : Type 0) → Device → OutsideFault → Type 0
 TellsNoRun honest d fault = honest → TellsFiles fault d.files ⊎ IsLastRun d.files fault
 
--- what stands behind faults of the run's own: that a side's UIDVALIDITY has changed, that marks repeat, and that a line of the state
--- or the journal is bad; and behind a refusal: that it is one of this step, or of a call by which no step was performed
+-- the files hold a state, and this run is beyond the next one
+pub record IsBeyond (run : ℕ) (d : Device) : Type 0 where
+  pub state : SyncState
+  pub pending : Pending
+  pub held : Holds d.files state pending
+  pub beyond : state.run + 1 < run
+
+abbrev pub TellsBeyond : (honest : Type 0) → (run : ℕ) → Device → Type 0
+TellsBeyond honest run d = honest → IsBeyond run d
+
+-- what stands behind faults of the run's own: that a side's UIDVALIDITY has changed, that marks repeat, that the run is beyond the next
+-- one, and that a line of the state or the journal is bad; and behind a refusal: that it is one of this step, or of a call by which no
+-- step was performed
 pub record Reasons : Type 1 where
   pub changed : Side → Type 0
   pub repeats : Type 0
+  pub beyond : Type 0
   pub unread : OutsideFault → Type 0
   pub refused : (step : ℕ) → Type 0
   pub unstepped : Type 0
 
 -- while a step is performed: a refusal is one of it
 abbrev pub performing : (refused : (step : ℕ) → Type 0) → Reasons
-performing refused = record { changed = λ side. ⊥; repeats = ⊥; unread = λ fault. ⊥; refused = refused; unstepped = ⊥ }
+performing refused = record { changed = λ side. ⊥; repeats = ⊥; beyond = ⊥; unread = λ fault. ⊥; refused = refused; unstepped = ⊥ }
 
 -- while none is, once the shelf was read: no line of it is bad
 abbrev pub because : (changed : Side → Type 0) → (repeats : Type 0) → Reasons
-because changed repeats = record { changed = changed; repeats = repeats; unread = λ fault. ⊥; refused = λ step. ⊥; unstepped = Unit {0} }
+because changed repeats = record { changed = changed; repeats = repeats; beyond = ⊥; unread = λ fault. ⊥; refused = λ step. ⊥; unstepped = Unit {0} }
 
 -- where it is read too
 abbrev pub or_unread : (unread : OutsideFault → Type 0) → Reasons → Reasons
 or_unread unread reasons = record reasons { unread = unread }
+
+-- where the run may be beyond the next one too
+abbrev pub or_beyond : (beyond : Type 0) → Reasons → Reasons
+or_beyond beyond reasons = record reasons { beyond = beyond }
 
 -- where steps are performed too
 abbrev pub or_refused : (refused : (step : ℕ) → Type 0) → Reasons → Reasons
 or_refused refused reasons = record reasons { refused = refused }
 
 -- A call stopped, was refused or had another fault, which is the last that was told; the faults of the run's own have their reasons.
--- Line 0 of the state: its run is not the one before, or the UID of a copy is taken.
+-- Line 0 of the state: the run is beyond the next one, or the outside has told it so, of a copy whose UID is taken.
 abbrev pub IsCaused : Reasons → RunFault → Seen → Seen → Type 0
 IsCaused reasons run.Stopped old new = (old.is_broken ≡ true) ⊎ (old.stops < new.stops)
 IsCaused reasons (run.Refused step) old new = reasons.refused step × IsLast out.Refused old new
 IsCaused reasons (run.ValidityChanged side) old new = reasons.changed side
-IsCaused reasons (run.BadState line) old new = (line ≡ 0) ⊎ reasons.unread (out.BadState line)
+IsCaused reasons (run.BadState line) old new = ((line ≡ 0) × (reasons.beyond ⊎ IsLast (out.BadState line) old new)) ⊎ reasons.unread (out.BadState line)
 IsCaused reasons (run.BadJournal line) old new = reasons.unread (out.BadJournal line)
 IsCaused reasons (run.StoreFault side number) old new = IsLast (out.Box side number) old new ⊎ (IsLost side number old new ⊎ (reasons.unstepped × IsRefusal side number old new))
 IsCaused reasons run.MarksRepeat old new = reasons.repeats

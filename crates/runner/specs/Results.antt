@@ -10,14 +10,14 @@ use Rattle.rules.specs.declared.plan.Step.{Step}
 use Rattle.rules.specs.declared.plan.Step.TheVariants as step
 use Rattle.rules.specs.declared.state.SyncState.{SyncState}
 use Rattle.rules.specs.World.{World, scene_of}
-use Rattle.planner.specs.Written.{all_unfit}
+use Rattle.planner.specs.Written.{all_unfit, marks_of}
 use Rattle.sync_state.specs.declared.journal.Logged.{Logged}
 use Rattle.book.specs.declared.book.Pending.TheVariants.{Missing}
 use Rattle.book.specs.Books.{Holds}
 use Rattle.step_laws.specs.Steps.{Fit}
 use Rattle.run_laws.specs.CommitLaws.{results_of}
 use Rattle.outside.specs.Devices.{Device}
-use Rattle.underway.specs.Endings.{EndedAt}
+use Rattle.underway.specs.Endings.{EndedUnder}
 use Rattle.underway.specs.Openings.{Opening, Since}
 use Rattle.underway.specs.Plans.{IsPlanned}
 use Rattle.runner.specs.declared.pass.Pass.{Pass}
@@ -67,9 +67,9 @@ HasResults (Finished performed) d = AreResults performed.items d
 
 -- ---- of which plan the steps are
 
--- the run is over for this world, and this is its plan, whose steps have these results
+-- the run is over for this world, and this is its plan, whose marks the copies bear, and whose steps have these results
 pub record IsOverBy (ours : List ℕ → Bool) (alone : Bool) (w : World) (options : Options) (plan : Plan) (log : List Logged) (d : Device) : Type 0 where
-  pub ended : EndedAt ours alone w options d
+  pub ended : EndedUnder ours alone w options (marks_of plan.steps) d
   pub planned : IsPlanned ours w options plan
   pub fit : Fit plan.steps (results_of log)
 
@@ -81,12 +81,12 @@ EndsBy ours alone opening plan log d = Since alone opening (λ w. IsOverBy ours 
 abbrev pub PassedOver : (List ℕ → Bool) → Bool → Opening → Plan → List (Side × ℕ) → Type 0
 PassedOver ours alone opening plan unfit = Since alone opening (λ w. IsPlanned ours w opening.options plan × (unfit ≡ all_unfit (scene_of w opening.options)))
 
--- The steps told are those of this plan behind these ones. The run is over for a world that has this plan, and each new message that is
--- told, and no other step, has the UID of a copy.
+-- The steps told are those of this plan behind these ones. The run is over for a world that has this plan, the copies bear its marks, and
+-- each new message that is told, and no other step, has the UID of a copy.
 pub record AreStepsOf (ours : List ℕ → Bool) (alone : Bool) (opening : Opening) (plan : Plan) (before : List Step) (performed : List Performed) (d : Device) : Type 0 where
   pub steps : plan.steps ≡ before ++ steps_of performed
   pub copies : Fit (steps_of performed) (results_of (logs_of performed))
-  pub over : Since alone opening (λ w. EndedAt ours alone w opening.options d × IsPlanned ours w opening.options plan)
+  pub over : Since alone opening (λ w. EndedUnder ours alone w opening.options (marks_of plan.steps) d × IsPlanned ours w opening.options plan)
 
 -- what is told of a run that was planned in this pass: all steps of its plan, and the messages of the world that was listed for it
 pub record IsToldWhole (ours : List ℕ → Bool) (alone : Bool) (opening : Opening) (performed : List Performed) (unfit : List (Side × ℕ)) (d : Device) : Type 0 where

@@ -13,7 +13,7 @@ ghost use Rattle.runner.specs.Parts.{IsStuck, Part, PartOr, Unstepped};
 ghost use Rattle.runner.specs.Validities.{BothSame, HasSame, HaveValidities, IsKept, KeepsValidities, LeavesBoxes, TellsChange, TellsOther, recorded_in};
 ghost use Rattle.runner.specs.Going.{AreOpen, AtReady};
 ghost use Rattle.runner.specs.Finding.{FindsSame};
-ghost use Rattle.runner.specs.Before.{BothListed, FarListed, HasNoJournal, HasNoPlan, HasNone, HasPlan, IsClear, IsKnown, IsMade, IsTakenUp};
+ghost use Rattle.runner.specs.Before.{BothListed, FarListed, HasNoJournal, HasNoPlan, HasNone, HasPlan, IsClear, IsEmptied, IsKnown, IsMade, IsTakenUp};
 
 use crate::fault::{RunFault, call_fault};
 use mailcore::listing::Listing;
@@ -27,7 +27,7 @@ pub(crate) fn recall<O: Outside>(outside: &mut O) -> Result<(), RunFault>
     ensures was_honest { O.honest outside.new → O.honest outside.old }
     ensures book { OnOk result (IsBook (O.opened outside.new)) }
     ensures held { OnOk result (O.honest outside.new → IsHeld (O.opened outside.new) (O.seen outside.old).device) }
-    ensures kept { OnOk result (O.honest outside.new → IsKept O.alone (O.seen outside.old).device (O.seen outside.new).device) }
+    ensures kept { O.honest outside.new → IsKept O.alone (O.seen outside.old).device (O.seen outside.new).device }
     ensures stuck { IsStuck (O.seen outside.old) (O.seen outside.new) result }
     ensures same { OnOk result (O.honest outside.new → FindsSame O.ours (O.seen outside.old).device (O.seen outside.new).device) }
     ensures part { PartOr (or_unread (TellsUnread (O.honest outside.new) (O.seen outside.new).device) Unstepped) (O.honest outside.new)
@@ -48,6 +48,8 @@ pub(crate) fn forget<O: Outside>(outside: &mut O) -> Result<(), RunFault>
     ensures was_honest { O.honest outside.new → O.honest outside.old }
     ensures state { OnOk result (state_of (O.opened outside.new) ≡ state_of (O.opened outside.old)) }
     ensures gone { OnOk result (HasNoPlan (O.opened outside.old) → HasNoJournal (O.opened outside.new)) }
+    ensures emptied { OnOk result (O.honest outside.new → IsHeld (O.opened outside.old) (O.seen outside.old).device
+        → IsEmptied (O.opened outside.old) (O.seen outside.new).device) }
     ensures stores { OnOk result (LeavesBoxes (O.honest outside.new) O.alone (O.seen outside.old).device (O.seen outside.new).device) }
     ensures part { Part (O.honest outside.new) (IsKnown O.ours O.alone opening (O.opened outside.old)) (Underway O.ours O.alone opening)
         (λ _. 0) (λ _. IsKnown O.ours O.alone opening (O.opened outside.new)) (O.seen outside.old) (O.seen outside.new) result }

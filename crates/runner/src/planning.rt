@@ -6,7 +6,9 @@ ghost use Rattle.outside.specs.Opened.{IsRead, TakesPlan, state_of};
 ghost use Rattle.rules.specs.World.{World, IsInOrder};
 ghost use Rattle.planner.specs.Written.{marks_of};
 ghost use Rattle.underway.specs.Plans.{IsPlanned};
-ghost use Rattle.runner.specs.Answers.{AreDrawn, AreUnfit, HasRepeats, IsDrawn, IsPlanFault, Moves, run_of};
+ghost use Rattle.rules.specs.Outcome.{count_new};
+ghost use Rattle.rules.specs.Scene.{scene};
+ghost use Rattle.runner.specs.Answers.{AreDrawn, AreUnfit, IsDrawn, IsPlanFault, Moves, RepeatsFor, RepeatsIn, run_of};
 ghost use Rattle.runner.specs.Validities.{ListsChanged};
 ghost use Rattle.runner.specs.Before.{AreShown, HasNoJournal};
 
@@ -39,7 +41,8 @@ fn marks_for<R: Rng>(
     ensures drawn { IfOk result (λ marks. AreDrawn (R.stream rng.old) both.now.far both.now.near state.now options.now marks.items) }
     ensures moved { Moves (R.stream rng.old) (R.stream rng.new) }
     ensures fault { IfErr result (λ fault. IsPlanFault fault × ((side : Side) → fault ≡ RunFault.ValidityChanged side → ⊥)) }
-    ensures repeats { IfErr result (λ fault. fault ≡ RunFault.MarksRepeat → HasRepeats (R.stream rng.old)) }
+    ensures repeats { IfErr result (λ fault. fault ≡ RunFault.MarksRepeat → RepeatsFor (R.stream rng.old)
+        (count_new (scene both.now.far both.now.near state.now options.now))) }
 {
     let count = news(&both.far, &both.near, state, options);
     match draw_marks(alloc, rng, count) {
@@ -68,7 +71,8 @@ pub(crate) fn make_plan<O: Outside, R: Rng>(
         → All (λ mark. O.ours mark ≡ true) (marks_of p.steps) → IsPlanned O.ours w options.now p) }
     ensures moved { Moves (R.stream rng.old) (R.stream rng.new) }
     ensures fault { IfErr result IsPlanFault }
-    ensures repeats { IfErr result (λ fault. fault ≡ RunFault.MarksRepeat → HasRepeats (R.stream rng.old)) }
+    ensures repeats { IfErr result (λ fault. fault ≡ RunFault.MarksRepeat → RepeatsIn (O.opened outside.now) (R.stream rng.old)
+        both.now.far both.now.near options.now) }
     ensures changed { IfErr result (λ fault. (side : Side) → fault ≡ RunFault.ValidityChanged side → ListsChanged (O.opened outside.now)
         both.now.far both.now.near side) }
 {

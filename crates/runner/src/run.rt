@@ -1,16 +1,18 @@
 //! A whole run: it is begun, or taken up where its plan is pending, and its state is committed.
 
-ghost use Rattle.std.specs.Prelude.{◌≡◌, ◌≤◌, ◌<◌, ◌+◌, ◌^◌, [], None, Some, OnOk, IfOk, true, false};
+ghost use Rattle.std.specs.Prelude.{◌≡◌, ◌≤◌, ◌<◌, ◌+◌, ◌^◌, [], None, Some, IsErr, OnOk, IfOk, true, false};
 ghost use Rattle.rules.specs.Opening.{IsOpening};
+ghost use Rattle.book.specs.declared.book.Pending.TheVariants.{Missing};
+ghost use Rattle.book.specs.Books.{Holds};
 ghost use Rattle.outside.specs.Opened.{AreCommitted, IsBook, IsHeld, IsRead, TakesCommit};
 ghost use Rattle.underway.specs.Conditions.{Underway};
 ghost use Rattle.underway.specs.Endings.{IsDone};
-ghost use Rattle.underway.specs.Openings.{Opening};
-ghost use Rattle.runner.specs.Faults.{TellsUnread, because, or_unread};
+ghost use Rattle.underway.specs.Openings.{IsIdle, Opening};
+ghost use Rattle.runner.specs.Faults.{TellsBeyond, TellsUnread, because, or_beyond, or_unread};
 ghost use Rattle.runner.specs.Parts.{IsStuck, Part, PartOr, RunPart, Unstepped};
-ghost use Rattle.runner.specs.Validities.{LeavesBoxes, TellsChange, TellsChanged, TellsUnlessSame};
+ghost use Rattle.runner.specs.Validities.{IsKept, LeavesBoxes, TellsChange, TellsChanged, TellsUnlessSame};
 ghost use Rattle.runner.specs.Going.{AreOpen, AtReady, IsGoing, log_at, next_at, plan_at};
-ghost use Rattle.runner.specs.Before.{HasNoPlan, HasPlan, IsKnown, IsTakenUp};
+ghost use Rattle.runner.specs.Before.{HasNoPlan, HasPlan, IsEmptied, IsKnown, IsTakenUp};
 ghost use Rattle.runner.specs.Results.{EndsBy, HasResults, IsTold, PassedOver};
 ghost use Rattle.runner.specs.Finding.{FindsAt, FindsBy, OfSame};
 ghost use Rattle.runner.specs.Answers.{Answers, AnswersTo, AtEnd, HasRepeats, IsChosen, IsEntry, IsKnownEntry, IsRun, Moves, OfFiles, Reaches, RunsBy, as_read, made_in, run_of};
@@ -69,7 +71,8 @@ fn propose<O: Outside, R: Rng>(
         (R.stream rng.old) (O.seen outside.old).device → PassedOver O.ours O.alone opening (plan_at (O.opened outside.new)) unfit.items) }
     ensures moved { Moves (R.stream rng.old) (R.stream rng.new) }
     ensures part { PartOr (because (TellsUnlessSame (O.honest outside.new) (O.opened outside.old) (O.seen outside.old).device)
-        (HasRepeats (R.stream rng.old))) (O.honest outside.new)
+        (HasRepeats O.alone opening (O.honest outside.new) (IsChosen O.ours O.alone opening (O.opened outside.old) options.now
+        (R.stream rng.old) (O.seen outside.old).device) options.now (R.stream rng.old))) (O.honest outside.new)
         (IsChosen O.ours O.alone opening (O.opened outside.old) options.now (R.stream rng.old)) (Underway O.ours O.alone opening) (λ _. 0)
         (λ _. AtReady O.ours O.alone opening (O.opened outside.new) false) (O.seen outside.old) (O.seen outside.new) result }
 {
@@ -105,7 +108,8 @@ fn begin<O: Outside, R: Rng, P: Progress>(
         options.now (R.stream rng.old) (O.seen outside.old).device
         → OfSame O.ours (O.seen outside.old).device (λ d. FindsBy (O.opened outside.old) d pass)) }
     ensures part { RunPart (because (TellsUnlessSame (O.honest outside.new) (O.opened outside.old) (O.seen outside.old).device)
-        (HasRepeats (R.stream rng.old))) (O.honest outside.new)
+        (HasRepeats O.alone opening (O.honest outside.new) (IsChosen O.ours O.alone opening (O.opened outside.old) options.now
+        (R.stream rng.old) (O.seen outside.old).device) options.now (R.stream rng.old))) (O.honest outside.new)
         (IsChosen O.ours O.alone opening (O.opened outside.old) options.now (R.stream rng.old)) (Underway O.ours O.alone opening) made_in
         (λ _. AtEnd O.ours O.alone opening) (O.seen outside.old) (O.seen outside.new) result }
 {
@@ -151,6 +155,8 @@ fn skip<O: Outside>(outside: &mut O) -> Result<Pass, RunFault>
     ensures was_honest { O.honest outside.new → O.honest outside.old }
     ensures answer { IfOk result (λ pass. pass ≡ Pass.Already) }
     ensures stores { OnOk result (LeavesBoxes (O.honest outside.new) O.alone (O.seen outside.old).device (O.seen outside.new).device) }
+    ensures emptied { OnOk result (O.honest outside.new → IsHeld (O.opened outside.old) (O.seen outside.old).device
+        → IsEmptied (O.opened outside.old) (O.seen outside.new).device) }
     ensures part { Part (O.honest outside.new) (IsKnown O.ours O.alone opening (O.opened outside.old)) (Underway O.ours O.alone opening)
         made_in (λ _. Reaches O.ours O.alone opening (run_of (O.opened outside.old))) (O.seen outside.old) (O.seen outside.new) result }
 {
@@ -183,7 +189,9 @@ fn work<O: Outside, R: Rng, P: Progress>(
         (run_of (O.opened outside.old) + 1) options.now (R.stream rng.old) (O.seen outside.old).device
         → OfSame O.ours (O.seen outside.old).device (λ d. FindsBy (O.opened outside.old) d pass)) }
     ensures part { RunPart (because (TellsUnlessSame (O.honest outside.new) (O.opened outside.old) (O.seen outside.old).device)
-        (HasRepeats (R.stream rng.old))) (O.honest outside.new)
+        (HasRepeats O.alone opening (O.honest outside.new) (IsKnownEntry O.ours O.alone opening (O.opened outside.old)
+        (run_of (O.opened outside.old) + 1) options.now (R.stream rng.old) (O.seen outside.old).device) options.now (R.stream rng.old)))
+        (O.honest outside.new)
         (IsKnownEntry O.ours O.alone opening (O.opened outside.old) (run_of (O.opened outside.old) + 1) options.now (R.stream rng.old))
         (Underway O.ours O.alone opening) made_in (λ _. AtEnd O.ours O.alone opening) (O.seen outside.old) (O.seen outside.new) result }
 {
@@ -218,7 +226,10 @@ fn open_and_work<O: Outside, R: Rng, P: Progress>(
         (run_of (O.opened outside.old) + 1) options.now (R.stream rng.old) (O.seen outside.old).device
         → OfSame O.ours (O.seen outside.old).device (λ d. FindsBy (O.opened outside.old) d pass)) }
     ensures part { RunPart (because (TellsChange (O.honest outside.new) O.alone (O.opened outside.old) (O.seen outside.old).device
-        (O.seen outside.new).device) (HasRepeats (R.stream rng.old))) (O.honest outside.new)
+        (O.seen outside.new).device)
+        (HasRepeats O.alone opening (O.honest outside.new) (IsKnownEntry O.ours O.alone opening (O.opened outside.old)
+        (run_of (O.opened outside.old) + 1) options.now (R.stream rng.old) (O.seen outside.old).device) options.now (R.stream rng.old)))
+        (O.honest outside.new)
         (IsKnownEntry O.ours O.alone opening (O.opened outside.old) (run_of (O.opened outside.old) + 1) options.now (R.stream rng.old))
         (Underway O.ours O.alone opening) made_in (λ _. AtEnd O.ours O.alone opening) (O.seen outside.old) (O.seen outside.new) result }
 {
@@ -246,12 +257,17 @@ fn take_up<O: Outside, R: Rng, P: Progress>(
     ensures runs { IfOk result (RunsBy (O.opened outside.old) options.now (R.stream rng.old)) }
     ensures stores { IfOk result (λ pass. pass ≡ Pass.Already → LeavesBoxes (O.honest outside.new) O.alone (O.seen outside.old).device
         (O.seen outside.new).device) }
+    ensures emptied { IfOk result (λ pass. pass ≡ Pass.Already → O.honest outside.new → IsHeld (O.opened outside.old)
+        (O.seen outside.old).device → IsEmptied (O.opened outside.old) (O.seen outside.new).device) }
     ensures moved { Moves (R.stream rng.old) (R.stream rng.new) }
     ensures found { IfOk result (λ pass. O.honest outside.new → IsKnownEntry O.ours O.alone opening (O.opened outside.old)
         run options.now (R.stream rng.old) (O.seen outside.old).device
         → OfSame O.ours (O.seen outside.old).device (λ d. FindsBy (O.opened outside.old) d pass)) }
-    ensures part { RunPart (because (TellsChange (O.honest outside.new) O.alone (O.opened outside.old) (O.seen outside.old).device
-        (O.seen outside.new).device) (HasRepeats (R.stream rng.old))) (O.honest outside.new)
+    ensures beyond { run_of (O.opened outside.old) + 1 < run → IsErr result × (O.seen outside.new ≡ O.seen outside.old) }
+    ensures part { RunPart (or_beyond (run_of (O.opened outside.old) + 1 < run)
+        (because (TellsChange (O.honest outside.new) O.alone (O.opened outside.old) (O.seen outside.old).device (O.seen outside.new).device)
+        (HasRepeats O.alone opening (O.honest outside.new) (IsKnownEntry O.ours O.alone opening (O.opened outside.old) run options.now
+        (R.stream rng.old) (O.seen outside.old).device) options.now (R.stream rng.old)))) (O.honest outside.new)
         (IsKnownEntry O.ours O.alone opening (O.opened outside.old) run options.now (R.stream rng.old)) (Underway O.ours O.alone opening)
         made_in (λ _. Reaches O.ours O.alone opening run) (O.seen outside.old) (O.seen outside.new) result }
 {
@@ -304,18 +320,27 @@ pub fn pass<O: Outside, R: Rng, P: Progress>(
     // On an outside that has failed before it stops and changes nothing.
     ensures stuck { IsStuck (O.seen outside.old) (O.seen outside.new) result }
 
-    // A run that was made leaves both mailboxes as they are.
+    // A run beyond the next one is not made, and changes nothing.
+    ensures beyond { OfFiles (O.honest outside.new) (O.seen outside.old).device (λ s p. s.run + 1 < run
+        → IsErr result × IsKept O.alone (O.seen outside.old).device (O.seen outside.new).device) }
+
+    // A run that was made leaves both mailboxes as they are. A journal without a plan of the next run goes then.
     ensures stores { IfOk result (λ pass. pass ≡ Pass.Already → LeavesBoxes (O.honest outside.new) O.alone (O.seen outside.old).device
         (O.seen outside.new).device) }
+    ensures idle { IfOk result (λ pass. pass ≡ Pass.Already → OfFiles (O.honest outside.new) (O.seen outside.old).device
+        (λ s p. IsIdle p → Holds (O.seen outside.new).device.files s Missing)) }
 
     // A run that is underway is still underway after any fault, and over where it answers. `ValidityChanged` comes only where that
     // side's UIDVALIDITY is not the recorded one, far before near, and nothing has changed then; `MarksRepeat` only where the generator's
-    // draws do; a line of the state or the journal is told only where the files that stand there hold no book, but line 0 of the state. A
-    // refusal or a fault of a box is the last that was told, and a step that is told as refused is the next one of the plan that the files
-    // then hold, if the run is underway.
+    // draws do, before there is a mark for each new message of some world since the opening; a line of the state or the journal is told
+    // only where the files that stand there hold no book, but line 0 of the state: where the run is beyond the next one, or the outside
+    // has told it last. A refusal or a fault of a box is the last that was told, and a step that is told as refused is the next one of
+    // the plan that the files then hold, if the run is underway.
     ensures part { RunPart (or_unread (TellsUnread (O.honest outside.new) (O.seen outside.new).device)
+        (or_beyond (TellsBeyond (O.honest outside.new) run (O.seen outside.old).device)
         (because (TellsChanged (O.honest outside.new) O.alone (O.seen outside.old).device (O.seen outside.new).device)
-        (HasRepeats (R.stream rng.old))))
+        (HasRepeats O.alone opening (O.honest outside.new) (IsEntry O.ours O.alone opening run options.now (R.stream rng.old)
+        (O.seen outside.old).device) options.now (R.stream rng.old)))))
         (O.honest outside.new) (IsEntry O.ours O.alone opening run options.now (R.stream rng.old)) (Underway O.ours O.alone opening)
         made_in (λ _. Reaches O.ours O.alone opening run) (O.seen outside.old) (O.seen outside.new) result }
 

@@ -1,18 +1,18 @@
 //! A run in several attempts, each after one that met a stop.
 
-ghost use Rattle.std.specs.Prelude.{◌≡◌, ◌≤◌, ◌+◌, ◌^◌, None, Some, OnOk, OnErr, IfOk, IfErr, IsErrOf, true, false, ℕ};
+ghost use Rattle.std.specs.Prelude.{◌≡◌, ◌≤◌, ◌<◌, ◌+◌, ◌^◌, None, Some, OnOk, OnErr, IfOk, IfErr, IsErrOf, true, false, ℕ};
 ghost use Rattle.mailcore.specs.declared.side.Side.{Side};
 ghost use Rattle.rules.specs.Opening.{IsOpening};
 ghost use Rattle.underway.specs.Conditions.{IsOver, Underway};
 ghost use Rattle.underway.specs.Endings.{IsDone};
 ghost use Rattle.underway.specs.Openings.{Opening};
-ghost use Rattle.runner.specs.Faults.{IsCaused, LeavesRun, RefusedAt, TellsNoRun, because, or_refused, or_unread};
+ghost use Rattle.runner.specs.Faults.{IsCaused, LeavesRun, RefusedAt, TellsNoRun, because, or_beyond, or_refused, or_unread};
 ghost use Rattle.runner.specs.Parts.{IsStuck, PartOr, RunPart, Unstepped};
 ghost use Rattle.runner.specs.Validities.{IsKept, TellsChanged};
 ghost use Rattle.runner.specs.Results.{HasResults, IsTold};
 ghost use Rattle.runner.specs.Finding.{FindsAt, FindsLast, FindsSame};
-ghost use Rattle.runner.specs.Answers.{HasRepeats, Moves, OfFiles, WillRepeat, made_in};
-ghost use Rattle.runner.specs.Attempts.{AnswersAt, AnswersLast, AtOpening, ChangedLast, FromOpening, HasNoNext, IsTried, MetBefore, MetStops, TriedAt, failed_before, found_by};
+ghost use Rattle.runner.specs.Answers.{HasRepeats, Moves, OfFiles, made_in};
+ghost use Rattle.runner.specs.Attempts.{AnswersAt, AnswersLast, AtOpening, ChangedLast, FromOpening, HasNoNext, IsTried, MetBefore, MetStops, TriedAt, WillRepeat, failed_before, found_by};
 
 use crate::fault::{RunFault, call_fault};
 use crate::pass::{Pass, Settled};
@@ -27,6 +27,7 @@ use std::alloc::Global;
 fn next_run<O: Outside>(outside: &mut O) -> Result<u64, RunFault>
     ghost opening: { Opening }
     ensures was_honest { O.honest outside.new → O.honest outside.old }
+    ensures number { IfOk result (λ number. OfFiles (O.honest outside.new) (O.seen outside.new).device (λ s p. number ≡ s.run + 1)) }
     ensures kept { OnOk result (O.honest outside.new → IsKept O.alone (O.seen outside.old).device (O.seen outside.new).device) }
     ensures greatest { HasNoNext (O.honest outside.new) O.alone (O.seen outside.old).device (O.seen outside.new).device result }
     ensures same { OnOk result (O.honest outside.new → FindsSame O.ours (O.seen outside.old).device (O.seen outside.new).device) }
@@ -55,6 +56,8 @@ fn fix_run<O: Outside>(outside: &mut O, run: &mut Option<u64>) -> Result<u64, Ru
     ensures was_honest { O.honest outside.new → O.honest outside.old }
     ensures unfixed { OnErr result ((run.old ≡ None) × (run.new ≡ None)) }
     ensures fixed { IfOk result (λ number. run.new ≡ Some number) }
+    ensures number { run.old ≡ None → IfOk result (λ number. OfFiles (O.honest outside.new) (O.seen outside.new).device
+        (λ s p. number ≡ s.run + 1)) }
     ensures kept { OnOk result (O.honest outside.new → IsKept O.alone (O.seen outside.old).device (O.seen outside.new).device) }
     ensures greatest { run.old ≡ None → HasNoNext (O.honest outside.new) O.alone (O.seen outside.old).device (O.seen outside.new).device result }
     ensures same { OnOk result (O.honest outside.new → FindsSame O.ours (O.seen outside.old).device (O.seen outside.new).device) }
@@ -95,8 +98,10 @@ fn attempt<O: Outside, R: Rng, P: Progress>(
     ensures unfixed { run.old ≡ None → OfFiles (O.honest outside.new) (O.seen outside.old).device (λ s p. s.run + 1 ≡ 2 ^ 64 → run.new ≡ None) }
     ensures stuck { IsStuck (O.seen outside.old) (O.seen outside.new) result }
     ensures part { RunPart (or_unread (TellsNoRun (O.honest outside.new) (O.seen outside.new).device)
+        (or_beyond (run.old ≡ None → O.honest outside.new → ⊥)
         (because (TellsChanged (O.honest outside.new) O.alone (O.seen outside.old).device (O.seen outside.new).device)
-        (HasRepeats (R.stream rng.old))))
+        (HasRepeats O.alone opening (O.honest outside.new) (IsTried O.ours O.alone opening options.now (R.stream rng.old) run.old
+        (O.seen outside.old).device) options.now (R.stream rng.old)))))
         (O.honest outside.new) (IsTried O.ours O.alone opening options.now (R.stream rng.old) run.old)
         (IsTried O.ours O.alone opening options.now (R.stream rng.new) run.new)
         made_in (λ _. IsOver O.ours O.alone opening) (O.seen outside.old) (O.seen outside.new) result }
@@ -169,12 +174,14 @@ pub fn settle<O: Outside, R: Rng, P: Progress>(
         (ChangedLast O.ours O.alone opening tries side (O.seen outside.old).device (R.stream rng.old) (O.seen outside.new).device)) }
 
     // A refusal or another fault of a box is the last that was told, unless it is that of a copy that was lost, and marks repeat only where
-    // the draws do. A line of the state or the journal is told only where the files that stand there hold no book from it on, but line 0
-    // of the state, and but `BadState(2)` where their run has the greatest number.
+    // the draws do, before there is a mark for each new message of some world since the opening. A line of the state or the journal is told
+    // only where the files that stand there hold no book from it on, but `BadState(2)` where their run has the greatest number, and but line 0
+    // of the state: where the outside has told it last, or in an attempt behind the first.
     ensures caused { IfErr result (λ fault. (fault ≡ RunFault.Stopped → ⊥)
         → IsCaused (or_unread (TellsNoRun (O.honest outside.new) (O.seen outside.new).device)
-        (or_refused (λ step. Unit {0}) (because (λ side. Unit {0}) (WillRepeat (R.stream rng.old))))) fault (O.seen outside.old)
-        (O.seen outside.new)) }
+        (or_refused (λ step. Unit {0}) (or_beyond (O.honest outside.new → 1 < tries) (because (λ side. Unit {0})
+        (WillRepeat (O.honest outside.new) O.ours O.alone opening options.now (R.stream rng.old) (O.seen outside.old).device))))) fault
+        (O.seen outside.old) (O.seen outside.new)) }
 
     // From an opening, a step that is told as refused is the next one of the plan that the files then hold.
     ensures refused { IfErr result (λ fault. (step : ℕ) → fault ≡ RunFault.Refused step

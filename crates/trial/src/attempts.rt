@@ -1,15 +1,16 @@
 //! The run of a trial, over any outside.
 
-ghost use Rattle.std.specs.Prelude.{◌≡◌, ◌≤◌, IfErr, IfOk, IsErrOf, OnOk, true, ℕ};
+ghost use Rattle.std.specs.Prelude.{◌≡◌, ◌≤◌, ◌<◌, IfErr, IfOk, IsErrOf, OnOk, true, ℕ};
 ghost use Rattle.mailcore.specs.declared.side.Side.{Side};
 ghost use Rattle.rules.specs.Opening.{IsOpening};
 ghost use Rattle.underway.specs.Conditions.{IsOver, Underway};
 ghost use Rattle.underway.specs.Endings.{IsDone};
 ghost use Rattle.underway.specs.Openings.{Opening};
-ghost use Rattle.runner.specs.Answers.{WillRepeat};
-ghost use Rattle.runner.specs.Attempts.{AnswersLast, ChangedLast, FromOpening, HasNoNext, MetBefore, MetStops, failed_before};
-ghost use Rattle.runner.specs.Faults.{IsCaused, LeavesRun, RefusedAt, TellsNoRun, because, or_refused, or_unread};
+ghost use Rattle.runner.specs.Attempts.{AnswersLast, ChangedLast, FromOpening, HasNoNext, MetBefore, MetStops, WillRepeat, failed_before};
+ghost use Rattle.runner.specs.Finding.{FindsLast};
+ghost use Rattle.runner.specs.Faults.{IsCaused, LeavesRun, RefusedAt, TellsNoRun, because, or_beyond, or_refused, or_unread};
 ghost use Rattle.runner.specs.Parts.{IsStuck};
+ghost use Rattle.runner.specs.Results.{HasResults, IsTold};
 ghost use Rattle.trial.specs.Openings.{trial_stream};
 
 use outside::outside::Outside;
@@ -42,16 +43,26 @@ pub fn settle_trial<O: Outside>(
     ensures alike { OnOk result (FromOpening (O.honest outside.new) O.ours O.alone opening options.now trial_stream (O.seen outside.old).device
         (O.alone ≡ true → IsOpening opening.world → IsDone opening.world opening.options (O.seen outside.new).device)) }
 
-    // What the last attempt answered goes by the files that it found, and what stands behind a fault by what the attempts did and counted.
+    // What the last attempt answered goes by the files that it found.
     ensures answer { IfOk result (λ s. FromOpening (O.honest outside.new) O.ours O.alone opening options.now trial_stream (O.seen outside.old).device
         (AnswersLast O.ours O.alone opening options.now s.stops s.last (O.seen outside.old).device trial_stream)) }
+
+    // What it told: the steps of the plan of the world that the run is over for, each copy with its UID, and as found what stood there.
+    ensures results { IfOk result (λ s. O.honest outside.new → HasResults s.last (O.seen outside.new).device) }
+    ensures told { IfOk result (λ s. FromOpening (O.honest outside.new) O.ours O.alone opening options.now trial_stream (O.seen outside.old).device
+        (IsTold O.ours O.alone opening s.last (O.seen outside.new).device)) }
+    ensures found { IfOk result (λ s. FromOpening (O.honest outside.new) O.ours O.alone opening options.now trial_stream (O.seen outside.old).device
+        (FindsLast O.ours O.alone opening s.stops s.last (O.seen outside.old).device trial_stream)) }
+
+    // What stands behind a fault goes by what the attempts did and counted.
     ensures changed { IfErr result (λ fault. (side : Side) → fault ≡ RunFault.ValidityChanged side
         → FromOpening (O.honest outside.new) O.ours O.alone opening options.now trial_stream (O.seen outside.old).device
         (ChangedLast O.ours O.alone opening tries side (O.seen outside.old).device trial_stream (O.seen outside.new).device)) }
     ensures caused { IfErr result (λ fault. (fault ≡ RunFault.Stopped → ⊥)
         → IsCaused (or_unread (TellsNoRun (O.honest outside.new) (O.seen outside.new).device)
-        (or_refused (λ step. Unit {0}) (because (λ side. Unit {0}) (WillRepeat trial_stream)))) fault (O.seen outside.old)
-        (O.seen outside.new)) }
+        (or_refused (λ step. Unit {0}) (or_beyond (O.honest outside.new → 1 < tries) (because (λ side. Unit {0})
+        (WillRepeat (O.honest outside.new) O.ours O.alone opening options.now trial_stream (O.seen outside.old).device))))) fault
+        (O.seen outside.old) (O.seen outside.new)) }
     ensures refused { IfErr result (λ fault. (step : ℕ) → fault ≡ RunFault.Refused step
         → FromOpening (O.honest outside.new) O.ours O.alone opening options.now trial_stream (O.seen outside.old).device
         (RefusedAt step (O.seen outside.new).device)) }

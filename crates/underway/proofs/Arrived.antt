@@ -35,29 +35,29 @@ planned_arrives ours alone w options d m a p = record { plan = p.plan; log = p.l
 
 -- ---- a run that is done
 
-pub alike_arrives : (ours : List ℕ → Bool) (alone : Bool) (w : World) (options : Options) (d m : Device) (s : SyncState) → Arrives ours alone d m → AlikeAt ours alone w options d s → AlikeAt ours alone w options m s
-alike_arrives ours true w options d m s a k = subst (λ (x : Device). AlikeAt ours true w options x s) (sym (a.nobody refl)) k
-alike_arrives ours false w options d m s a k =
+pub alike_arrives : (ours : List ℕ → Bool) (alone : Bool) (w : World) (options : Options) (marks : List (List ℕ)) (d m : Device) (s : SyncState) → Arrives ours alone d m → AlikeAt ours alone w options marks d s → AlikeAt ours alone w options marks m s
+alike_arrives ours true w options marks d m s a k = subst (λ (x : Device). AlikeAt ours true w options marks x s) (sym (a.nobody refl)) k
+alike_arrives ours false w options marks d m s a k =
     let b = k.alike in
     let now : Device = record d { far = record d.far { next = a.next; messages = d.far.messages ++ a.messages }; near = record d.near { waiting = a.waiting } } in
     let low = rise-ends d.far.next (map (λ (x : Message). x.uid) a.messages) a.next a.rise in
     let least = rise-ends w.far.next (b.uids Far) d.far.next (b.rise Far) in
-    subst (λ (x : Device). AlikeAt ours false w options x s) (sym a.now) (record {
-      marks = k.marks;
+    subst (λ (x : Device). AlikeAt ours false w options marks x s) (sym a.now) (record {
       are_ours = k.are_ours;
       alike = record {
         uids = b.uids;
         marks = b.marks;
         are_marks = b.are_marks;
         each = b.each;
-        rise = two (λ side. Rise (store w side).next (b.uids side) (store (own_world w k.marks (world_at now s)) side).next) (rise-raised w.far.next (b.uids Far) d.far.next a.next (b.rise Far) low) (b.rise NearSide);
-        messages = two (λ side. (store (own_world w k.marks (world_at now s)) side).messages ≡ messages_under w options side (b.uids side) b.marks)
-            (unseen (is_own w k.marks) Far d.far.messages a.messages (foreign_unseen ours w k.marks Far d.far.next a.next a.messages k.are_ours least a.rise a.far_foreign) ∙ b.messages Far)
+        rise = two (λ side. Rise (store w side).next (b.uids side) (store (own_world w marks (world_at now s)) side).next) (rise-raised w.far.next (b.uids Far) d.far.next a.next (b.rise Far) low) (b.rise NearSide);
+        messages = two (λ side. (store (own_world w marks (world_at now s)) side).messages ≡ messages_under w options side (b.uids side) b.marks)
+            (unseen (is_own w marks) Far d.far.messages a.messages (foreign_unseen ours w marks Far d.far.next a.next a.messages k.are_ours least a.rise a.far_foreign) ∙ b.messages Far)
             (b.messages NearSide);
-        validity = two (λ side. (store (own_world w k.marks (world_at now s)) side).validity ≡ (store w side).validity) (b.validity Far) (b.validity NearSide);
+        validity = two (λ side. (store (own_world w marks (world_at now s)) side).validity ≡ (store w side).validity) (b.validity Far) (b.validity NearSide);
         waiting = refl;
         state = b.state;
       };
+      borne = k.borne;
       nobody = λ e. absurd (both_ways false refl e);
     })
 
@@ -67,18 +67,20 @@ done_arrives ours alone w options d m a h = record {
   pending = h.pending;
   idle = h.idle;
   files = rw (files_same ours alone d m a) h.files;
-  alike = alike_arrives ours alone w options d m h.state a h.alike;
+  marks = h.marks;
+  alike = alike_arrives ours alone w options h.marks d m h.state a h.alike;
 }
 
 -- both mailboxes as they were
-pub alike_filed : (ours : List ℕ → Bool) (alone : Bool) (w : World) (options : Options) (d d' : Device) (s : SyncState) → d'.far ≡ d.far → d'.near ≡ d.near → AlikeAt ours alone w options d s → AlikeAt ours alone w options d' s
-alike_filed ours alone w options d d' s far near k =
+pub alike_filed : (ours : List ℕ → Bool) (alone : Bool) (w : World) (options : Options) (marks : List (List ℕ)) (d d' : Device) (s : SyncState) → d'.far ≡ d.far → d'.near ≡ d.near → AlikeAt ours alone w options marks d s → AlikeAt ours alone w options marks d' s
+alike_filed ours alone w options marks d d' s far near k =
     let same : world_at d s ≡ world_at d' s = rw (far, near) refl in
+    let by : (a : AlikeBy w options (own_world w marks (world_at d' s))) × (a.marks ≡ marks) = subst (λ (x : World). (a : AlikeBy w options (own_world w marks x)) × (a.marks ≡ marks)) same (k.alike, k.borne) in
     record {
-      marks = k.marks;
       are_ours = k.are_ours;
-      alike = subst (λ (x : World). AlikeBy w options (own_world w k.marks x)) same k.alike;
-      nobody = λ e. subst (λ (x : World). own_world w k.marks x ≡ x) same (k.nobody e);
+      alike = by.0;
+      borne = by.1;
+      nobody = λ e. subst (λ (x : World). own_world w marks x ≡ x) same (k.nobody e);
     }
 
 -- ---- all of them

@@ -11,25 +11,28 @@ use Rattle.rules.specs.Admission.{AreAdmission, admitted_under, numbered_under}
 use Rattle.rules.specs.AlikeBy.{AlikeBy}
 use Rattle.rules.specs.Opening.{IsOpening}
 use Rattle.rules.specs.World.{World, IsInOrder, Store, store, scene_of}
-use Rattle.planner.specs.Written.{all_steps}
+use Rattle.rules.specs.WorldAfter.{messages_under}
+use Rattle.planner.specs.Written.{all_steps, marks_of}
+use Rattle.planner.proofs.Theorem.{in_turn}
 use Rattle.sync_state.specs.declared.journal.Logged.{Logged}
 use Rattle.book.specs.declared.book.Pending.{Pending}
 use Rattle.book.specs.declared.book.Pending.TheVariants.{Missing, Useless}
 use Rattle.book.specs.Books.{Holds}
 use Rattle.book.specs.Commits.{CommitsTo, CommitsHalf, HoldsCommitted}
 use Rattle.book.specs.Committed.{Commits}
-use Rattle.step_laws.specs.Steps.{Boxes, Fit, Rises, after, boxes_of, box as messages_in}
+use Rattle.step_laws.specs.Steps.{Boxes, Fit, Rises, after, boxes_of, given, box as messages_in}
+use Rattle.step_laws.proofs.Given.{each_given}
+use Rattle.step_laws.proofs.Whole.{plan_reaches}
 use Rattle.run_laws.specs.AlikeLaws.{own_world}
 use Rattle.run_laws.specs.CommitLaws.{results_of}
 use Rattle.run_laws.proofs.Committed.{commit_reaches}
-use Rattle.run_laws.proofs.Finished.{steps_are_alike}
 use Rattle.run_laws.proofs.Whole.{alike_under_admission}
 use Rattle.outside.specs.BookCalls.{OnFiles}
 use Rattle.outside.specs.Devices.{Device}
-use Rattle.underway.specs.Plans.{begun, next_of}
+use Rattle.underway.specs.Plans.{IsPlanned, begun, next_of}
 use Rattle.underway.specs.Openings.{Grows, IsIdle, Opening, Since, world_at}
 use Rattle.underway.specs.Moments.{Midway, PlannedAt, Stands, boxes_at, with_log}
-use Rattle.underway.specs.Endings.{AlikeAt, DoneAt, EndedAt, IsDone}
+use Rattle.underway.specs.Endings.{AlikeAt, DoneAt, EndedAt, EndedUnder, IsDone}
 use Rattle.underway.proofs.Arrived.{alike_filed}
 use Rattle.underway.proofs.Foreign.{two}
 use Rattle.underway.proofs.Merges.{merge_alone}
@@ -44,6 +47,10 @@ with_boxes d s b waiting = record {
   waiting = waiting;
   state = s;
 }
+
+-- the marks of a plan are those of its steps
+pub marks_are : (ours : List ℕ → Bool) (w : World) (options : Options) (plan : Plan) (p : IsPlanned ours w options plan) → marks_of plan.steps ≡ p.marks
+marks_are ours w options plan p = in_turn (scene_of w options) (scene_of w options) refl p.marks plan.steps (p.are_marks).count (p.is_plan).steps
 
 module _ (ours : List ℕ → Bool) (alone : Bool) (w : World) (options : Options) (plan : Plan) (log : List Logged) (none : next_of plan.steps log ≡ None) where
   -- behind the last step nothing is half done
@@ -65,37 +72,45 @@ module _ (ours : List ℕ → Bool) (alone : Bool) (w : World) (options : Option
       nothing false = refl
   whole_at torn d (inr k) = let at = k.1 in absurd (fit_past plan.steps log k.0 none at.fit)
 
-  pub alike_now : (torn : Bool) (d : Device) (s : SyncState) → IsInOrder w → Midway ours alone w options plan log torn log false d → Commits (record { plan = plan; log = log }) w.state s → AlikeAt ours alone w options d s
+  pub alike_now : (torn : Bool) (d : Device) (s : SyncState) → IsInOrder w → Midway ours alone w options plan log torn log false d → Commits (record { plan = plan; log = log }) w.state s → AlikeAt ours alone w options (marks_of plan.steps) d s
   alike_now torn d s sound at c =
       let p = at.planned in
+      let marks : List (List ℕ) = p.marks in
+      let counted = (p.are_marks).count in
       let results : List (Option ℕ) = results_of log in
-      let steps : List Step = all_steps (scene_of w options) p.marks in
+      let steps : List Step = all_steps (scene_of w options) marks in
       let steps_are : plan.steps ≡ steps = p.is_plan.steps in
       let many : length log ≡ length plan.steps = let few = fit_few plan.steps results at.fit in let n = results_length log in let left = none_left plan.steps log none in omega arith in
       let enough : length results ≡ length steps = results_length log ∙ many ∙ ap (λ (xs : List Step). length xs) steps_are in
-      let found : World = own_world w p.marks (world_at d s) in
-      record {
-        marks = p.marks;
+      let fit : Fit steps results = subst (λ (xs : List Step). Fit xs results) steps_are at.fit in
+      let found : World = own_world w marks (world_at d s) in
+      let far : Rises Far w.far.next steps results d.far.next = subst (λ (xs : List Step). Rises Far w.far.next xs results d.far.next) steps_are (at.rises Far) in
+      let near : Rises NearSide w.near.next steps results d.near.store.next = subst (λ (xs : List Step). Rises NearSide w.near.next xs results d.near.store.next) steps_are (at.rises NearSide) in
+      let boxes = at.boxes ∙ ap (λ (xs : List Step). after xs results (boxes_of w)) steps_are in
+      let reaches = plan_reaches w options marks results d.far.next d.near.store.next sound counted enough fit far near in
+      let by : AlikeBy w options found = record {
+        uids = λ side. given side steps results;
+        marks = marks;
+        are_marks = p.are_marks;
+        each = each_given w options marks results counted enough fit;
+        rise = two (λ side. Rises side (store w side).next steps results (store found side).next) far near;
+        messages = two (λ side. (store found side).messages ≡ messages_under w options side (given side steps results) marks) (ap (λ (b : Boxes). messages_in b Far) boxes ∙ reaches Far) (ap (λ (b : Boxes). messages_in b NearSide) boxes ∙ reaches NearSide);
+        validity = two (λ side. (store found side).validity ≡ (store w side).validity) (at.validity Far) (at.validity NearSide);
+        waiting = refl;
+        state = commit_reaches w options marks (record { plan = plan; log = log }) s sound p.is_plan many at.fit c;
+      } in
+      subst (λ (ms : List (List ℕ)). AlikeAt ours alone w options ms d s) (sym (marks_are ours w options plan p)) (record {
         are_ours = p.are_ours;
-        alike = steps_are_alike w options p.marks results found sound p.are_marks enough
-            (subst (λ (xs : List Step). Fit xs results) steps_are at.fit)
-            (two (λ side. Rises side (store w side).next steps results (store found side).next)
-            (subst (λ (xs : List Step). Rises Far w.far.next xs results d.far.next) steps_are (at.rises Far))
-            (subst (λ (xs : List Step). Rises NearSide w.near.next xs results d.near.store.next) steps_are (at.rises NearSide)))
-            (two (λ side. (store found side).messages ≡ messages_in (after steps results (boxes_of w)) side)
-            (ap (λ (b : Boxes). messages_in b Far) (at.boxes ∙ ap (λ (xs : List Step). after xs results (boxes_of w)) steps_are))
-            (ap (λ (b : Boxes). messages_in b NearSide) (at.boxes ∙ ap (λ (xs : List Step). after xs results (boxes_of w)) steps_are)))
-            (two (λ side. (store found side).validity ≡ (store w side).validity) (at.validity Far) (at.validity NearSide))
-            refl
-            (commit_reaches w options p.marks (record { plan = plan; log = log }) s sound p.is_plan many at.fit c);
+        alike = by;
+        borne = refl;
         nobody = λ e. ap (λ (b : Boxes). with_boxes d s b []) (at.nobody e).0 ∙ ap (λ (fs : List Waiting). with_boxes d s (boxes_at d) fs) (sym (at.nobody e).1);
-      }
+      })
 
-  pub ended : (m d' : Device) → IsInOrder w → Stands ours alone w options plan log false m → OnFiles (CommitsTo (with_log plan log false)) m d' → EndedAt ours alone w options d'
+  pub ended : (m d' : Device) → IsInOrder w → Stands ours alone w options plan log false m → OnFiles (CommitsTo (with_log plan log false)) m d' → EndedUnder ours alone w options (marks_of plan.steps) d'
   ended m d' sound stands t =
       let at = whole_at false m stands in
       let made = t.files w.state at.files in
-      record { state = made.state; files = made.held; alike = alike_filed ours alone w options m d' made.state t.far t.near (alike_now false m made.state sound at made.made) }
+      record { state = made.state; files = made.held; alike = alike_filed ours alone w options (marks_of plan.steps) m d' made.state t.far t.near (alike_now false m made.state sound at made.made) }
 
   pub half_ended : (m d' : Device) → IsInOrder w → Stands ours alone w options plan log false m → OnFiles (CommitsHalf (with_log plan log false)) m d' → PlannedAt ours alone w options d' ⊎ DoneAt ours alone w options d'
   half_ended m d' sound stands t = by_files (t.files w.state at.files)
@@ -104,7 +119,7 @@ module _ (ours : List ℕ → Bool) (alone : Bool) (w : World) (options : Option
       at = whole_at false m stands
 
       done : (pending : Pending) → IsIdle pending → (s : SyncState) → Commits (record { plan = plan; log = log }) w.state s → Holds d'.files s pending → DoneAt ours alone w options d'
-      done pending idle s made held = record { state = s; pending = pending; idle = idle; files = held; alike = alike_filed ours alone w options m d' s t.far t.near (alike_now false m s sound at made) }
+      done pending idle s made held = record { state = s; pending = pending; idle = idle; files = held; marks = marks_of plan.steps; alike = alike_filed ours alone w options (marks_of plan.steps) m d' s t.far t.near (alike_now false m s sound at made) }
 
       committed : (k : HoldsCommitted (with_log plan log false) w.state d'.files) → DoneAt ours alone w options d'
       committed k = by_held k.held
@@ -118,7 +133,7 @@ module _ (ours : List ℕ → Bool) (alone : Bool) (w : World) (options : Option
       by_files (inr k) = inr (committed k)
 
 pub ended_done : (ours : List ℕ → Bool) (alone : Bool) (w : World) (options : Options) (d : Device) → EndedAt ours alone w options d → DoneAt ours alone w options d
-ended_done ours alone w options d e = record { state = e.state; pending = Missing; idle = tt; files = e.files; alike = e.alike }
+ended_done ours alone w options d e = let x = e.1 in record { state = x.state; pending = Missing; idle = tt; files = x.files; marks = e.0; alike = x.alike }
 
 -- ---- in the words of the rules
 

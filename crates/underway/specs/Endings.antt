@@ -14,12 +14,12 @@ use Rattle.run_laws.specs.AlikeLaws.{own_world}
 use Rattle.outside.specs.Devices.{Device}
 use Rattle.underway.specs.Openings.{IsIdle, world_at}
 
--- Both mailboxes and this state are alike to the outcome of the world: under rising UIDs and marks that differ, and without what
--- others added. Where nobody adds any, nothing is left out.
-pub record AlikeAt (ours : List ℕ → Bool) (alone : Bool) (w : World) (options : Options) (d : Device) (state : SyncState) : Type 0 where
-  pub marks : List (List ℕ)
+-- Both mailboxes and this state are alike to the outcome of the world: under rising UIDs, with copies that bear these marks, which differ,
+-- and without what others added. Where nobody adds any, nothing is left out.
+pub record AlikeAt (ours : List ℕ → Bool) (alone : Bool) (w : World) (options : Options) (marks : List (List ℕ)) (d : Device) (state : SyncState) : Type 0 where
   pub are_ours : All (λ mark. ours mark ≡ true) marks
   pub alike : AlikeBy w options (own_world w marks (world_at d state))
+  pub borne : alike.marks ≡ marks
   pub nobody : alone ≡ true → own_world w marks (world_at d state) ≡ world_at d state
 
 -- the run is done; its journal may still be there
@@ -28,13 +28,18 @@ pub record DoneAt (ours : List ℕ → Bool) (alone : Bool) (w : World) (options
   pub pending : Pending
   pub idle : IsIdle pending
   pub files : Holds d.files state pending
-  pub alike : AlikeAt ours alone w options d state
+  pub marks : List (List ℕ)
+  pub alike : AlikeAt ours alone w options marks d state
 
--- the run is done, and there is no journal
-pub record EndedAt (ours : List ℕ → Bool) (alone : Bool) (w : World) (options : Options) (d : Device) : Type 0 where
+-- the run is done, there is no journal, and the copies bear these marks
+pub record EndedUnder (ours : List ℕ → Bool) (alone : Bool) (w : World) (options : Options) (marks : List (List ℕ)) (d : Device) : Type 0 where
   pub state : SyncState
   pub files : Holds d.files state Missing
-  pub alike : AlikeAt ours alone w options d state
+  pub alike : AlikeAt ours alone w options marks d state
+
+-- they bear some marks
+abbrev pub EndedAt : (List ℕ → Bool) → Bool → World → Options → Device → Type 0
+EndedAt ours alone w options d = (marks : List (List ℕ)) × EndedUnder ours alone w options marks d
 
 -- the same in the words of the rules, where nobody adds messages: the world of the device is alike to the outcome of the opening
 pub record IsDone (opening : World) (options : Options) (d : Device) : Type 0 where

@@ -5,11 +5,12 @@ use Rattle.underway.proofs.Arrived.{underway_arrives}
 use Rattle.book.specs.declared.book.Pending.{Pending}
 use Rattle.book.specs.declared.book.Pending.TheVariants.{Missing, Useless, Planned}
 use Rattle.book.specs.Books.{IsPlanned}
+use Rattle.outside.specs.Devices.{Device}
 use Rattle.outside.specs.Opened.{Opened}
 use Rattle.underway.specs.Openings.{IsIdle}
-use Rattle.runner.specs.Before.{HasNoPlan, HasPlan}
+use Rattle.runner.specs.Before.{HasNoPlan, HasPlan, IsEmptied}
 use Rattle.runner.proofs.PartCalls.{from_book, left_call, line_of_book, passed_call}
-use Rattle.runner.proofs.Readings.{forgot, half_forgot, has_none, has_plan, none_of, some_of, stores_kept}
+use Rattle.runner.proofs.Readings.{forgot, forgot_held, half_forgot, has_none, has_plan, none_of, some_of, stores_kept}
 use Rattle.runner.proofs.Stages.{left_by}
 use Rattle.runner.proofs.Validities.{missing_here}
 use Rattle.runner.proofs.opening.forget.Goals as goal
@@ -22,6 +23,11 @@ never_both (Some o) h n = of_pending o.pending h n
     of_pending Missing h n = h
     of_pending Useless h n = h
     of_pending (Planned written) h n = n
+
+-- a plan is pending
+planned_emptied : (opened : Option Opened) (d : Device) → HasPlan opened → IsEmptied opened d
+planned_emptied None d h = h
+planned_emptied (Some o) d h = λ idle. absurd (never_both (Some o) h idle)
 
 pub returns-in-Ok-clause-part : goal.returns-in-Ok-clause-part
 returns-in-Ok-clause-part g c =
@@ -59,3 +65,17 @@ returns-then-is_some-clause-gone g c = λ none.
 
 pub returns-in-Ok-clause-gone : goal.returns-in-Ok-clause-gone
 returns-in-Ok-clause-gone g c = λ none. rw c.in-Ok.ensures.opened (missing_here (g.O.Outside.opened c.args.outside.now) none)
+
+pub returns-then-is_some-clause-emptied : goal.returns-then-is_some-clause-emptied
+returns-then-is_some-clause-emptied g c = λ honest held.
+    let opened = g.O.Outside.opened c.args.outside.now in
+    let i : is_some c.pending.result ≡ true = grind (arith, common_steps) in
+    let j = some_of _ c.pending.result _ c.pending.ensures i in
+    planned_emptied opened _ (has_plan opened j.0 j.1)
+
+pub returns-in-Ok-clause-emptied : goal.returns-in-Ok-clause-emptied
+returns-in-Ok-clause-emptied g c = λ honest held.
+    let w = c.in-Ok.ensures.call in
+    let acts = w.acts in
+    let e = acts.effect honest in
+    forgot_held g.O.Outside.ours g.O.Outside.alone g.opening (g.O.Outside.opened c.args.outside.now) (g.O.Outside.seen c.args.outside.now).device e.mid (g.O.Outside.seen c.discard.new.self).device c.requires.1.0 e.before held e.behind

@@ -25,6 +25,9 @@ returns-in-Ok-clause-held g c = λ honest. let w = c.in-Ok.ensures.call in let a
 pub returns-in-Ok-clause-kept : goal.returns-in-Ok-clause-kept
 returns-in-Ok-clause-kept g c = λ honest. let w = c.in-Ok.ensures.call in let acts = w.acts in let e = acts.effect honest in kept_read g.O.Outside.ours g.O.Outside.alone _ e.mid _ e.before e.behind.0
 
+pub returns-in-Err-clause-kept : goal.returns-in-Err-clause-kept
+returns-in-Err-clause-kept g c = λ honest. let w = c.in-Err.ensures.call in let acts = w.acts in let l = acts.left honest in kept_read g.O.Outside.ours g.O.Outside.alone _ l.mid _ l.before l.behind.0
+
 pub returns-in-Ok-clause-stuck : goal.returns-in-Ok-clause-stuck
 returns-in-Ok-clause-stuck g c = λ b. absurd (whole_call _ _ _ _ _ _ _ _ _ c.in-Ok.ensures.call b)
 

@@ -1,7 +1,8 @@
 use Rattle.std.proofs.Common.{◌≡◌, refl, sym, ◌∙◌}
+use Rattle.std.proofs.lemmas.Result.{err_from_is_err_and}
 use Rattle.planner.specs.Written.{marks_of}
 use Rattle.runner.specs.Answers.{AreDrawn}
-use Rattle.runner.proofs.PlanFacts.{in_range, plan_run, planned_by, same_state, takes_plan}
+use Rattle.runner.proofs.PlanFacts.{in_range, plan_run, planned_by, repeats_in, same_state, takes_plan}
 use Rattle.runner.proofs.Validities.{side_told}
 use Rattle.runner.proofs.planning.make_plan.Goals as goal
 
@@ -22,6 +23,12 @@ returns-in-Ok-clause-plan g c = λ w order is shown mine.
     let drawn : AreDrawn (g.R.Rng.stream c.args.rng.now) both.far both.near s c.args.options.now (marks_of c.in-Ok.plan.steps) = rw (sym given) c.in_ok-marks.ensures.drawn in
     planned_by g.O.Outside.ours w s c.args.options.now both.far both.near (same_state opened s w.state c.state-state.ensures.state is) shown c.in-Ok.plan _ drawn mine
     (plan_run opened s c.in-Ok.plan c.state-state.ensures.state e.run c.requires.room) e.sides.0 e.sides.1 (rw (e.given) e.written.0) e.written.1
+
+pub returns-in_err-marks-clause-repeats : goal.returns-in_err-marks-clause-repeats
+returns-in_err-marks-clause-repeats g c =
+    let e = err_from_is_err_and c.from_residual.result c.from_residual.ensures.1 in
+    let both = c.args.both.now in
+    rw (e.1, e.2) (λ is. repeats_in (g.O.Outside.opened c.args.outside.now) c.state-state.result.now _ both.far both.near _ c.state-state.ensures.state (c.in_err-marks.ensures.repeats is))
 
 pub returns-clause-changed : goal.returns-clause-changed
 returns-clause-changed g c = λ side is.

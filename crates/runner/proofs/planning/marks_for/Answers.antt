@@ -9,4 +9,7 @@ pub returns-in-Err-MarksRepeat-clause-moved : goal.returns-in-Err-MarksRepeat-cl
 returns-in-Err-MarksRepeat-clause-moved g c = let e = c.in-Err-MarksRepeat.ensures in moved_pairs _ _ _ (e.repeats (rw c.in-Err-MarksRepeat.field-0-is refl))
 
 pub returns-in-Err-MarksRepeat-clause-repeats : goal.returns-in-Err-MarksRepeat-clause-repeats
-returns-in-Err-MarksRepeat-clause-repeats g c = λ is. let e = c.in-Err-MarksRepeat.ensures in (_, (e.repeats (rw c.in-Err-MarksRepeat.field-0-is refl)).0)
+returns-in-Err-MarksRepeat-clause-repeats g c = λ is.
+    let e = c.in-Err-MarksRepeat.ensures in
+    let n = c.news-count.ensures in
+    rw (← n.counted) (record { few = n.few; repeats = (e.repeats (rw c.in-Err-MarksRepeat.field-0-is refl)).0 })

@@ -3,6 +3,7 @@ use Rattle.std.proofs.lemmas.Result.{err_from_is_err_and}
 use Rattle.runner.specs.Answers.{IsAsked, IsKnownEntry, run_of}
 use Rattle.runner.specs.Going.{plan_at}
 use Rattle.runner.proofs.PartCalls.{left_told, left_weaker, part_after, part_told, passed_weaker, passed_with}
+use Rattle.runner.proofs.StepParts.{repeats_from}
 use Rattle.runner.proofs.Passes.{boxed_answers, boxed_book, boxed_run, boxed_runs}
 use Rattle.runner.proofs.PlanFacts.{moved_none}
 use Rattle.runner.proofs.Readings.{book_read, both_open}
@@ -22,7 +23,7 @@ work-requires g c κs within =
 pub returns-in_err-open_boxes-clause-part : goal.returns-in_err-open_boxes-clause-part
 returns-in_err-open_boxes-clause-part g c =
     let e = err_from_is_err_and c.from_residual.result c.from_residual.ensures.1 in
-    rw (e.1, e.2) (left_told _ _ _ _ _ _ _ _ (record { changed = λ side t. t; repeats = λ n. absurd n; unread = λ e n. n; refused = λ step n. absurd n; unstepped = λ u. u }) (left_weaker _ _ _ _ _ _ _ (λ d k. k.known) c.in_err-open_boxes.ensures.part))
+    rw (e.1, e.2) (left_told _ _ _ _ _ _ _ _ (record { changed = λ side t. t; repeats = λ n. absurd n; beyond = λ n. n; unread = λ e n. n; refused = λ step n. absurd n; unstepped = λ u. u }) (left_weaker _ _ _ _ _ _ _ (λ d k. k.known) c.in_err-open_boxes.ensures.part))
 
 pub returns-clause-answer : goal.returns-clause-answer
 returns-clause-answer g c =
@@ -47,7 +48,7 @@ returns-clause-part g c =
     let with = passed_with ((run ≤ g.opening.world.state.run + 1) × IsAsked ours g.opening options stream) _ _ _ _ _ _ c.in_ok-open_boxes.ensures.part in
     let ready = passed_weaker _ _ (IsKnownEntry ours alone g.opening old run options stream) _ (IsKnownEntry ours alone g.opening new run options stream) _ 0 _ s1 refl (λ d k. ((k.most, k.asked), k.known)) (λ d k. record { most = k.0.0; asked = k.0.1; known = k.1 }) with in
     let same : run_of new ≡ run_of old = rw c.in_ok-open_boxes.ensures.opened (boxed_run old) in
-    part_after _ _ _ _ _ _ _ _ _ s1 _ _ c.work.ensures.was_honest ready (part_told _ _ _ _ _ _ _ _ _ _ (record { changed = λ side t. same_told _ _ _ old new (g.O.Outside.seen c.args.outside.now).device s1.device (g.O.Outside.seen c.work.new.outside).device side c.work.ensures.was_honest c.in_ok-open_boxes.ensures.opened c.in_ok-open_boxes.ensures.kept t; repeats = λ k. k; unread = λ e n. n; refused = λ step t h at. t h (ready.reaches (c.work.ensures.was_honest h) at); unstepped = λ u. u }) (rw same at c.work.ensures.part))
+    part_after _ _ _ _ _ _ _ _ _ s1 _ _ c.work.ensures.was_honest ready (part_told _ _ _ _ _ _ _ _ _ _ (record { changed = λ side t. same_told _ _ _ old new (g.O.Outside.seen c.args.outside.now).device s1.device (g.O.Outside.seen c.work.new.outside).device side c.work.ensures.was_honest c.in_ok-open_boxes.ensures.opened c.in_ok-open_boxes.ensures.kept t; repeats = λ k. repeats_from alone g.opening _ _ _ options stream (λ h at. ready.reaches (c.work.ensures.was_honest h) at) k; beyond = λ n. n; unread = λ e n. n; refused = λ step t h at. t h (ready.reaches (c.work.ensures.was_honest h) at); unstepped = λ u. u }) (rw same at c.work.ensures.part))
 
 pub returns-in_err-open_boxes-clause-moved : goal.returns-in_err-open_boxes-clause-moved
 returns-in_err-open_boxes-clause-moved g c = moved_none _

@@ -2,8 +2,9 @@ use Rattle.std.proofs.Common.{◌≤◌, ◌+◌, refl}
 use Rattle.std.proofs.lemmas.Result.{err_from_is_err_and}
 use Rattle.runner.specs.Answers.{IsAsked, IsEntry, IsKnownEntry}
 use Rattle.runner.proofs.PartCalls.{left_told, left_weaker, part_after, part_told, passed_weaker, passed_with}
-use Rattle.runner.proofs.Passes.{answers_held, pass_alike, runs_held, stores_joined}
+use Rattle.runner.proofs.Passes.{answers_held, beyond_held, beyond_read, emptied_held, pass_alike, runs_held, stores_joined}
 use Rattle.runner.proofs.PlanFacts.{moved_none}
+use Rattle.runner.proofs.StepParts.{repeats_from}
 use Rattle.runner.proofs.Validities.{files_changed}
 use Rattle.runner.proofs.Told.{told_from}
 use Rattle.runner.proofs.Finding.{finds_held}
@@ -12,7 +13,7 @@ use Rattle.runner.proofs.run.pass.Goals as goal
 pub returns-in_err-recall-clause-part : goal.returns-in_err-recall-clause-part
 returns-in_err-recall-clause-part g c =
     let e = err_from_is_err_and c.from_residual.result c.from_residual.ensures.1 in
-    rw (e.1, e.2) (left_told _ _ _ _ _ _ _ _ (record { changed = λ side n. absurd n; repeats = λ n. absurd n; unread = λ e t. t; refused = λ step n. absurd n; unstepped = λ u. u }) (left_weaker _ _ _ _ _ _ _ (λ d k. k.underway) c.in_err-recall.ensures.part))
+    rw (e.1, e.2) (left_told _ _ _ _ _ _ _ _ (record { changed = λ side n. absurd n; repeats = λ n. absurd n; beyond = λ n. absurd n; unread = λ e t. t; refused = λ step n. absurd n; unstepped = λ u. u }) (left_weaker _ _ _ _ _ _ _ (λ d k. k.underway) c.in_err-recall.ensures.part))
 
 pub returns-clause-answer : goal.returns-clause-answer
 returns-clause-answer g c = answers_held c.args.run (g.O.Outside.opened c.recall.new.outside) _ _ _ c.take_up.result c.take_up.ensures.answer c.take_up.ensures.was_honest c.in_ok-recall.ensures.held
@@ -22,6 +23,23 @@ returns-clause-runs g c = runs_held (g.O.Outside.opened c.recall.new.outside) _ 
 
 pub returns-clause-stores : goal.returns-clause-stores
 returns-clause-stores g c = let s0 = g.O.Outside.seen c.args.outside.now in let s1 = g.O.Outside.seen c.recall.new.outside in let s2 = g.O.Outside.seen c.take_up.new.outside in stores_joined g.O.Outside.alone _ _ s0.device s1.device s2.device c.take_up.result c.take_up.ensures.stores c.take_up.ensures.was_honest (λ h e. let k = c.in_ok-recall.ensures.kept h in k.same e)
+
+pub returns-clause-idle : goal.returns-clause-idle
+returns-clause-idle g c =
+    let s0 = g.O.Outside.seen c.args.outside.now in
+    let s1 = g.O.Outside.seen c.recall.new.outside in
+    let s2 = g.O.Outside.seen c.take_up.new.outside in
+    emptied_held (g.O.Outside.opened c.recall.new.outside) s0.device s1.device s2.device _ _ c.take_up.result c.take_up.ensures.emptied c.take_up.ensures.was_honest c.in_ok-recall.ensures.held (λ h. let k = c.in_ok-recall.ensures.kept h in k.files)
+
+pub returns-in_err-recall-clause-beyond : goal.returns-in_err-recall-clause-beyond
+returns-in_err-recall-clause-beyond g c = λ h s p held more.
+    let e = err_from_is_err_and c.from_residual.result c.from_residual.ensures.1 in
+    rw e.1 (refl, c.in_err-recall.ensures.kept h)
+
+pub returns-clause-beyond : goal.returns-clause-beyond
+returns-clause-beyond g c =
+    let s0 = g.O.Outside.seen c.args.outside.now in
+    beyond_held g.O.Outside.alone (g.O.Outside.opened c.recall.new.outside) c.args.run _ _ s0.device (g.O.Outside.seen c.recall.new.outside) (g.O.Outside.seen c.take_up.new.outside) c.take_up.result c.take_up.ensures.beyond c.take_up.ensures.was_honest c.in_ok-recall.ensures.held c.in_ok-recall.ensures.kept
 
 pub returns-clause-part : goal.returns-clause-part
 returns-clause-part g c =
@@ -36,7 +54,7 @@ returns-clause-part g c =
     let stream = g.R.Rng.stream c.args.rng.now in
     let with = passed_with ((run ≤ g.opening.world.state.run + 1) × IsAsked ours g.opening options stream) _ _ _ _ _ _ c.in_ok-recall.ensures.part in
     let ready = passed_weaker _ _ (IsEntry ours alone g.opening run options stream) _ (IsKnownEntry ours alone g.opening opened run options stream) _ 0 _ s1 refl (λ d k. ((k.most, k.asked), k.underway)) (λ d k. record { most = k.0.0; asked = k.0.1; known = k.1 }) with in
-    part_after _ _ _ _ _ _ _ _ _ s1 _ _ c.take_up.ensures.was_honest ready (part_told _ _ _ _ _ _ _ _ _ _ (record { changed = λ side t. files_changed alone _ _ opened s0.device s1.device s2.device side c.take_up.ensures.was_honest c.in_ok-recall.ensures.held c.in_ok-recall.ensures.kept t; repeats = λ k. k; unread = λ e n. absurd n; refused = λ step t h at. t h (ready.reaches (c.take_up.ensures.was_honest h) at); unstepped = λ u. u }) c.take_up.ensures.part)
+    part_after _ _ _ _ _ _ _ _ _ s1 _ _ c.take_up.ensures.was_honest ready (part_told _ _ _ _ _ _ _ _ _ _ (record { changed = λ side t. files_changed alone _ _ opened s0.device s1.device s2.device side c.take_up.ensures.was_honest c.in_ok-recall.ensures.held c.in_ok-recall.ensures.kept t; repeats = λ k. repeats_from alone g.opening _ _ _ options stream (λ h at. ready.reaches (c.take_up.ensures.was_honest h) at) k; beyond = λ n h. beyond_read opened s0.device run (c.in_ok-recall.ensures.held (c.take_up.ensures.was_honest h)) n; unread = λ e n. absurd n; refused = λ step t h at. t h (ready.reaches (c.take_up.ensures.was_honest h) at); unstepped = λ u. u }) c.take_up.ensures.part)
 
 pub returns-in_err-recall-clause-moved : goal.returns-in_err-recall-clause-moved
 returns-in_err-recall-clause-moved g c = moved_none _

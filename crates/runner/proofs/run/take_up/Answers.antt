@@ -1,7 +1,7 @@
 use Rattle.std.proofs.Common.{◌≡◌, ◌≤◌, ◌+◌, inl, refl, arith, rules}
 use Rattle.runner.specs.Answers.{IsKnownEntry, Reaches, run_of}
 use Rattle.runner.proofs.StepParts.{part_unstepped, run_weaker}
-use Rattle.runner.proofs.PartCalls.{left_here, part_weaker, passed_none}
+use Rattle.runner.proofs.PartCalls.{left_here, part_told, part_weaker, passed_none}
 use Rattle.runner.proofs.Passes.{end_reaches, known_least, run_of_state}
 use Rattle.runner.proofs.PlanFacts.{moved_none}
 use Rattle.runner.proofs.Readings.{book_read}
@@ -31,7 +31,12 @@ returns-clause-part g c =
     let opened = g.O.Outside.opened c.args.outside.now in
     let same = run_of_state opened c.state.result.now c.state.ensures.state in
     let is : c.args.run ≡ run_of opened + 1 = omega (arith, same, c.if-run-last.false, c.if-run-last-gt1.false) in
-    run_weaker _ _ _ _ _ _ _ (λ x. Reaches ours alone g.opening c.args.run) _ _ _ (λ d k. record { most = let m = k.most in omega (arith, is, m); asked = k.asked; known = k.known }) (λ x d k. end_reaches ours alone g.opening c.args.run d k) c.open_and_work.ensures.part (λ step t. t)
+    let options = c.args.options.now in
+    let stream = g.R.Rng.stream c.args.rng.now in
+    let next = IsKnownEntry ours alone g.opening opened (run_of opened + 1) options stream in
+    let entry = IsKnownEntry ours alone g.opening opened c.args.run options stream in
+    part_told _ _ _ _ _ _ _ _ _ _ (record { changed = λ side t. t; repeats = λ k. k; beyond = λ n. absurd n; unread = λ e n. n; refused = λ step t. t; unstepped = λ u. u })
+    (run_weaker alone g.opening options stream _ _ next entry _ _ _ (λ x. Reaches ours alone g.opening c.args.run) _ _ _ (λ d k. record { most = let m = k.most in omega (arith, is, m); asked = k.asked; known = k.known }) (λ x d k. end_reaches ours alone g.opening c.args.run d k) c.open_and_work.ensures.part)
 
 pub returns-then-run-last-gt1-clause-part : goal.returns-then-run-last-gt1-clause-part
 returns-then-run-last-gt1-clause-part g c =
@@ -41,7 +46,17 @@ returns-then-run-last-gt1-clause-part g c =
     let s = g.O.Outside.seen c.args.outside.now in
     let same = run_of_state opened c.state.result.now c.state.ensures.state in
     let entry = IsKnownEntry ours alone g.opening opened c.args.run c.args.options.now (g.R.Rng.stream c.args.rng.now) in
-    left_here _ entry entry _ 0 _ s s (passed_none _ entry entry s c.requires.1.1.1.1 (λ k. k)) (inl refl) (λ k. let m = k.most in let l = known_least ours alone g.opening opened s.device k.known in omega (arith, same, m, l, c.if-run-last.false, c.if-run-last-gt1.true))
+    left_here _ entry entry _ 0 _ s s (passed_none _ entry entry s c.requires.1.1.1.1 (λ k. k)) (inl (refl, inl (omega (arith, same, c.if-run-last.false, c.if-run-last-gt1.true)))) (λ k. let m = k.most in let l = known_least ours alone g.opening opened s.device k.known in omega (arith, same, m, l, c.if-run-last.false, c.if-run-last-gt1.true))
+
+pub returns-then-run-last-clause-beyond : goal.returns-then-run-last-clause-beyond
+returns-then-run-last-clause-beyond g c = λ more.
+    let same = run_of_state (g.O.Outside.opened c.args.outside.now) c.state.result.now c.state.ensures.state in
+    absurd (omega (arith, same, more, c.if-run-last.true))
+
+pub returns-clause-beyond : goal.returns-clause-beyond
+returns-clause-beyond g c = λ more.
+    let same = run_of_state (g.O.Outside.opened c.args.outside.now) c.state.result.now c.state.ensures.state in
+    absurd (omega (arith, same, more, c.if-run-last.false, c.if-run-last-gt1.false))
 
 pub returns-then-run-last-clause-moved : goal.returns-then-run-last-clause-moved
 returns-then-run-last-clause-moved g c = moved_none _

@@ -1,6 +1,6 @@
-use Rattle.std.proofs.Common.{◌≡◌, true, false, is_some, arith}
+use Rattle.std.proofs.Common.{◌≡◌, ◌+◌, true, false, is_some, arith}
 use Rattle.std.proofs.lemmas.Grind.{common_steps}
-use Rattle.runner.specs.Answers.{AtEnd}
+use Rattle.runner.specs.Answers.{AtEnd, IsChosen, IsKnownEntry, run_of}
 use Rattle.runner.specs.Before.{HasNoPlan}
 use Rattle.runner.proofs.PartCalls.{part_told, part_weaker}
 use Rattle.runner.proofs.StepParts.{calls_told, run_weaker}
@@ -26,7 +26,9 @@ returns-else-is_some-clause-part g c =
     let opened = g.O.Outside.opened c.args.outside.now in
     let i : is_some c.pending.result ≡ false = grind (arith, common_steps) in
     let none : HasNoPlan opened = has_none opened (book_read opened c.requires.1.1.1.0) (none_of _ c.pending.result _ c.pending.ensures i) in
-    run_weaker _ _ _ _ _ _ _ (λ x. AtEnd ours alone g.opening) _ _ _ (λ d k. record { asked = k.asked; none = known_unplanned ours alone g.opening opened d none k.most k.known }) (λ x d k. k) c.begin.ensures.part (λ step t. t)
+    let options = c.args.options.now in
+    let stream = g.R.Rng.stream c.args.rng.now in
+    run_weaker alone g.opening options stream _ _ (IsChosen ours alone g.opening opened options stream) (IsKnownEntry ours alone g.opening opened (run_of opened + 1) options stream) _ _ _ (λ x. AtEnd ours alone g.opening) _ _ _ (λ d k. record { asked = k.asked; none = known_unplanned ours alone g.opening opened d none k.most k.known }) (λ x d k. k) c.begin.ensures.part
 
 pub returns-then-is_some-clause-moved : goal.returns-then-is_some-clause-moved
 returns-then-is_some-clause-moved g c = moved_none _

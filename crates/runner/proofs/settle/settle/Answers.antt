@@ -1,11 +1,10 @@
-use Rattle.std.proofs.Common.{◌≤◌, Ok, Err, refl, ap, subst, sym, arith}
+use Rattle.std.proofs.Common.{◌≤◌, ◌<◌, Ok, Err, refl, ap, subst, sym, arith}
 use Rattle.outside.specs.Calls.{Seen}
 use Rattle.underway.specs.Conditions.{Underway}
 use Rattle.runner.specs.declared.pass.Pass.{Pass}
-use Rattle.runner.specs.Answers.{WillRepeat}
-use Rattle.runner.specs.Attempts.{IsTried}
+use Rattle.runner.specs.Attempts.{IsTried, WillRepeat}
 use Rattle.runner.specs.Faults.{TellsNoRun}
-use Rattle.runner.proofs.Attempts.{caused_since, changed_last, failed_few, found_device, greatest_since, kept_none, last_answers, last_finds, met_before, more_found, moved_twice, refused_for, stops_kept, stops_more, stuck_first, stuck_more, tried_underway}
+use Rattle.runner.proofs.Attempts.{beyond_later, caused_since, changed_last, failed_few, found_device, greatest_since, kept_none, last_answers, last_finds, met_before, more_found, moved_twice, refused_for, stops_kept, stops_more, stuck_first, stuck_more, tried_underway}
 use Rattle.runner.proofs.PartCalls.{leaves_after, leaves_map, more_after, more_none}
 use Rattle.runner.proofs.Passes.{over_alike}
 use Rattle.runner.proofs.PlanFacts.{moved_none}
@@ -143,7 +142,10 @@ returns-in-Err-clause-caused g c = λ other.
     let s1 = g.O.Outside.seen c.again.new.outside in
     let s2 = g.O.Outside.seen c.attempt.new.outside in
     let appends : s0.appends ≤ s1.appends = (let k = i.appends in let r = ap (λ (s : Seen). s.appends) e in omega (arith, k, r)) in
-    caused_since _ _ _ (WillRepeat (g.R.Rng.stream c.args.rng.now)) (TellsNoRun (g.O.Outside.honest c.attempt.new.outside) (g.O.Outside.seen c.attempt.new.outside).device) c.in-Err.fault s0 s1 s2 (more_found c.loop-tried.tried s0 now s1 i.told e) appends other c.in-Err.ensures.part (λ k. (g.R.Rng.stream c.loop-tried.rng, i.moved, k)) (λ e t. t)
+    let start = g.R.Rng.stream c.args.rng.now in
+    let before = IsTried g.O.Outside.ours g.O.Outside.alone g.opening c.args.options.now (g.R.Rng.stream c.loop-tried.rng) c.loop-tried.run in
+    let device = found_device c.loop-tried.tried now s1 e in
+    caused_since _ _ _ (WillRepeat (g.O.Outside.honest c.attempt.new.outside) g.O.Outside.ours g.O.Outside.alone g.opening c.args.options.now start s0.device) (g.O.Outside.honest c.attempt.new.outside → 1 < c.args.tries) (TellsNoRun (g.O.Outside.honest c.attempt.new.outside) (g.O.Outside.seen c.attempt.new.outside).device) c.in-Err.fault s0 s1 s2 (more_found c.loop-tried.tried s0 now s1 i.told e) appends other c.in-Err.ensures.part (λ k. record { drawn = g.R.Rng.stream c.loop-tried.rng; moved = i.moved; count = k.count; repeats = k.repeats; wanted = λ h asked at. k.wanted h (subst before (sym device) (i.left (c.again.ensures.was_honest (c.attempt.ensures.was_honest h)) asked at)) }) (λ b. beyond_later c.loop-tried.tried c.args.tries c.loop-tried.run _ i.unfixed (omega arith) b) (λ e t. t)
 
 pub returns-in-Err-clause-refused : goal.returns-in-Err-clause-refused
 returns-in-Err-clause-refused g c = λ step is h asked at.

@@ -21,3 +21,9 @@ returns-clause-caused g c = rw c.new.ensures at c.settle.ensures.caused
 
 pub returns-clause-refused : goal.returns-clause-refused
 returns-clause-refused g c = rw c.new.ensures at c.settle.ensures.refused
+
+pub returns-clause-told : goal.returns-clause-told
+returns-clause-told g c = rw c.new.ensures at c.settle.ensures.told
+
+pub returns-clause-found : goal.returns-clause-found
+returns-clause-found g c = rw c.new.ensures at c.settle.ensures.found
