@@ -69,7 +69,7 @@ WasTold Clean = ⊥
 WasTold Faulty = Unit {0}
 WasTold Over = Unit {0}
 
-told_is_told : (verdict : Verdict) → WasTold verdict → verdict ≡ Clean → ⊥
+pub told_is_told : (verdict : Verdict) → WasTold verdict → verdict ≡ Clean → ⊥
 told_is_told verdict h e = subst WasTold e h
 
 pub IsQuiet-more : (first then last : Option (List ℕ)) (verdict later : Verdict) → IsQuiet first then verdict → IsQuiet then last later → IsQuiet first last (both verdict later)

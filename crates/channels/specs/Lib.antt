@@ -4,3 +4,4 @@ pub mod Refusals
 pub mod Openings
 pub mod Lines
 pub mod Founds
+pub mod Asks

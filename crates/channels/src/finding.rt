@@ -1,6 +1,9 @@
 //! Which mailboxes a channel has, and on which sides they are there.
 
 ghost use Rattle.std.specs.Prelude.{◌≡◌, ℕ, Bool, List, false, IfOk};
+ghost use Rattle.std.specs.List.{fold};
+ghost use Rattle.stores.specs.Asked.{joined_of};
+ghost use Rattle.channels.specs.Asks.{lists_asked};
 ghost use Rattle.channels.specs.Founds.{absent_in};
 ghost use Rattle.choosing.specs.Boxes.{Tells, boxes_among};
 
@@ -18,8 +21,8 @@ use stores::stores::BoxLists;
 /// The mailboxes of both stores of a channel.
 #[derive(Drop)]
 pub(crate) struct Found {
-    far: Vec<MailboxName>,
-    near: Vec<MailboxName>,
+    pub(crate) far: Vec<MailboxName>,
+    pub(crate) near: Vec<MailboxName>,
 }
 
 impl Found {
@@ -29,7 +32,10 @@ impl Found {
         stores: &mut ToldStores<'_, S, O, E>,
     ) -> Result<Self, ListFault>
         requires going { stores.old.write_failed ≡ false }
-        ensures { stores.new ≡ record stores.old { stores = stores.new.stores } }
+        ensures others { stores.new ≡ record stores.old { stores = stores.new.stores } }
+        ensures stores { stores.new.stores.ghost_name ≡ stores.old.stores.ghost_name }
+        ensures asks { IfOk result (λ found. S.asked stores.new.stores.now
+            ≡ fold S.noted (S.asked stores.old.stores.now) (lists_asked (joined_of of.entry) found.far.items found.near.items)) }
     {
         let far = stores.far_boxes(of.far_store)?;
         let near = stores.near_boxes(of.near_store)?;

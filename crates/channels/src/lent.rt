@@ -1,10 +1,12 @@
 //! One run over a mailbox that was lent.
 
-ghost use Rattle.std.specs.Prelude.{◌≡◌, OnOk};
+ghost use Rattle.std.specs.Prelude.{◌≡◌, Err, OnOk};
 ghost use Rattle.underway.specs.Conditions.{IsOver};
 ghost use Rattle.underway.specs.Openings.{Opening};
 ghost use Rattle.runner.specs.Answers.{IsAsked};
-ghost use Rattle.runner.specs.Attempts.{AtOpening};
+ghost use Rattle.runner.specs.Attempts.{AtOpening, FromOpening, MetStops};
+ghost use Rattle.channels.specs.Asks.{run_attempts};
+ghost use Rattle.channels.specs.Openings.{first_on};
 
 use crate::fault::BoxFault;
 use outside::outside::Outside;
@@ -33,18 +35,30 @@ pub(crate) struct RunOnce<'a, R> {
 }
 
 impl<R: Rng> Work for RunOnce<'_, R> {
+    ghost use Rattle.std.specs.Prelude.{is_ok};
+    ghost use Rattle.channels.specs.Asks.{run_attempts};
+
+    ghost options = { λ run. run.options.now };
+
+    ghost attempts = { λ _. run_attempts };
+
+    ghost is_done = { λ answer. is_ok answer };
+
     type Answer = Result<Pass, BoxFault>;
 
-    fn over<O: Outside, P: Progress>(
-        self,
-        outside: &mut O,
-        progress: &P,
-    ) -> Result<Pass, BoxFault> {
+    fn over<O: Outside, P: Progress>(self, outside: &mut O, progress: &P) -> Result<Pass, BoxFault>
+        ensures done { OnOk result (FromOpening (O.honest outside.new) O.ours O.alone
+            (first_on (O.seen outside.old).device self.entry.options.now) self.entry.options.now (R.stream self.entry.rng.now)
+            (O.seen outside.old).device
+            (IsOver O.ours O.alone (first_on (O.seen outside.old).device self.entry.options.now) (O.seen outside.new).device)) }
+        ensures stopped { result ≡ Err (BoxFault.Run RunFault.Stopped) → MetStops run_attempts (O.seen outside.old) (O.seen outside.new) }
+    {
         settle_lent(self.alloc, outside, self.options, self.rng, progress)
     }
 }
 
-/// Makes one run over an outside. From an opening, the run is over where it answers.
+/// Makes one run over an outside. From an opening, the run is over where it answers. It is told as stopped only where each attempt met a
+/// stop.
 fn settle_lent<O: Outside, R: Rng, P: Progress>(
     alloc: Global,
     outside: &mut O,
@@ -55,6 +69,7 @@ fn settle_lent<O: Outside, R: Rng, P: Progress>(
     ghost opening: { Opening }
     ensures done { OnOk result (O.honest outside.new → IsAsked O.ours opening options.now (R.stream rng.old)
         → AtOpening O.ours O.alone opening (O.seen outside.old).device → IsOver O.ours O.alone opening (O.seen outside.new).device) }
+    ensures stopped { result ≡ Err (BoxFault.Run RunFault.Stopped) → MetStops run_attempts (O.seen outside.old) (O.seen outside.new) }
 {
     match settle(alloc, outside, options, TRIES, rng, progress) {
         Ok(settled) => Ok(settled.last),

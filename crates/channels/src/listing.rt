@@ -1,8 +1,11 @@
 //! The mailboxes of channels as `-l` prints them.
 
-ghost use Rattle.std.specs.Prelude.{◌≡◌, false, IfOk, OnOk, string_bytes};
+ghost use Rattle.std.specs.Prelude.{◌≡◌, [], false, IfOk, OnOk, string_bytes};
 ghost use Rattle.std.specs.Io.KnownBytes.{Appends};
 ghost use Rattle.std.specs.List.{flat_map};
+ghost use Rattle.stores.specs.Asked.{joined_of};
+ghost use Rattle.channels.specs.declared.verdict.Verdict.TheVariants.{Clean};
+ghost use Rattle.channels.specs.Asks.{Asks, Lists, ListsBoth};
 ghost use Rattle.channels.specs.Founds.{IsPair};
 ghost use Rattle.channels.specs.Lines.{box_line};
 ghost use Rattle.channels.specs.Streams.{Extends, IsQuiet, Notes};
@@ -34,6 +37,9 @@ pub(crate) fn list_channel<S: BoxLists, O: Write, E: Write>(
     ensures quiet { IfOk result (IsQuiet (E.contents stores.old.err.now) (E.contents stores.new.err.now)) }
     ensures whole { OnOk result (Extends (O.contents stores.old.out.now) (O.contents stores.new.out.now)) }
     ensures failed { Notes false stores.new.write_failed result }
+    ensures stores { stores.new.stores.ghost_name ≡ stores.old.stores.ghost_name }
+    ensures asks { IfOk result (λ verdict. verdict ≡ Clean
+        → Lists S.noted (joined_of of.entry) of.entry.channel.now.boxes (S.asked stores.old.stores.now) (S.asked stores.new.stores.now)) }
 {
     match &of.channel.boxes {
         Boxes::Pair { far, .. } => {
@@ -55,7 +61,9 @@ fn matching<S: BoxLists, O: Write, E: Write>(
     stores: &mut ToldStores<'_, S, O, E>,
 ) -> Result<Vec<MailboxName>, ListFault>
     requires going { stores.old.write_failed ≡ false }
-    ensures { stores.new ≡ record stores.old { stores = stores.new.stores } }
+    ensures others { stores.new ≡ record stores.old { stores = stores.new.stores } }
+    ensures stores { stores.new.stores.ghost_name ≡ stores.old.stores.ghost_name }
+    ensures asks { OnOk result (ListsBoth S.noted (joined_of of.entry) (S.asked stores.old.stores.now) (S.asked stores.new.stores.now)) }
 {
     let found = Found::of(of, stores)?;
     found.matching(alloc, patterns)
@@ -74,6 +82,7 @@ fn list_boxes<S: BoxLists, O: Write, E: Write>(
     ensures quiet { IfOk result (IsQuiet (E.contents stores.old.err.now) (E.contents stores.new.err.now)) }
     ensures whole { OnOk result (Extends (O.contents stores.old.out.now) (O.contents stores.new.out.now)) }
     ensures failed { Notes false stores.new.write_failed result }
+    ensures asks { Asks S.noted S.asked stores.old.stores stores.new.stores [] }
 {
     stores.tell_notices()?;
     print_boxes(stores, channel, boxes)?;
@@ -93,6 +102,7 @@ fn print_boxes<S: BoxLists, O: Write, E: Write>(
         (flat_map (λ far. box_line (string_bytes channel.now.name) far) boxes.now)) }
     ensures whole { OnOk result (Extends (O.contents stores.old.out.now) (O.contents stores.new.out.now)) }
     ensures failed { Notes false stores.new.write_failed result }
+    ensures stores { stores.new.stores ≡ stores.old.stores }
 {
     for far in boxes {
         stores.print_box(channel, far)?;

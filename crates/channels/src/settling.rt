@@ -1,7 +1,11 @@
 //! The mailboxes of channels as they are synchronised.
 
-ghost use Rattle.std.specs.Prelude.{◌≡◌, false, Err, IfOk, IfSome, IsSome, OnOk};
+ghost use Rattle.std.specs.Prelude.{◌≡◌, ◌∷◌, [], false, true, Err, IfOk, IfSome, IsSome, OnOk};
+ghost use Rattle.std.specs.List.{fold};
 ghost use Rattle.choosing.specs.Scope.{uncovered};
+ghost use Rattle.stores.specs.Asked.{Ran, joined_of, place_of};
+ghost use Rattle.channels.specs.declared.verdict.Verdict.TheVariants.{Clean};
+ghost use Rattle.channels.specs.Asks.{Asks, AsksIfClean, Settles, SettlesFound, box_asked, boxes_asked, makings, run_attempts};
 ghost use Rattle.channels.specs.Streams.{Extends, IsQuiet, Notes};
 
 use crate::fault::BoxFault;
@@ -47,6 +51,9 @@ pub(crate) fn settle_channel<S: Stores, R: Rng, O: Write, E: Write>(
     ensures quiet { IfOk result (IsQuiet (E.contents stores.old.err.now) (E.contents stores.new.err.now)) }
     ensures whole { OnOk result (Extends (O.contents stores.old.out.now) (O.contents stores.new.out.now)) }
     ensures failed { Notes false stores.new.write_failed result }
+    ensures stores { stores.new.stores.ghost_name ≡ stores.old.stores.ghost_name }
+    ensures asks { IfOk result (λ verdict. verdict ≡ Clean
+        → Settles S.noted work.entry.options.now (joined_of work.entry.of) (S.asked stores.old.stores.now) (S.asked stores.new.stores.now)) }
 {
     match Found::of(work.of, stores) {
         Ok(found) => {
@@ -70,6 +77,10 @@ fn settle_found<S: Stores, R: Rng, O: Write, E: Write>(
     ensures quiet { IfOk result (IsQuiet (E.contents stores.old.err.now) (E.contents stores.new.err.now)) }
     ensures whole { OnOk result (Extends (O.contents stores.old.out.now) (O.contents stores.new.out.now)) }
     ensures failed { Notes false stores.new.write_failed result }
+    ensures stores { stores.new.stores.ghost_name ≡ stores.old.stores.ghost_name }
+    ensures asks { IfOk result (λ verdict. verdict ≡ Clean
+        → SettlesFound S.noted work.entry.options.now (joined_of work.entry.of) found.now.far.items found.now.near.items
+        work.entry.of.channel.now.boxes (S.asked stores.old.stores.now) (S.asked stores.new.stores.now)) }
 {
     match &work.of.channel.boxes {
         Boxes::Pair { far, near } => {
@@ -102,6 +113,9 @@ fn settle_boxes<S: Stores, R: Rng, O: Write, E: Write>(
     ensures quiet { IfOk result (IsQuiet (E.contents stores.old.err.now) (E.contents stores.new.err.now)) }
     ensures whole { OnOk result (Extends (O.contents stores.old.out.now) (O.contents stores.new.out.now)) }
     ensures failed { Notes false stores.new.write_failed result }
+    ensures stores { stores.new.stores.ghost_name ≡ stores.old.stores.ghost_name }
+    ensures asks { IfOk result (AsksIfClean S.noted (S.asked stores.old.stores.now) (S.asked stores.new.stores.now)
+        (boxes_asked work.entry.options.now (joined_of work.entry.of) found.now.far.items found.now.near.items boxes.now)) }
 {
     let mut verdict = Verdict::Clean;
     for name in boxes {
@@ -133,6 +147,9 @@ fn settle_box<S: Stores, R: Rng, O: Write, E: Write>(
     ensures quiet { IfOk result (IsQuiet (E.contents stores.old.err.now) (E.contents stores.new.err.now)) }
     ensures whole { OnOk result (Extends (O.contents stores.old.out.now) (O.contents stores.new.out.now)) }
     ensures failed { Notes false stores.new.write_failed result }
+    ensures stores { stores.new.stores.ghost_name ≡ stores.old.stores.ghost_name }
+    ensures asks { IfOk result (AsksIfClean S.noted (S.asked stores.old.stores.now) (S.asked stores.new.stores.now)
+        (box_asked work.entry.options.now (place_of place.entry) absent)) }
 {
     let verdict = make_and_run(work, place, absent, stores, rng)?;
     stores.tell_notices()?;
@@ -154,6 +171,9 @@ fn make_and_run<S: Stores, R: Rng, O: Write, E: Write>(
     ensures quiet { IfOk result (IsQuiet (E.contents stores.old.err.now) (E.contents stores.new.err.now)) }
     ensures whole { OnOk result (Extends (O.contents stores.old.out.now) (O.contents stores.new.out.now)) }
     ensures failed { Notes false stores.new.write_failed result }
+    ensures stores { stores.new.stores.ghost_name ≡ stores.old.stores.ghost_name }
+    ensures asks { IfOk result (AsksIfClean S.noted (S.asked stores.old.stores.now) (S.asked stores.new.stores.now)
+        (box_asked work.entry.options.now (place_of place.entry) absent)) }
 {
     match make_absent(place, absent, stores) {
         Ok(()) => {
@@ -178,6 +198,9 @@ fn run_box<S: Stores, R: Rng, O: Write, E: Write>(
     ensures quiet { IfOk result (IsQuiet (E.contents stores.old.err.now) (E.contents stores.new.err.now)) }
     ensures whole { OnOk result (Extends (O.contents stores.old.out.now) (O.contents stores.new.out.now)) }
     ensures failed { Notes false stores.new.write_failed result }
+    ensures stores { stores.new.stores.ghost_name ≡ stores.old.stores.ghost_name }
+    ensures asks { IfOk result (AsksIfClean S.noted (S.asked stores.old.stores.now) (S.asked stores.new.stores.now)
+        (Ran (place_of place.entry) work.entry.options.now run_attempts true ∷ [])) }
 {
     stores.print_box(place.of.channel, place.far)?;
     match stores.settle(work.alloc, place, work.options, rng) {
@@ -201,6 +224,9 @@ fn make_absent<S: Stores, O: Write, E: Write>(
     ensures told { IfSome (uncovered absent place.entry.of.channel.now.create) (λ side. result ≡ Err (BoxFault.Absent side)) }
     ensures nothing { IsSome (uncovered absent place.entry.of.channel.now.create) → stores.new ≡ stores.old }
     ensures others { stores.new ≡ record stores.old { stores = stores.new.stores } }
+    ensures stores { stores.new.stores.ghost_name ≡ stores.old.stores.ghost_name }
+    ensures asks { OnOk result (S.asked stores.new.stores.now
+        ≡ fold S.noted (S.asked stores.old.stores.now) (makings (place_of place.entry) absent)) }
 {
     if let Some(side) = uncovered(absent, place.of.channel.create) {
         return Err(BoxFault::Absent(side));
@@ -241,6 +267,7 @@ fn tell_left_out<S: Stores, O: Write, E: Write>(
     ensures err { stores.new.err.ghost_name ≡ stores.old.err.ghost_name }
     ensures quiet { IfOk result (IsQuiet (E.contents stores.old.err.now) (E.contents stores.new.err.now)) }
     ensures failed { Notes false stores.new.write_failed result }
+    ensures asks { Asks S.noted S.asked stores.old.stores stores.new.stores [] }
 {
     let mut verdict = Verdict::Clean;
     for path in stores.left_out() {
@@ -263,6 +290,7 @@ fn print_answer<S: Stores, O: Write, E: Write>(
     ensures quiet { IfOk result (IsQuiet (E.contents stores.old.err.now) (E.contents stores.new.err.now)) }
     ensures whole { OnOk result (Extends (O.contents stores.old.out.now) (O.contents stores.new.out.now)) }
     ensures failed { Notes false stores.new.write_failed result }
+    ensures asks { Asks S.noted S.asked stores.old.stores stores.new.stores [] }
 {
     match answer_text(alloc, pass) {
         Ok(text) => {

@@ -1,8 +1,10 @@
 //! The stores of a run behind its streams: they are asked only as long as what is done could be told.
 
-ghost use Rattle.std.specs.Prelude.{◌≡◌, false, true, IfOk, OnOk, string_bytes};
+ghost use Rattle.std.specs.Prelude.{◌≡◌, ◌∷◌, [], false, true, is_ok, IfOk, OnOk, string_bytes};
 ghost use Rattle.std.specs.Io.KnownBytes.{Appends};
 ghost use Rattle.rules.specs.Options.{covers};
+ghost use Rattle.stores.specs.Asked.{FarListed, Made, NearListed, Ran, names_of, place_of};
+ghost use Rattle.channels.specs.Asks.{Asks, run_attempts};
 ghost use Rattle.channels.specs.Lines.{box_line};
 ghost use Rattle.channels.specs.Streams.{Extends, HasNotices, IsTold, Notes};
 
@@ -42,6 +44,7 @@ impl<'a, S: BoxLists, O: Write, E: Write> ToldStores<'a, S, O, E> {
         ensures stores { result.stores.ghost_name ≡ stores.entry.ghost_name }
         ensures out { result.out.ghost_name ≡ out.entry.ghost_name }
         ensures err { result.err.ghost_name ≡ err.entry.ghost_name }
+        ensures stores_now { result.stores.now ≡ stores.old }
         ensures out_now { result.out.now ≡ out.old }
         ensures err_now { result.err.now ≡ err.old }
         ensures going { result.write_failed ≡ false }
@@ -57,7 +60,8 @@ impl<'a, S: BoxLists, O: Write, E: Write> ToldStores<'a, S, O, E> {
     /// The mailboxes of a far store.
     pub(crate) fn far_boxes(&mut self, store: &ImapStore) -> Result<Vec<MailboxName>, ListFault>
         requires going { self.old.write_failed ≡ false }
-        ensures { self.new ≡ record self.old { stores = self.new.stores } }
+        ensures others { self.new ≡ record self.old { stores = self.new.stores } }
+        ensures asks { Asks S.noted S.asked self.old.stores self.new.stores (FarListed store.now (names_of result) ∷ []) }
     {
         self.stores.far_boxes(store)
     }
@@ -65,7 +69,8 @@ impl<'a, S: BoxLists, O: Write, E: Write> ToldStores<'a, S, O, E> {
     /// The mailboxes of a near store.
     pub(crate) fn near_boxes(&mut self, store: &MaildirStore) -> Result<Vec<MailboxName>, ListFault>
         requires going { self.old.write_failed ≡ false }
-        ensures { self.new ≡ record self.old { stores = self.new.stores } }
+        ensures others { self.new ≡ record self.old { stores = self.new.stores } }
+        ensures asks { Asks S.noted S.asked self.old.stores self.new.stores (NearListed store.now (names_of result) ∷ []) }
     {
         self.stores.near_boxes(store)
     }
@@ -101,6 +106,7 @@ impl<'a, S: BoxLists, O: Write, E: Write> ToldStores<'a, S, O, E> {
     pub(crate) fn tell_notices(&mut self) -> io::Result<()>
         requires going { self.old.write_failed ≡ false }
         ensures out { self.new.out ≡ self.old.out }
+        ensures asks { Asks S.noted S.asked self.old.stores self.new.stores [] }
         ensures err { self.new.err.ghost_name ≡ self.old.err.ghost_name }
         ensures notices { OnOk result (HasNotices (E.contents self.old.err.now) (E.contents self.new.err.now)) }
         ensures failed { Notes false self.new.write_failed result }
@@ -127,7 +133,8 @@ impl<'a, S: BoxLists, O: Write, E: Write> ToldStores<'a, S, O, E> {
     /// What the server said of a fault that an answer of it can have caused. Of another fault it said nothing, nor of one that comes later.
     fn words_on(&mut self, is_of_server: bool) -> Option<String>
         requires going { self.old.write_failed ≡ false }
-        ensures { self.new ≡ record self.old { stores = self.new.stores } }
+        ensures others { self.new ≡ record self.old { stores = self.new.stores } }
+        ensures asks { Asks S.noted S.asked self.old.stores self.new.stores [] }
     {
         let words = self.stores.server_words();
         if is_of_server { words } else { None }
@@ -137,6 +144,7 @@ impl<'a, S: BoxLists, O: Write, E: Write> ToldStores<'a, S, O, E> {
     pub(crate) fn tell_list(&mut self, fault: &ListFault) -> io::Result<Verdict>
         requires going { self.old.write_failed ≡ false }
         ensures others { self.new ≡ record self.old { stores = self.new.stores; err = self.new.err; write_failed = self.new.write_failed } }
+        ensures asks { Asks S.noted S.asked self.old.stores self.new.stores [] }
         ensures err { self.new.err.ghost_name ≡ self.old.err.ghost_name }
         ensures told { IfOk result IsTold }
         ensures failed { Notes self.old.write_failed self.new.write_failed result }
@@ -151,6 +159,7 @@ impl<'a, S: BoxLists, O: Write, E: Write> ToldStores<'a, S, O, E> {
     pub(crate) fn tell_unlisted(&mut self, fault: &ListFault) -> io::Result<Verdict>
         requires going { self.old.write_failed ≡ false }
         ensures out { self.new.out ≡ self.old.out }
+        ensures asks { Asks S.noted S.asked self.old.stores self.new.stores [] }
         ensures err { self.new.err.ghost_name ≡ self.old.err.ghost_name }
         ensures told { IfOk result IsTold }
         ensures failed { Notes false self.new.write_failed result }
@@ -176,6 +185,7 @@ impl<'a, S: BoxLists, O: Write, E: Write> ToldStores<'a, S, O, E> {
     pub(crate) fn tell(&mut self, place: ChannelBox<'_>, fault: &BoxFault) -> io::Result<Verdict>
         requires going { self.old.write_failed ≡ false }
         ensures others { self.new ≡ record self.old { stores = self.new.stores; err = self.new.err; write_failed = self.new.write_failed } }
+        ensures asks { Asks S.noted S.asked self.old.stores self.new.stores [] }
         ensures err { self.new.err.ghost_name ≡ self.old.err.ghost_name }
         ensures told { IfOk result IsTold }
         ensures failed { Notes self.old.write_failed self.new.write_failed result }
@@ -192,7 +202,8 @@ impl<S: Stores, O: Write, E: Write> ToldStores<'_, S, O, E> {
     pub(crate) fn make(&mut self, side: Side, place: ChannelBox<'_>) -> Result<(), StoreFault>
         requires going { self.old.write_failed ≡ false }
         requires covered { covers place.of.channel.now.create side ≡ true }
-        ensures { self.new ≡ record self.old { stores = self.new.stores } }
+        ensures others { self.new ≡ record self.old { stores = self.new.stores } }
+        ensures asks { Asks S.noted S.asked self.old.stores self.new.stores (Made side (place_of place.entry) ∷ []) }
     {
         self.stores.make(side, place)
     }
@@ -200,7 +211,8 @@ impl<S: Stores, O: Write, E: Write> ToldStores<'_, S, O, E> {
     /// Whether the near folder of a mailbox has the state of a former run.
     pub(crate) fn has_state(&mut self, place: ChannelBox<'_>) -> Result<bool, StoreFault>
         requires going { self.old.write_failed ≡ false }
-        ensures { self.new ≡ record self.old { stores = self.new.stores } }
+        ensures others { self.new ≡ record self.old { stores = self.new.stores } }
+        ensures asks { Asks S.noted S.asked self.old.stores self.new.stores [] }
     {
         self.stores.has_state(place)
     }
@@ -208,7 +220,8 @@ impl<S: Stores, O: Write, E: Write> ToldStores<'_, S, O, E> {
     /// The paths of the near files that the last run left out.
     pub(crate) fn left_out(&mut self) -> Vec<String>
         requires going { self.old.write_failed ≡ false }
-        ensures { self.new ≡ record self.old { stores = self.new.stores } }
+        ensures others { self.new ≡ record self.old { stores = self.new.stores } }
+        ensures asks { Asks S.noted S.asked self.old.stores self.new.stores [] }
     {
         self.stores.left_out()
     }
@@ -216,7 +229,8 @@ impl<S: Stores, O: Write, E: Write> ToldStores<'_, S, O, E> {
     /// Ends what stands at servers: nothing more is asked.
     pub(crate) fn end(&mut self)
         requires going { self.old.write_failed ≡ false }
-        ensures { self.new ≡ record self.old { stores = self.new.stores } }
+        ensures others { self.new ≡ record self.old { stores = self.new.stores } }
+        ensures asks { Asks S.noted S.asked self.old.stores self.new.stores [] }
     {
         self.stores.end();
     }
@@ -230,7 +244,9 @@ impl<S: Stores, O: Write, E: Write> ToldStores<'_, S, O, E> {
         rng: &mut R,
     ) -> Result<Pass, BoxFault>
         requires going { self.old.write_failed ≡ false }
-        ensures { self.new ≡ record self.old { stores = self.new.stores } }
+        ensures others { self.new ≡ record self.old { stores = self.new.stores } }
+        ensures asks { Asks S.noted S.asked self.old.stores self.new.stores
+            (Ran (place_of place.entry) options.now run_attempts (is_ok result) ∷ []) }
     {
         match self.settle_open(alloc, place, options, rng) {
             Err(BoxFault::Run(RunFault::Stopped)) => Err(self.stopped()),
@@ -248,7 +264,9 @@ impl<S: Stores, O: Write, E: Write> ToldStores<'_, S, O, E> {
         rng: &mut R,
     ) -> Result<Pass, BoxFault>
         requires going { self.old.write_failed ≡ false }
-        ensures { self.new ≡ record self.old { stores = self.new.stores } }
+        ensures others { self.new ≡ record self.old { stores = self.new.stores } }
+        ensures asks { Asks S.noted S.asked self.old.stores self.new.stores
+            (Ran (place_of place.entry) options.now run_attempts (is_ok result) ∷ []) }
     {
         let run = RunOnce {
             alloc,
@@ -264,7 +282,8 @@ impl<S: Stores, O: Write, E: Write> ToldStores<'_, S, O, E> {
     /// Why a run was stopped.
     fn stopped(&mut self) -> BoxFault
         requires going { self.old.write_failed ≡ false }
-        ensures { self.new ≡ record self.old { stores = self.new.stores } }
+        ensures others { self.new ≡ record self.old { stores = self.new.stores } }
+        ensures asks { Asks S.noted S.asked self.old.stores self.new.stores [] }
     {
         match self.stores.stop_cause() {
             Some(cause) => BoxFault::Stopped(cause),
@@ -275,7 +294,8 @@ impl<S: Stores, O: Write, E: Write> ToldStores<'_, S, O, E> {
     /// Why a run ended over a sound state.
     fn given_again(&mut self) -> BoxFault
         requires going { self.old.write_failed ≡ false }
-        ensures { self.new ≡ record self.old { stores = self.new.stores } }
+        ensures others { self.new ≡ record self.old { stores = self.new.stores } }
+        ensures asks { Asks S.noted S.asked self.old.stores self.new.stores [] }
     {
         match self.stores.stop_cause() {
             Some(StopCause::GivenAgain(uid)) => BoxFault::GivenAgain(uid),

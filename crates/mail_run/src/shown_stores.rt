@@ -26,6 +26,12 @@ impl<'a, S: Stores + Drop, T: Write + Copy> ShownStores<'a, S, T> {
 }
 
 impl<S: Stores + Drop, T: Write + Copy> BoxLists for ShownStores<'_, S, T> {
+    ghost Record = { S.Record };
+
+    ghost noted = { S.noted };
+
+    ghost asked = { λ shown. S.asked shown.stores };
+
     fn far_boxes(&mut self, store: &ImapStore) -> Result<Vec<MailboxName>, ListFault> {
         self.stores.far_boxes(store)
     }

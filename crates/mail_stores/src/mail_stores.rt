@@ -246,6 +246,12 @@ fn sides_of<R: Net + Files<File = File> + Clock + AllocGlobal + Clone + Drop>(
 
 impl<R: Net + Files<File = File> + Clock + AllocGlobal + Clone + Drop, P: Progress> BoxLists
     for MailStores<R, P> {
+    ghost Record = { Unit {0} };
+
+    ghost noted = { λ _ _. tt };
+
+    ghost asked = { λ _. tt };
+
     fn far_boxes(&mut self, store: &ImapStore) -> Result<Vec<MailboxName>, ListFault> {
         self.ask(store);
         match self.names_at(store) {

@@ -1,5 +1,8 @@
 //! The mailboxes of a channel, with the stores that they are in.
 
+ghost use Rattle.std.specs.Prelude.{IfSome};
+ghost use Rattle.stores.specs.Asked.{IsJoined, joined_of};
+
 use config::config::{Channel, Config, ImapStore, MaildirStore};
 use mailcore::mailbox_name::MailboxName;
 
@@ -16,7 +19,10 @@ pub struct ChannelStores<'a> {
 
 impl<'a> ChannelStores<'a> {
     /// The channel of this place, or none if it or a store of it is not in the configuration.
-    pub fn at(config: &'a Config, place: usize) -> Option<Self> {
+    #[tactic(auto, using(std::proofs::lemmas::Option::gets))]
+    pub fn at(config: &'a Config, place: usize) -> Option<Self>
+        ensures { IfSome result (λ of. IsJoined config.now place (joined_of of)) }
+    {
         let channel = config.channels.get(place)?;
         let far_store = config.imap_stores.get(channel.far)?;
         let near_store = config.maildir_stores.get(channel.near)?;

@@ -6,7 +6,7 @@ use device::trouble::Trouble;
 /// What stopped a run.
 #[derive(Drop)]
 pub enum StopCause {
-    /// The server of the IMAP store of this name: `Unreached`, `Ended` or `Dismissed`.
+    /// The server of the IMAP store of this name: `Unreached`, `Ended`, `NoAnswer` or `Dismissed`.
     Server(String, ServerFault),
     /// The system said this of what stands at this path.
     Disk(String, Trouble),

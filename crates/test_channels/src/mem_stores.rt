@@ -197,6 +197,12 @@ fn names_in(alloc: Global, line: Option<&str>) -> Result<Vec<MailboxName>, Alloc
 }
 
 impl BoxLists for MemStores<'_> {
+    ghost Record = { Unit {0} };
+
+    ghost noted = { λ _ _. tt };
+
+    ghost asked = { λ _. tt };
+
     fn far_boxes(&mut self, store: &ImapStore) -> Result<Vec<MailboxName>, ListFault> {
         self.ask("far_boxes ", &store.name);
         self.list("far", &store.name)

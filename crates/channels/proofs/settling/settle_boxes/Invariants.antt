@@ -1,9 +1,13 @@
-use Rattle.std.specs.Prelude.{◌≡◌, false}
+use Rattle.std.specs.Prelude.{◌≡◌, false, take}
+use Rattle.stores.specs.Asked.{joined_of}
+use Rattle.channels.specs.Asks.{AsksIfClean, boxes_asked}
 use Rattle.channels.specs.Streams.{Extends, IsQuiet}
 use Rattle.channels.proofs.settling.settle_boxes.Given as goal
 
 abbrev pub invariant-loop-name : goal.invariant-loop-name
 invariant-loop-name g l = record {
+  stores : l.stores.stores.ghost_name ≡ l.initial.stores.stores.ghost_name;
+  asks : AsksIfClean g.S.BoxLists.noted (g.S.BoxLists.asked l.initial.stores.stores.now) (g.S.BoxLists.asked l.stores.stores.now) (boxes_asked l.work.options.now (joined_of l.work.of) l.found.far.items l.found.near.items (take l.name-index l.boxes)) l.verdict;
   out : l.stores.out.ghost_name ≡ l.initial.stores.out.ghost_name;
   err : l.stores.err.ghost_name ≡ l.initial.stores.err.ghost_name;
   quiet : IsQuiet (g.E.Write.contents l.initial.stores.err.now) (g.E.Write.contents l.stores.err.now) l.verdict;

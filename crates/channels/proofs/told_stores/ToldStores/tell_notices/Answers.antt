@@ -8,6 +8,8 @@ pub loop-notice-preserved-in_ok-tell_notice : goal.loop-notice-preserved-in_ok-t
 loop-notice-preserved-in_ok-tell_notice g c = record {
   next = tt;
   ends = tt;
+  stores = grind (arith, common_steps);
+  asked = grind (arith, common_steps);
   out = grind (arith, common_steps);
   err = grind (arith, common_steps);
   notices = HasNotices-more _ _ _ c.loop-notice.invariant.notices c.in_ok-tell_notice.ensures.notices;
@@ -18,6 +20,8 @@ pub loop-notice-preserved : goal.loop-notice-preserved
 loop-notice-preserved g c = record {
   next = tt;
   ends = tt;
+  stores = grind (arith, common_steps);
+  asked = grind (arith, common_steps);
   out = grind (arith, common_steps);
   err = grind (arith, common_steps);
   notices = HasNotices-more _ _ _ c.loop-notice.invariant.notices c.in_ok-tell_notice.ensures.notices;
