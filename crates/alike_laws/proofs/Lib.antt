@@ -4,3 +4,4 @@ pub mod NoMore
 pub mod InOrder
 pub mod Found
 pub mod Runs
+pub mod Beginnings

@@ -1,2 +1,3 @@
 pub mod Worlds
 pub mod Runs
+pub mod Beginnings

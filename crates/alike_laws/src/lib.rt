@@ -2,6 +2,7 @@
 //! that are alike, and what a device says that a run is underway on.
 #![tactic(auto)]
 
+ghost use Rattle.alike_laws.specs.Beginnings as beginning;
 ghost use Rattle.alike_laws.specs.Runs as run;
 ghost use Rattle.alike_laws.specs.Worlds as world;
 
@@ -30,4 +31,9 @@ pub fn underway_has_one_plan()
 pub fn done_begins_the_next_run()
     ensures unplanned { run.DoneIsUnplanned }
     ensures opening { run.DoneIsOpening }
+{}
+
+/// Where a device holds a world that a run may begin with, and no journal, that run is underway: it has no plan yet.
+pub fn world_begins_a_run()
+    ensures { beginning.WorldIsUnplanned }
 {}

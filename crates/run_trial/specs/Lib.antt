@@ -1,1 +1,3 @@
 pub mod Statuses
+pub mod Settings
+pub mod Memory

@@ -1,37 +1,84 @@
 //! The devices of a trial, and a run over them.
 
+ghost use Rattle.std.specs.Prelude.{◌≡◌, IfErr, IfOk, OnOk, codes, true};
+ghost use Rattle.maildir.specs.MemFolders.{stored_in};
+ghost use Rattle.rules.specs.World.{World};
+ghost use Rattle.book.specs.MemShelves.{files_of};
+ghost use Rattle.near_box.specs.Mailboxes.{near_of};
+ghost use Rattle.far_side.specs.Chosen.{box_at};
+ghost use Rattle.pair.specs.Pairs.{seen_of};
+ghost use Rattle.pair.specs.Parts.{device_with};
+ghost use Rattle.pair.specs.Tallies.{seen_with, untouched};
+ghost use Rattle.underway.specs.Conditions.{Underway};
+ghost use Rattle.underway.specs.Endings.{IsDone};
+ghost use Rattle.alike_laws.specs.Beginnings.{Begins, opening_of};
+ghost use Rattle.runner.specs.Attempts.{HasNoNext};
+ghost use Rattle.runner.specs.Faults.{LeavesRun};
+ghost use Rattle.trial.specs.Openings.{AreOurs};
+
 use crate::failure::Failure;
 use crate::server::{TrialLink, account_of};
 use book::mem_shelf::MemShelf;
+use both::both::Both;
+use both::sides::Sides;
 use far_side::far_side::FarSide;
 use maildir::mem_folder::MemFolder;
 use maildir::meta::Meta;
-use near_side::near_side::NearSide;
 use outside::outside::Outside;
-use pair::book_part::BookPart;
-use pair::pair::Pair;
 use rules::options::Options;
+use rules::state::SyncState;
 use runner::fault::RunFault;
 use runner::pass::Settled;
 use std::alloc::Global;
 use std::num::NonZeroU32;
 use trial::attempts::settle_trial;
 use trial::folder::contents_of;
-use trial::report::Ending;
 use trial::shelf::state_in;
 use written_worlds::write::{WrittenMailbox, WrittenWorld, write_parts};
 
-/// Makes one run over an outside, and gives it back beside what the run came to.
-fn settle_all<O: Outside>(
+/// Makes one run over an outside whose shelf holds this state, and gives it back beside what the run came to.
+///
+/// Where the outside has kept its word and nobody else adds messages: from a world that a run may begin with, an answer leaves both
+/// mailboxes and the state alike to the outcome that the rules name for it, and a fault leaves the run underway. Behind the greatest run
+/// number there is no other run.
+pub(crate) fn settle_all<O: Outside>(
     alloc: Global,
     outside: O,
     options: &Options,
     tries: u32,
-) -> (O, Result<Settled, RunFault>) {
+    state: &SyncState,
+) -> (O, Result<Settled, RunFault>)
+    ensures done { (start : World) → start.state ≡ state.now → O.honest result.0 → O.alone ≡ true → AreOurs O.ours
+        → Begins start (O.seen outside).device → OnOk result.1 (IsDone start options.now (O.seen result.0).device) }
+    ensures left { (start : World) → start.state ≡ state.now → O.honest result.0 → AreOurs O.ours → Begins start (O.seen outside).device
+        → IfErr result.1 (λ fault. LeavesRun (Underway O.ours O.alone (opening_of start options.now)) fault (O.seen outside) (O.seen result.0)) }
+    ensures greatest { HasNoNext (O.honest result.0) O.alone (O.seen outside).device (O.seen result.0).device result.1 }
+{
+    settle_from(alloc, outside, options, tries, state)
+}
+
+/// The same from one world. The state is there for the contract alone, which names the world by it.
+fn settle_from<O: Outside>(
+    alloc: Global,
+    outside: O,
+    options: &Options,
+    tries: u32,
+    _state: &SyncState,
+) -> (O, Result<Settled, RunFault>)
+    ghost start: { World }
+    ensures done { O.honest result.0 → O.alone ≡ true → AreOurs O.ours → Begins start (O.seen outside).device
+        → OnOk result.1 (IsDone start options.now (O.seen result.0).device) }
+    ensures left { O.honest result.0 → AreOurs O.ours → Begins start (O.seen outside).device
+        → IfErr result.1 (λ fault. LeavesRun (Underway O.ours O.alone (opening_of start options.now)) fault (O.seen outside) (O.seen result.0)) }
+    ensures greatest { HasNoNext (O.honest result.0) O.alone (O.seen outside).device (O.seen result.0).device result.1 }
+{
     let mut outside = outside;
     let settled = settle_trial(alloc, &mut outside, options, tries);
     (outside, settled)
 }
+
+/// The outside of a run, beside what the run came to.
+pub(crate) type Run<L> = (Both<L, MemFolder, MemShelf>, Result<Settled, RunFault>);
 
 /// The near mailbox's folder, the shelf, and the far mailbox's link.
 #[derive(Drop)]
@@ -42,30 +89,44 @@ pub(crate) struct Devices<L: TrialLink + Drop> {
 }
 
 impl<L: TrialLink + Drop> Devices<L> {
-    /// Makes one run, and tells what it came to.
+    /// Makes one run over them, and gives its outside beside what it came to.
     pub(crate) fn run(
         self,
         alloc: Global,
         options: &Options,
         tries: u32,
-    ) -> Result<(Devices<L>, Ending), Failure> {
-        let far = FarSide::new(alloc, account_of(alloc)?, self.link);
-        // The folder of a trial has a meta file, so that this is of no use.
-        let near = NearSide::new(alloc, self.folder, NonZeroU32::MIN);
-        let outside = Pair::new(alloc, far, near, BookPart::new(alloc, self.shelf));
-        let (outside, settled) = settle_all(alloc, outside, options, tries);
-        let (far, near, book) = outside.into_parts();
-        let devices = Devices {
-            link: far.into_link(),
-            folder: near.into_folder(),
-            shelf: book.into_shelf(),
+        state: &SyncState,
+    ) -> Result<Run<L>, Failure> {
+        let outside = self.together(alloc)?;
+        Ok(settle_all(alloc, outside, options, tries, state))
+    }
+
+    /// The outside of a run over them. Nothing is open, and no call was made.
+    pub(crate) fn together(self, alloc: Global) -> Result<Both<L, MemFolder, MemShelf>, Failure>
+        ensures { IfOk result (λ both. seen_of both ≡ seen_with (device_with (box_at (codes "INBOX") (L.line self.link).end.server)
+            (near_of 1 (stored_in self.folder)) (files_of self.shelf)) untouched) }
+    {
+        let sides = Sides {
+            far: FarSide::new(alloc, account_of(alloc)?, self.link),
+            folder: self.folder,
+            shelf: self.shelf,
         };
-        let stops = devices.stops();
-        Ok((devices, Ending { settled, stops }))
+        // The folder of a trial has a meta file, so that this is of no use.
+        Ok(sides.together(alloc, NonZeroU32::MIN))
+    }
+
+    /// What the outside of a run stands on.
+    pub(crate) fn of(outside: Both<L, MemFolder, MemShelf>) -> Self {
+        let Sides { far, folder, shelf } = Sides::of(outside);
+        Devices {
+            link: far.into_link(),
+            folder,
+            shelf,
+        }
     }
 
     /// How many calls have stopped.
-    fn stops(&self) -> usize {
+    pub(crate) fn stops(&self) -> usize {
         self.link
             .stops()
             .saturating_add(self.folder.stops())

@@ -4,6 +4,7 @@
 
 mod devices;
 mod failure;
+mod memory;
 pub mod run;
 mod schedule;
 mod server;

@@ -3,8 +3,9 @@
 ghost use Rattle.std.specs.Prelude.{◌≡◌, ◌≤◌, IfOk, IsErr};
 ghost use Rattle.imap_server.specs.Boxes.{AreServed};
 
-use crate::devices::Devices;
+use crate::devices::{Devices, Run};
 use crate::failure::Failure;
+use crate::memory::run_in_memory;
 use crate::server::TrialLink;
 use crate::setting::{FarSetting, Setting, setting_of};
 use imap_server::server::Server;
@@ -13,13 +14,13 @@ use link_face::words::Words;
 use mem_link::loop_link::LoopLink;
 use mem_link::mem_link::MemLink;
 use mem_link::schedule::Schedule;
-use rules::options::Options;
 use std::alloc::{AllocError, Global};
 use std::io;
 use std::io::{Read, Write};
 use std::net::Net;
 use std::rc::Rc;
 use trial::read::read_trial;
+use trial::report::Ending;
 use trial::trial::Trial;
 
 /// What a program is asked for by its arguments.
@@ -95,36 +96,57 @@ fn told_of_trial<R: Net + AllocGlobal + Clone + Drop>(
     ensures { IfOk result (λ told. told.1 ≤ 1) }
 {
     let alloc = rt.alloc();
+    match request {
+        Request::Memory | Request::Unknown => told_of(alloc, run_in_memory(alloc, trial)?),
+        Request::Face => told_over_face(alloc, trial),
+        Request::Loopback => told_over_loopback(rt, trial),
+    }
+}
+
+/// What is told of this trial behind a face.
+fn told_over_face(alloc: Global, trial: Trial) -> Result<(String, u8), Failure>
+    ensures { IfOk result (λ told. told.1 ≤ 1) }
+{
     let options = trial.world.options;
     let tries = trial.course.tries;
-    let Setting { far, folder, shelf } = setting_of(alloc, trial)?;
+    let Setting {
+        far,
+        folder,
+        shelf,
+        state,
+    } = setting_of(alloc, trial)?;
     let FarSetting { server, schedule } = far;
-    match request {
-        Request::Loopback => {
-            let devices = Devices {
-                link: LoopLink::new(rt, server, schedule),
-                folder,
-                shelf,
-            };
-            told_of(alloc, devices, &options, tries)
-        }
-        Request::Face => {
-            let devices = Devices {
-                link: face_of(alloc, server, schedule)?,
-                folder,
-                shelf,
-            };
-            told_of(alloc, devices, &options, tries)
-        }
-        Request::Memory | Request::Unknown => {
-            let devices = Devices {
-                link: MemLink::new(alloc, server, schedule),
-                folder,
-                shelf,
-            };
-            told_of(alloc, devices, &options, tries)
-        }
-    }
+    let devices = Devices {
+        link: face_of(alloc, server, schedule)?,
+        folder,
+        shelf,
+    };
+    told_of(alloc, devices.run(alloc, &options, tries, &state)?)
+}
+
+/// What is told of this trial over a loopback connection.
+fn told_over_loopback<R: Net + AllocGlobal + Clone + Drop>(
+    rt: R,
+    trial: Trial,
+) -> Result<(String, u8), Failure>
+    ensures { IfOk result (λ told. told.1 ≤ 1) }
+{
+    let alloc = rt.alloc();
+    let options = trial.world.options;
+    let tries = trial.course.tries;
+    let Setting {
+        far,
+        folder,
+        shelf,
+        state,
+    } = setting_of(alloc, trial)?;
+    let FarSetting { server, schedule } = far;
+    let devices = Devices {
+        link: LoopLink::new(rt, server, schedule),
+        folder,
+        shelf,
+    };
+    told_of(alloc, devices.run(alloc, &options, tries, &state)?)
 }
 
 /// A link in memory behind a face.
@@ -139,16 +161,16 @@ fn face_of(
     Ok(FaceLink::new(alloc, MemLink::new(alloc, server, schedule), words))
 }
 
-/// Makes the run over these devices.
-fn told_of<L: TrialLink + Drop>(
-    alloc: Global,
-    devices: Devices<L>,
-    options: &Options,
-    tries: u32,
-) -> Result<(String, u8), Failure>
+/// What is told of a run, and the exit status.
+fn told_of<L: TrialLink + Drop>(alloc: Global, run: Run<L>) -> Result<(String, u8), Failure>
     ensures { IfOk result (λ told. told.1 ≤ 1) }
 {
-    let (devices, ending) = devices.run(alloc, options, tries)?;
+    let (outside, settled) = run;
+    let devices = Devices::of(outside);
+    let ending = Ending {
+        settled,
+        stops: devices.stops(),
+    };
     let mut text = ending.text(alloc)?;
     devices.write(alloc, &mut text)?;
     Ok((text, ending.status()))

@@ -1,7 +1,8 @@
 //! The far mailbox of a trial, as the INBOX of a server, and the links to it.
 
-ghost use Rattle.std.specs.Prelude.{IfOk};
+ghost use Rattle.std.specs.Prelude.{◌≡◌, IfOk, codes};
 ghost use Rattle.imap_server.specs.Boxes.{AreServed};
+ghost use Rattle.run_trial.specs.Settings.{inbox_of};
 
 use crate::failure::Failure;
 use far_side::account::Account;
@@ -10,6 +11,7 @@ use imap_server::served::are_served;
 use imap_server::server::Server;
 use link_face::face_link::FaceLink;
 use mailcore::mailbox::Mailbox;
+use mailcore::mailbox_name::MailboxName;
 use mem_link::loop_link::LoopLink;
 use mem_link::mem_link::MemLink;
 use std::alloc::{AllocError, Global};
@@ -22,12 +24,15 @@ const PASSWORD: &[u8] = b"p";
 
 const MAILBOX: &[u8] = b"INBOX";
 
-/// A server with this mailbox. `NoWorld`: it has a message that cannot be sent.
+/// A server with this mailbox, as its INBOX. `NoWorld`: it has a message that cannot be sent.
 pub(crate) fn server_with(alloc: Global, far: Mailbox) -> Result<Server, Failure>
-    ensures { IfOk result (λ server. AreServed server.server.mailboxes) }
+    ensures served { IfOk result (λ server. AreServed server.server.mailboxes) }
+    ensures inbox { IfOk result (λ server. server.server.mailboxes ≡ inbox_of far) }
 {
+    let mut inbox = far;
+    inbox.name = MailboxName::inbox(alloc)?;
     let mut mailboxes = Vec::new(alloc);
-    mailboxes.push(far)?;
+    mailboxes.push(inbox)?;
     if !are_served(&mailboxes) {
         return Err(Failure::NoWorld);
     }
@@ -37,7 +42,9 @@ pub(crate) fn server_with(alloc: Global, far: Mailbox) -> Result<Server, Failure
 }
 
 /// Whose mailbox it is.
-pub(crate) fn account_of(alloc: Global) -> Result<Account, AllocError> {
+pub(crate) fn account_of(alloc: Global) -> Result<Account, AllocError>
+    ensures { IfOk result (λ account. account.mailbox.items ≡ codes "INBOX") }
+{
     let user = Vec::from_slice(alloc, USER)?;
     let password = Vec::from_slice(alloc, PASSWORD)?;
     Ok(Account::new(user, password, Vec::from_slice(alloc, MAILBOX)?))

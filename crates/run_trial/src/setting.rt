@@ -1,7 +1,9 @@
 //! What the run of a trial is made over: the server with its far mailbox and where the link to it stops, the folder and the shelf.
 
-ghost use Rattle.std.specs.Prelude.{IfOk};
+ghost use Rattle.std.specs.Prelude.{◌≡◌, IfOk};
 ghost use Rattle.imap_server.specs.Boxes.{AreServed};
+ghost use Rattle.trial.specs.Worlds.{FitsWords, world_of};
+ghost use Rattle.run_trial.specs.Settings.{IsSettingOf, inbox_of};
 
 use crate::failure::Failure;
 use crate::schedule::schedule_of;
@@ -11,6 +13,7 @@ use imap_server::server::Server;
 use mailcore::mailbox::Mailbox;
 use maildir::mem_folder::MemFolder;
 use mem_link::schedule::Schedule;
+use rules::state::SyncState;
 use std::alloc::Global;
 use trial::folder::folder_with;
 use trial::shelf::shelf_with;
@@ -24,6 +27,8 @@ pub(crate) struct Setting {
     pub(crate) far: FarSetting,
     pub(crate) folder: MemFolder,
     pub(crate) shelf: MemShelf,
+    /// The state that the shelf holds.
+    pub(crate) state: SyncState,
 }
 
 /// The server, and where the link to it stops.
@@ -35,7 +40,8 @@ pub(crate) struct FarSetting {
 
 /// The server with this mailbox.
 fn far_with(alloc: Global, far: Mailbox, stops: &[LinkStop]) -> Result<FarSetting, Failure>
-    ensures { IfOk result (λ far. AreServed far.server.server.mailboxes) }
+    ensures served { IfOk result (λ far. AreServed far.server.server.mailboxes) }
+    ensures inbox { IfOk result (λ setting. setting.server.server.mailboxes ≡ inbox_of far) }
 {
     let server = server_with(alloc, far)?;
     let schedule = schedule_of(alloc, stops)?;
@@ -44,7 +50,9 @@ fn far_with(alloc: Global, far: Mailbox, stops: &[LinkStop]) -> Result<FarSettin
 
 /// The setting of a trial, from its world and its course.
 pub(crate) fn setting_of(alloc: Global, trial: Trial) -> Result<Setting, Failure>
-    ensures { IfOk result (λ setting. AreServed setting.far.server.server.mailboxes) }
+    ensures served { IfOk result (λ setting. AreServed setting.far.server.server.mailboxes) }
+    ensures holds { IfOk result (λ setting. IsSettingOf trial setting) }
+    ensures fits { IfOk result (λ _. FitsWords (world_of trial.world)) }
 {
     let Trial { world, course } = trial;
     let World {
@@ -59,6 +67,15 @@ pub(crate) fn setting_of(alloc: Global, trial: Trial) -> Result<Setting, Failure
         stops,
         tries: _,
     } = course;
+    // Their ranges are known from these.
+    let _ranges = (
+        far.validity,
+        far.next,
+        near.validity,
+        near.next,
+        state.run,
+        waiting.len(),
+    );
     let far = far_with(alloc, far, &stops.link);
     let folder = folder_with(alloc, near, waiting, stops.folder);
     let shelf = shelf_with(alloc, &state, journal, stops.shelf);
@@ -66,5 +83,6 @@ pub(crate) fn setting_of(alloc: Global, trial: Trial) -> Result<Setting, Failure
         far: far?,
         folder: folder?,
         shelf: shelf?,
+        state,
     })
 }

@@ -1,2 +1,6 @@
 pub mod Reports
 pub mod Openings
+pub mod Folders
+pub mod Shelves
+pub mod Worlds
+pub mod Laws

@@ -1,5 +1,5 @@
 -- What a run of a trial goes by: its marks, and its opening.
-use Rattle.std.specs.Prelude.{[]}
+use Rattle.std.specs.Prelude.{◌≡◌, ℕ, Bool, true, List, []}
 use Rattle.rand_core.specs.Steps.{steps_u64_low, stream_of}
 use Rattle.rand_core.specs.Stream.{Stream}
 use Rattle.mailcore.specs.Stores.{Store}
@@ -21,3 +21,7 @@ no_state = record { run = 0; far_validity = 0; near_validity = 0; max_pulled = 0
 -- an opening with nothing in it, for who says nothing of one
 abbrev pub no_opening : Options → Opening
 no_opening options = record { world = record { far = no_messages; near = no_messages; waiting = []; state = no_state }; options = options; called = options }
+
+-- whatever the mark is, nobody else writes it
+abbrev pub AreOurs : (List ℕ → Bool) → Type 0
+AreOurs ours = (mark : List ℕ) → ours mark ≡ true

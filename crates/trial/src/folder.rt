@@ -1,6 +1,9 @@
 //! The near mailbox of a trial, as files of a folder in memory.
 
-ghost use Rattle.std.specs.Prelude.{◌≡◌};
+ghost use Rattle.std.specs.Prelude.{◌≡◌, ◌++◌, false, fold, map, IfOk, OnOk};
+ghost use Rattle.maildir.specs.MemFolders.{seen_of, stored_in, with_file};
+ghost use Rattle.trial.specs.Folders.{digits, folder_of, message_name, put_message, put_waiting, waiting_name};
+ghost use Rattle.trial.specs.Worlds.{store_of, waiting_of};
 
 use device::schedule::Stop;
 use mailcore::flags::Flags;
@@ -15,14 +18,23 @@ use std::alloc::{AllocError, Global};
 use std::cmp::Ordering;
 use worlds::world::WaitingFile;
 
-/// A folder with this mailbox: a message of UID 7 stands in `cur` as `m7,U=7:2,LETTERS`, the first waiting file as
-/// `w00000001:2,LETTERS`, and there is a meta file. Its calls stop as the schedule says.
+/// How many digits the name of a waiting file has.
+const DIGITS: u32 = 20;
+
+/// A folder with this mailbox: a message of UID 7 stands in `cur` as `m,U=7:2,LETTERS`, a waiting file behind which nine files stand
+/// already as `w00000000000000000009:2,LETTERS`, and there is a meta file. Its calls stop as the schedule says.
 pub fn folder_with(
     alloc: Global,
     near: Mailbox,
     waiting: Vec<WaitingFile>,
     schedule: Vec<Stop<FolderCall>>,
-) -> Result<MemFolder, AllocError> {
+) -> Result<MemFolder, AllocError>
+    ensures { IfOk result (λ folder. seen_of folder ≡ record {
+      stored = folder_of (store_of near) (map waiting_of waiting.items);
+      is_broken = false;
+      stops = 0;
+    }) }
+{
     let meta = Meta {
         validity: near.validity,
         next: near.next,
@@ -38,7 +50,9 @@ fn put_messages(
     alloc: Global,
     folder: &mut MemFolder,
     messages: Vec<Message>,
-) -> Result<(), AllocError> {
+) -> Result<(), AllocError>
+    ensures { OnOk result (seen_of folder.new ≡ record (seen_of folder.old) { stored = fold put_message (stored_in folder.old) messages.items }) }
+{
     for message in messages {
         let name = message_name(alloc, &message)?;
         put(folder, name, message.bytes)?;
@@ -50,15 +64,21 @@ fn put_waiting(
     alloc: Global,
     folder: &mut MemFolder,
     waiting: Vec<WaitingFile>,
-) -> Result<(), AllocError> {
-    for (place, file) in waiting.into_iter().enumerate() {
-        let name = waiting_name(alloc, place, file.flags)?;
+) -> Result<(), AllocError>
+    ensures { OnOk result (seen_of folder.new
+        ≡ record (seen_of folder.old) { stored = fold (λ s f. put_waiting s (waiting_of f)) (stored_in folder.old) waiting.items }) }
+{
+    for file in waiting {
+        let name = waiting_name(alloc, folder.files().len(), file.flags)?;
         put(folder, name, file.bytes)?;
     }
     Ok(())
 }
 
-fn put(folder: &mut MemFolder, name: Vec<u8>, bytes: Octets) -> Result<(), AllocError> {
+fn put(folder: &mut MemFolder, name: Vec<u8>, bytes: Octets) -> Result<(), AllocError>
+    ensures { OnOk result (seen_of folder.new
+        ≡ record (seen_of folder.old) { stored = with_file (record { place = Place.Cur; name = name.items; bytes = bytes }) (stored_in folder.old) }) }
+{
     folder.put(File {
         place: Place::Cur,
         name: Octets::from_vec(name),
@@ -66,19 +86,34 @@ fn put(folder: &mut MemFolder, name: Vec<u8>, bytes: Octets) -> Result<(), Alloc
     })
 }
 
-fn message_name(alloc: Global, message: &Message) -> Result<Vec<u8>, AllocError> {
-    let uid = message.uid.get();
-    let base = format!(in alloc; "m{uid}")?;
+fn message_name(alloc: Global, message: &Message) -> Result<Vec<u8>, AllocError>
+    ensures { IfOk result (λ name. name.items ≡ message_name message.now) }
+{
     let letters = letters_with(alloc, b"", message.flags)?;
-    spell(alloc, base.as_bytes(), Some(message.uid), Some(&letters))
+    spell(alloc, b"m", Some(message.uid), Some(&letters))
 }
 
-/// The name of the file at this place among those that wait, counted from 0.
-fn waiting_name(alloc: Global, place: usize, flags: Flags) -> Result<Vec<u8>, AllocError> {
-    let number = place.saturating_add(1);
-    let base = format!(in alloc; "w{number:08}")?;
+/// The name of the file that waits with so many others before it.
+fn waiting_name(alloc: Global, number: usize, flags: Flags) -> Result<Vec<u8>, AllocError>
+    ensures { IfOk result (λ name. name.items ≡ waiting_name number flags) }
+{
+    let mut base = Vec::from_slice(alloc, b"w")?;
+    push_digits(&mut base, number, DIGITS)?;
     let letters = letters_with(alloc, b"", flags)?;
-    spell(alloc, base.as_bytes(), None, Some(&letters))
+    spell(alloc, &base, None, Some(&letters))
+}
+
+/// Adds so many digits of a number, the most significant first.
+#[tactic(auto, unfolding(crate::specs::Folders::digits))]
+fn push_digits(text: &mut Vec<u8>, number: usize, count: u32) -> Result<(), AllocError>
+    ensures { OnOk result (text.new.items ≡ text.old.items ++ digits count number) }
+{
+    if count == 0 {
+        return Ok(());
+    }
+    push_digits(text, number / 10, count - 1)?;
+    text.push(b'0' + (number % 10) as u8)?;
+    Ok(())
 }
 
 /// What stands in a folder.

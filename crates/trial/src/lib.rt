@@ -10,3 +10,4 @@ pub mod report;
 pub mod shelf;
 pub mod stop;
 pub mod trial;
+pub mod trial_laws;

@@ -1,5 +1,10 @@
 //! The shelf of a trial, in memory: its state, and its journal.
 
+ghost use Rattle.std.specs.Prelude.{◌≡◌, false, IfOk};
+ghost use Rattle.book.specs.MemShelves.{seen_of};
+ghost use Rattle.book.specs.Shelves.{bytes_of};
+ghost use Rattle.trial.specs.Shelves.{shelf_of, state_file};
+
 use book::mem_shelf::{MemShelf, ShelfCall};
 use book::shelf::File;
 use device::schedule::Stop;
@@ -14,15 +19,31 @@ pub fn shelf_with(
     state: &SyncState,
     journal: Option<Vec<u8>>,
     schedule: Vec<Stop<ShelfCall>>,
-) -> Result<MemShelf, BookFault> {
-    let text = match state.run {
-        0 => None,
-        _ => Some(write_state_text(alloc, state)?),
-    };
+) -> Result<MemShelf, BookFault>
+    ensures { IfOk result (λ shelf. seen_of shelf ≡ record {
+      stored = shelf_of state.now (bytes_of journal);
+      is_broken = false;
+      stops = 0;
+    }) }
+{
+    let text = state_file(alloc, state)?;
     let mut shelf = MemShelf::new(alloc, schedule);
     shelf.put(File::State, text);
     shelf.put(File::Journal, journal);
     Ok(shelf)
+}
+
+/// The bytes of the state's file, if it has one.
+fn state_file(alloc: Global, state: &SyncState) -> Result<Option<Vec<u8>>, BookFault>
+    ensures { IfOk result (λ file. bytes_of file ≡ state_file state.now) }
+{
+    if state.run == 0 {
+        return Ok(None);
+    }
+    match write_state_text(alloc, state) {
+        Ok(text) => Ok(Some(text)),
+        Err(fault) => Err(fault),
+    }
 }
 
 /// The state that stands in a shelf. `BadState`: its text is none of a state.

@@ -1,5 +1,6 @@
-use Rattle.trial.specs.Openings.{no_opening}
+use Rattle.underway.specs.Openings.{world_at}
 use Rattle.run_trial.proofs.devices.settle_all.Given as goal
 
-abbrev pub ghost-settle_trial : goal.ghost-settle_trial
-ghost-settle_trial g a = no_opening a.options.now
+-- both mailboxes are those of the outside
+abbrev pub ghost-settle_from : goal.ghost-settle_from
+ghost-settle_from g a = world_at (g.O.Outside.seen a.outside).device a._state.now

@@ -1,0 +1,90 @@
+-- The setting of a trial holds its world, and what a run over it leaves.
+use Rattle.std.proofs.Common.{◌≡◌, ℕ, ◌+◌, ◌<◌, ◌≤◌, ◌^◌, true, List, length, map, Option, None, refl, sym, ap, subst, ◌∙◌, ⊎_elim, arith}
+use Rattle.std.specs.Prelude.{Result, Ok, Err, OnOk, IfOk, IfErr, IsErrAnd, codes, Vec}
+use Rattle.std.specs.Global.{Global}
+use Rattle.std.proofs.lemmas.Bool.{cases_lt}
+use Rattle.mailcore.specs.Mailboxes.{Mailbox}
+use Rattle.rules.specs.declared.options.Options.{Options}
+use Rattle.rules.specs.Opening.{IsOpening}
+use Rattle.rules.specs.World.{World}
+use Rattle.imap_session.specs.Mailboxes.{FarMailbox}
+use Rattle.maildir.specs.Folders.{Stored}
+use Rattle.maildir.specs.MemFolders.{stored_in}
+use Rattle.book.specs.declared.book.Pending.TheVariants.{Missing}
+use Rattle.book.specs.MemShelves.{files_of}
+use Rattle.book.specs.Shelves.{Files, bytes_of}
+use Rattle.near_box.specs.Mailboxes.{near_of}
+use Rattle.imap_session.specs.Servers.{Server}
+use Rattle.far_side.specs.Chosen.{box_at, settled, store_at}
+use Rattle.outside.specs.Calls.{Seen}
+use Rattle.outside.specs.Devices.{Device}
+use Rattle.pair.specs.Parts.{device_with}
+use Rattle.pair.specs.Tallies.{seen_with, untouched}
+use Rattle.underway.specs.Endings.{IsDone}
+use Rattle.alike_laws.specs.Beginnings.{Begins, HoldsWorld}
+use Rattle.runner.specs.declared.fault.RunFault.{RunFault}
+use Rattle.runner.specs.Attempts.{HasNoNext, TellsNoNext}
+use Rattle.trial.specs.declared.trial.Trial.{Trial}
+use Rattle.trial.specs.Shelves.{shelf_of}
+use Rattle.trial.specs.Worlds.{FitsWords, device_of, store_of, waiting_of, world_of}
+use Rattle.trial.proofs.FolderLemmas.{folder_holds}
+use Rattle.trial.proofs.ShelfLemmas.{shelf_holds}
+use Rattle.trial.proofs.WorldLemmas.{few_files, near_in_range, waiting_in_sets}
+use Rattle.run_trial.specs.declared.setting.Setting.{Setting}
+use Rattle.run_trial.specs.Memory.{LeavesWorld}
+use Rattle.run_trial.specs.Settings.{IsSettingOf, device_in}
+
+-- ---- the world stands there
+
+stands_so : (trial : Trial) (s : Setting) → IsSettingOf trial s → trial.course.journal ≡ None
+    → IsOpening (world_of trial.world) → FitsWords (world_of trial.world) → device_in s ≡ device_of (world_of trial.world)
+stands_so trial s holds none opening fits =
+    let w : World = world_of trial.world in
+    let near : Mailbox = record { store = w.near; waiting = w.waiting } in
+    ap (λ (ms : List FarMailbox). device_with (settled (store_at (codes "INBOX") ms)) (near_of 1 (stored_in s.folder)) (files_of s.shelf)) holds.far
+    ∙ ap (λ (f : Stored). device_with (settled w.far) (near_of 1 f) (files_of s.shelf)) holds.folder
+    ∙ ap (λ (n : Mailbox). device_with (settled w.far) n (files_of s.shelf))
+    (folder_holds 1 w.near w.waiting opening.world.in_order.near (near_in_range w opening fits) (waiting_in_sets w opening) (few_files w opening fits))
+    ∙ ap (λ (f : Files). device_with (settled w.far) near f)
+    (holds.shelf ∙ ap (λ (j : Option (Vec ℕ Global)). shelf_of w.state (bytes_of j)) none)
+
+pub stands : (trial : Trial) (s : Setting) (w : World) → w ≡ world_of trial.world → IsSettingOf trial s → trial.course.journal ≡ None
+    → IsOpening w → FitsWords w → device_in s ≡ device_of w
+stands trial s w same holds none =
+    subst (λ (x : World). IsOpening x → FitsWords x → device_in s ≡ device_of x) (sym same) (stands_so trial s holds none)
+
+pub holds_world : (w : World) (d : Device) → IsOpening w → FitsWords w → d ≡ device_of w → HoldsWorld w d
+holds_world w d opening fits same = subst (HoldsWorld w) (sym same) (record { world = refl; files = shelf_holds w opening fits })
+
+-- the outside of a run over a setting, by what was said of its parts
+pub setting_seen : (s : Setting) (server : Server) (seen : Seen) → server ≡ s.far.server.server
+    → seen ≡ seen_with (device_with (box_at (codes "INBOX") server) (near_of 1 (stored_in s.folder)) (files_of s.shelf)) untouched → seen ≡ seen_with (device_in s) untouched
+setting_seen s server seen same is =
+    is ∙ ap (λ (v : Server). seen_with (device_with (box_at (codes "INBOX") v) (near_of 1 (stored_in s.folder)) (files_of s.shelf)) untouched) same
+
+-- ---- what is left of it
+
+no_answer : {T E : Type 0} (P : Type 0) (Q : E → Type 0) (r : Result T E) → IsErrAnd r Q → OnOk r P
+no_answer P Q (Ok answer) is = absurd is
+no_answer P Q (Err fault) is = tt
+
+pub over_device : {T : Type 0} (honest : Type 0) (old d new : Device) (r : Result T RunFault) → old ≡ d → honest → HasNoNext honest true old new r → HasNoNext (Unit {0}) true d new r
+over_device honest old d new r same kept no_next = λ one. subst (λ (x : Device). HasNoNext honest true x new r) same no_next kept
+
+module _ {A T E : Type 0} (device : A → Device) (w : World) (options : Options) (d : Device) where
+  last_done : (r : Result (A × Result T RunFault) E) → IfOk r (λ run. HasNoNext (Unit {0}) true d (device run.0) run.1) → HoldsWorld w d → w.state.run + 1 ≡ 2 ^ 64
+      → IfOk r (λ run. OnOk run.1 (IsDone w options (device run.0)))
+  last_done (Ok run) none held last = no_answer (IsDone w options (device run.0)) TellsNoNext run.1 (none tt w.state Missing held.files last).0
+  last_done (Err failure) none held last = tt
+
+  pub done_where : (r : Result (A × Result T RunFault) E) → (Begins w d → IfOk r (λ run. OnOk run.1 (IsDone w options (device run.0))))
+      → IfOk r (λ run. HasNoNext (Unit {0}) true d (device run.0) run.1) → HoldsWorld w d → IsOpening w → w.state.run < 2 ^ 64
+      → IfOk r (λ run. OnOk run.1 (IsDone w options (device run.0)))
+  done_where r done none held opening small =
+      ⊎_elim (λ (room : w.state.run + 1 < 2 ^ 64). done (record { held = held; sound = opening; room = room }))
+      (λ (last : 2 ^ 64 ≤ w.state.run + 1). last_done r none held (omega arith)) (cases_lt (w.state.run + 1) (2 ^ 64))
+
+  pub greatest_where : (r : Result (A × Result T RunFault) E) → IfOk r (λ run. HasNoNext (Unit {0}) true d (device run.0) run.1) → HoldsWorld w d → w.state.run + 1 ≡ 2 ^ 64
+      → d ≡ device_of w → IfOk r (λ run. IsErrAnd run.1 TellsNoNext × (device run.0 ≡ device_of w))
+  greatest_where (Ok run) none held last same = let parts = none tt w.state Missing held.files last in (parts.0, parts.1.same refl ∙ same)
+  greatest_where (Err failure) none held last same = tt

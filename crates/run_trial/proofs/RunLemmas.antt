@@ -1,0 +1,54 @@
+-- What a run leaves that began with a world, of what it leaves that began with an opening.
+use Rattle.std.proofs.Common.{◌≡◌, ℕ, Bool, true, List, All, inl, refl, sym, ap, subst, ◌∙◌}
+use Rattle.std.specs.Prelude.{Result, Ok, Err, OnOk, IfErr, get_or}
+use Rattle.rules.specs.declared.options.Options.{Options}
+use Rattle.rules.specs.declared.state.SyncState.{SyncState}
+use Rattle.rules.specs.Opening.{IsOpening}
+use Rattle.rules.specs.World.{World}
+use Rattle.outside.specs.Calls.{Seen}
+use Rattle.outside.specs.Devices.{Device}
+use Rattle.underway.specs.Conditions.{Underway}
+use Rattle.underway.specs.Endings.{IsDone}
+use Rattle.underway.specs.Openings.{world_at}
+use Rattle.alike_laws.specs.Beginnings.{Begins, opening_of}
+use Rattle.alike_laws.proofs.Beginnings.{world_is_unplanned}
+use Rattle.runner.specs.declared.fault.RunFault.{RunFault}
+use Rattle.runner.specs.Answers.{IsAsked}
+use Rattle.runner.specs.Attempts.{AtOpening, FromOpening}
+use Rattle.runner.specs.Faults.{LeavesRun}
+use Rattle.trial.specs.Openings.{AreOurs, trial_stream}
+
+module _ (ours : List ℕ → Bool) (alone : Bool) (w : World) (options : Options) where
+  asked : AreOurs ours → IsAsked ours (opening_of w options) options trial_stream
+  asked are = record { called = refl; are_ours = λ pairs count marks draws k d within. are (get_or marks k d) }
+
+  at_opening : (d : Device) → Begins w d → AtOpening ours alone (opening_of w options) d
+  at_opening d begins = record { room = begins.room; open_run = inl (world_is_unplanned alone w options d begins.held begins.sound) }
+
+  pub done_from : {T : Type 0} (honest : Type 0) (old new : Device) (r : Result T RunFault)
+      → OnOk r (FromOpening honest ours alone (opening_of w options) options trial_stream old (alone ≡ true → IsOpening w → IsDone w options new))
+      → honest → alone ≡ true → AreOurs ours → Begins w old → OnOk r (IsDone w options new)
+  done_from honest old new (Ok settled) from kept nobody are begins = from kept (asked are) (at_opening old begins) nobody begins.sound
+  done_from honest old new (Err fault) from kept nobody are begins = tt
+
+  pub left_from : {T : Type 0} (honest : Type 0) (old new : Seen) (r : Result T RunFault)
+      → IfErr r (λ fault. FromOpening honest ours alone (opening_of w options) options trial_stream old.device (LeavesRun (Underway ours alone (opening_of w options)) fault old new))
+      → honest → AreOurs ours → Begins w old.device → IfErr r (λ fault. LeavesRun (Underway ours alone (opening_of w options)) fault old new)
+  left_from honest old new (Ok settled) from kept are begins = tt
+  left_from honest old new (Err fault) from kept are begins = from kept (asked are) (at_opening old.device begins)
+
+  -- ---- the world by its state
+
+  named_so : (state : SyncState) (d : Device) → w.state ≡ state → Begins w d → world_at d state ≡ w
+  named_so state d same begins = ap (world_at d) (sym same) ∙ begins.held.world
+
+  pub done_of : {T : Type 0} (state : SyncState) (old new : Device) (r : Result T RunFault) → w.state ≡ state → Begins w old
+      → (Begins (world_at old state) old → OnOk r (IsDone (world_at old state) options new)) → OnOk r (IsDone w options new)
+  done_of state old new r same begins so =
+      subst (λ (x : World). Begins x old → OnOk r (IsDone x options new)) (named_so state old same begins) so begins
+
+  pub left_of : {T : Type 0} (state : SyncState) (old new : Seen) (r : Result T RunFault) → w.state ≡ state → Begins w old.device
+      → (Begins (world_at old.device state) old.device → IfErr r (λ fault. LeavesRun (Underway ours alone (opening_of (world_at old.device state) options)) fault old new))
+      → IfErr r (λ fault. LeavesRun (Underway ours alone (opening_of w options)) fault old new)
+  left_of state old new r same begins so =
+      subst (λ (x : World). Begins x old.device → IfErr r (λ fault. LeavesRun (Underway ours alone (opening_of x options)) fault old new)) (named_so state old.device same begins) so begins

@@ -1,0 +1,37 @@
+use Rattle.std.proofs.Common.{◌≡◌, refl, sym, subst}
+use Rattle.std.specs.Prelude.{IfErr, IfOk}
+use Rattle.outside.specs.Devices.{Device}
+use Rattle.pair.specs.Pairs.{seen_of}
+use Rattle.rules.specs.World.{World}
+use Rattle.trial.specs.Worlds.{FitsWords, world_of}
+use Rattle.run_trial.specs.Memory.{LeavesWorld}
+use Rattle.run_trial.specs.Settings.{device_in}
+use Rattle.run_trial.proofs.MemoryLemmas.{done_where, greatest_where, holds_world, stands}
+use Rattle.run_trial.proofs.memory.run_in_memory.Goals as goal
+
+pub returns-clause-done : goal.returns-clause-done
+returns-clause-done c = λ none opening.
+    let start : World = world_of c.args.trial.world in
+    let setting = c.in_ok-setting.setting in
+    let fits : FitsWords start = c.in_ok-setting.ensures.fits in
+    let same = stands c.args.trial setting start refl c.in_ok-setting.ensures.holds none opening fits in
+    done_where (λ both. (seen_of both).device) start c.args.trial.world.options (device_in setting) c.run_over.result (c.run_over.ensures.done start (sym c.in_ok-setting.ensures.holds.state)) c.run_over.ensures.greatest
+    (holds_world start (device_in setting) opening fits same) opening fits.run
+
+pub returns-clause-left : goal.returns-clause-left
+returns-clause-left c = λ none opening room.
+    let start : World = world_of c.args.trial.world in
+    let setting = c.in_ok-setting.setting in
+    let fits : FitsWords start = c.in_ok-setting.ensures.fits in
+    let same = stands c.args.trial setting start refl c.in_ok-setting.ensures.holds none opening fits in
+    subst (λ (d : Device). IfOk c.run_over.result (λ run. IfErr run.1 (λ fault. LeavesWorld start c.args.trial.world.options d fault (seen_of run.0)))) same
+    (c.run_over.ensures.left start (sym c.in_ok-setting.ensures.holds.state) (record { held = holds_world start (device_in setting) opening fits same; sound = opening; room = room }))
+
+pub returns-clause-greatest : goal.returns-clause-greatest
+returns-clause-greatest c = λ none opening last.
+    let start : World = world_of c.args.trial.world in
+    let setting = c.in_ok-setting.setting in
+    let fits : FitsWords start = c.in_ok-setting.ensures.fits in
+    let same = stands c.args.trial setting start refl c.in_ok-setting.ensures.holds none opening fits in
+    greatest_where (λ both. (seen_of both).device) start c.args.trial.world.options (device_in setting) c.run_over.result c.run_over.ensures.greatest
+    (holds_world start (device_in setting) opening fits same) last same

@@ -1,0 +1,31 @@
+-- What the run of a trial is made over, before there is a link to the server.
+use Rattle.std.specs.Prelude.{◌≡◌, List, [], ◌∷◌, map, codes}
+use Rattle.mailcore.specs.declared.mailbox.Mailbox.{Mailbox}
+use Rattle.imap_session.specs.Mailboxes.{FarMailbox}
+use Rattle.maildir.specs.MemFolders.{stored_in}
+use Rattle.book.specs.MemShelves.{files_of}
+use Rattle.book.specs.Shelves.{bytes_of}
+use Rattle.near_box.specs.Mailboxes.{near_of}
+use Rattle.far_side.specs.Chosen.{box_at}
+use Rattle.outside.specs.Devices.{Device}
+use Rattle.pair.specs.Parts.{device_with}
+use Rattle.trial.specs.declared.trial.Trial.{Trial}
+use Rattle.trial.specs.Folders.{folder_of}
+use Rattle.trial.specs.Shelves.{shelf_of}
+use Rattle.trial.specs.Worlds.{store_of, waiting_of}
+use Rattle.run_trial.specs.declared.setting.Setting.{Setting}
+
+-- a server's mailboxes where this one is its INBOX, and it has no other
+abbrev pub inbox_of : Mailbox → List FarMailbox
+inbox_of far = record { name = codes "INBOX"; store = store_of far } ∷ []
+
+-- what a run over them finds
+abbrev pub device_in : Setting → Device
+device_in s = device_with (box_at (codes "INBOX") s.far.server.server) (near_of 1 (stored_in s.folder)) (files_of s.shelf)
+
+-- they hold what the trial says
+pub record IsSettingOf (trial : Trial) (s : Setting) : Type 0 where
+  pub far : s.far.server.server.mailboxes ≡ inbox_of trial.world.far
+  pub folder : stored_in s.folder ≡ folder_of (store_of trial.world.near) (map waiting_of trial.world.waiting.items)
+  pub state : s.state ≡ trial.world.state
+  pub shelf : files_of s.shelf ≡ shelf_of trial.world.state (bytes_of trial.course.journal)

@@ -1,0 +1,71 @@
+//! A run over a server, a folder and a shelf in memory: what it leaves of a world, with no word of a device to rely on.
+
+ghost use Rattle.std.specs.Prelude.{◌≡◌, ◌+◌, ◌<◌, ◌^◌, IfErr, IfOk, IsErrAnd, None, OnOk, true};
+ghost use Rattle.rules.specs.Opening.{IsOpening};
+ghost use Rattle.rules.specs.World.{World};
+ghost use Rattle.imap_server.specs.Boxes.{AreServed};
+ghost use Rattle.pair.specs.Pairs.{seen_of};
+ghost use Rattle.underway.specs.Endings.{IsDone};
+ghost use Rattle.alike_laws.specs.Beginnings.{Begins};
+ghost use Rattle.runner.specs.Attempts.{HasNoNext, TellsNoNext};
+ghost use Rattle.trial.specs.Worlds.{device_of, world_of};
+ghost use Rattle.run_trial.specs.Memory.{LeavesWorld};
+ghost use Rattle.run_trial.specs.Settings.{device_in};
+
+use crate::devices::{Devices, Run, settle_all};
+use crate::failure::Failure;
+use crate::setting::{FarSetting, Setting, setting_of};
+use mem_link::mem_link::MemLink;
+use rules::options::Options;
+use std::alloc::Global;
+use trial::trial::Trial;
+
+/// Makes the run of a trial, and gives its outside beside what it came to.
+///
+/// Where the trial has no journal, and its world is one that a run may begin with: an answer leaves both mailboxes and the state alike
+/// to the outcome that the rules name for that world, and a fault leaves the run underway, whatever the attempts and the stops. Behind
+/// the greatest run number there is no other run: a fault says so, or a call stopped before, and nothing has changed.
+pub(crate) fn run_in_memory(alloc: Global, trial: Trial) -> Result<Run<MemLink>, Failure>
+    ensures done { trial.course.journal ≡ None → IsOpening (world_of trial.world)
+        → IfOk result (λ run. OnOk run.1 (IsDone (world_of trial.world) trial.world.options (seen_of run.0).device)) }
+    ensures left { trial.course.journal ≡ None → IsOpening (world_of trial.world) → trial.world.state.run + 1 < 2 ^ 64
+        → IfOk result (λ run. IfErr run.1 (λ fault.
+        LeavesWorld (world_of trial.world) trial.world.options (device_of (world_of trial.world)) fault (seen_of run.0))) }
+    ensures greatest { trial.course.journal ≡ None → IsOpening (world_of trial.world) → trial.world.state.run + 1 ≡ 2 ^ 64
+        → IfOk result (λ run. IsErrAnd run.1 TellsNoNext × ((seen_of run.0).device ≡ device_of (world_of trial.world))) }
+{
+    let options = trial.world.options;
+    let tries = trial.course.tries;
+    let setting = setting_of(alloc, trial)?;
+    run_over(alloc, setting, &options, tries)
+}
+
+/// Makes one run over a setting, and gives its outside beside what it came to, as `run_in_memory`.
+fn run_over(
+    alloc: Global,
+    setting: Setting,
+    options: &Options,
+    tries: u32,
+) -> Result<Run<MemLink>, Failure>
+    requires { AreServed setting.far.server.server.mailboxes }
+    ensures done { (start : World) → start.state ≡ setting.state → Begins start (device_in setting)
+        → IfOk result (λ run. OnOk run.1 (IsDone start options.now (seen_of run.0).device)) }
+    ensures left { (start : World) → start.state ≡ setting.state → Begins start (device_in setting)
+        → IfOk result (λ run. IfErr run.1 (λ fault. LeavesWorld start options.now (device_in setting) fault (seen_of run.0))) }
+    ensures greatest { IfOk result (λ run. HasNoNext (Unit {0}) true (device_in setting) (seen_of run.0).device run.1) }
+{
+    let Setting {
+        far,
+        folder,
+        shelf,
+        state,
+    } = setting;
+    let FarSetting { server, schedule } = far;
+    let devices = Devices {
+        link: MemLink::new(alloc, server, schedule),
+        folder,
+        shelf,
+    };
+    let outside = devices.together(alloc)?;
+    Ok(settle_all(alloc, outside, options, tries, &state))
+}

@@ -1,0 +1,6 @@
+pub mod DigitLemmas
+pub mod NamedFiles
+pub mod FolderLemmas
+pub mod ShelfLemmas
+pub mod WorldLemmas
+pub mod PutFiles

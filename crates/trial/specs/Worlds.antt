@@ -1,0 +1,31 @@
+-- The world of a trial in the words of the rules, and the device that holds it.
+use Rattle.std.specs.Prelude.{◌<◌, ◌^◌, length, map, None}
+use Rattle.mailcore.specs.declared.mailbox.Mailbox.{Mailbox}
+use Rattle.mailcore.specs.Stores.{Store, Waiting}
+use Rattle.rules.specs.World.{World}
+use Rattle.outside.specs.Devices.{Device}
+use Rattle.worlds.specs.declared.world.WaitingFile.{WaitingFile}
+use Rattle.worlds.specs.declared.world.World as written
+use Rattle.trial.specs.Shelves.{shelf_of}
+
+abbrev pub store_of : Mailbox → Store
+store_of m = record { validity = m.validity; next = m.next; messages = m.messages }
+
+abbrev pub waiting_of : WaitingFile → Waiting
+waiting_of f = record { flags = f.flags; bytes = f.bytes }
+
+abbrev pub world_of : written.World → World
+world_of w = record { far = store_of w.far; near = store_of w.near; waiting = map waiting_of w.waiting.items; state = w.state }
+
+-- both mailboxes and the state are the world's, and there is no journal
+abbrev pub device_of : World → Device
+device_of w = record { far = w.far; near = record { store = w.near; waiting = w.waiting }; files = shelf_of w.state None }
+
+-- its numbers, and that of its waiting files, fit the words of a machine
+pub record FitsWords (w : World) : Type 0 where
+  pub far_validity : w.far.validity < 2 ^ 32
+  pub far_next : w.far.next < 2 ^ 32
+  pub near_validity : w.near.validity < 2 ^ 32
+  pub near_next : w.near.next < 2 ^ 32
+  pub run : w.state.run < 2 ^ 64
+  pub waiting : length w.waiting < 2 ^ 64
