@@ -1,5 +1,5 @@
 -- The setting of a trial holds its world, and what a run over it leaves.
-use Rattle.std.proofs.Common.{◌≡◌, ℕ, ◌+◌, ◌<◌, ◌≤◌, ◌^◌, true, List, length, map, Option, None, refl, sym, ap, subst, ◌∙◌, ⊎_elim, arith}
+use Rattle.std.proofs.Common.{◌≡◌, ℕ, ◌+◌, ◌-◌, ◌<◌, ◌≤◌, ◌^◌, true, List, length, map, Option, None, refl, sym, ap, subst, ◌∙◌, ⊎_elim, arith}
 use Rattle.std.specs.Prelude.{Result, Ok, Err, OnOk, IfOk, IfErr, IsErrAnd, codes, Vec}
 use Rattle.std.specs.Global.{Global}
 use Rattle.std.proofs.lemmas.Bool.{cases_lt}
@@ -88,3 +88,7 @@ module _ {A T E : Type 0} (device : A → Device) (w : World) (options : Options
       → d ≡ device_of w → IfOk r (λ run. IsErrAnd run.1 TellsNoNext × (device run.0 ≡ device_of w))
   greatest_where (Ok run) none held last same = let parts = none tt w.state Missing held.files last in (parts.0, parts.1.same refl ∙ same)
   greatest_where (Err failure) none held last same = tt
+
+-- the stops of an outside that had none before
+pub stops_met : (tries stops : ℕ) → stops ≡ 0 + (tries - 0) → stops ≡ tries
+stops_met tries stops met = omega arith

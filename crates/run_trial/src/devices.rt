@@ -1,6 +1,6 @@
 //! The devices of a trial, and a run over them.
 
-ghost use Rattle.std.specs.Prelude.{◌≡◌, IfErr, IfOk, OnOk, codes, true};
+ghost use Rattle.std.specs.Prelude.{◌≡◌, IfErr, IfOk, IsErrOf, OnOk, codes, true};
 ghost use Rattle.maildir.specs.MemFolders.{stored_in};
 ghost use Rattle.rules.specs.World.{World};
 ghost use Rattle.book.specs.MemShelves.{files_of};
@@ -12,7 +12,7 @@ ghost use Rattle.pair.specs.Tallies.{seen_with, untouched};
 ghost use Rattle.underway.specs.Conditions.{Underway};
 ghost use Rattle.underway.specs.Endings.{IsDone};
 ghost use Rattle.alike_laws.specs.Beginnings.{Begins, opening_of};
-ghost use Rattle.runner.specs.Attempts.{HasNoNext};
+ghost use Rattle.runner.specs.Attempts.{HasNoNext, MetStops};
 ghost use Rattle.runner.specs.Faults.{LeavesRun};
 ghost use Rattle.trial.specs.Openings.{AreOurs};
 
@@ -40,7 +40,7 @@ use written_worlds::write::{WrittenMailbox, WrittenWorld, write_parts};
 ///
 /// Where the outside has kept its word and nobody else adds messages: from a world that a run may begin with, an answer leaves both
 /// mailboxes and the state alike to the outcome that the rules name for it, and a fault leaves the run underway. Behind the greatest run
-/// number there is no other run.
+/// number there is no other run. It is told as stopped only where each attempt met a stop.
 pub(crate) fn settle_all<O: Outside>(
     alloc: Global,
     outside: O,
@@ -53,6 +53,7 @@ pub(crate) fn settle_all<O: Outside>(
     ensures left { (start : World) → start.state ≡ state.now → O.honest result.0 → AreOurs O.ours → Begins start (O.seen outside).device
         → IfErr result.1 (λ fault. LeavesRun (Underway O.ours O.alone (opening_of start options.now)) fault (O.seen outside) (O.seen result.0)) }
     ensures greatest { HasNoNext (O.honest result.0) O.alone (O.seen outside).device (O.seen result.0).device result.1 }
+    ensures stopped { IsErrOf result.1 RunFault.Stopped → MetStops tries (O.seen outside) (O.seen result.0) }
 {
     settle_from(alloc, outside, options, tries, state)
 }
@@ -71,6 +72,7 @@ fn settle_from<O: Outside>(
     ensures left { O.honest result.0 → AreOurs O.ours → Begins start (O.seen outside).device
         → IfErr result.1 (λ fault. LeavesRun (Underway O.ours O.alone (opening_of start options.now)) fault (O.seen outside) (O.seen result.0)) }
     ensures greatest { HasNoNext (O.honest result.0) O.alone (O.seen outside).device (O.seen result.0).device result.1 }
+    ensures stopped { IsErrOf result.1 RunFault.Stopped → MetStops tries (O.seen outside) (O.seen result.0) }
 {
     let mut outside = outside;
     let settled = settle_trial(alloc, &mut outside, options, tries);

@@ -1,6 +1,6 @@
 //! A run over a server, a folder and a shelf in memory: what it leaves of a world, with no word of a device to rely on.
 
-ghost use Rattle.std.specs.Prelude.{◌≡◌, ◌+◌, ◌<◌, ◌^◌, IfErr, IfOk, IsErrAnd, None, OnOk, true};
+ghost use Rattle.std.specs.Prelude.{◌≡◌, ◌+◌, ◌<◌, ◌^◌, IfErr, IfOk, IsErrAnd, IsErrOf, None, OnOk, true};
 ghost use Rattle.rules.specs.Opening.{IsOpening};
 ghost use Rattle.rules.specs.World.{World};
 ghost use Rattle.imap_server.specs.Boxes.{AreServed};
@@ -17,6 +17,7 @@ use crate::failure::Failure;
 use crate::setting::{FarSetting, Setting, setting_of};
 use mem_link::mem_link::MemLink;
 use rules::options::Options;
+use runner::fault::RunFault;
 use std::alloc::Global;
 use trial::trial::Trial;
 
@@ -24,7 +25,8 @@ use trial::trial::Trial;
 ///
 /// Where the trial has no journal, and its world is one that a run may begin with: an answer leaves both mailboxes and the state alike
 /// to the outcome that the rules name for that world, and a fault leaves the run underway, whatever the attempts and the stops. Behind
-/// the greatest run number there is no other run: a fault says so, or a call stopped before, and nothing has changed.
+/// the greatest run number there is no other run: a fault says so, or a call stopped before, and nothing has changed. It is told as
+/// stopped only where as many calls stopped as there were attempts.
 pub(crate) fn run_in_memory(alloc: Global, trial: Trial) -> Result<Run<MemLink>, Failure>
     ensures done { trial.course.journal ≡ None → IsOpening (world_of trial.world)
         → IfOk result (λ run. OnOk run.1 (IsDone (world_of trial.world) trial.world.options (seen_of run.0).device)) }
@@ -33,6 +35,7 @@ pub(crate) fn run_in_memory(alloc: Global, trial: Trial) -> Result<Run<MemLink>,
         LeavesWorld (world_of trial.world) trial.world.options (device_of (world_of trial.world)) fault (seen_of run.0))) }
     ensures greatest { trial.course.journal ≡ None → IsOpening (world_of trial.world) → trial.world.state.run + 1 ≡ 2 ^ 64
         → IfOk result (λ run. IsErrAnd run.1 TellsNoNext × ((seen_of run.0).device ≡ device_of (world_of trial.world))) }
+    ensures stopped { IfOk result (λ run. IsErrOf run.1 RunFault.Stopped → (seen_of run.0).stops ≡ trial.course.tries) }
 {
     let options = trial.world.options;
     let tries = trial.course.tries;
@@ -53,6 +56,7 @@ fn run_over(
     ensures left { (start : World) → start.state ≡ setting.state → Begins start (device_in setting)
         → IfOk result (λ run. IfErr run.1 (λ fault. LeavesWorld start options.now (device_in setting) fault (seen_of run.0))) }
     ensures greatest { IfOk result (λ run. HasNoNext (Unit {0}) true (device_in setting) (seen_of run.0).device run.1) }
+    ensures stopped { IfOk result (λ run. IsErrOf run.1 RunFault.Stopped → (seen_of run.0).stops ≡ tries) }
 {
     let Setting {
         far,

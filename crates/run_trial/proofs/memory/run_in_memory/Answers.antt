@@ -35,3 +35,6 @@ returns-clause-greatest c = λ none opening last.
     let same = stands c.args.trial setting start refl c.in_ok-setting.ensures.holds none opening fits in
     greatest_where (λ both. (seen_of both).device) start c.args.trial.world.options (device_in setting) c.run_over.result c.run_over.ensures.greatest
     (holds_world start (device_in setting) opening fits same) last same
+
+pub returns-clause-stopped : goal.returns-clause-stopped
+returns-clause-stopped c = c.run_over.ensures.stopped

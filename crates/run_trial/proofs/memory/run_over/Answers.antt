@@ -9,7 +9,8 @@ use Rattle.underway.specs.Conditions.{Underway}
 use Rattle.alike_laws.specs.Beginnings.{Begins, opening_of}
 use Rattle.runner.specs.Faults.{LeavesRun}
 use Rattle.run_trial.specs.Settings.{device_in}
-use Rattle.run_trial.proofs.MemoryLemmas.{over_device, setting_seen}
+use Rattle.runner.specs.Attempts.{MetStops}
+use Rattle.run_trial.proofs.MemoryLemmas.{over_device, setting_seen, stops_met}
 use Rattle.run_trial.proofs.memory.run_over.Goals as goal
 
 pub returns-clause-done : goal.returns-clause-done
@@ -27,3 +28,9 @@ pub returns-clause-greatest : goal.returns-clause-greatest
 returns-clause-greatest c =
     let same = setting_seen c.args.setting _ _ c.new.ensures.server c.in_ok-outside.ensures in
     over_device _ (seen_of c.in_ok-outside.outside).device (device_in c.args.setting) (seen_of c.settle_all.result.0).device c.settle_all.result.1 (ap (λ (s : Seen). s.device) same) (tt, refl, refl) c.settle_all.ensures.greatest
+
+pub returns-clause-stopped : goal.returns-clause-stopped
+returns-clause-stopped c = λ stopped.
+    let same = setting_seen c.args.setting _ _ c.new.ensures.server c.in_ok-outside.ensures in
+    stops_met c.args.tries (seen_of c.settle_all.result.0).stops
+    (subst (λ (s : Seen). MetStops c.args.tries s (seen_of c.settle_all.result.0)) same (c.settle_all.ensures.stopped stopped))
