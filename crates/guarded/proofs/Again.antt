@@ -30,6 +30,7 @@ rests_absent honest ours alone direction uid flags mark old new c = record {
   stops = c.acts.stops;
   told = c.counts.told;
   appends = let k = c.counts.appends in omega arith;
+  reopened = c.counts.reopened;
   added = λ h. let f = c.acts.effect h in subst (λ (d : Device). Arrives ours alone old.device d) (sym f.behind.0) f.before;
 }
 
@@ -45,6 +46,7 @@ asks_behind h1 h2 ours alone direction uid flags mark old mid new (Ok carried) r
   counts = record {
     told = c.counts.told ∙ r.told;
     appends = c.counts.appends ∙ ap (λ n. n + copies_made carried) r.appends;
+    reopened = c.counts.reopened ∙ r.reopened;
   };
 }
 asks_behind h1 h2 ours alone direction uid flags mark old mid new (Err fault) r before c = record {
@@ -60,6 +62,7 @@ asks_behind h1 h2 ours alone direction uid flags mark old mid new (Err fault) r 
     noted = λ _. c.counts.noted r.is_whole ∙ ap (λ (ts : List OutsideFault). fault ∷ ts) r.told;
     stopped = λ _. c.counts.stopped r.is_whole ∙ ap (λ n. n + stops_told fault) r.stops;
     appends = c.counts.appends ∙ r.appends;
+    reopened = c.counts.reopened ∙ r.reopened;
     stuck = λ is. absurd (both_ways old.is_broken r.was_whole is);
   };
 }
@@ -91,6 +94,7 @@ fails_so honest ours alone direction uid flags mark fault old new c = record {
     noted = c.counts.noted;
     stopped = c.counts.stopped;
     appends = c.counts.appends;
+    reopened = c.counts.reopened;
     stuck = c.counts.stuck;
   };
 }

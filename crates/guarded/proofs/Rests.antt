@@ -11,11 +11,12 @@ pub record Rests (honest : Type 0) (ours : List ℕ → Bool) (alone : Bool) (ol
   pub stops : new.stops ≡ old.stops
   pub told : new.told ≡ old.told
   pub appends : new.appends ≡ old.appends
+  pub reopened : new.reopened ≡ old.reopened
   pub added : honest → Arrives ours alone old.device new.device
 
 -- no call
 pub rests_none : (honest : Type 0) (ours : List ℕ → Bool) (alone : Bool) (s : Seen) → s.is_broken ≡ false → Rests honest ours alone s s
-rests_none honest ours alone s whole = record { was_whole = whole; is_whole = whole; stops = refl; told = refl; appends = refl; added = λ h. quiet ours alone s.device }
+rests_none honest ours alone s whole = record { was_whole = whole; is_whole = whole; stops = refl; told = refl; appends = refl; reopened = refl; added = λ h. quiet ours alone s.device }
 
 -- one more call that answers what is so
 pub rests_read : {T : Type 0} (h1 h2 : Type 0) (ours : List ℕ → Bool) (alone : Bool) (tells : T → Device → Type 0) (answer : T) (old mid new : Seen) → Rests h1 ours alone old mid → (h2 → h1) → Reads h2 (Arrives ours alone) tells mid new (Ok answer) → Rests h2 ours alone old new
@@ -25,6 +26,7 @@ rests_read h1 h2 ours alone tells answer old mid new r before c = record {
   stops = c.acts.stops ∙ r.stops;
   told = c.counts.told ∙ r.told;
   appends = let k = c.counts.appends in let l = r.appends in omega arith;
+  reopened = c.counts.reopened ∙ r.reopened;
   added = λ h.
       let f = c.acts.effect h in
       let then : Arrives ours alone mid.device new.device = subst (λ (d : Device). Arrives ours alone mid.device d) (sym f.behind.0) f.before in

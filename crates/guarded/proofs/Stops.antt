@@ -31,6 +31,7 @@ module _ {T : Type 0} (before honest : Type 0) (ours : List ℕ → Bool) (alone
           noted = λ _. ap (λ (ts : List OutsideFault). Stopped ∷ ts) r.told;
           stopped = λ _. ap (λ n. n + 1) r.stops;
           appends = r.appends;
+          reopened = r.reopened;
           stuck = λ broken. absurd (both_ways old.is_broken r.was_whole broken);
         };
       })
@@ -52,6 +53,7 @@ stuck honest ours alone copies may_tell does leaves s broken may same = record {
     noted = λ whole. absurd (both_ways s.is_broken whole broken);
     stopped = λ whole. absurd (both_ways s.is_broken whole broken);
     appends = refl;
+    reopened = refl;
     stuck = λ _. refl;
   };
 }

@@ -6,13 +6,15 @@ use Rattle.outside.specs.declared.fault.OutsideFault.TheVariants.{Stopped, Refus
 use Rattle.outside.specs.Devices.{Device}
 
 -- an outside as a contract sees it: the device, whether a call has failed since it was opened, how many calls have stopped, which
--- faults calls have told, the last first, and how many have made a copy; no number is the greatest
+-- faults calls have told, the last first, how many have made a copy, and how the device was each time the outside was opened again, the
+-- last first; no number is the greatest
 pub record Seen : Type 0 where
   pub device : Device
   pub is_broken : Bool
   pub stops : ℕ
   pub told : List OutsideFault
   pub appends : ℕ
+  pub reopened : List Device
 
 -- the same as any device is seen
 abbrev pub as_device : Seen → DeviceSeen Device
@@ -28,6 +30,7 @@ IsStop fault = fault ≡ Stopped
 pub record CountsCopies (copies : ℕ) (old new : Seen) : Type 0 where
   pub told : new.told ≡ old.told
   pub appends : new.appends ≡ old.appends + copies
+  pub reopened : new.reopened ≡ old.reopened
 
 -- how many stops a fault tells
 abbrev pub stops_told : OutsideFault → ℕ
@@ -45,6 +48,7 @@ pub record CountsFault (may_tell : OutsideFault → Type 0) (fault : OutsideFaul
   pub noted : old.is_broken ≡ false → new.told ≡ fault ∷ old.told
   pub stopped : old.is_broken ≡ false → new.stops ≡ old.stops + stops_told fault
   pub appends : new.appends ≡ old.appends
+  pub reopened : new.reopened ≡ old.reopened
   pub stuck : old.is_broken ≡ true → new ≡ old
 
 abbrev pub Counts : {T : Type 0} → (copies : T → ℕ) → (may_tell : OutsideFault → Type 0) → Seen → Seen → Result T OutsideFault → Type 0
@@ -116,6 +120,10 @@ abbrev pub Writes : (honest : Type 0) → (others : Effect Device) → (may_tell
 Writes honest others may_tell does part old new result = Call honest others (λ _. 0) may_tell (λ _. does) (LeavesBy {T = Unit {0}} (λ _. does) part) old new result
 
 -- ---- a run that is not to go on
+
+-- the same outside, which was opened again: nothing is changed, and from now on calls are answered
+abbrev pub opened_again : Seen → Seen
+opened_again old = record old { is_broken = false; reopened = old.device ∷ old.reopened }
 
 -- the same outside behind a call that stopped before it had an effect
 abbrev pub stopped : Seen → Seen

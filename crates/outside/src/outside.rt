@@ -38,7 +38,7 @@ pub trait Outside {
     ghost use Rattle.book.specs.Commits.{CommitsHalf, CommitsTo};
     ghost use Rattle.outside.specs.Arrivals.{Arrives};
     ghost use Rattle.outside.specs.Devices.{box};
-    ghost use Rattle.outside.specs.Calls.{Call, Changes, FromBook, FromBox, FromShelf, LeavesBy, Reads, Seen, Writes, stopped};
+    ghost use Rattle.outside.specs.Calls.{Call, Changes, FromBook, FromBox, FromShelf, LeavesBy, Reads, Seen, Writes, opened_again, stopped};
     ghost use Rattle.outside.specs.Opened.{IsBook, IsHeld, IsOpen, IsRead, Opened, AreCommitted, TakesCommit, TakesLog, TakesPlan, journal_of, state_of, turned, with_box};
     ghost use Rattle.outside.specs.BookCalls.{FromLog, LeavesUnread, OfBook, ReadsBook};
     ghost use Rattle.mailbox.specs.Operations.{HasNumbers, removed};
@@ -53,7 +53,7 @@ pub trait Outside {
     /// Nobody else adds messages.
     ghost alone: { Bool };
 
-    /// The device, whether a call has failed since it was opened, and what was counted.
+    /// The device, whether a call has failed since it was opened, what was counted, and how the device was each time it was opened again.
     ghost seen: { Self → Seen };
 
     /// What was read of the shelf, once it was, and which boxes are open.
@@ -218,7 +218,7 @@ pub trait Outside {
 
     /// Opens all again, so that calls are answered again. It keeps both mailboxes and the shelf, and nothing else.
     fn reopen(&mut self)
-        ensures seen { seen self.new ≡ record (seen self.old) { is_broken = false } }
+        ensures seen { seen self.new ≡ opened_again (seen self.old) }
         ensures was_honest { honest self.new → honest self.old }
         ensures opened { opened self.new ≡ None };
 }

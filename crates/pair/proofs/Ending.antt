@@ -28,6 +28,7 @@ stuck honest ours alone copies may_tell does leaves d c broken may same = record
     noted = λ whole. absurd (cc);
     stopped = λ whole. absurd (cc);
     appends = refl;
+    reopened = refl;
     stuck = λ _. refl;
   };
 }
@@ -51,6 +52,7 @@ module _ {T : Type 0} (honest : Type 0) (others : Effect Device) (copies : T →
       noted = λ _. refl;
       stopped = λ _. omega arith;
       appends = refl;
+      reopened = refl;
       stuck = λ broken. absurd (cc);
     };
   }
@@ -58,7 +60,7 @@ module _ {T : Type 0} (honest : Type 0) (others : Effect Device) (copies : T →
   pub done_call : (x : T) → (honest → Follows others (does x) d d') → Call honest others copies may_tell does leaves (seen_with d c) (seen_with d' (ended copies (Ok x) c)) (Ok x)
   done_call x done_so = record {
     acts = record { was_whole = whole; is_whole = whole; stops = refl; effect = done_so };
-    counts = record { told = refl; appends = omega arith };
+    counts = record { told = refl; appends = omega arith; reopened = refl };
   }
 
 -- ---- what was counted

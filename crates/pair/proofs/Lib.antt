@@ -1,3 +1,4 @@
+mod Walks
 pub mod Arriving
 pub mod Opening
 pub mod Ending

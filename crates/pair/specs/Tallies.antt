@@ -5,19 +5,25 @@ use Rattle.outside.specs.declared.fault.OutsideFault.TheVariants.{Stopped, Refus
 use Rattle.outside.specs.Calls.{Seen, stops_told}
 use Rattle.outside.specs.Devices.{Device}
 
--- whether a call has failed since the outside was opened; the faults that were told, the last first; and how many copies were made
+-- whether a call has failed since the outside was opened; the faults that were told, the last first; how many copies were made; and how
+-- the device was each time it was opened again, the last first
 pub record Counts : Type 0 where
   pub is_broken : Bool
   pub told : List OutsideFault
   pub copies : ℕ
+  pub reopened : List Device
 
 -- no call was made
 abbrev pub untouched : Counts
-untouched = record { is_broken = false; told = []; copies = 0 }
+untouched = record { is_broken = false; told = []; copies = 0; reopened = [] }
 
 -- a call has told this fault
 abbrev pub failed : OutsideFault → Counts → Counts
-failed fault c = record { is_broken = true; told = fault ∷ c.told; copies = c.copies }
+failed fault c = record c { is_broken = true; told = fault ∷ c.told }
+
+-- the outside, with this device, is opened again
+abbrev pub counted_again : Device → Counts → Counts
+counted_again device c = record c { is_broken = false; reopened = device ∷ c.reopened }
 
 -- a call has made so many copies
 abbrev pub copied : ℕ → Counts → Counts
@@ -52,4 +58,5 @@ seen_with device counts = record {
   stops = stops_in counts.told;
   told = counts.told;
   appends = counts.copies;
+  reopened = counts.reopened;
 }

@@ -6,5 +6,6 @@ mod book_told;
 mod copying;
 pub mod pair;
 mod plan_written;
+pub mod reopened;
 mod run_ended;
 pub mod tally;

@@ -106,7 +106,7 @@ impl<F: Mailbox + Drop, N: Mailbox + Drop, S: Shelf + Drop> Outside for Pair<F, 
     ghost use Rattle.book.specs.BookLogs.{begun, as_done, logged_more};
     ghost use Rattle.book.specs.Commits.{CommitsHalf, CommitsTo};
     ghost use Rattle.outside.specs.Devices.{box};
-    ghost use Rattle.outside.specs.Calls.{FromBook, FromBox, FromShelf, LeavesBy, stopped};
+    ghost use Rattle.outside.specs.Calls.{FromBook, FromBox, FromShelf, LeavesBy, opened_again, stopped};
     ghost use Rattle.outside.specs.Opened.{AreCommitted, IsBook, IsHeld, IsOpen, IsRead, turned, with_box};
     ghost use Rattle.outside.specs.Opened.{TakesCommit, TakesLog, TakesPlan};
     ghost use Rattle.outside.specs.BookCalls.{FromLog, LeavesUnread, ReadsBook};
@@ -115,8 +115,8 @@ impl<F: Mailbox + Drop, N: Mailbox + Drop, S: Shelf + Drop> Outside for Pair<F, 
     ghost use Rattle.outside.specs.BoxCalls.{copies_made};
     ghost use Rattle.mailbox.specs.Calls.{Never};
     ghost use Rattle.pair.specs.Parts.{both};
-    ghost use Rattle.pair.specs.Tallies.{Tallied, no_copies};
-    ghost use Rattle.pair.specs.Pairs.{BookCall, BoxChange, BoxRead, PairCall, honest_of, opened_of, seen_of};
+    ghost use Rattle.pair.specs.Tallies.{Tallied, counted_again, no_copies};
+    ghost use Rattle.pair.specs.Pairs.{BookCall, BoxChange, BoxRead, PairCall, device_of, honest_of, opened_of, seen_of};
     ghost use Rattle.pair.specs.Pairs.{ByBook, ByBox, ByCopy, BySyncedBook, IsSyncedFirst, IsWhole, CannotOpen};
 
     ghost honest = { honest_of };
@@ -467,18 +467,18 @@ impl<F: Mailbox + Drop, N: Mailbox + Drop, S: Shelf + Drop> Outside for Pair<F, 
     }
 
     fn reopen(&mut self)
-        ensures seen { seen_of self.new ≡ record (seen_of self.old) { is_broken = false } }
+        ensures seen { seen_of self.new ≡ opened_again (seen_of self.old) }
         ensures was_honest { honest_of self.new → honest_of self.old }
         ensures opened { opened_of self.new ≡ None }
         ensures far { F.seen self.new.far ≡ record (F.seen self.old.far) { is_broken = false } }
         ensures near { N.seen self.new.near ≡ record (N.seen self.old.near) { is_broken = false } }
         ensures book { standing_of self.new.book ≡ record (standing_of self.old.book) { is_ready = true } }
-        ensures tally { self.new.tally ≡ record self.old.tally { is_broken = false } }
+        ensures tally { self.new.tally ≡ counted_again (device_of self.old) self.old.tally }
         ensures whole { IsWhole self.new }
     {
         self.far.reopen();
         self.near.reopen();
         self.book.reopen();
-        self.tally.reopen();
+        self.tally.reopen(&self.far, &self.near, &self.book);
     }
 }

@@ -1,23 +1,30 @@
-//! Whether calls of an outside are answered, and what was told.
+//! Whether calls of an outside are answered, what was told, and how the device was each time it was opened again.
 
 ghost use Rattle.std.specs.Prelude.{◌≡◌, false};
 ghost use Rattle.outside.specs.BoxCalls.{copies_made};
+ghost use Rattle.outside.specs.Devices.{Device};
 ghost use Rattle.pair.specs.Faults.{told, told_by};
-ghost use Rattle.pair.specs.Tallies.{ended, failed, no_copies, untouched};
+ghost use Rattle.pair.specs.Tallies.{counted_again, ended, failed, no_copies, untouched};
 
+use crate::book_part::BookPart;
+use crate::reopened::Reopened;
+use book::shelf::Shelf;
 use device::history::History;
 use mailbox::fault::BoxFault;
+use mailbox::mailbox::Mailbox;
 use mailcore::side::Side;
 use outside::fault::OutsideFault;
 use outside::outside::Carried;
 use std::marker::Model;
 
-/// Whether calls of an outside are answered, and, for contracts alone, which faults were told and how many copies were made.
+/// Whether calls of an outside are answered, and, for contracts alone, which faults were told, how many copies were made, and how the
+/// device was each time the outside was opened again.
 #[derive(Drop)]
 pub struct Tally {
     is_broken: bool,
     told: History<OutsideFault>,
     copies: History<Carried>,
+    reopened: Reopened,
 }
 
 impl Model for Tally {
@@ -26,7 +33,7 @@ impl Model for Tally {
 
     ghost Value = { Counts };
 
-    ghost view = { λ t. record { is_broken = t.is_broken; told = t.told.items; copies = length t.copies.items } };
+    ghost view = { λ t. record { is_broken = t.is_broken; told = t.told.items; copies = length t.copies.items; reopened = t.reopened.devices } };
 }
 
 impl Tally {
@@ -38,6 +45,7 @@ impl Tally {
             is_broken: false,
             told: History::new(),
             copies: History::new(),
+            reopened: Reopened::new(),
         }
     }
 
@@ -100,11 +108,19 @@ impl Tally {
         self.fail(OutsideFault::Stopped);
     }
 
-    /// Calls are answered again.
-    pub fn reopen(&mut self)
-        ensures { self.new ≡ record self.old { is_broken = false } }
+    /// The outside of these parts is opened again: calls are answered. The parts are there for contracts alone, which name its device by
+    /// them.
+    pub fn reopen<F: Mailbox, N: Mailbox, S: Shelf>(
+        &mut self,
+        _far: &F,
+        _near: &N,
+        _book: &BookPart<S>,
+    )
+        ghost device: { Device }
+        ensures { self.new ≡ counted_again device self.old }
     {
         self.is_broken = false;
+        self.reopened = self.reopened.and();
     }
 
     /// A call tells this fault, and from now on none is answered.
