@@ -14,7 +14,7 @@ use Rattle.outside.specs.declared.fault.OutsideFault.{OutsideFault}
 use Rattle.outside.specs.declared.fault.OutsideFault.TheVariants as out
 use Rattle.outside.specs.Arrivals.{Arrives}
 use Rattle.outside.specs.BookCalls.{TellsFiles}
-use Rattle.outside.specs.Calls.{FromShelf, Seen}
+use Rattle.outside.specs.Calls.{FromShelf, Seen, opened_again}
 use Rattle.outside.specs.Devices.{Device}
 use Rattle.outside.specs.Opened.{IsHeld, Opened, state_of}
 use Rattle.underway.specs.Conditions.{IsPending, Underway}
@@ -28,8 +28,7 @@ use Rattle.runner.specs.declared.fault.RunFault.TheVariants as run
 use Rattle.runner.specs.Faults.{IsCaused, IsLastRun, Reasons, because, call_fault, or_beyond, or_refused, or_unread, stops_met}
 use Rattle.runner.specs.Parts.{IsStuck, Left, TellsMore}
 use Rattle.runner.specs.Answers.{Answers, IsAsked, Moves, RunsBy, as_read, run_of}
-use Rattle.runner.specs.Attempts.{AnswersAt, AnswersLast, AtOpening, Began, ChangedLast, HasNoNext, MetBefore, MetStops, TellsNoNext, TriedAt, failed_before, found_by}
-use Rattle.runner.specs.Finding.{FindsAt, FindsLast}
+use Rattle.runner.specs.Attempts.{AnswersAt, AtOpening, HasNoNext, MetBefore, MetStops, Reopens, TellsNoNext, TriedAt, failed_before, found_by}
 use Rattle.runner.specs.Validities.{IsKept, TellsChanged}
 use Rattle.runner.proofs.PartCalls.{TellsNoBook, broken_or_whole, caused_after, caused_told, more_after, more_none}
 use Rattle.runner.proofs.Passes.{planned_state, run_of_state, unplanned_state}
@@ -117,16 +116,16 @@ attempt_changed alone h1 h2 a b c side honest kept told = λ h s p held.
 
 pub attempt_answers : (ours : List ℕ → Bool) (alone : Bool) (opening : Opening) (h1 h2 : Type 0) (options : Options) (stream : Stream) (fixed : Option ℕ) (number : ℕ) (a b : Device) (before : Option ℕ) (r : Result Pass RunFault) → fixed ≡ Some number → (h2 → h1) → (h1 → IsKept alone a b)
     → (h1 → TriedAt ours alone opening before a → TriedAt ours alone opening fixed b)
-    → IfOk r (λ pass. h2 → (s : SyncState) (p : Pending) → Holds b.files s p → Answers number s p pass)
-    → IfOk r (λ pass. h2 → (s : SyncState) (p : Pending) → Holds b.files s p → RunsBy (as_read s p) options stream pass)
+    → IfOk r (λ pass. h2 → AnswersAt number options pass b stream)
     → IfOk r (λ pass. h2 → TriedAt ours alone opening before a → AnswersAt (opening.world.state.run + 1) options pass a stream)
-attempt_answers ours alone opening h1 h2 options stream fixed number a b before (Err e) is honest kept reaches answers runs = tt
-attempt_answers ours alone opening h1 h2 options stream fixed number a b before (Ok pass) is honest kept reaches answers runs = λ h at.
+attempt_answers ours alone opening h1 h2 options stream fixed number a b before (Err e) is honest kept reaches answers = tt
+attempt_answers ours alone opening h1 h2 options stream fixed number a b before (Ok pass) is honest kept reaches answers = λ h at.
     let k = kept (honest h) in
     let t = tried_fixed ours alone opening fixed number b is (reaches (honest h) at) in
+    let x = answers h in
     record {
-      answers = λ s p held. subst (λ (n : ℕ). Answers n s p pass) t.0 (answers h s p (subst (λ (f : Files). Holds f s p) (sym k.files) held));
-      runs = λ s p held. runs h s p (subst (λ (f : Files). Holds f s p) (sym k.files) held);
+      answers = λ s p held. subst (λ (n : ℕ). Answers n s p pass) t.0 (x.answers s p (subst (λ (f : Files). Holds f s p) (sym k.files) held));
+      runs = λ s p held. x.runs s p (subst (λ (f : Files). Holds f s p) (sym k.files) held);
     }
 
 pub kept_none : (alone : Bool) (d : Device) → IsKept alone d d
@@ -188,7 +187,7 @@ none_met run.NoMemory other = refl
 pub found_first : (n : ℕ) (s : Seen) → n ≡ 0 → found_by n s ≡ s
 found_first n s e = rw e refl
 
-pub found_later : (n : ℕ) (s : Seen) → (n ≡ 0 → ⊥) → found_by n s ≡ record s { is_broken = false }
+pub found_later : (n : ℕ) (s : Seen) → (n ≡ 0 → ⊥) → found_by n s ≡ opened_again s
 found_later n s f = rw (ne_eqb n 0 f) refl
 
 pub found_device : (n : ℕ) (s t : Seen) → t ≡ found_by n s → t.device ≡ s.device
@@ -254,14 +253,15 @@ failed_few n start now s1 s2 x first e stuck = whole_few n start now s1 first e 
 
 -- the last one had another fault
 pub met_before : (T : Type 0) {reasons : Reasons} (h : Type 0) (a u : Device → Type 0) (n tries : ℕ) (start now s1 s2 : Seen) (f : RunFault) → MetStops n start now → (n ≡ 0 → now ≡ start) → s1 ≡ found_by n now → IsStuck {T = T} s1 s2 (Err f) → Left reasons h a u f s1 s2
-    → n < tries → (f ≡ run.Stopped → ⊥) → MetBefore tries start s2
-met_before T h a u n tries start now s1 s2 f met first e stuck l few other =
+    → n < tries → (f ≡ run.Stopped → ⊥) → Reopens n start s2 → MetBefore tries start s2
+met_before T h a u n tries start now s1 s2 f met first e stuck l few other reopens =
     let whole = unstopped_whole {T = T} s1 s2 (Err f) other stuck in
     record {
       earlier = n;
       few = few;
       least = whole_few n start now s1 first e whole;
       met = stops_kept n start now s1 s2 met e (l.stops whole ∙ ap (λ (k : ℕ). s1.stops + k) (none_met f other) ∙ omega arith);
+      reopens = reopens;
     }
 
 -- the first attempt, where the outside had failed before
@@ -293,50 +293,7 @@ beyond_later tried tries fixed honest unfixed few told h = ⊎_elim (λ z. absur
 pub refused_for : {c : Reasons} (h : Type 0) (a u : Device → Type 0) (f : RunFault) (s0 s1 : Seen) (step : ℕ) → f ≡ run.Refused step → Left c h a u f s0 s1 → c.refused step
 refused_for {c} h a u f s0 s1 step is l = let told : IsCaused c (run.Refused step) s0 s1 = subst (λ (x : RunFault). IsCaused c x s0 s1) is l.caused in told.0
 
--- ---- the last attempt
-
-pub began_at : (ours : List ℕ → Bool) (alone : Bool) (opening : Opening) (n : ℕ) (fixed : Option ℕ) (start now s1 : Seen) (stream drawn : Stream) → (n ≡ 0 → now ≡ start) → (n ≡ 0 → drawn ≡ stream) → Moves stream drawn → s1 ≡ found_by n now → TriedAt ours alone opening fixed now.device → Began ours alone opening n start.device stream
-began_at ours alone opening n fixed start now s1 stream drawn first undrawn moved e t =
-    let same : s1.device ≡ now.device = found_device n now s1 e in
-    record {
-      device = s1.device;
-      drawn = drawn;
-      first = λ z. (same ∙ ap (λ (x : Seen). x.device) (first z), undrawn z);
-      moved = moved;
-      underway = subst (λ (d : Device). Underway ours alone opening d) (sym same) (tried_underway ours alone opening fixed now.device t);
-    }
-
-pub last_answers : (ours : List ℕ → Bool) (alone : Bool) (opening : Opening) (options : Options) (n : ℕ) (fixed : Option ℕ) (start now s1 : Seen) (stream drawn : Stream) (pass : Pass) → (n ≡ 0 → now ≡ start) → (n ≡ 0 → drawn ≡ stream) → Moves stream drawn → s1 ≡ found_by n now → TriedAt ours alone opening fixed now.device
-    → (TriedAt ours alone opening fixed s1.device → AnswersAt (opening.world.state.run + 1) options pass s1.device drawn) → AnswersLast ours alone opening options n pass start.device stream
-unfolding began_at
-last_answers ours alone opening options n fixed start now s1 stream drawn pass first undrawn moved e t answers = record {
-  began = began_at ours alone opening n fixed start now s1 stream drawn first undrawn moved e t;
-  answers = answers (subst (λ (d : Device). TriedAt ours alone opening fixed d) (sym (found_device n now s1 e)) t);
-}
-
--- what it told as found
-pub last_finds : (ours : List ℕ → Bool) (alone : Bool) (opening : Opening) (n : ℕ) (fixed : Option ℕ) (start now s1 : Seen) (stream drawn : Stream) (pass : Pass) → (n ≡ 0 → now ≡ start) → (n ≡ 0 → drawn ≡ stream) → Moves stream drawn → s1 ≡ found_by n now → TriedAt ours alone opening fixed now.device
-    → FindsAt ours s1.device pass → FindsLast ours alone opening n pass start.device stream
-unfolding began_at
-last_finds ours alone opening n fixed start now s1 stream drawn pass first undrawn moved e t finds = record {
-  began = began_at ours alone opening n fixed start now s1 stream drawn first undrawn moved e t;
-  finds = finds;
-}
-
-pub changed_last : {reasons : Reasons} (ours : List ℕ → Bool) (alone : Bool) (opening : Opening) (h : Type 0) (a u : Device → Type 0) (n tries : ℕ) (fixed : Option ℕ) (start now s1 s2 : Seen) (stream drawn : Stream) (side : Side) (f : RunFault) → (n ≡ 0 → now ≡ start) → (n ≡ 0 → drawn ≡ stream) → Moves stream drawn → s1 ≡ found_by n now → TriedAt ours alone opening fixed now.device
-    → n < tries → f ≡ run.ValidityChanged side → h → Left reasons h a u f s1 s2 → (reasons.changed side → TellsChanged h alone s1.device s2.device side) → ChangedLast ours alone opening tries side start.device stream s2.device
-unfolding began_at
-changed_last {reasons} ours alone opening h a u n tries fixed start now s1 s2 stream drawn side f first undrawn moved e t few is honest l tells =
-    let b = began_at ours alone opening n fixed start now s1 stream drawn first undrawn moved e t in
-    let told : TellsChanged h alone s1.device s2.device side = tells (subst (λ (x : RunFault). IsCaused reasons x s1 s2) is l.caused) in
-    let held = underway_files ours alone opening s1.device b.underway in
-    record {
-      earlier = n;
-      few = few;
-      began = b;
-      changed = λ s p at. (told honest s p at).0;
-      kept = (told honest held.0 held.1.0 held.1.1).1;
-    }
+-- ---- the greatest number, behind some attempts
 
 pub greatest_since : {T : Type 0} (alone : Bool) (h : Type 0) (a b c d : Device) (r : Result T RunFault) (fixed now : Option ℕ) → (fixed ≡ None) × IsKept alone a b → c ≡ b → (s : SyncState) (p : Pending) → Holds a.files s p → s.run + 1 ≡ 2 ^ 64 → (fixed ≡ None → HasNoNext h alone c d r)
     → (fixed ≡ None → h → (s : SyncState) (p : Pending) → Holds c.files s p → s.run + 1 ≡ 2 ^ 64 → now ≡ None) → h → (now ≡ None) × (IsErrAnd r TellsNoNext × IsKept alone a d)

@@ -14,4 +14,8 @@ pub mod PlanFacts
 pub mod Passes
 pub mod Told
 pub mod Attempts
+pub mod Reopening
+pub mod Ends
 pub mod Finding
+pub mod PassTells
+pub mod Sourced

@@ -220,11 +220,12 @@ module _ {T : Type 0} (honest : Type 0) (from : Device → Type 0) (others : Eff
         stops = a.stops;
         told = n.told;
         appends = n.appends;
+        reopened = n.reopened;
         reaches = λ h at. let e = a.effect h in f e.mid at e.before e.behind;
       }
 
   no_less : (e : OutsideFault) → Call honest others copies tells does leaves s0 s1 (Err e) → NoLess s0 s1
-  no_less e c = let a = c.acts in let n = c.counts in record { stops = a.no_less; told = more (broken_or_whole s0); appends = omega (arith, n.appends) }
+  no_less e c = let a = c.acts in let n = c.counts in record { stops = a.no_less; told = more (broken_or_whole s0); appends = omega (arith, n.appends); reopened = n.reopened }
     where
       more : (s0.is_broken ≡ true) ⊎ (s0.is_broken ≡ false) → TellsMore s0 s1
       more (inl b) = let n = c.counts in more_none s0 s1 (ap (λ (s : Seen). s.told) (n.stuck b))
@@ -276,7 +277,7 @@ module _ {T : Type 0} (honest : Type 0) (others : Effect Device) (copies : T →
 -- ---- no call
 
 pub passed_none : (honest : Type 0) (from to : Device → Type 0) (s : Seen) → s.is_broken ≡ false → (from s.device → to s.device) → Passed honest from to 0 s s
-passed_none honest from to s whole f = record { is_whole = whole; stops = refl; told = refl; appends = omega arith; reaches = λ h at. f at }
+passed_none honest from to s whole f = record { is_whole = whole; stops = refl; told = refl; appends = omega arith; reopened = refl; reaches = λ h at. f at }
 
 -- ---- one part after another
 
@@ -286,6 +287,7 @@ passed_after h0 h1 a b c m n s0 s1 s2 honest p q = record {
   stops = q.stops ∙ p.stops;
   told = q.told ∙ p.told;
   appends = omega (arith, p.appends, q.appends);
+  reopened = q.reopened ∙ p.reopened;
   reaches = λ h at. q.reaches h (p.reaches (honest h) at);
 }
 
@@ -298,7 +300,7 @@ left_after {reasons} h0 h1 a b underway m f s0 s1 s2 honest p q =
     let more = more_none s0 s1 p.told in
     record {
       caused = caused_after reasons f s0 s1 s2 (stop_after s0 s1 s2 p.is_whole p.stops) more (omega (arith, p.appends)) q.caused;
-      no_less = let n = q.no_less in record { stops = omega (arith, p.stops, n.stops); told = more_after s0 s1 s2 more n.told; appends = omega (arith, p.appends, n.appends) };
+      no_less = let n = q.no_less in record { stops = omega (arith, p.stops, n.stops); told = more_after s0 s1 s2 more n.told; appends = omega (arith, p.appends, n.appends); reopened = n.reopened ∙ p.reopened };
       stops = λ _. q.stops p.is_whole ∙ ap (λ (k : ℕ). k + stops_met f) p.stops;
       left = λ h at. leaves_after underway f s0 s1 s2 more (q.left h (p.reaches (honest h) at));
     }
@@ -307,7 +309,7 @@ left_after {reasons} h0 h1 a b underway m f s0 s1 s2 honest p q =
 pub left_here : {reasons : Reasons} (h : Type 0) (a b underway : Device → Type 0) (m : ℕ) (f : RunFault) (s0 s1 : Seen) → Passed h a b m s0 s1 → IsCaused reasons f s1 s1 → (b s1.device → LeavesRun underway f s0 s1) → Left reasons h a underway f s0 s1
 left_here {reasons} h a b underway m f s0 s1 p caused g = record {
   caused = caused_after reasons f s0 s1 s1 (stop_after s0 s1 s1 p.is_whole p.stops) (more_none s0 s1 p.told) (omega (arith, p.appends)) caused;
-  no_less = record { stops = omega (arith, p.stops); told = more_none s0 s1 p.told; appends = omega (arith, p.appends) };
+  no_less = record { stops = omega (arith, p.stops); told = more_none s0 s1 p.told; appends = omega (arith, p.appends); reopened = p.reopened };
   stops = λ _. omega (arith, p.stops, no_stop reasons f s1 p.is_whole caused);
   left = λ honest at. g (p.reaches honest at);
 }
@@ -316,7 +318,7 @@ left_here {reasons} h a b underway m f s0 s1 p caused g = record {
 pub left_lost : {reasons : Reasons} (h : Type 0) (a underway : Device → Type 0) (m : ℕ) (s0 s1 : Seen) → 0 < m → Passed h a (λ d. ⊥) m s0 s1 → (side : Side) (number : ℕ) → ((s0.appends < s1.appends) → IsLost side number s0 s1) → Left reasons h a underway (run.StoreFault side number) s0 s1
 left_lost h a underway m s0 s1 some p side number lost = record {
   caused = inr (inl (lost (omega (arith, some, p.appends))));
-  no_less = record { stops = omega (arith, p.stops); told = more_none s0 s1 p.told; appends = omega (arith, p.appends) };
+  no_less = record { stops = omega (arith, p.stops); told = more_none s0 s1 p.told; appends = omega (arith, p.appends); reopened = p.reopened };
   stops = λ _. omega (arith, p.stops);
   left = λ honest at. absurd (p.reaches honest at);
 }
@@ -329,6 +331,7 @@ passed_weaker h a a' b b' m n s0 s1 same f g p = record {
   stops = p.stops;
   told = p.told;
   appends = omega (arith, p.appends);
+  reopened = p.reopened;
   reaches = λ honest at. g s1.device (p.reaches honest (f s0.device at));
 }
 
@@ -351,6 +354,7 @@ passed_with p h a b n s0 s1 k = record {
   stops = k.stops;
   told = k.told;
   appends = k.appends;
+  reopened = k.reopened;
   reaches = λ honest at. (at.0, k.reaches honest at.1);
 }
 

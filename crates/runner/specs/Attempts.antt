@@ -1,5 +1,5 @@
 -- Several attempts at one run: where it may stand between them, where the last one began, and what is answered and counted.
-use Rattle.std.specs.Prelude.{◌≡◌, ◌⊎◌, ◌<◌, ◌≤◌, ◌+◌, ◌-◌, ◌^◌, ◌==◌, if◌then◌else◌, ℕ, Bool, false, List, Option, None, Some, Result, IsErrAnd}
+use Rattle.std.specs.Prelude.{◌≡◌, ◌⊎◌, ◌<◌, ◌≤◌, ◌+◌, ◌-◌, ◌^◌, ◌==◌, ◌++◌, if◌then◌else◌, ℕ, Bool, false, All, List, [], ◌∷◌, length, Option, None, Some, Result, IsErrAnd}
 use Rattle.rand_core.specs.Stream.{Stream}
 use Rattle.mailcore.specs.declared.side.Side.{Side}
 use Rattle.rules.specs.declared.options.Options.{Options}
@@ -41,38 +41,47 @@ pub record IsTried (ours : List ℕ → Bool) (alone : Bool) (opening : Opening)
 
 -- ---- the last attempt
 
--- where an attempt began that came after so many others: the first where `settle` was called, each with the run underway and the
--- generator moved by whole pairs
-pub record Began (ours : List ℕ → Bool) (alone : Bool) (opening : Opening) (earlier : ℕ) (start : Device) (stream : Stream) : Type 0 where
-  pub device : Device
+-- the device on which the last of several attempts began: as it was when the outside was opened again the last time since, or else the first
+abbrev pub began_on : (since : List Device) → (start : Device) → Device
+began_on [] start = start
+began_on (d ∷ since) start = d
+
+-- the outside was opened again so many times, each time with one of these devices, the last time first
+pub record Reopens (times : ℕ) (old new : Seen) : Type 0 where
+  pub since : List Device
+  pub now : new.reopened ≡ since ++ old.reopened
+  pub as_many : length since ≡ times
+
+-- Where an attempt began that came after so many others. Behind each of those the outside was opened again, and not otherwise, with the run
+-- underway. The first one began where `settle` was called, and each other where the outside was opened for it. The generator has moved by
+-- whole pairs.
+pub record Began (ours : List ℕ → Bool) (alone : Bool) (opening : Opening) (earlier : ℕ) (old new : Seen) (stream : Stream) : Type 0 where
+  pub reopens : Reopens earlier old new
+  pub each : All (Underway ours alone opening) reopens.since
+  pub underway : Underway ours alone opening (began_on reopens.since old.device)
   pub drawn : Stream
-  pub first : earlier ≡ 0 → (device ≡ start) × (drawn ≡ stream)
+  pub undrawn : earlier ≡ 0 → drawn ≡ stream
   pub moved : Moves stream drawn
-  pub underway : Underway ours alone opening device
 
 -- what an attempt at this run answered that found this device, by the files that it found
 pub record AnswersAt (run : ℕ) (options : Options) (pass : Pass) (d : Device) (stream : Stream) : Type 0 where
   pub answers : (s : SyncState) (p : Pending) → Holds d.files s p → Answers run s p pass
   pub runs : (s : SyncState) (p : Pending) → Holds d.files s p → RunsBy (as_read s p) options stream pass
 
--- what the last attempt answered, after so many others
-pub record AnswersLast (ours : List ℕ → Bool) (alone : Bool) (opening : Opening) (options : Options) (earlier : ℕ) (last : Pass) (start : Device) (stream : Stream) : Type 0 where
-  pub began : Began ours alone opening earlier start stream
-  pub answers : AnswersAt (opening.world.state.run + 1) options last began.device began.drawn
-
--- the last attempt, one of so many, found that this side's UIDVALIDITY had changed, and has changed nothing itself
-pub record ChangedLast (ours : List ℕ → Bool) (alone : Bool) (opening : Opening) (tries : ℕ) (side : Side) (start : Device) (stream : Stream) (d : Device) : Type 0 where
+-- The last attempt, one of so many, found that this side's UIDVALIDITY had changed, and has changed nothing itself.
+pub record ChangedLast (ours : List ℕ → Bool) (alone : Bool) (opening : Opening) (tries : ℕ) (side : Side) (old new : Seen) (stream : Stream) : Type 0 where
   pub earlier : ℕ
   pub few : earlier < tries
-  pub began : Began ours alone opening earlier start stream
-  pub changed : (s : SyncState) (p : Pending) → Holds began.device.files s p → HasChanged (as_read s p) side began.device
-  pub kept : IsKept alone began.device d
+  pub began : Began ours alone opening earlier old new stream
+  pub changed : (s : SyncState) (p : Pending) → Holds (began_on began.reopens.since old.device).files s p → HasChanged (as_read s p) side (began_on began.reopens.since old.device)
+  pub kept : IsKept alone (began_on began.reopens.since old.device) new.device
 
--- in some attempt marks repeat: so many draws do from where the generator stood then, before there is a mark for each new message of some
--- world since the opening
-pub record WillRepeat (honest : Type 0) (ours : List ℕ → Bool) (alone : Bool) (opening : Opening) (options : Options) (stream : Stream) (start : Device) : Type 0 where
+-- in an attempt marks repeat: so many draws do from where the generator stood then, which was between these two, before there is a mark for
+-- each new message of some world since the opening
+pub record HaveRepeated (honest : Type 0) (ours : List ℕ → Bool) (alone : Bool) (opening : Opening) (options : Options) (stream after : Stream) (start : Device) : Type 0 where
   pub drawn : Stream
   pub moved : Moves stream drawn
+  pub on : Moves drawn after
   pub count : ℕ
   pub repeats : RepeatsFor drawn count
   pub wanted : FromOpening honest ours alone opening options stream start (Since alone opening (λ w. count ≡ count_new (scene_of w options)))
@@ -98,7 +107,7 @@ HasNoNext honest alone d d' result = honest → (s : SyncState) (p : Pending) �
 
 -- as an attempt finds the outside: each but the first finds it opened again
 abbrev pub found_by : (earlier : ℕ) → Seen → Seen
-found_by earlier seen = record seen { is_broken = if earlier == 0 then seen.is_broken else false }
+found_by earlier seen = record seen { is_broken = if earlier == 0 then seen.is_broken else false; reopened = if earlier == 0 then seen.reopened else seen.device ∷ seen.reopened }
 
 -- an outside that had failed before costs the first attempt
 abbrev pub failed_before : Seen → ℕ
@@ -108,9 +117,11 @@ failed_before seen = if seen.is_broken then 1 else 0
 abbrev pub MetStops : (attempts : ℕ) → (old new : Seen) → Type 0
 MetStops attempts old new = new.stops ≡ old.stops + (attempts - failed_before old)
 
--- each attempt before the last, of which there may be so many, met a stop, and the last met none
+-- Each attempt before the last, of which there may be so many, met a stop, and the last met none. The outside was opened again for each but
+-- the first.
 pub record MetBefore (tries : ℕ) (old new : Seen) : Type 0 where
   pub earlier : ℕ
   pub few : earlier < tries
   pub least : failed_before old ≤ earlier
   pub met : MetStops earlier old new
+  pub reopens : Reopens earlier old new

@@ -1,6 +1,5 @@
 -- Whether a copy that is told was made in this pass or found: by what the target held when the pass began.
 use Rattle.std.specs.Prelude.{◌≡◌, ℕ, All, Bool, true, List, [], ◌∷◌, Option, None, Some}
-use Rattle.rand_core.specs.Stream.{Stream}
 use Rattle.mailcore.specs.declared.side.Side.{Side}
 use Rattle.mailcore.specs.declared.side.Direction.{Direction}
 use Rattle.mailcore.specs.Operations.{marked_from}
@@ -13,7 +12,6 @@ use Rattle.book.specs.declared.book.Pending.{Pending}
 use Rattle.book.specs.Books.{Holds}
 use Rattle.outside.specs.Devices.{Device, box}
 use Rattle.outside.specs.Opened.{Opened}
-use Rattle.underway.specs.Openings.{Opening}
 use Rattle.underway.specs.Plans.{first_uid}
 use Rattle.runner.specs.declared.pass.Pass.{Pass}
 use Rattle.runner.specs.declared.pass.Pass.TheVariants.{Already, Ran, Finished}
@@ -21,7 +19,6 @@ use Rattle.runner.specs.declared.performed.Performed.{Performed}
 use Rattle.runner.specs.declared.performed.StepResult.{StepResult}
 use Rattle.runner.specs.declared.performed.StepResult.TheVariants as did
 use Rattle.runner.specs.Answers.{as_read}
-use Rattle.runner.specs.Attempts.{Began}
 use Rattle.runner.specs.Going.{plan_at}
 
 -- the copy under a mark that a device holds: the least UID, of those given since the plan was made, whose message bears it
@@ -76,8 +73,3 @@ OfSame ours now P = (d : Device) → FindsSame ours d now → P d
 -- what a pass tells as found that began with this device, by what its files held
 abbrev pub FindsAt : (ours : List ℕ → Bool) → Device → Pass → Type 0
 FindsAt ours began pass = (s : SyncState) (p : Pending) → Holds began.files s p → OfSame ours began (λ d. FindsBy (as_read s p) d pass)
-
--- what the last attempt tells as found, after so many others
-pub record FindsLast (ours : List ℕ → Bool) (alone : Bool) (opening : Opening) (earlier : ℕ) (last : Pass) (start : Device) (stream : Stream) : Type 0 where
-  pub began : Began ours alone opening earlier start stream
-  pub finds : FindsAt ours began.device last

@@ -7,3 +7,6 @@ pub mod Answers
 pub mod Validities
 pub mod Attempts
 pub mod Finding
+pub mod Settled
+pub mod Passes
+pub mod Sources

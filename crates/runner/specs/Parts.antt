@@ -14,18 +14,21 @@ pub record TellsMore (old new : Seen) : Type 0 where
   pub since : List OutsideFault
   pub now : new.told ≡ since ++ old.told
 
--- neither count falls, and nothing that was told is lost
+-- neither count falls, nothing that was told is lost, and nothing was opened again
 pub record NoLess (old new : Seen) : Type 0 where
   pub stops : old.stops ≤ new.stops
   pub told : TellsMore old new
   pub appends : old.appends ≤ new.appends
+  pub reopened : new.reopened ≡ old.reopened
 
--- a part that answered: no call of it had a fault, it has made so many copies, and it leads from one condition to another
+-- a part that answered: no call of it had a fault, it has made so many copies, nothing was opened again, and it leads from one condition to
+-- another
 pub record Passed (honest : Type 0) (from to : Device → Type 0) (copies : ℕ) (old new : Seen) : Type 0 where
   pub is_whole : new.is_broken ≡ false
   pub stops : new.stops ≡ old.stops
   pub told : new.told ≡ old.told
   pub appends : new.appends ≡ old.appends + copies
+  pub reopened : new.reopened ≡ old.reopened
   pub reaches : honest → from old.device → to new.device
 
 -- a part that ended with a fault; where the outside was whole before, a stop that it tells was counted once, and no other

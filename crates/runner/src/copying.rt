@@ -9,6 +9,7 @@ ghost use Rattle.underway.specs.Openings.{Opening};
 ghost use Rattle.runner.specs.Parts.{StepPart};
 ghost use Rattle.runner.specs.Going.{IsGoing, AtCopied, AtDone, AtReady, AtSought, CopiesUnder, FoundCopy, logged_of, made_by, next_at, plan_at};
 ghost use Rattle.runner.specs.Finding.{OfSame, copy_at, copy_under, told_found};
+ghost use Rattle.runner.specs.Sources.{BySource};
 
 use crate::fault::{RunFault, step_fault};
 use crate::pending::first_uid;
@@ -70,7 +71,7 @@ fn find_copy<O: Outside>(
     }
 }
 
-/// Makes the copy. `StoreFault`, number 3 of the far box: its UID was not told, and no message bears its mark.
+/// Makes the copy. It is void exactly where its source is gone or not fit to be copied. `StoreFault`, number 3 of the far box: its UID was not told, and no message bears its mark.
 fn copy<O: Outside>(
     outside: &mut O,
     number: usize,
@@ -86,6 +87,7 @@ fn copy<O: Outside>(
     ensures opened { O.opened outside.new ≡ O.opened outside.old }
     ensures fits { IfOk result (λ r. LogsNew (logged_of r)) }
     ensures made { IfOk result (λ r. told_found r ≡ None) }
+    ensures source { IfOk result (λ r. O.honest outside.new → BySource O.ours O.alone direction uid r (O.seen outside.old).device) }
     ensures part { StepPart number (O.opened outside.old) (O.honest outside.new)
         (AtReady O.ours O.alone opening (O.opened outside.old) false) (Underway O.ours O.alone opening) made_by
         (λ r. AtDone O.ours O.alone opening (O.opened outside.old) (logged_of r)) (O.seen outside.old) (O.seen outside.new) result }

@@ -1,21 +1,19 @@
 //! A whole run: it is begun, or taken up where its plan is pending, and its state is committed.
 
-ghost use Rattle.std.specs.Prelude.{◌≡◌, ◌≤◌, ◌<◌, ◌+◌, ◌^◌, [], None, Some, IsErr, OnOk, IfOk, true, false};
-ghost use Rattle.rules.specs.Opening.{IsOpening};
-ghost use Rattle.book.specs.declared.book.Pending.TheVariants.{Missing};
-ghost use Rattle.book.specs.Books.{Holds};
+ghost use Rattle.std.specs.Prelude.{◌≡◌, ◌<◌, ◌+◌, ◌^◌, [], None, Some, IsErr, OnOk, IfOk, true, false};
 ghost use Rattle.outside.specs.Opened.{AreCommitted, IsBook, IsHeld, IsRead, TakesCommit};
 ghost use Rattle.underway.specs.Conditions.{Underway};
-ghost use Rattle.underway.specs.Endings.{IsDone};
-ghost use Rattle.underway.specs.Openings.{IsIdle, Opening};
-ghost use Rattle.runner.specs.Faults.{TellsBeyond, TellsUnread, because, or_beyond, or_unread};
+ghost use Rattle.underway.specs.Openings.{Opening};
+ghost use Rattle.runner.specs.Faults.{because, or_beyond};
 ghost use Rattle.runner.specs.Parts.{IsStuck, Part, PartOr, RunPart, Unstepped};
-ghost use Rattle.runner.specs.Validities.{IsKept, LeavesBoxes, TellsChange, TellsChanged, TellsUnlessSame};
+ghost use Rattle.runner.specs.Validities.{IsKept, LeavesBoxes, TellsChange, TellsUnlessSame};
 ghost use Rattle.runner.specs.Going.{AreOpen, AtReady, IsGoing, log_at, next_at, plan_at};
 ghost use Rattle.runner.specs.Before.{HasNoPlan, HasPlan, IsEmptied, IsKnown, IsTakenUp};
 ghost use Rattle.runner.specs.Results.{EndsBy, HasResults, IsTold, PassedOver};
-ghost use Rattle.runner.specs.Finding.{FindsAt, FindsBy, OfSame};
-ghost use Rattle.runner.specs.Answers.{Answers, AnswersTo, AtEnd, HasRepeats, IsChosen, IsEntry, IsKnownEntry, IsRun, Moves, OfFiles, Reaches, RunsBy, as_read, made_in, run_of};
+ghost use Rattle.runner.specs.Finding.{FindsBy, OfSame};
+ghost use Rattle.runner.specs.Answers.{AnswersTo, AtEnd, HasRepeats, IsChosen, IsEntry, IsKnownEntry, IsRun, Moves, OfFiles, Reaches, RunsBy, made_in, run_of};
+ghost use Rattle.runner.specs.Attempts.{AnswersAt};
+ghost use Rattle.runner.specs.Passes.{LeavesMade, TellsRun, pass_reasons};
 
 use crate::fault::{RunFault, call_fault};
 use crate::opening::{clear, forget, list_both, open_boxes, recall, untear, write_plan};
@@ -293,61 +291,33 @@ pub fn pass<O: Outside, R: Rng, P: Progress>(
     progress: &P,
 ) -> Result<Pass, RunFault>
     ghost opening: { Opening }
-
     ensures was_honest { O.honest outside.new → O.honest outside.old }
 
-    // What is answered goes by what the files held, and what is run by the marks that the generator gave.
-    ensures answer { IfOk result (λ pass. OfFiles (O.honest outside.new) (O.seen outside.old).device (λ s p. Answers run s p pass)) }
-    ensures runs { IfOk result (λ pass. OfFiles (O.honest outside.new) (O.seen outside.old).device
-        (λ s p. RunsBy (as_read s p) options.now (R.stream rng.old) pass)) }
+    // What is answered goes by what the files held, and what is run by the marks that the generator gave, which moves by whole pairs.
+    ensures answers { IfOk result (λ pass. O.honest outside.new
+        → AnswersAt run options.now pass (O.seen outside.old).device (R.stream rng.old)) }
+    ensures moved { Moves (R.stream rng.old) (R.stream rng.new) }
 
     // A copy that is told as made or found stands beside its source in an entry of the state that the files then hold.
     ensures results { IfOk result (λ pass. O.honest outside.new → HasResults pass (O.seen outside.new).device) }
 
-    // The steps told are those of the plan of the world that the run is over for, in order: all of them, or the last where the plan was
-    // pending. Each new message is told with the UID of a copy. The messages that were passed over are those of the listed world.
+    // Where the run was underway, an answer tells its steps, and the end is the one that the rules name for the opening.
     ensures told { IfOk result (λ pass. O.honest outside.new → IsEntry O.ours O.alone opening run options.now (R.stream rng.old)
-        (O.seen outside.old).device → IsTold O.ours O.alone opening pass (O.seen outside.new).device) }
+        (O.seen outside.old).device → TellsRun O.ours O.alone opening run pass (O.seen outside.old).device (O.seen outside.new).device) }
 
-    // A copy is told as found exactly if it stood on its side when the pass began, under the UID that it has: that of the first step that
-    // was not logged alone, and none where the plan was made in this pass.
-    ensures found { IfOk result (λ pass. O.honest outside.new → IsEntry O.ours O.alone opening run options.now (R.stream rng.old)
-        (O.seen outside.old).device → FindsAt O.ours (O.seen outside.old).device pass) }
-
-    // The generator moves by whole pairs, so that later marks are its own as well.
-    ensures moved { Moves (R.stream rng.old) (R.stream rng.new) }
-
-    // On an outside that has failed before it stops and changes nothing.
-    ensures stuck { IsStuck (O.seen outside.old) (O.seen outside.new) result }
-
-    // A run beyond the next one is not made, and changes nothing.
+    // A run that was made leaves both mailboxes, and one beyond the next one is not made and changes nothing. On an outside that has failed
+    // before it stops.
+    ensures made { IfOk result (λ pass. pass ≡ Pass.Already
+        → LeavesMade (O.honest outside.new) O.alone (O.seen outside.old).device (O.seen outside.new).device) }
     ensures beyond { OfFiles (O.honest outside.new) (O.seen outside.old).device (λ s p. s.run + 1 < run
         → IsErr result × IsKept O.alone (O.seen outside.old).device (O.seen outside.new).device) }
+    ensures stuck { IsStuck (O.seen outside.old) (O.seen outside.new) result }
 
-    // A run that was made leaves both mailboxes as they are. A journal without a plan of the next run goes then.
-    ensures stores { IfOk result (λ pass. pass ≡ Pass.Already → LeavesBoxes (O.honest outside.new) O.alone (O.seen outside.old).device
-        (O.seen outside.new).device) }
-    ensures idle { IfOk result (λ pass. pass ≡ Pass.Already → OfFiles (O.honest outside.new) (O.seen outside.old).device
-        (λ s p. IsIdle p → Holds (O.seen outside.new).device.files s Missing)) }
-
-    // A run that is underway is still underway after any fault, and over where it answers. `ValidityChanged` comes only where that
-    // side's UIDVALIDITY is not the recorded one, far before near, and nothing has changed then; `MarksRepeat` only where the generator's
-    // draws do, before there is a mark for each new message of some world since the opening; a line of the state or the journal is told
-    // only where the files that stand there hold no book, but line 0 of the state: where the run is beyond the next one, or the outside
-    // has told it last. A refusal or a fault of a box is the last that was told, and a step that is told as refused is the next one of
-    // the plan that the files then hold, if the run is underway.
-    ensures part { RunPart (or_unread (TellsUnread (O.honest outside.new) (O.seen outside.new).device)
-        (or_beyond (TellsBeyond (O.honest outside.new) run (O.seen outside.old).device)
-        (because (TellsChanged (O.honest outside.new) O.alone (O.seen outside.old).device (O.seen outside.new).device)
-        (HasRepeats O.alone opening (O.honest outside.new) (IsEntry O.ours O.alone opening run options.now (R.stream rng.old)
-        (O.seen outside.old).device) options.now (R.stream rng.old)))))
-        (O.honest outside.new) (IsEntry O.ours O.alone opening run options.now (R.stream rng.old)) (Underway O.ours O.alone opening)
-        made_in (λ _. Reaches O.ours O.alone opening run) (O.seen outside.old) (O.seen outside.new) result }
-
-    // Where nobody else adds messages, both mailboxes and the state are alike to the outcome that the rules name for the opening.
-    ensures alike { OnOk result (O.honest outside.new → O.alone ≡ true → IsEntry O.ours O.alone opening run options.now (R.stream rng.old)
-        (O.seen outside.old).device → opening.world.state.run + 1 ≤ run
-        → IsOpening opening.world → IsDone opening.world opening.options (O.seen outside.new).device) }
+    // A run that is underway is still underway after any fault, which has its reason, and over where it answers.
+    ensures part { RunPart (pass_reasons (O.honest outside.new) O.ours O.alone opening run options.now (R.stream rng.old)
+        (O.seen outside.old).device (O.seen outside.new).device) (O.honest outside.new) (IsEntry O.ours O.alone opening run options.now
+        (R.stream rng.old)) (Underway O.ours O.alone opening) made_in (λ _. Reaches O.ours O.alone opening run) (O.seen outside.old)
+        (O.seen outside.new) result }
 {
     recall(outside)?;
     take_up(alloc, outside, run, options, rng, progress)

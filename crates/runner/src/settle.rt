@@ -1,18 +1,16 @@
 //! A run in several attempts, each after one that met a stop.
 
-ghost use Rattle.std.specs.Prelude.{◌≡◌, ◌≤◌, ◌<◌, ◌+◌, ◌^◌, None, Some, OnOk, OnErr, IfOk, IfErr, IsErrOf, true, false, ℕ};
-ghost use Rattle.mailcore.specs.declared.side.Side.{Side};
-ghost use Rattle.rules.specs.Opening.{IsOpening};
-ghost use Rattle.underway.specs.Conditions.{IsOver, Underway};
-ghost use Rattle.underway.specs.Endings.{IsDone};
+ghost use Rattle.std.specs.Prelude.{◌≡◌, ◌≤◌, ◌+◌, ◌^◌, None, Some, OnOk, OnErr, IfOk, IfErr, false, ℕ};
+ghost use Rattle.underway.specs.Conditions.{IsOver};
 ghost use Rattle.underway.specs.Openings.{Opening};
-ghost use Rattle.runner.specs.Faults.{IsCaused, LeavesRun, RefusedAt, TellsNoRun, because, or_beyond, or_refused, or_unread};
-ghost use Rattle.runner.specs.Parts.{IsStuck, PartOr, RunPart, Unstepped};
-ghost use Rattle.runner.specs.Validities.{IsKept, TellsChanged};
-ghost use Rattle.runner.specs.Results.{HasResults, IsTold};
-ghost use Rattle.runner.specs.Finding.{FindsAt, FindsLast, FindsSame};
 ghost use Rattle.runner.specs.Answers.{HasRepeats, Moves, OfFiles, made_in};
-ghost use Rattle.runner.specs.Attempts.{AnswersAt, AnswersLast, AtOpening, ChangedLast, FromOpening, HasNoNext, IsTried, MetBefore, MetStops, TriedAt, WillRepeat, failed_before, found_by};
+ghost use Rattle.runner.specs.Attempts.{AnswersAt, AtOpening, FromOpening, HasNoNext, IsTried, TriedAt, found_by};
+ghost use Rattle.runner.specs.Faults.{TellsNoRun, because, or_beyond, or_unread};
+ghost use Rattle.runner.specs.Finding.{FindsAt, FindsSame};
+ghost use Rattle.runner.specs.Parts.{IsStuck, PartOr, RunPart, Unstepped};
+ghost use Rattle.runner.specs.Results.{HasResults, IsTold};
+ghost use Rattle.runner.specs.Settled.{CountsAttempts, HasReason, IsSettled, IsUnsettled};
+ghost use Rattle.runner.specs.Validities.{IsKept, TellsChanged};
 
 use crate::fault::{RunFault, call_fault};
 use crate::pass::{Pass, Settled};
@@ -136,67 +134,27 @@ pub fn settle<O: Outside, R: Rng, P: Progress>(
     ghost opening: { Opening }
     ensures was_honest { O.honest outside.new → O.honest outside.old }
 
-    // The generator moves by whole pairs.
-    ensures moved { Moves (R.stream rng.old) (R.stream rng.new) }
-
-    // From an opening, the run is over where it answers, and underway after any fault.
-    ensures done { OnOk result (FromOpening (O.honest outside.new) O.ours O.alone opening options.now (R.stream rng.old) (O.seen outside.old).device
-        (IsOver O.ours O.alone opening (O.seen outside.new).device)) }
+    // From an opening: an answer leaves the run over, and tells what the last attempt answered, which began on a device that is known; a
+    // fault leaves the run underway.
+    ensures done { IfOk result (λ settled. FromOpening (O.honest outside.new) O.ours O.alone opening options.now (R.stream rng.old)
+        (O.seen outside.old).device
+        (IsSettled O.ours O.alone opening options.now (R.stream rng.old) settled (O.seen outside.old) (O.seen outside.new))) }
     ensures left { IfErr result (λ fault. FromOpening (O.honest outside.new) O.ours O.alone opening options.now (R.stream rng.old)
         (O.seen outside.old).device
-        (LeavesRun (Underway O.ours O.alone opening) fault (O.seen outside.old) (O.seen outside.new))) }
-
-    // Where nobody else adds messages, both mailboxes and the state are alike then to the outcome that the rules name for the opening.
-    ensures alike { OnOk result (FromOpening (O.honest outside.new) O.ours O.alone opening options.now (R.stream rng.old) (O.seen outside.old).device
-        (O.alone ≡ true → IsOpening opening.world → IsDone opening.world opening.options (O.seen outside.new).device)) }
-
-    // What the last attempt answered goes by the files that it found: the run was made already, or a plan of it was pending, or none was.
-    ensures answer { IfOk result (λ s. FromOpening (O.honest outside.new) O.ours O.alone opening options.now (R.stream rng.old)
-        (O.seen outside.old).device
-        (AnswersLast O.ours O.alone opening options.now s.stops s.last (O.seen outside.old).device (R.stream rng.old))) }
+        (IsUnsettled O.ours O.alone opening tries (R.stream rng.old) fault (O.seen outside.old) (O.seen outside.new))) }
 
     // A copy that the last attempt told as made or found stands beside its source in an entry of the state that the files then hold.
-    ensures results { IfOk result (λ s. O.honest outside.new → HasResults s.last (O.seen outside.new).device) }
+    ensures results { IfOk result (λ settled. O.honest outside.new → HasResults settled.last (O.seen outside.new).device) }
 
-    // From an opening, the steps that it told are those of the plan of the world that the run is over for: all of them, or the last where
-    // the plan was pending, each new message with the UID of a copy. The messages that were passed over are those of the listed world.
-    ensures told { IfOk result (λ s. FromOpening (O.honest outside.new) O.ours O.alone opening options.now (R.stream rng.old)
-        (O.seen outside.old).device (IsTold O.ours O.alone opening s.last (O.seen outside.new).device)) }
-
-    // A copy that it told as found stood on its side when it began, and has the UID that it had there; each other one was made by it.
-    ensures found { IfOk result (λ s. FromOpening (O.honest outside.new) O.ours O.alone opening options.now (R.stream rng.old)
-        (O.seen outside.old).device
-        (FindsLast O.ours O.alone opening s.stops s.last (O.seen outside.old).device (R.stream rng.old))) }
-
-    // Behind `ValidityChanged` nothing has changed but what the attempts before the last have done.
-    ensures changed { IfErr result (λ fault. (side : Side) → fault ≡ RunFault.ValidityChanged side
-        → FromOpening (O.honest outside.new) O.ours O.alone opening options.now (R.stream rng.old) (O.seen outside.old).device
-        (ChangedLast O.ours O.alone opening tries side (O.seen outside.old).device (R.stream rng.old) (O.seen outside.new).device)) }
-
-    // A refusal or another fault of a box is the last that was told, unless it is that of a copy that was lost, and marks repeat only where
-    // the draws do, before there is a mark for each new message of some world since the opening. A line of the state or the journal is told
-    // only where the files that stand there hold no book from it on, but `BadState(2)` where their run has the greatest number, and but line 0
-    // of the state: where the outside has told it last, or in an attempt behind the first.
-    ensures caused { IfErr result (λ fault. (fault ≡ RunFault.Stopped → ⊥)
-        → IsCaused (or_unread (TellsNoRun (O.honest outside.new) (O.seen outside.new).device)
-        (or_refused (λ step. Unit {0}) (or_beyond (O.honest outside.new → 1 < tries) (because (λ side. Unit {0})
-        (WillRepeat (O.honest outside.new) O.ours O.alone opening options.now (R.stream rng.old) (O.seen outside.old).device))))) fault
-        (O.seen outside.old) (O.seen outside.new)) }
-
-    // From an opening, a step that is told as refused is the next one of the plan that the files then hold.
-    ensures refused { IfErr result (λ fault. (step : ℕ) → fault ≡ RunFault.Refused step
-        → FromOpening (O.honest outside.new) O.ours O.alone opening options.now (R.stream rng.old) (O.seen outside.old).device
-        (RefusedAt step (O.seen outside.new).device)) }
-
-    // Behind the greatest run number there is no other.
+    // A fault that is no stop has its reason, and behind the greatest run number there is no other.
+    ensures caused { IfErr result (λ fault. HasReason (O.honest outside.new) O.ours O.alone opening options.now tries (R.stream rng.old)
+        (R.stream rng.new) fault (O.seen outside.old) (O.seen outside.new)) }
     ensures greatest { HasNoNext (O.honest outside.new) O.alone (O.seen outside.old).device (O.seen outside.new).device result }
 
-    // Each attempt but the last met one stop, and each of all where that is what is answered, and no other call stopped. Where the outside
-    // had failed before, the first met one that was counted then, and it changed nothing.
-    ensures stops { IfOk result (λ s. MetStops s.stops (O.seen outside.old) (O.seen outside.new) × (failed_before (O.seen outside.old) ≤ s.stops)) }
-    ensures stopped { IsErrOf result RunFault.Stopped → MetStops tries (O.seen outside.old) (O.seen outside.new) }
-    ensures ended { IfErr result (λ fault. (fault ≡ RunFault.Stopped → ⊥) → MetBefore tries (O.seen outside.old) (O.seen outside.new)) }
+    // Each attempt but the last met one stop, and each of all where a stop is answered. The generator moves by whole pairs.
+    ensures counts { CountsAttempts tries (O.seen outside.old) (O.seen outside.new) result }
     ensures stuck { tries ≤ 1 → IsStuck (O.seen outside.old) (O.seen outside.new) result }
+    ensures moved { Moves (R.stream rng.old) (R.stream rng.new) }
 {
     let mut run = None;
     for tried in 0..tries {

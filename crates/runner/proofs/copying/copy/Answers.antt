@@ -4,6 +4,7 @@ use Rattle.mailcore.specs.declared.side.Side.TheVariants.{Far, Near}
 use Rattle.runner.specs.Going.{AtCopied, CopiesUnder}
 use Rattle.runner.proofs.StepParts.{step_left_after}
 use Rattle.runner.proofs.PartCalls.{from_box, left_lost, left_step, line_of_box, passed_after, passed_call}
+use Rattle.runner.proofs.Sourced.{made_fit, void_absent, void_unfit}
 use Rattle.runner.proofs.Stages.{carry_left, carry_told, carry_untold, never_absent, never_unfit, ready_arrives, ready_held}
 use Rattle.runner.proofs.copying.copy.Goals as goal
 
@@ -95,3 +96,17 @@ returns-in-None-2-clause-part g c =
     (λ m at a own. carry_untold ours alone g.opening opened c.args.direction c.args.uid c.args.flags c.args.mark c.requires.1.1 None _ m s1.device a at own))
     rest)
     Far 3 (λ more. record { far = refl; protocol = refl; copied = more })
+
+pub returns-in-Absent-clause-source : goal.returns-in-Absent-clause-source
+returns-in-Absent-clause-source g c = void_absent _ g.O.Outside.ours g.O.Outside.alone c.args.direction c.args.uid c.args.flags c.args.mark _ _ (rw c.in-Absent.is at c.in-Ok.ensures.call)
+
+pub returns-in-Unfit-clause-source : goal.returns-in-Unfit-clause-source
+returns-in-Unfit-clause-source g c = void_unfit _ g.O.Outside.ours g.O.Outside.alone c.args.direction c.args.uid c.args.flags c.args.mark _ _ (rw c.in-Unfit.is at c.in-Ok.ensures.call)
+
+pub returns-in-Some-clause-source : goal.returns-in-Some-clause-source
+returns-in-Some-clause-source g c =
+    made_fit _ g.O.Outside.ours g.O.Outside.alone c.args.direction c.args.uid c.args.flags c.args.mark _ _ _ c.in-Some.copy (rw c.in-Made.is at c.in-Ok.ensures.call)
+
+pub returns-in-Some-2-clause-source : goal.returns-in-Some-2-clause-source
+returns-in-Some-2-clause-source g c = λ h.
+    made_fit _ g.O.Outside.ours g.O.Outside.alone c.args.direction c.args.uid c.args.flags c.args.mark _ _ _ c.in-Some-2.copy (rw c.in-Made.is at c.in-Ok.ensures.call) (c.in_ok-copy-in-None.ensures.was_honest h)

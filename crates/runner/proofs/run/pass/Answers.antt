@@ -2,6 +2,7 @@ use Rattle.std.proofs.Common.{◌≤◌, ◌+◌, refl}
 use Rattle.std.proofs.lemmas.Result.{err_from_is_err_and}
 use Rattle.runner.specs.Answers.{IsAsked, IsEntry, IsKnownEntry}
 use Rattle.runner.proofs.PartCalls.{left_told, left_weaker, part_after, part_told, passed_weaker, passed_with}
+use Rattle.runner.proofs.PassTells.{answers_so, made_so, tells_so}
 use Rattle.runner.proofs.Passes.{answers_held, beyond_held, beyond_read, emptied_held, pass_alike, runs_held, stores_joined}
 use Rattle.runner.proofs.PlanFacts.{moved_none}
 use Rattle.runner.proofs.StepParts.{repeats_from}
@@ -15,21 +16,22 @@ returns-in_err-recall-clause-part g c =
     let e = err_from_is_err_and c.from_residual.result c.from_residual.ensures.1 in
     rw (e.1, e.2) (left_told _ _ _ _ _ _ _ _ (record { changed = λ side n. absurd n; repeats = λ n. absurd n; beyond = λ n. absurd n; unread = λ e t. t; refused = λ step n. absurd n; unstepped = λ u. u }) (left_weaker _ _ _ _ _ _ _ (λ d k. k.underway) c.in_err-recall.ensures.part))
 
-pub returns-clause-answer : goal.returns-clause-answer
-returns-clause-answer g c = answers_held c.args.run (g.O.Outside.opened c.recall.new.outside) _ _ _ c.take_up.result c.take_up.ensures.answer c.take_up.ensures.was_honest c.in_ok-recall.ensures.held
+pub returns-clause-answers : goal.returns-clause-answers
+returns-clause-answers g c =
+    let opened = g.O.Outside.opened c.recall.new.outside in
+    answers_so c.args.run _ _ _ _ c.take_up.result (answers_held c.args.run opened _ _ _ c.take_up.result c.take_up.ensures.answer c.take_up.ensures.was_honest c.in_ok-recall.ensures.held)
+    (runs_held opened _ _ _ _ _ c.take_up.result c.take_up.ensures.runs c.take_up.ensures.was_honest c.in_ok-recall.ensures.held)
 
-pub returns-clause-runs : goal.returns-clause-runs
-returns-clause-runs g c = runs_held (g.O.Outside.opened c.recall.new.outside) _ _ _ _ _ c.take_up.result c.take_up.ensures.runs c.take_up.ensures.was_honest c.in_ok-recall.ensures.held
-
-pub returns-clause-stores : goal.returns-clause-stores
-returns-clause-stores g c = let s0 = g.O.Outside.seen c.args.outside.now in let s1 = g.O.Outside.seen c.recall.new.outside in let s2 = g.O.Outside.seen c.take_up.new.outside in stores_joined g.O.Outside.alone _ _ s0.device s1.device s2.device c.take_up.result c.take_up.ensures.stores c.take_up.ensures.was_honest (λ h e. let k = c.in_ok-recall.ensures.kept h in k.same e)
-
-pub returns-clause-idle : goal.returns-clause-idle
-returns-clause-idle g c =
+pub returns-clause-made : goal.returns-clause-made
+returns-clause-made g c =
+    let alone = g.O.Outside.alone in
     let s0 = g.O.Outside.seen c.args.outside.now in
     let s1 = g.O.Outside.seen c.recall.new.outside in
     let s2 = g.O.Outside.seen c.take_up.new.outside in
-    emptied_held (g.O.Outside.opened c.recall.new.outside) s0.device s1.device s2.device _ _ c.take_up.result c.take_up.ensures.emptied c.take_up.ensures.was_honest c.in_ok-recall.ensures.held (λ h. let k = c.in_ok-recall.ensures.kept h in k.files)
+    let before = c.take_up.ensures.was_honest in
+    made_so alone _ s0.device s2.device c.take_up.result
+    (stores_joined alone _ _ s0.device s1.device s2.device c.take_up.result c.take_up.ensures.stores before (λ h e. let k = c.in_ok-recall.ensures.kept h in k.same e))
+    (emptied_held (g.O.Outside.opened c.recall.new.outside) s0.device s1.device s2.device _ _ c.take_up.result c.take_up.ensures.emptied before c.in_ok-recall.ensures.held (λ h. let k = c.in_ok-recall.ensures.kept h in k.files))
 
 pub returns-in_err-recall-clause-beyond : goal.returns-in_err-recall-clause-beyond
 returns-in_err-recall-clause-beyond g c = λ h s p held more.
@@ -67,16 +69,21 @@ returns-in_err-recall-clause-stuck g c = λ b.
 pub returns-clause-stuck : goal.returns-clause-stuck
 returns-clause-stuck g c = λ b. absurd ((c.in_ok-recall.ensures.stuck b).0)
 
-pub returns-clause-alike : goal.returns-clause-alike
-returns-clause-alike g c = pass_alike _ _ g.O.Outside.ours g.O.Outside.alone g.opening c.args.run c.args.options.now (g.R.Rng.stream c.args.rng.now) (g.O.Outside.seen c.args.outside.now) (g.O.Outside.seen c.take_up.new.outside) c.take_up.result (returns-clause-part g c)
-
 pub returns-clause-told : goal.returns-clause-told
 returns-clause-told g c =
+    let ours = g.O.Outside.ours in
+    let alone = g.O.Outside.alone in
+    let d0 = (g.O.Outside.seen c.args.outside.now).device in
     let part = c.in_ok-recall.ensures.part in
-    told_from c.take_up.result _ _ _ _ (λ h k. record { most = k.most; asked = k.asked; known = part.reaches (c.take_up.ensures.was_honest h) k.underway }) c.take_up.ensures.told
-
-pub returns-clause-found : goal.returns-clause-found
-returns-clause-found g c =
-    let part = c.in_ok-recall.ensures.part in
-    finds_held g.O.Outside.ours (g.O.Outside.opened c.recall.new.outside) (g.O.Outside.seen c.args.outside.now).device (g.O.Outside.seen c.recall.new.outside).device c.take_up.result _ _ _ _ c.take_up.ensures.was_honest
-    (λ h k. record { most = k.most; asked = k.asked; known = part.reaches (c.take_up.ensures.was_honest h) k.underway }) c.in_ok-recall.ensures.same c.in_ok-recall.ensures.held c.take_up.ensures.found
+    let before = c.take_up.ensures.was_honest in
+    let run = c.args.run in
+    let options = c.args.options.now in
+    let stream = g.R.Rng.stream c.args.rng.now in
+    let opened = g.O.Outside.opened c.recall.new.outside in
+    let d1 = (g.O.Outside.seen c.recall.new.outside).device in
+    let leads : g.O.Outside.honest c.take_up.new.outside → IsEntry ours alone g.opening run options stream d0 → IsKnownEntry ours alone g.opening opened run options stream d1
+    = (λ h k. record { most = k.most; asked = k.asked; known = part.reaches (before h) k.underway }) in
+    tells_so ours alone g.opening run _ _ d0 _ c.take_up.result
+    (told_from c.take_up.result _ _ _ _ leads c.take_up.ensures.told)
+    (finds_held ours opened d0 d1 c.take_up.result _ _ _ _ before leads c.in_ok-recall.ensures.same c.in_ok-recall.ensures.held c.take_up.ensures.found)
+    (pass_alike _ _ ours alone g.opening run options stream (g.O.Outside.seen c.args.outside.now) (g.O.Outside.seen c.take_up.new.outside) c.take_up.result (returns-clause-part g c))

@@ -7,6 +7,7 @@ use Rattle.runner.proofs.Attempts.{asked_later, attempt_answers, attempt_changed
 use Rattle.runner.proofs.PartCalls.{left_mapped, left_told, left_with, part_after, part_mapped, part_told, part_with, passed_weaker, passed_with}
 use Rattle.runner.proofs.PlanFacts.{moved_none}
 use Rattle.runner.proofs.StepParts.{repeats_from}
+use Rattle.runner.proofs.PassTells.{found_in, told_in}
 use Rattle.runner.proofs.Told.{told_from}
 use Rattle.runner.proofs.Finding.{finds_tried}
 use Rattle.runner.proofs.settle.attempt.Goals as goal
@@ -42,7 +43,7 @@ returns-clause-answer g c =
     let s0 = g.O.Outside.seen c.args.outside.now in
     let s1 = g.O.Outside.seen c.fix_run.new.outside in
     let p = e.part in
-    attempt_answers g.O.Outside.ours g.O.Outside.alone g.opening _ _ c.args.options.now _ c.fix_run.new.run c.in_ok-number.number s0.device s1.device c.args.run.now c.pass.result e.fixed c.pass.ensures.was_honest e.kept p.reaches c.pass.ensures.answer c.pass.ensures.runs
+    attempt_answers g.O.Outside.ours g.O.Outside.alone g.opening _ _ c.args.options.now _ c.fix_run.new.run c.in_ok-number.number s0.device s1.device c.args.run.now c.pass.result e.fixed c.pass.ensures.was_honest e.kept p.reaches c.pass.ensures.answers
 
 pub returns-in_err-number-clause-part : goal.returns-in_err-number-clause-part
 returns-in_err-number-clause-part g c =
@@ -81,7 +82,7 @@ returns-clause-told g c =
     let part = c.in_ok-number.ensures.part in
     told_from c.pass.result _ _ _ _ (λ h k.
     let t = tried_fixed ours alone g.opening c.fix_run.new.run n _ fixed (part.reaches (c.pass.ensures.was_honest h) k.tried) in
-    record { most = let e = t.0 in omega (arith, e); asked = k.asked; underway = t.1 }) c.pass.ensures.told
+    record { most = let e = t.0 in omega (arith, e); asked = k.asked; underway = t.1 }) (told_in ours alone g.opening _ _ _ _ _ c.pass.result c.pass.ensures.told)
 
 pub returns-clause-found : goal.returns-clause-found
 returns-clause-found g c =
@@ -93,4 +94,4 @@ returns-clause-found g c =
     finds_tried ours (g.O.Outside.seen c.args.outside.now).device (g.O.Outside.seen c.fix_run.new.outside).device c.pass.result _ _ _ _ c.pass.ensures.was_honest (λ h k.
     let t = tried_fixed ours alone g.opening c.fix_run.new.run n _ fixed (part.reaches (c.pass.ensures.was_honest h) k.tried) in
     record { most = let e = t.0 in omega (arith, e); asked = k.asked; underway = t.1 })
-    (λ h. let k = c.in_ok-number.ensures.kept h in k.files) c.in_ok-number.ensures.same c.pass.ensures.found
+    (λ h. let k = c.in_ok-number.ensures.kept h in k.files) c.in_ok-number.ensures.same (found_in ours alone g.opening _ _ _ _ _ c.pass.result c.pass.ensures.told)

@@ -1,12 +1,14 @@
-use Rattle.std.proofs.Common.{◌≤◌, ◌<◌, Ok, Err, refl, ap, subst, sym, arith}
+use Rattle.std.proofs.Common.{◌≡◌, ◌≤◌, ◌<◌, Ok, Err, refl, ap, subst, sym, rules, arith}
 use Rattle.outside.specs.Calls.{Seen}
 use Rattle.underway.specs.Conditions.{Underway}
+use Rattle.runner.specs.declared.fault.RunFault.TheVariants as run
 use Rattle.runner.specs.declared.pass.Pass.{Pass}
-use Rattle.runner.specs.Attempts.{IsTried, WillRepeat}
+use Rattle.runner.specs.Attempts.{HaveRepeated, IsTried}
 use Rattle.runner.specs.Faults.{TellsNoRun}
-use Rattle.runner.proofs.Attempts.{beyond_later, caused_since, changed_last, failed_few, found_device, greatest_since, kept_none, last_answers, last_finds, met_before, more_found, moved_twice, refused_for, stops_kept, stops_more, stuck_first, stuck_more, tried_underway}
+use Rattle.runner.proofs.Attempts.{beyond_later, caused_since, failed_few, found_device, greatest_since, kept_none, met_before, more_found, moved_twice, refused_for, stops_kept, stops_more, stuck_first, stuck_more, tried_underway}
+use Rattle.runner.proofs.Ends.{changed_last, settled_so}
+use Rattle.runner.proofs.Reopening.{attempted_more, attempted_none, began_at, reopens_more}
 use Rattle.runner.proofs.PartCalls.{leaves_after, leaves_map, more_after, more_none}
-use Rattle.runner.proofs.Passes.{over_alike}
 use Rattle.runner.proofs.PlanFacts.{moved_none}
 use Rattle.runner.proofs.settle.settle.Goals as goal
 
@@ -17,6 +19,7 @@ loop-tried-init g c = record {
   stops = omega arith;
   told = more_none _ _ refl;
   appends = omega arith;
+  reopened = attempted_none _ _ _ _ 0 _ refl;
   first = λ z. refl;
   unfixed = λ z. refl;
   undrawn = λ z. refl;
@@ -49,6 +52,7 @@ loop-tried-preserved g c =
       stops = stops_more _ _ _ tried s0 now s1 s2 _ i.stops i.first e c.attempt.ensures.stuck part;
       told = more_after s0 s1 s2 (more_found tried s0 now s1 i.told e) n.told;
       appends = let k = i.appends in let m = n.appends in omega (arith, k, appends, m);
+      reopened = attempted_more ours alone g.opening _ _ tried run s0 now s1 s2 (λ f. (c.again.ensures.was_honest (c.attempt.ensures.was_honest f.0), f.1, f.2)) i.first e i.reopened (λ f. (i.left f.0 f.1 f.2).tried) n.reopened;
       first = λ z. absurd (omega (arith, z));
       unfixed = λ z. absurd (omega (arith, z));
       undrawn = λ z. absurd (omega (arith, z));
@@ -63,14 +67,24 @@ loop-tried-preserved g c =
 pub returns-in-Ok-clause-moved : goal.returns-in-Ok-clause-moved
 returns-in-Ok-clause-moved g c = let i = c.loop-tried.invariant in moved_twice _ _ _ i.moved c.attempt.ensures.moved
 
-pub returns-in-Ok-clause-answer : goal.returns-in-Ok-clause-answer
-returns-in-Ok-clause-answer g c = λ h asked at.
+pub returns-in-Ok-clause-done : goal.returns-in-Ok-clause-done
+returns-in-Ok-clause-done g c = λ h asked at.
     let i = c.loop-tried.invariant in
+    let ours = g.O.Outside.ours in
+    let alone = g.O.Outside.alone in
+    let tried = c.loop-tried.tried in
     let s0 = g.O.Outside.seen c.args.outside.now in
     let now = g.O.Outside.seen c.loop-tried.outside in
     let s1 = g.O.Outside.seen c.again.new.outside in
-    let t = i.left (c.again.ensures.was_honest (c.attempt.ensures.was_honest h)) asked at in
-    last_answers g.O.Outside.ours g.O.Outside.alone g.opening c.args.options.now c.loop-tried.tried c.loop-tried.run s0 now s1 _ _ c.in-Ok.last i.first i.undrawn i.moved c.again.ensures.seen t.tried (λ k. c.in-Ok.ensures.answer h k)
+    let s2 = g.O.Outside.seen c.attempt.new.outside in
+    let stream = g.R.Rng.stream c.args.rng.now in
+    let drawn = g.R.Rng.stream c.loop-tried.rng in
+    let said = c.in-Ok.ensures in
+    let before = c.again.ensures.was_honest (c.attempt.ensures.was_honest h) in
+    let t = i.left before asked at in
+    let here = subst (IsTried ours alone g.opening c.args.options.now drawn c.loop-tried.run) (sym (found_device tried now s1 c.again.ensures.seen)) t in
+    let began = began_at ours alone g.opening _ tried c.loop-tried.run s0 now s1 s2 stream drawn i.first i.undrawn i.moved c.again.ensures.seen i.reopened (before, asked, at) t.tried said.part.reopened in
+    settled_so ours alone g.opening s0 s1 s2 stream drawn c.args.options.now (record { stops = tried; last = c.in-Ok.last }) began (said.part.reaches h here) (said.answer h here.tried) (said.told h here) (said.found h here)
 
 pub returns-in-Ok-clause-greatest : goal.returns-in-Ok-clause-greatest
 returns-in-Ok-clause-greatest g c = λ h s p held is.
@@ -83,15 +97,19 @@ returns-in-Ok-clause-greatest g c = λ h s p held is.
     let r = greatest_since g.O.Outside.alone _ s0.device now.device s1.device s2.device (Ok c.in-Ok.last) c.loop-tried.run c.attempt.new.run k (found_device c.loop-tried.tried now s1 c.again.ensures.seen) s p held is c.in-Ok.ensures.greatest c.in-Ok.ensures.unfixed h in
     absurd r.1.0
 
-pub returns-in-Ok-clause-stops : goal.returns-in-Ok-clause-stops
-returns-in-Ok-clause-stops g c =
+pub returns-in-Ok-clause-counts : goal.returns-in-Ok-clause-counts
+returns-in-Ok-clause-counts g c =
     let i = c.loop-tried.invariant in
+    let tried = c.loop-tried.tried in
     let s0 = g.O.Outside.seen c.args.outside.now in
     let now = g.O.Outside.seen c.loop-tried.outside in
     let s1 = g.O.Outside.seen c.again.new.outside in
     let s2 = g.O.Outside.seen c.attempt.new.outside in
-    let p = c.in-Ok.ensures.part in
-    (stops_kept c.loop-tried.tried s0 now s1 s2 i.stops c.again.ensures.seen p.stops, failed_few c.loop-tried.tried s0 now s1 s2 c.in-Ok.last i.first c.again.ensures.seen c.in-Ok.ensures.stuck)
+    let p = c.in-Ok.ensures.part in (
+      stops_kept tried s0 now s1 s2 i.stops c.again.ensures.seen p.stops,
+      failed_few tried s0 now s1 s2 c.in-Ok.last i.first c.again.ensures.seen c.in-Ok.ensures.stuck,
+      reopens_more g.O.Outside.ours g.O.Outside.alone g.opening _ tried s0 now s1 s2 i.first c.again.ensures.seen i.reopened p.reopened,
+    )
 
 pub returns-in-Ok-clause-stuck : goal.returns-in-Ok-clause-stuck
 returns-in-Ok-clause-stuck g c = λ few b.
@@ -112,26 +130,27 @@ returns-in-Err-clause-left g c = λ h asked at.
     let ours = g.O.Outside.ours in
     let alone = g.O.Outside.alone in
     let options = c.args.options.now in
+    let tried = c.loop-tried.tried in
+    let s0 = g.O.Outside.seen c.args.outside.now in
     let now = g.O.Outside.seen c.loop-tried.outside in
     let s1 = g.O.Outside.seen c.again.new.outside in
     let s2 = g.O.Outside.seen c.attempt.new.outside in
-    let before = IsTried ours alone g.opening options (g.R.Rng.stream c.loop-tried.rng) c.loop-tried.run in
-    let device = found_device c.loop-tried.tried now s1 e in
+    let stream = g.R.Rng.stream c.args.rng.now in
+    let drawn = g.R.Rng.stream c.loop-tried.rng in
+    let fault = c.in-Err.fault in
     let part = c.in-Err.ensures.part in
+    let before = c.again.ensures.was_honest (c.attempt.ensures.was_honest h) in
+    let t = i.left before asked at in
+    let here = subst (IsTried ours alone g.opening options drawn c.loop-tried.run) (sym (found_device tried now s1 e)) t in
     let after = IsTried ours alone g.opening options (g.R.Rng.stream c.attempt.new.rng) c.attempt.new.run in
-    let left = part.left h (subst before (sym device) (i.left (c.again.ensures.was_honest (c.attempt.ensures.was_honest h)) asked at)) in
-    let s0 = g.O.Outside.seen c.args.outside.now in
-    leaves_after (Underway ours alone g.opening) c.in-Err.fault s0 s1 s2 (more_found c.loop-tried.tried s0 now s1 i.told e) (leaves_map after (Underway ours alone g.opening) c.in-Err.fault s1 s2 (λ k. tried_underway ours alone g.opening c.attempt.new.run s2.device k.tried) left)
-
-pub returns-in-Err-clause-changed : goal.returns-in-Err-clause-changed
-returns-in-Err-clause-changed g c = λ side is h asked at.
-    let i = c.loop-tried.invariant in
-    let s0 = g.O.Outside.seen c.args.outside.now in
-    let now = g.O.Outside.seen c.loop-tried.outside in
-    let s1 = g.O.Outside.seen c.again.new.outside in
-    let s2 = g.O.Outside.seen c.attempt.new.outside in
-    let t = i.left (c.again.ensures.was_honest (c.attempt.ensures.was_honest h)) asked at in
-    changed_last g.O.Outside.ours g.O.Outside.alone g.opening _ _ _ c.loop-tried.tried c.args.tries c.loop-tried.run s0 now s1 s2 _ _ side c.in-Err.fault i.first i.undrawn i.moved c.again.ensures.seen t.tried (omega arith) is h c.in-Err.ensures.part (λ told. told)
+    let kept = part.no_less.reopened in
+    let began = began_at ours alone g.opening _ tried c.loop-tried.run s0 now s1 s2 stream drawn i.first i.undrawn i.moved e i.reopened (before, asked, at) t.tried kept in
+    record {
+      left = leaves_after (Underway ours alone g.opening) fault s0 s1 s2 (more_found tried s0 now s1 i.told e)
+          (leaves_map after (Underway ours alone g.opening) fault s1 s2 (λ k. tried_underway ours alone g.opening c.attempt.new.run s2.device k.tried) (part.left h here));
+      changed = λ side is. changed_last ours alone g.opening s0 s1 s2 stream drawn _ _ _ tried c.args.tries side fault began (omega arith) is h part (λ told. told);
+      refused = λ step is. refused_for _ _ _ fault s1 s2 step is part h here;
+    }
 
 pub returns-in-Err-clause-caused : goal.returns-in-Err-clause-caused
 returns-in-Err-clause-caused g c = λ other.
@@ -145,27 +164,24 @@ returns-in-Err-clause-caused g c = λ other.
     let start = g.R.Rng.stream c.args.rng.now in
     let before = IsTried g.O.Outside.ours g.O.Outside.alone g.opening c.args.options.now (g.R.Rng.stream c.loop-tried.rng) c.loop-tried.run in
     let device = found_device c.loop-tried.tried now s1 e in
-    caused_since _ _ _ (WillRepeat (g.O.Outside.honest c.attempt.new.outside) g.O.Outside.ours g.O.Outside.alone g.opening c.args.options.now start s0.device) (g.O.Outside.honest c.attempt.new.outside → 1 < c.args.tries) (TellsNoRun (g.O.Outside.honest c.attempt.new.outside) (g.O.Outside.seen c.attempt.new.outside).device) c.in-Err.fault s0 s1 s2 (more_found c.loop-tried.tried s0 now s1 i.told e) appends other c.in-Err.ensures.part (λ k. record { drawn = g.R.Rng.stream c.loop-tried.rng; moved = i.moved; count = k.count; repeats = k.repeats; wanted = λ h asked at. k.wanted h (subst before (sym device) (i.left (c.again.ensures.was_honest (c.attempt.ensures.was_honest h)) asked at)) }) (λ b. beyond_later c.loop-tried.tried c.args.tries c.loop-tried.run _ i.unfixed (omega arith) b) (λ e t. t)
+    caused_since _ _ _ (HaveRepeated (g.O.Outside.honest c.attempt.new.outside) g.O.Outside.ours g.O.Outside.alone g.opening c.args.options.now start (g.R.Rng.stream c.attempt.new.rng) s0.device) (g.O.Outside.honest c.attempt.new.outside → 1 < c.args.tries) (TellsNoRun (g.O.Outside.honest c.attempt.new.outside) (g.O.Outside.seen c.attempt.new.outside).device) c.in-Err.fault s0 s1 s2 (more_found c.loop-tried.tried s0 now s1 i.told e) appends other c.in-Err.ensures.part (λ k. record { drawn = g.R.Rng.stream c.loop-tried.rng; moved = i.moved; on = c.attempt.ensures.moved; count = k.count; repeats = k.repeats; wanted = λ h asked at. k.wanted h (subst before (sym device) (i.left (c.again.ensures.was_honest (c.attempt.ensures.was_honest h)) asked at)) }) (λ b. beyond_later c.loop-tried.tried c.args.tries c.loop-tried.run _ i.unfixed (omega arith) b) (λ e t. t)
 
-pub returns-in-Err-clause-refused : goal.returns-in-Err-clause-refused
-returns-in-Err-clause-refused g c = λ step is h asked at.
+pub returns-in-Err-clause-counts : goal.returns-in-Err-clause-counts
+returns-in-Err-clause-counts g c =
     let i = c.loop-tried.invariant in
-    let now = g.O.Outside.seen c.loop-tried.outside in
-    let s1 = g.O.Outside.seen c.again.new.outside in
-    let s2 = g.O.Outside.seen c.attempt.new.outside in
-    let before = IsTried g.O.Outside.ours g.O.Outside.alone g.opening c.args.options.now (g.R.Rng.stream c.loop-tried.rng) c.loop-tried.run in
-    let device = found_device c.loop-tried.tried now s1 c.again.ensures.seen in
-    let told = refused_for _ _ _ c.in-Err.fault s1 s2 step is c.in-Err.ensures.part in
-    told h (subst before (sym device) (i.left (c.again.ensures.was_honest (c.attempt.ensures.was_honest h)) asked at))
-
-pub returns-in-Err-clause-ended : goal.returns-in-Err-clause-ended
-returns-in-Err-clause-ended g c = λ other.
-    let i = c.loop-tried.invariant in
+    let tried = c.loop-tried.tried in
     let s0 = g.O.Outside.seen c.args.outside.now in
     let now = g.O.Outside.seen c.loop-tried.outside in
     let s1 = g.O.Outside.seen c.again.new.outside in
     let s2 = g.O.Outside.seen c.attempt.new.outside in
-    met_before Pass _ _ _ c.loop-tried.tried c.args.tries s0 now s1 s2 c.in-Err.fault i.stops i.first c.again.ensures.seen c.in-Err.ensures.stuck c.in-Err.ensures.part (omega arith) other
+    let part = c.in-Err.ensures.part in
+    let kept = part.no_less.reopened in
+    let reopens = reopens_more g.O.Outside.ours g.O.Outside.alone g.opening _ tried s0 now s1 s2 i.first c.again.ensures.seen i.reopened kept in
+    let other : c.in-Err.fault ≡ run.Stopped → ⊥ = search rules in
+    record {
+      stopped = λ is. absurd (other is);
+      ended = λ other. met_before Pass _ _ _ tried c.args.tries s0 now s1 s2 c.in-Err.fault i.stops i.first c.again.ensures.seen c.in-Err.ensures.stuck part (omega arith) other reopens;
+    }
 
 pub returns-in-Err-clause-greatest : goal.returns-in-Err-clause-greatest
 returns-in-Err-clause-greatest g c = λ h s p held is.
@@ -186,36 +202,3 @@ returns-in-Err-clause-stuck g c = λ few.
     let s1 = g.O.Outside.seen c.again.new.outside in
     let s2 = g.O.Outside.seen c.attempt.new.outside in
     stuck_first {T = Pass} c.loop-tried.tried s0 now s1 s2 (Err c.in-Err.fault) (omega (arith, few)) i.first c.again.ensures.seen c.in-Err.ensures.stuck
-
-pub returns-in-Ok-clause-done : goal.returns-in-Ok-clause-done
-returns-in-Ok-clause-done g c = λ h asked at.
-    let i = c.loop-tried.invariant in
-    let now = g.O.Outside.seen c.loop-tried.outside in
-    let s1 = g.O.Outside.seen c.again.new.outside in
-    let before = IsTried g.O.Outside.ours g.O.Outside.alone g.opening c.args.options.now (g.R.Rng.stream c.loop-tried.rng) c.loop-tried.run in
-    let device = found_device c.loop-tried.tried now s1 c.again.ensures.seen in
-    let part = c.in-Ok.ensures.part in
-    part.reaches h (subst before (sym device) (i.left (c.again.ensures.was_honest (c.attempt.ensures.was_honest h)) asked at))
-
-pub returns-in-Ok-clause-alike : goal.returns-in-Ok-clause-alike
-returns-in-Ok-clause-alike g c = λ h asked at nobody sound. over_alike g.O.Outside.ours g.O.Outside.alone g.opening (g.O.Outside.seen c.attempt.new.outside).device nobody sound (returns-in-Ok-clause-done g c h asked at)
-
-pub returns-in-Ok-clause-told : goal.returns-in-Ok-clause-told
-returns-in-Ok-clause-told g c = λ h asked at.
-    let i = c.loop-tried.invariant in
-    let now = g.O.Outside.seen c.loop-tried.outside in
-    let s1 = g.O.Outside.seen c.again.new.outside in
-    let before = IsTried g.O.Outside.ours g.O.Outside.alone g.opening c.args.options.now (g.R.Rng.stream c.loop-tried.rng) c.loop-tried.run in
-    let device = found_device c.loop-tried.tried now s1 c.again.ensures.seen in
-    c.in-Ok.ensures.told h (subst before (sym device) (i.left (c.again.ensures.was_honest (c.attempt.ensures.was_honest h)) asked at))
-
-pub returns-in-Ok-clause-found : goal.returns-in-Ok-clause-found
-returns-in-Ok-clause-found g c = λ h asked at.
-    let i = c.loop-tried.invariant in
-    let s0 = g.O.Outside.seen c.args.outside.now in
-    let now = g.O.Outside.seen c.loop-tried.outside in
-    let s1 = g.O.Outside.seen c.again.new.outside in
-    let before = IsTried g.O.Outside.ours g.O.Outside.alone g.opening c.args.options.now (g.R.Rng.stream c.loop-tried.rng) c.loop-tried.run in
-    let device = found_device c.loop-tried.tried now s1 c.again.ensures.seen in
-    let t = i.left (c.again.ensures.was_honest (c.attempt.ensures.was_honest h)) asked at in
-    last_finds g.O.Outside.ours g.O.Outside.alone g.opening c.loop-tried.tried c.loop-tried.run s0 now s1 _ _ c.in-Ok.last i.first i.undrawn i.moved c.again.ensures.seen t.tried (c.in-Ok.ensures.found h (subst before (sym device) t))

@@ -1,4 +1,4 @@
-use Rattle.std.proofs.Common.{◌≡◌, ◌≤◌, ◌+◌, ◌^◌, None, true}
+use Rattle.std.proofs.Common.{◌≡◌, ◌≤◌, ◌-◌, ◌+◌, ◌^◌, None, true}
 use Rattle.book.specs.declared.book.Pending.{Pending}
 use Rattle.book.specs.Books.{Holds}
 use Rattle.rules.specs.declared.state.SyncState.{SyncState}
@@ -6,6 +6,7 @@ use Rattle.runner.specs.Answers.{IsAsked, Moves}
 use Rattle.runner.specs.Attempts.{AtOpening, IsTried, MetStops}
 use Rattle.runner.specs.Parts.{TellsMore}
 use Rattle.runner.specs.Validities.{IsKept}
+use Rattle.runner.proofs.Reopening.{Attempted}
 use Rattle.runner.proofs.settle.settle.Given as goal
 
 abbrev pub ghost-attempt : goal.ghost-attempt
@@ -23,6 +24,7 @@ invariant-loop-tried g l =
       stops : MetStops l.tried start now;
       told : TellsMore start now;
       appends : start.appends ≤ now.appends;
+      reopened : Attempted ours alone g.opening (g.O.Outside.honest l.outside × IsAsked ours g.opening l.options (g.R.Rng.stream l.fn.rng) × AtOpening ours alone g.opening start.device) (l.tried - 1) start now;
       first : l.tried ≡ 0 → now ≡ start;
       unfixed : l.tried ≡ 0 → l.run ≡ None;
       undrawn : l.tried ≡ 0 → g.R.Rng.stream l.rng ≡ g.R.Rng.stream l.fn.rng;

@@ -1,0 +1,40 @@
+-- What one pass answers, leaves and may tell.
+use Rattle.std.specs.Prelude.{◌≡◌, ◌≤◌, ◌+◌, ℕ, Bool, true, List}
+use Rattle.rand_core.specs.Stream.{Stream}
+use Rattle.rules.specs.declared.options.Options.{Options}
+use Rattle.rules.specs.Opening.{IsOpening}
+use Rattle.book.specs.declared.book.Pending.TheVariants.{Missing}
+use Rattle.book.specs.Books.{Holds}
+use Rattle.outside.specs.Devices.{Device}
+use Rattle.underway.specs.Endings.{IsDone}
+use Rattle.underway.specs.Openings.{IsIdle, Opening}
+use Rattle.runner.specs.declared.pass.Pass.{Pass}
+use Rattle.runner.specs.Answers.{HasRepeats, IsEntry, OfFiles}
+use Rattle.runner.specs.Faults.{Reasons, TellsBeyond, TellsUnread, because, or_beyond, or_unread}
+use Rattle.runner.specs.Finding.{FindsAt}
+use Rattle.runner.specs.Results.{IsTold}
+use Rattle.runner.specs.Validities.{LeavesBoxes, TellsChanged}
+
+-- Of a run that was underway. The steps told are those of the plan of the world that the run is over for, in order: all of them, or the last
+-- where the plan was pending; each new message is told with the UID of a copy; the messages that were passed over are those of the listed
+-- world. A copy is told as found exactly if it stood on its side when the pass began, under the UID that it has: that of the first step that
+-- was not logged alone, and none where the plan was made in this pass. Where nobody else adds messages, and the run is not an older one, both
+-- mailboxes and the state are alike to the outcome that the rules name for the opening.
+pub record TellsRun (ours : List ℕ → Bool) (alone : Bool) (opening : Opening) (run : ℕ) (pass : Pass) (old new : Device) : Type 0 where
+  pub told : IsTold ours alone opening pass new
+  pub found : FindsAt ours old pass
+  pub alike : alone ≡ true → opening.world.state.run + 1 ≤ run → IsOpening opening.world → IsDone opening.world opening.options new
+
+-- of a run that was made before: both mailboxes stay as they are, and a journal without a plan of the next run goes
+pub record LeavesMade (honest : Type 0) (alone : Bool) (old new : Device) : Type 0 where
+  pub stores : LeavesBoxes honest alone old new
+  pub idle : OfFiles honest old (λ s p. IsIdle p → Holds new.files s Missing)
+
+-- Why a pass tells a fault. `ValidityChanged` comes only where that side's UIDVALIDITY is not the recorded one, far before near, and nothing
+-- has changed then; `MarksRepeat` only where the generator's draws do, before there is a mark for each new message of some world since the
+-- opening; a line of the state or the journal only where the files that stand there hold no book, but line 0 of the state: where the run is
+-- beyond the next one, or the outside has told it last.
+abbrev pub pass_reasons : (honest : Type 0) → (List ℕ → Bool) → Bool → Opening → (run : ℕ) → Options → Stream → (old new : Device) → Reasons
+pass_reasons honest ours alone opening run options stream old new =
+    or_unread (TellsUnread honest new) (or_beyond (TellsBeyond honest run old) (because (TellsChanged honest alone old new)
+    (HasRepeats alone opening honest (IsEntry ours alone opening run options stream old) options stream)))
