@@ -1,6 +1,6 @@
 -- What a run leaves that began with a world, of what it leaves that began with an opening.
 use Rattle.std.proofs.Common.{◌≡◌, ℕ, Bool, true, List, All, inl, refl, sym, ap, subst, ◌∙◌}
-use Rattle.std.specs.Prelude.{Result, Ok, Err, OnOk, IfErr, get_or}
+use Rattle.std.specs.Prelude.{Result, Ok, Err, OnOk, IfErr, IfOk, IsErrOf, get_or}
 use Rattle.rules.specs.declared.options.Options.{Options}
 use Rattle.rules.specs.declared.state.SyncState.{SyncState}
 use Rattle.rules.specs.Opening.{IsOpening}
@@ -14,8 +14,11 @@ use Rattle.alike_laws.specs.Beginnings.{Begins, opening_of}
 use Rattle.alike_laws.proofs.Beginnings.{world_is_unplanned}
 use Rattle.runner.specs.declared.fault.RunFault.{RunFault}
 use Rattle.runner.specs.Answers.{IsAsked}
-use Rattle.runner.specs.Attempts.{AtOpening, FromOpening}
+use Rattle.runner.specs.declared.fault.RunFault.TheVariants as run
+use Rattle.runner.specs.declared.pass.Settled.{Settled}
+use Rattle.runner.specs.Attempts.{AtOpening, FromOpening, MetStops}
 use Rattle.runner.specs.Faults.{LeavesRun}
+use Rattle.runner.specs.Settled.{CountsAttempts, IsSettled, IsUnsettled}
 use Rattle.trial.specs.Openings.{AreOurs, trial_stream}
 
 module _ (ours : List ℕ → Bool) (alone : Bool) (w : World) (options : Options) where
@@ -25,17 +28,22 @@ module _ (ours : List ℕ → Bool) (alone : Bool) (w : World) (options : Option
   at_opening : (d : Device) → Begins w d → AtOpening ours alone (opening_of w options) d
   at_opening d begins = record { room = begins.room; open_run = inl (world_is_unplanned alone w options d begins.held begins.sound) }
 
-  pub done_from : {T : Type 0} (honest : Type 0) (old new : Device) (r : Result T RunFault)
-      → OnOk r (FromOpening honest ours alone (opening_of w options) options trial_stream old (alone ≡ true → IsOpening w → IsDone w options new))
-      → honest → alone ≡ true → AreOurs ours → Begins w old → OnOk r (IsDone w options new)
-  done_from honest old new (Ok settled) from kept nobody are begins = from kept (asked are) (at_opening old begins) nobody begins.sound
+  pub done_from : (honest : Type 0) (old new : Seen) (r : Result Settled RunFault)
+      → IfOk r (λ settled. FromOpening honest ours alone (opening_of w options) options trial_stream old.device (IsSettled ours alone (opening_of w options) options trial_stream settled old new))
+      → honest → alone ≡ true → AreOurs ours → Begins w old.device → OnOk r (IsDone w options new.device)
+  done_from honest old new (Ok settled) from kept nobody are begins = (from kept (asked are) (at_opening old.device begins)).alike nobody begins.sound
   done_from honest old new (Err fault) from kept nobody are begins = tt
 
-  pub left_from : {T : Type 0} (honest : Type 0) (old new : Seen) (r : Result T RunFault)
-      → IfErr r (λ fault. FromOpening honest ours alone (opening_of w options) options trial_stream old.device (LeavesRun (Underway ours alone (opening_of w options)) fault old new))
+  pub left_from : {T : Type 0} (honest : Type 0) (tries : ℕ) (old new : Seen) (r : Result T RunFault)
+      → IfErr r (λ fault. FromOpening honest ours alone (opening_of w options) options trial_stream old.device (IsUnsettled ours alone (opening_of w options) tries trial_stream fault old new))
       → honest → AreOurs ours → Begins w old.device → IfErr r (λ fault. LeavesRun (Underway ours alone (opening_of w options)) fault old new)
-  left_from honest old new (Ok settled) from kept are begins = tt
-  left_from honest old new (Err fault) from kept are begins = from kept (asked are) (at_opening old.device begins)
+  left_from honest tries old new (Ok settled) from kept are begins = tt
+  left_from honest tries old new (Err fault) from kept are begins = (from kept (asked are) (at_opening old.device begins)).left
+
+  -- told as stopped
+  pub stopped_from : (tries : ℕ) (old new : Seen) (r : Result Settled RunFault) → CountsAttempts tries old new r → IsErrOf r run.Stopped → MetStops tries old new
+  stopped_from tries old new (Ok settled) counts is = absurd is
+  stopped_from tries old new (Err fault) counts is = (counts.stopped is).0
 
   -- ---- the world by its state
 
