@@ -1,5 +1,8 @@
 pub mod Seen
 pub mod Written
-pub mod ByNear
+pub mod Index
+pub mod Merging
+pub mod Scenes
+pub mod Merges
 pub mod Newcomers
 pub mod Examples

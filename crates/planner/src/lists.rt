@@ -1,76 +1,77 @@
-//! The lists that a plan is made on, and what is looked up in them.
+//! The merged lists that a plan is made on.
 
+ghost use Rattle.std.specs.Prelude.{All};
 ghost use Rattle.mailcore.specs.Listed.{IsRising};
+ghost use Rattle.mailcore.specs.declared.side.Side.TheVariants.{Far, Near};
 ghost use Rattle.rules.specs.Entries.{ArePairs};
-ghost use Rattle.planner.specs.ByNear.{IsByNear};
+ghost use Rattle.planner.specs.Scenes.{IsListed, IsMet, Stands, entries_of, items_of};
 
-use crate::searches::{full_with, is_named, item_with};
+use crate::merged::Merged;
+use crate::met::Met;
+use crate::standings::Standing;
 use mailcore::flags::Flags;
-use mailcore::listing::{Item, Listing};
+use mailcore::listing::Listing;
 use mailcore::side::{Direction, Side};
-use rules::entry::{Entry, ListedPair};
+use rules::entry::ListedPair;
 use rules::options::Options;
 use rules::state::SyncState;
 
-/// The lists that a plan is made on, lent, with what they keep.
+/// The merged lists, lent, with what they keep.
 #[derive(Clone, Copy)]
 pub struct Lists<'a> {
-    far: &'a [Item],
-    near: &'a [Item],
-    entries: &'a [Entry],
-    by_near: &'a [Entry],
+    far: &'a [Met],
+    near: &'a [Met],
+    standings: &'a [Standing],
     max_pulled: u32,
     max_pushed: u32,
     options: Options,
-    ghost far_rising: { IsRising far.now },
-    ghost near_rising: { IsRising near.now },
-    ghost pairs: { ArePairs entries.now },
-    ghost near_order: { IsByNear entries.now by_near.now },
+    ghost far_met: { All (IsMet Far standings.now) far.now },
+    ghost near_met: { All (IsMet Near standings.now) near.now },
+    ghost stands: { All (Stands (items_of far.now) (items_of near.now)) standings.now },
+    ghost far_rising: { IsRising (items_of far.now) },
+    ghost near_rising: { IsRising (items_of near.now) },
+    ghost pairs: { ArePairs (entries_of standings.now) },
 }
 
 impl<'a> Lists<'a> {
-    ghost use Rattle.std.specs.Prelude.{◌≡◌, ◌==◌};
-    ghost use Rattle.rules.specs.Scene.{scene, items, highest, flags_at, is_listed, is_paired, full_entry};
+    ghost use Rattle.std.specs.Prelude.{◌≡◌, Some, None, IfSome, IfNone, true};
+    ghost use Rattle.rules.specs.Scene.{scene, items, highest, flags_at, full_entry, is_paired};
+    ghost use Rattle.planner.specs.Merges.{IsMerged};
+    ghost use Rattle.rules.specs.Entries.{uid_of};
     ghost use Rattle.rules.specs.Called.{pair_of};
+    ghost use Rattle.planner.specs.Scenes.{flags_on};
     ghost use Rattle.planner.specs.Seen.{seen};
 
-    /// The lists of these listings and this state, with its entries also in the order of their near UIDs.
+    /// The messages of these lists, of this state and these options.
     pub fn new(
-        far: &'a Listing,
-        near: &'a Listing,
-        state: &'a SyncState,
-        by_near: &'a [Entry],
+        merged: &'a Merged,
+        far: &Listing,
+        near: &Listing,
+        state: &SyncState,
         options: &Options,
     ) -> Self
-        requires { IsByNear state.now.entries by_near.now }
+        requires far_rising { IsRising far.now.items }
+        requires near_rising { IsRising near.now.items }
+        requires pairs { ArePairs state.now.entries }
+        requires merged { IsMerged far.now.items near.now.items state.now.entries merged.now }
         ensures { seen result ≡ scene far.now near.now state.now options.now }
     {
         Lists {
-            far: far.items.as_slice(),
-            near: near.items.as_slice(),
-            entries: state.entries.as_slice(),
-            by_near,
+            far: &merged.far,
+            near: &merged.near,
+            standings: &merged.standings,
             max_pulled: state.max_pulled,
             max_pushed: state.max_pushed,
             options: *options,
         }
     }
 
-    /// The messages of a side, in the order of their UIDs.
-    pub fn items(&self, side: Side) -> &'a [Item]
-        ensures { result.now ≡ items (seen self.now) side }
-    {
-        match side {
-            Side::Far => self.far,
-            Side::Near => self.near,
-        }
-    }
-
     /// The entries, in order.
-    pub fn entries(&self) -> &'a [Entry]
-        ensures { result.now ≡ (seen self.now).entries }
+    pub fn standings(&self) -> &'a [Standing]
+        ensures entries { entries_of result.now ≡ (seen self.now).entries }
+        ensures stands { All (Stands (seen self.now).far (seen self.now).near) result.now }
     {
-        self.entries
+        self.standings
     }
 
     /// What the run may do.
@@ -90,53 +91,67 @@ impl<'a> Lists<'a> {
         }
     }
 
-    /// The flags of the message with this UID, if it is listed.
-    pub fn flags_at(&self, side: Side, uid: u32) -> Option<Flags>
-        ensures { result ≡ flags_at (items (seen self.now) side) uid }
-    {
-        item_with(self.items(side), uid).map(|item| item.flags)
-    }
-
-    /// Whether the message with this UID is listed.
-    pub fn is_listed(&self, side: Side, uid: u32) -> bool
-        ensures { result ≡ is_listed (seen self.now) side uid }
-    {
-        self.flags_at(side, uid).is_some()
-    }
-
-    /// Whether an entry names this UID, be it full or not.
-    pub fn is_paired(&self, side: Side, uid: u32) -> bool
-        ensures { result ≡ is_paired (seen self.now) side uid }
-    {
-        match side {
-            Side::Far => is_named(self.entries, side, uid),
-            Side::Near => is_named(self.by_near, side, uid),
-        }
-    }
-
-    /// The full entry with this UID, if there is one.
-    pub fn full_entry(&self, side: Side, uid: u32) -> Option<Entry>
-        ensures { result ≡ full_entry (seen self.now) side uid }
-    {
-        match side {
-            Side::Far => full_with(self.entries, side, uid),
-            Side::Near => full_with(self.by_near, side, uid),
-        }
-    }
-
     /// The pair of a full entry whose messages are both listed.
-    pub fn pair_of(&self, entry: &Entry) -> Option<ListedPair>
-        ensures { result ≡ pair_of (seen self.now) entry.now }
+    pub fn pair_of(&self, standing: &Standing) -> Option<ListedPair>
+        requires { Stands (seen self.now).far (seen self.now).near standing.now }
+        ensures { result ≡ pair_of (seen self.now) standing.now.entry }
     {
-        let (far, near) = entry.uids()?;
-        let far_flags = self.flags_at(Side::Far, far.get())?;
-        let near_flags = self.flags_at(Side::Near, near.get())?;
+        let (far, near) = standing.entry.uids()?;
+        let far_flags = self.flags_on(Side::Far, standing)?;
+        let near_flags = self.flags_on(Side::Near, standing)?;
         Some(ListedPair {
             far,
             near,
             far_flags,
             near_flags,
-            recorded: entry.flags,
+            recorded: standing.entry.flags,
         })
+    }
+
+    /// The messages of a side.
+    pub fn met(&self, side: Side) -> &'a [Met]
+        ensures items { items_of result.now ≡ items (seen self.now) side }
+        ensures met { All (IsMet side self.now.standings.now) result.now }
+        ensures listed { All (IsListed (items (seen self.now) side)) result.now }
+        ensures rising { IsRising (items (seen self.now) side) }
+    {
+        match side {
+            Side::Far => self.far,
+            Side::Near => self.near,
+        }
+    }
+
+    /// The flags of an entry's message on a side.
+    pub fn flags_on(&self, side: Side, standing: &Standing) -> Option<Flags>
+        requires { Stands (seen self.now).far (seen self.now).near standing.now }
+        ensures { result ≡ flags_at (items (seen self.now) side) (uid_of side standing.now.entry) }
+    {
+        match side {
+            Side::Far => standing.far,
+            Side::Near => standing.near,
+        }
+    }
+
+    /// Whether an entry names the message.
+    pub fn is_paired(&self, side: Side, met: &Met) -> bool
+        requires { IsMet side self.now.standings.now met.now }
+        ensures { result ≡ is_paired (seen self.now) side met.now.item.uid }
+    {
+        met.holder.is_some()
+    }
+
+    /// The full entry that names the message.
+    pub fn full(&self, side: Side, met: &Met) -> Option<Standing>
+        requires { IsMet side self.now.standings.now met.now }
+        ensures some { IfSome result (λ st. full_entry (seen self.now) side met.now.item.uid ≡ Some st.entry) }
+        ensures stands { IfSome result (Stands (seen self.now).far (seen self.now).near) }
+        ensures none { IfNone result (full_entry (seen self.now) side met.now.item.uid ≡ None) }
+    {
+        // A UID is above 0.
+        let _uid = met.item.uid.get();
+        match met.holder {
+            Some(standing) if standing.entry.is_full() => Some(standing),
+            _ => None,
+        }
     }
 }

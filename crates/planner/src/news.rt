@@ -1,7 +1,9 @@
 //! New messages: those that a run copies to the other side.
 
-ghost use Rattle.std.specs.Prelude.{◌≡◌, ◌<◌, ◌≤◌, ◌^◌, ◌++◌, length, count_by, All, OnOk, IfOk};
-ghost use Rattle.rules.specs.Scene.{scene};
+ghost use Rattle.std.specs.Prelude.{◌≡◌, ◌<◌, ◌≤◌, ◌^◌, ◌+◌, ◌++◌, length, count_by, All, OnOk, IfOk};
+ghost use Rattle.mailcore.specs.Sides.{source};
+ghost use Rattle.rules.specs.Scene.{items, scene};
+ghost use Rattle.planner.specs.Scenes.{IsMet};
 ghost use Rattle.rules.specs.Called.{would_be_new, is_new};
 ghost use Rattle.rules.specs.Outcome.{count_new, news};
 ghost use Rattle.rules.specs.Plans.{IsStep};
@@ -10,8 +12,10 @@ ghost use Rattle.planner.specs.Seen.{seen};
 ghost use Rattle.planner.specs.Written.{new_steps};
 
 use crate::lists::Lists;
+use crate::met::Met;
 use crate::newcomers::{Newcomers, may_be_new};
 use crate::pushes::push_step;
+use crate::turns::Turns;
 use mailcore::listing::{Item, Listing};
 use mailcore::side::Direction;
 use mailcore::tuid::Tuid;
@@ -53,28 +57,40 @@ fn count_new(
 
 impl Lists<'_> {
     /// Whether a message would be new if it were fit.
-    pub fn would_be_new(&self, direction: Direction, item: &Item) -> bool
-        ensures { result ≡ would_be_new (seen self.now) direction item.now }
+    pub fn would_be_new(&self, direction: Direction, met: &Met) -> bool
+        requires { IsMet (source direction) self.now.standings.now met.now }
+        ensures { result ≡ would_be_new (seen self.now) direction met.now.item }
     {
         let highest = self.highest(direction);
-        may_be_new(&self.options(), direction, highest, item)
-            && !self.is_paired(direction.source(), item.uid.get())
+        may_be_new(&self.options(), direction, highest, &met.item)
+            && !self.is_paired(direction.source(), met)
     }
 
-    fn is_new(&self, direction: Direction, item: &Item) -> bool
-        ensures { result ≡ is_new (seen self.now) direction item.now }
+    fn is_new(&self, direction: Direction, met: &Met) -> bool
+        requires { IsMet (source direction) self.now.standings.now met.now }
+        ensures { result ≡ is_new (seen self.now) direction met.now.item }
     {
-        self.would_be_new(direction, item) && item.fit
+        self.would_be_new(direction, met) && met.item.fit
     }
 
     /// The messages that are copied in a direction, in order.
-    pub fn new_items(&self, alloc: Global, direction: Direction) -> Result<Vec<Item>, AllocError>
-        ensures { IfOk result (λ v. v.items ≡ news (seen self.now) direction) }
+    pub fn new_items(
+        &self,
+        alloc: Global,
+        direction: Direction,
+        turns: &mut Turns,
+    ) -> Result<Vec<Item>, AllocError>
+        requires room { turns.old + length (items (seen self.now) (source direction)) < 2 ^ 64 }
+        ensures found { IfOk result (λ v. v.items ≡ news (seen self.now) direction) }
+        ensures few { IfOk result (λ v. length v.items ≤ length (items (seen self.now) (source direction))) }
+        ensures turns { OnOk result (turns.new ≡ turns.old + length (items (seen self.now) (source direction))) }
+        ensures most { turns.new ≤ turns.old + length (items (seen self.now) (source direction)) }
     {
         let mut found = Vec::new(alloc);
-        for item in self.items(direction.source()) {
-            if self.is_new(direction, item) {
-                found.push(*item)?;
+        for met in self.met(direction.source()) {
+            turns.tick();
+            if self.is_new(direction, met) {
+                found.push(met.item)?;
             }
         }
         Ok(found)
@@ -87,12 +103,17 @@ pub(crate) fn push_new(
     items: &[Item],
     marks: &[Tuid],
     steps: &mut Vec<Step>,
+    turns: &mut Turns,
 ) -> Result<(), AllocError>
-    requires { length items.now ≤ length marks.now }
+    requires marks { length items.now ≤ length marks.now }
+    requires room { turns.old + length items.now < 2 ^ 64 }
     ensures written { OnOk result (steps.new.items ≡ steps.old.items ++ new_steps direction items.now marks.now) }
     ensures fit { OnOk result (All IsStep steps.old.items → All IsStep steps.new.items) }
+    ensures turns { OnOk result (turns.new ≡ turns.old + length items.now) }
+    ensures most { turns.new ≤ turns.old + length items.now }
 {
     for (i, item) in items.iter().enumerate() {
+        turns.tick();
         let step = Step::New {
             direction,
             uid: item.uid,

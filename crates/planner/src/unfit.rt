@@ -1,14 +1,19 @@
 //! Messages that are passed over, since they are not fit to be copied.
 
 ghost use Rattle.std.specs.Prelude.{◌≡◌, ◌++◌, OnOk, IfOk};
+ghost use Rattle.mailcore.specs.Sides.{source};
 ghost use Rattle.rules.specs.Scene.{scene};
+ghost use Rattle.planner.specs.Scenes.{IsMet};
 ghost use Rattle.rules.specs.Called.{is_unfit};
 ghost use Rattle.planner.specs.Seen.{seen};
 ghost use Rattle.planner.specs.Written.{unfit_uids, all_unfit};
 
+use crate::bounds::{few_entries, few_items};
 use crate::lists::Lists;
-use crate::near_order::by_near;
-use mailcore::listing::{Item, Listing};
+use crate::merged::merge_all;
+use crate::met::Met;
+use crate::turns::Turns;
+use mailcore::listing::Listing;
 use mailcore::side::{Direction, Side};
 use mailcore::uid::Uid;
 use rules::options::Options;
@@ -28,8 +33,13 @@ pub fn unfit(
 ) -> Result<Vec<(Side, Uid)>, AllocError>
     ensures { IfOk result (λ v. v.items ≡ all_unfit (scene far.now near.now state.now options.now)) }
 {
-    let by_near = by_near(alloc, state.entries.as_slice())?;
-    let lists = Lists::new(far, near, state, &by_near, options);
+    let entries = state.entries.as_slice();
+    let (far_items, near_items) = (far.items.as_slice(), near.items.as_slice());
+    few_items(far_items);
+    few_items(near_items);
+    few_entries(entries);
+    let merged = merge_all(alloc, far_items, near_items, entries, &mut Turns::new())?;
+    let lists = Lists::new(&merged, far, near, state, options);
     let mut found = Vec::new(alloc);
     lists.push_unfit(Direction::Pull, &mut found)?;
     lists.push_unfit(Direction::Push, &mut found)?;
@@ -37,10 +47,11 @@ pub fn unfit(
 }
 
 impl Lists<'_> {
-    fn is_unfit(&self, direction: Direction, item: &Item) -> bool
-        ensures { result ≡ is_unfit (seen self.now) direction item.now }
+    fn is_unfit(&self, direction: Direction, met: &Met) -> bool
+        requires { IsMet (source direction) self.now.standings.now met.now }
+        ensures { result ≡ is_unfit (seen self.now) direction met.now.item }
     {
-        self.would_be_new(direction, item) && !item.fit
+        self.would_be_new(direction, met) && !met.item.fit
     }
 
     fn push_unfit(
@@ -51,9 +62,9 @@ impl Lists<'_> {
         ensures { OnOk result (found.new.items ≡ found.old.items ++ unfit_uids (seen self.now) direction) }
     {
         let side = direction.source();
-        for item in self.items(side) {
-            if self.is_unfit(direction, item) {
-                found.push((side, item.uid))?;
+        for met in self.met(side) {
+            if self.is_unfit(direction, met) {
+                found.push((side, met.item.uid))?;
             }
         }
         Ok(())
