@@ -2,6 +2,7 @@
 
 use crate::cells::tell_cells;
 use crate::changes::{grown, with_line, with_more};
+use crate::comparison::tell_compared;
 use crate::devices::{SOUND, read_devices};
 use crate::mail::{tell_of_message, tell_of_side};
 use crate::marks::tell_drawn;
@@ -78,6 +79,7 @@ impl LastWorld {
             }
             "written" => tell_written(alloc, told, world, line),
             "news" | "unfit" | "plan" => tell_planned(alloc, told, world, word, line),
+            "compare" => tell_compared(alloc, told, line),
             _ => ask_mail(alloc, word, line, told),
         }
     }
