@@ -23,3 +23,4 @@ pub mod Staying
 pub mod Removing
 pub mod Naming
 pub mod LoggingOut
+pub mod Transcribed

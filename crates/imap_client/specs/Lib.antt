@@ -21,4 +21,5 @@ pub mod Leaving
 pub mod Nowhere
 pub mod Laws
 pub mod Calls
+pub mod Transcripts
 pub mod Sessions

@@ -16,3 +16,4 @@ mod sending;
 pub mod session;
 mod tags;
 pub mod tcp_link;
+mod transcript;

@@ -13,10 +13,12 @@ ghost use Rattle.imap_client.specs.States.{Opened, SendStops, EndsSo, SentSo, Ju
 ghost use Rattle.imap_link.specs.Faults.{IsHearing};
 ghost use Rattle.imap_link.specs.Outcomes.{Outcome, Never};
 ghost use Rattle.imap_link.specs.Exchanges.{Restarts};
+ghost use Rattle.imap_client.specs.Transcripts.{EndsBy, of_any, of_command};
 
 use crate::call::Call;
 use crate::sending::text_of;
 use crate::tags::tag_of;
+use crate::transcript::Transcript;
 use imap_commands::command::{Command, Request};
 use imap_link::fault::FarFault;
 use imap_link::link::Link;
@@ -35,6 +37,8 @@ pub struct Session<L: Link> {
     pub(crate) wire: Wire<L>,
     // How many tags were used on this connection.
     tags: u64,
+    // Each answer to a command that was sent in one part, as it was read.
+    transcript: Transcript,
     pub(crate) is_ready: bool,
     pub ghost idle: { is_ready ≡ true → L.honest wire.link → IsStill (ends_of (L.line wire.link) wire.heard.items) },
 }
@@ -48,6 +52,7 @@ impl<L: Link> Session<L> {
         ensures ready { result.is_ready ≡ false }
         ensures tags { result.tags ≡ 0 }
         ensures heard { result.wire.heard.items ≡ [] }
+        ensures transcript { result.transcript ≡ [] }
     {
         Session {
             wire: Wire {
@@ -56,6 +61,7 @@ impl<L: Link> Session<L> {
                 alloc,
             },
             tags: 0,
+            transcript: Transcript::new(),
             is_ready: false,
         }
     }
@@ -117,6 +123,7 @@ impl<L: Link> Session<L> {
     // A call begins: the session counts as failed until it has ended well.
     pub(crate) fn begin(&mut self) -> Result<(), FarFault>
         ensures same { (self.new.wire ≡ self.old.wire) × (self.new.tags ≡ self.old.tags) }
+        ensures transcript { self.new.transcript ≡ self.old.transcript }
         ensures begun { self.new.is_ready ≡ false }
         ensures stuck { self.old.is_ready ≡ false → self.new ≡ self.old }
         ensures ready { OnOk result (self.old.is_ready ≡ true) }
@@ -133,6 +140,7 @@ impl<L: Link> Session<L> {
     // The next tag. `Stopped`: there is none left.
     pub(crate) fn next_tag(&mut self) -> Result<Tag, FarFault>
         ensures same { (self.new.wire ≡ self.old.wire) × (self.new.is_ready ≡ self.old.is_ready) }
+        ensures transcript { self.new.transcript ≡ self.old.transcript }
         ensures tag { IfOk result (λ tag. (tag ≡ tag_text (self.old.tags + 1)) × (self.new.tags ≡ self.old.tags + 1)) }
         ensures stopped { IsErrOf result FarFault.Stopped → (self.old.tags ≡ 18446744073709551615) × (self.new.tags ≡ self.old.tags) }
         ensures err { IfErr result (λ fault. (fault ≡ FarFault.Stopped) ⊎ (fault ≡ FarFault.NoMemory)) }
@@ -148,6 +156,7 @@ impl<L: Link> Session<L> {
     // The command with the next tag. `Stopped`: there is none left.
     pub(crate) fn command(&mut self, request: Request) -> Result<Command, FarFault>
         ensures same { (self.new.wire ≡ self.old.wire) × (self.new.is_ready ≡ self.old.is_ready) }
+        ensures transcript { self.new.transcript ≡ self.old.transcript }
         ensures command { IfOk result (λ c. (c ≡ command_at (self.old.tags + 1) request) × (self.new.tags ≡ self.old.tags + 1)) }
         ensures stopped { IsErrOf result FarFault.Stopped → (self.old.tags ≡ 18446744073709551615) × (self.new.tags ≡ self.old.tags) }
         ensures err { IfErr result (λ fault. (fault ≡ FarFault.Stopped) ⊎ (fault ≡ FarFault.NoMemory)) }
@@ -172,11 +181,13 @@ impl<L: Link> Session<L> {
             (ends_of (L.line self.new.wire.link) (drop a.len self.new.wire.heard.items))) }
         ensures answer { IfOk result (λ a. (a.len ≤ length self.new.wire.heard.items)
             × IsAnswerText command.now.tag a.status (take a.len self.new.wire.heard.items)) }
+        ensures heard { EndsBy (of_any self.new.wire.heard.items) result self.old.transcript self.new.transcript }
     {
         let text = text_of(self.wire.alloc, command)?;
         let answered = self
             .wire
             .finish(&command.tag, &text, false, Uses::of(&command.request))?;
+        self.transcript.note(&self.wire.heard, answered.len);
         Ok(answered)
     }
 
@@ -189,6 +200,7 @@ impl<L: Link> Session<L> {
         ensures tags { self.new.tags ≡ self.old.tags }
         ensures judged { Judged answered.status answered.len self.new.is_ready result }
         ensures heard { OnOk result (self.new.wire.heard.items ≡ self.old.wire.heard.items) }
+        ensures transcript { self.new.transcript ≡ self.old.transcript }
     {
         match answered.status {
             Status::Ok => Ok(answered.len),
@@ -216,6 +228,7 @@ impl<L: Link> Session<L> {
             (ends_of (L.line self.new.wire.link) (drop a.len self.new.wire.heard.items))) }
         ensures answer { IfOk result (λ a. (a.len ≤ length self.new.wire.heard.items)
             × IsAnswerText (tag_text self.new.tags) a.status (take a.len self.new.wire.heard.items)) }
+        ensures heard { EndsBy (of_any self.new.wire.heard.items) result self.old.transcript self.new.transcript }
     {
         let command = self.command(request)?;
         self.send(&command)
@@ -235,6 +248,7 @@ impl<L: Link> Session<L> {
             (ends_of (L.line self.new.wire.link) (drop a.len self.new.wire.heard.items))) }
         ensures answer { IfOk result (λ a. (a.len ≤ length self.new.wire.heard.items)
             × IsAnswerText (tag_text self.new.tags) a.status (take a.len self.new.wire.heard.items)) }
+        ensures heard { EndsBy (of_any self.new.wire.heard.items) result self.old.transcript self.new.transcript }
     {
         self.begin()?;
         let request = call.request(self.wire.alloc)?;
@@ -254,6 +268,7 @@ impl<L: Link> Session<L> {
             → IsStill (ends_of (L.line self.new.wire.link) (drop len self.new.wire.heard.items))) }
         ensures answer { IfOk result (λ len. (len ≤ length self.new.wire.heard.items)
             × IsAnswerText (tag_text self.new.tags) statuses.Ok (take len self.new.wire.heard.items)) }
+        ensures heard { EndsBy (of_command (self.old.tags + 1) self.new.wire.heard.items) result self.old.transcript self.new.transcript }
     {
         let answered = self.ask_status(call)?;
         self.judge(answered)
@@ -266,6 +281,7 @@ impl<L: Link> Session<L> {
         ensures link { self.new.wire.link ≡ self.old.wire.link }
         ensures ready { self.new.is_ready ≡ true }
         ensures tags { self.new.tags ≡ self.old.tags }
+        ensures transcript { self.new.transcript ≡ self.old.transcript }
     {
         self.wire.forget(len);
         self.is_ready = true;

@@ -9,7 +9,10 @@ use Rattle.imap_client.specs.Calls.{request_of}
 use Rattle.imap_client.specs.Stillness.{IsStill}
 use Rattle.imap_client.specs.States.{AskedSo}
 use Rattle.imap_client.specs.Exchanged.{command_at, Exchanged}
+use Rattle.imap_client.specs.Tags.{tag_text}
+use Rattle.imap_client.specs.Transcripts.{EndsBy, of_command}
 use Rattle.imap_client.proofs.Exchanging.{state_at, asked_err, judged_asked, exchanged_err, exchanged_of, judged_len}
+use Rattle.imap_client.proofs.Transcribed.{unheard, judged_ends}
 use Rattle.imap_client.proofs.session.Session.ask.Goals as goal
 
 pub returns-in_err-answered-clause-asked : goal.returns-in_err-answered-clause-asked
@@ -30,6 +33,25 @@ returns-in_err-answered-clause-outcome g c honest =
     let heard = c.ask_status.new.self.wire.heard.items in
     subst (λ (r : Result ℕ FarFault). Exchanged command r heard old new) (sym (p.1 ∙ ap Err p.2))
     (exchanged_err command (λ a. Replied command a.status (take a.len heard)) c.in_err-answered.field-0.0 heard old new (c.in_err-answered.ensures.outcome honest))
+
+pub returns-in_err-answered-clause-heard : goal.returns-in_err-answered-clause-heard
+returns-in_err-answered-clause-heard g c =
+    let p = err_from_is_err_and c.from_residual.result c.from_residual.ensures.1 in
+    let heard = c.ask_status.new.self.wire.heard.items in
+    let old = c.args.self.now.transcript in
+    let new = c.ask_status.new.self.transcript in
+    let command = of_command (c.args.self.now.tags + 1) heard in
+    subst (λ (r : Result ℕ FarFault). EndsBy command r old new) (sym (p.1 ∙ ap Err p.2)) (unheard ℕ command heard old new c.in_err-answered.field-0.0 c.in_err-answered.ensures.heard)
+
+pub returns-clause-heard : goal.returns-clause-heard
+returns-clause-heard g c =
+    let n = c.args.self.now.tags + 1 in
+    let a = c.in_ok-answered.answered in
+    let old = c.args.self.now.transcript in
+    let now = c.judge.new.self.wire.heard.items in
+    subst (λ (t : List (List ℕ)). EndsBy (of_command n now) c.judge.result old t) (sym c.judge.ensures.transcript)
+    (judged_ends n (tag_text c.ask_status.new.self.tags) (ap tag_text c.in_ok-answered.ensures.asked.tags) a.status a.len c.judge.new.self.is_ready c.ask_status.new.self.wire.heard.items now c.in_ok-answered.ensures.answer.1
+    c.judge.result old c.ask_status.new.self.transcript c.judge.ensures.judged c.judge.ensures.heard c.in_ok-answered.ensures.heard)
 
 pub returns-clause-asked : goal.returns-clause-asked
 returns-clause-asked g c =

@@ -1,14 +1,16 @@
-use Rattle.std.proofs.Common.{[], sym, ◌∙◌, ap, subst, Result, Err}
+use Rattle.std.proofs.Common.{[], refl, sym, ◌∙◌, ap, subst, Result, Err}
 use Rattle.std.proofs.lemmas.Result.{err_from_is_err_and}
 use Rattle.imap_commands.specs.Writing.{Written}
 use Rattle.exchange_laws.specs.Ends.{ends_of}
 use Rattle.imap_link.specs.declared.fault.FarFault.{FarFault}
 use Rattle.imap_link.specs.declared.wire.Answered.{Answered}
 use Rattle.imap_client.specs.States.{SentSo}
+use Rattle.imap_client.specs.Transcripts.{EndsBy, of_any}
 use Rattle.imap_client.specs.Exchanged.{AnsweredSo}
 use Rattle.imap_client.proofs.Completing.{plain_completes}
 use Rattle.imap_client.proofs.Still.{idle_of, still_of}
 use Rattle.imap_client.proofs.Exchanging.{state_at, sent_err}
+use Rattle.imap_client.proofs.Transcribed.{hearing_ends}
 use Rattle.imap_client.proofs.session.Session.send.Goals as goal
 
 pub returns-in_err-answered-clause-sent : goal.returns-in_err-answered-clause-sent
@@ -32,6 +34,14 @@ returns-in_err-answered-clause-outcome g c honest =
     let new = (g.L.Link.line c.finish.new.self.link).end.server in
     let heard = c.finish.new.self.heard.items in
     subst (λ (r : Result Answered FarFault). AnsweredSo command r heard old new) (sym (p.1 ∙ ap Err p.2)) (c.in_err-answered.ensures.outcome honest command [] completes at)
+
+pub returns-in_err-answered-clause-heard : goal.returns-in_err-answered-clause-heard
+returns-in_err-answered-clause-heard g c =
+    let p = err_from_is_err_and c.from_residual-in_err-answered.result c.from_residual-in_err-answered.ensures.1 in
+    let heard = c.finish.new.self.heard.items in
+    let transcript = c.args.self.now.transcript in
+    subst (λ (r : Result Answered FarFault). EndsBy (of_any heard) r transcript transcript) (sym (p.1 ∙ ap Err p.2))
+    (hearing_ends Answered (of_any heard) transcript transcript c.in_err-answered.field-0.0 c.in_err-answered.ensures.known refl)
 
 pub returns-clause-outcome : goal.returns-clause-outcome
 returns-clause-outcome g c honest =

@@ -1,0 +1,119 @@
+-- What calls have heard.
+use Rattle.std.proofs.Common.{◌≡◌, ◌⊎◌, inl, inr, ℕ, ◌+◌, Bool, List, ◌∷◌, sym, ◌∙◌, ap, subst, refl, take, Result, Ok, Err, OnOk}
+use Rattle.imap_replies.specs.declared.word.Status.{Status}
+use Rattle.imap_replies.specs.declared.word.Status.TheVariants as statuses
+use Rattle.imap_link.specs.Buffers.{IsAnswerText}
+use Rattle.imap_link.specs.Faults.{IsHearing}
+use Rattle.imap_link.specs.declared.fault.FarFault.{FarFault}
+use Rattle.imap_link.specs.declared.fault.FarFault.TheVariants as faults
+use Rattle.imap_link.specs.declared.wire.Answered.{Answered}
+use Rattle.imap_client.specs.States.{Judged}
+use Rattle.imap_client.specs.Tags.{tag_text}
+use Rattle.imap_client.specs.Transcripts.{Hears, Answers, Says, NoAnswer, Meaning, EndsBy, of_any, of_command, of_abilities, of_login, of_enable, of_select, HearsTwo, HearsThree, Unanswered, Nothing, Named, LetIn, LoginHears, NamesRev2}
+
+-- where hearing failed, nothing was heard
+pub hearing_ends : (T : Type 0) (m : Meaning T) (old new : List (List ℕ)) (f : FarFault) → IsHearing f → new ≡ old → EndsBy m (Err f) old new
+hearing_ends T m old new faults.Stopped h e = e
+hearing_ends T m old new faults.Refused h e = absurd h
+hearing_ends T m old new faults.Protocol h e = inl e
+hearing_ends T m old new faults.TooLong h e = e
+hearing_ends T m old new faults.NoRev2 h e = absurd h
+hearing_ends T m old new faults.ReadOnly h e = absurd h
+hearing_ends T m old new faults.NoMemory h e = inl e
+
+-- the command of a call was answered in no way that counts, as it was in none for any other call
+pub unheard : (U : Type 0) (m : Meaning U) (heard : List ℕ) (old new : List (List ℕ)) (f : FarFault) → EndsBy (of_any heard) (Err f) old new → EndsBy m (Err f) old new
+unheard U m heard old new faults.Stopped e = e
+unheard U m heard old new faults.Refused e = absurd e.is
+unheard U m heard old new faults.Protocol (inl e) = inl e
+unheard U m heard old new faults.Protocol (inr e) = absurd e.is
+unheard U m heard old new faults.TooLong e = e
+unheard U m heard old new faults.NoRev2 e = absurd e.is
+unheard U m heard old new faults.ReadOnly e = absurd e.is
+unheard U m heard old new faults.NoMemory (inl e) = inl e
+unheard U m heard old new faults.NoMemory (inr e) = absurd e.is
+
+with_status : (tag tag_now : List ℕ) (status now : Status) (bytes : List ℕ) → tag ≡ tag_now → status ≡ now → IsAnswerText tag status bytes → IsAnswerText tag_now now bytes
+with_status tag tag_now status now bytes t e h = subst (λ (s : Status). IsAnswerText tag_now s bytes) e (subst (λ (x : List ℕ). IsAnswerText x status bytes) t h)
+
+-- an answer was heard, which its status judges
+module _ (n : ℕ) (tag : List ℕ) (same : tag ≡ tag_text n) (status : Status) (len : ℕ) (ready : Bool) (was now : List ℕ) (text : IsAnswerText tag status (take len was)) where
+  pub judged_ends : (result : Result ℕ FarFault) (old new : List (List ℕ)) → Judged status len ready result → OnOk result (now ≡ was) → Hears (λ bytes. bytes ≡ take len was) old new
+      → EndsBy (of_command n now) result old new
+  judged_ends (Ok k) old new j e h = record {
+    bytes = h.bytes;
+    is = (subst (IsAnswerText (tag_text n) statuses.Ok) (sym h.is) (with_status tag (tag_text n) status statuses.Ok (take len was) same j.0 text), h.is ∙ ap (λ (i : ℕ). take i was) (sym j.1) ∙ ap (take k) (sym e));
+    grows = h.grows;
+  }
+  judged_ends (Err faults.Stopped) old new j e h = absurd j
+  judged_ends (Err faults.Refused) old new j e h = record { bytes = h.bytes; is = subst (IsAnswerText (tag_text n) statuses.No) (sym h.is) (with_status tag (tag_text n) status statuses.No (take len was) same j.0 text); grows = h.grows }
+  judged_ends (Err faults.Protocol) old new j e h =
+      inr (record { bytes = h.bytes; is = subst (IsAnswerText (tag_text n) statuses.Bad) (sym h.is) (with_status tag (tag_text n) status statuses.Bad (take len was) same j.0 text); grows = h.grows })
+  judged_ends (Err faults.TooLong) old new j e h = absurd j
+  judged_ends (Err faults.NoRev2) old new j e h = absurd j
+  judged_ends (Err faults.ReadOnly) old new j e h = absurd j
+  judged_ends (Err faults.NoMemory) old new j e h = absurd j
+
+-- a command failed, in a call that tells so of NO and BAD
+module _ (n : ℕ) (heard : List ℕ) (T : Type 0) (m : Meaning T) (no : (bytes : List ℕ) → Answers n statuses.No bytes → m.refused bytes) (bad : (bytes : List ℕ) → Answers n statuses.Bad bytes → m.protocol bytes) where
+  pub command_ends : (f : FarFault) (old new : List (List ℕ)) → EndsBy (of_command n heard) (Err f) old new → EndsBy m (Err f) old new
+  command_ends faults.Stopped old new e = e
+  command_ends faults.Refused old new h = record { bytes = h.bytes; is = no h.bytes h.is; grows = h.grows }
+  command_ends faults.Protocol old new (inl e) = inl e
+  command_ends faults.Protocol old new (inr h) = inr (record { bytes = h.bytes; is = bad h.bytes h.is; grows = h.grows })
+  command_ends faults.TooLong old new e = e
+  command_ends faults.NoRev2 old new h = absurd h.is
+  command_ends faults.ReadOnly old new h = absurd h.is
+  command_ends faults.NoMemory old new (inl e) = inl e
+  command_ends faults.NoMemory old new (inr h) = absurd h.is
+
+-- ---- a login
+
+module _ (n : ℕ) (old : List (List ℕ)) where
+  -- CAPABILITY was not answered as it should be
+  pub first_fails : (f : FarFault) (new : List (List ℕ)) → EndsBy (of_abilities (n + 1)) (Err f) old new → LoginHears n (Err f) old new
+  first_fails faults.Stopped new e = Nothing e
+  first_fails faults.Refused new h = inl h
+  first_fails faults.Protocol new (inl e) = inl (Nothing e)
+  first_fails faults.Protocol new (inr h) = inr (inl h)
+  first_fails faults.TooLong new e = Nothing e
+  first_fails faults.NoRev2 new h = inl h
+  first_fails faults.ReadOnly new h = absurd h.is
+  first_fails faults.NoMemory new (inl e) = inl (Nothing e)
+  first_fails faults.NoMemory new (inr h) = inr h
+
+  module _ (mid : List (List ℕ)) (named : Hears (Says (n + 1) statuses.Ok NamesRev2) old mid) where
+    on_named : (new : List (List ℕ)) → new ≡ mid → Unanswered n old new
+    on_named new e = Named (subst (Hears (Says (n + 1) statuses.Ok NamesRev2) old) (sym e) named)
+
+    -- LOGIN was not
+    pub second_fails : (f : FarFault) (new : List (List ℕ)) → EndsBy (of_login (n + 2)) (Err f) mid new → LoginHears n (Err f) old new
+    second_fails faults.Stopped new e = on_named new e
+    second_fails faults.Refused new h = inr (record { between = mid; named = named; last = h })
+    second_fails faults.Protocol new (inl e) = inl (on_named new e)
+    second_fails faults.Protocol new (inr h) = inr (inr (record { between = mid; named = named; last = h }))
+    second_fails faults.TooLong new e = on_named new e
+    second_fails faults.NoRev2 new h = absurd h.is
+    second_fails faults.ReadOnly new h = absurd h.is
+    second_fails faults.NoMemory new (inl e) = inl (on_named new e)
+    second_fails faults.NoMemory new (inr h) = absurd h.is
+
+    module _ (late : List (List ℕ)) (let_in : Hears (Answers (n + 2) statuses.Ok) mid late) where
+      two : HearsTwo n (Answers (n + 2) statuses.Ok) old late
+      two = record { between = mid; named = named; last = let_in }
+
+      on_two : (new : List (List ℕ)) → new ≡ late → Unanswered n old new
+      on_two new e = LetIn (subst (HearsTwo n (Answers (n + 2) statuses.Ok) old) (sym e) two)
+
+      -- both were
+      pub third_ends : (result : Result (Unit {0}) FarFault) (new : List (List ℕ)) → EndsBy (of_enable (n + 3)) result late new → LoginHears n result old new
+      third_ends (Ok x) new h = record { between = late; let_in = two; last = h }
+      third_ends (Err faults.Stopped) new e = on_two new e
+      third_ends (Err faults.Refused) new h = absurd h.is
+      third_ends (Err faults.Protocol) new (inl e) = inl (on_two new e)
+      third_ends (Err faults.Protocol) new (inr h) = absurd h.is
+      third_ends (Err faults.TooLong) new e = on_two new e
+      third_ends (Err faults.NoRev2) new h = inr (record { between = late; let_in = two; last = h })
+      third_ends (Err faults.ReadOnly) new h = absurd h.is
+      third_ends (Err faults.NoMemory) new (inl e) = inl (on_two new e)
+      third_ends (Err faults.NoMemory) new (inr h) = absurd h.is
