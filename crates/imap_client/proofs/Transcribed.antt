@@ -1,15 +1,16 @@
 -- What calls have heard.
-use Rattle.std.proofs.Common.{◌≡◌, ◌⊎◌, inl, inr, ℕ, ◌+◌, Bool, List, ◌∷◌, sym, ◌∙◌, ap, subst, refl, take, Result, Ok, Err, OnOk}
+use Rattle.std.proofs.Common.{◌≡◌, ◌⊎◌, inl, inr, ℕ, ◌+◌, Bool, List, sym, ◌∙◌, ap, subst, refl, take, Result, Ok, Err, OnOk}
+use Rattle.imap_replies.specs.declared.reply.Reply.{Reply}
 use Rattle.imap_replies.specs.declared.word.Status.{Status}
 use Rattle.imap_replies.specs.declared.word.Status.TheVariants as statuses
+use Rattle.imap_session.specs.Heard.{AreReplies}
 use Rattle.imap_link.specs.Buffers.{IsAnswerText}
 use Rattle.imap_link.specs.Faults.{IsHearing}
 use Rattle.imap_link.specs.declared.fault.FarFault.{FarFault}
 use Rattle.imap_link.specs.declared.fault.FarFault.TheVariants as faults
-use Rattle.imap_link.specs.declared.wire.Answered.{Answered}
 use Rattle.imap_client.specs.States.{Judged}
 use Rattle.imap_client.specs.Tags.{tag_text}
-use Rattle.imap_client.specs.Transcripts.{Hears, Answers, Says, NoAnswer, Meaning, EndsBy, of_any, of_command, of_abilities, of_login, of_enable, of_select, HearsTwo, HearsThree, Unanswered, Nothing, Named, LetIn, LoginHears, NamesRev2}
+use Rattle.imap_client.specs.Transcripts.{Hears, Answers, Says, NoAnswer, Meaning, EndsBy, of_any, of_command, of_abilities, of_login, of_enable, Declines, HearsTwo, HearsThree, Unanswered, Nothing, Named, LetIn, LoginHears, NamesRev2}
 
 -- where hearing failed, nothing was heard
 pub hearing_ends : (T : Type 0) (m : Meaning T) (old new : List (List ℕ)) (f : FarFault) → IsHearing f → new ≡ old → EndsBy m (Err f) old new
@@ -66,6 +67,34 @@ module _ (n : ℕ) (heard : List ℕ) (T : Type 0) (m : Meaning T) (no : (bytes 
   command_ends faults.ReadOnly old new h = absurd h.is
   command_ends faults.NoMemory old new (inl e) = inl e
   command_ends faults.NoMemory old new (inr h) = absurd h.is
+
+-- of an answer that stands in the buffer: what its replies say
+module _ (n len : ℕ) (heard : List ℕ) (old new : List (List ℕ)) (h : Hears (λ bytes. Answers n statuses.Ok bytes × (bytes ≡ take len heard)) old new) where
+  pub says_so : (P : List Reply → Type 0) → ((rs : List Reply) → AreReplies rs (take len heard) → P rs) → Hears (Says n statuses.Ok P) old new
+  says_so P told = record {
+    bytes = h.bytes;
+    is = record { answer = h.is.0; said = λ rs are. told rs (subst (AreReplies rs) h.is.1 are) };
+    grows = h.grows;
+  }
+
+  pub answers_ok : Hears (Answers n statuses.Ok) old new
+  answers_ok = record { bytes = h.bytes; is = h.is.0; grows = h.grows }
+
+-- and of one with any status
+module _ (n len : ℕ) (tag : List ℕ) (same : tag ≡ tag_text n) (status : Status) (heard : List ℕ) (text : IsAnswerText tag status (take len heard)) (old new : List (List ℕ)) (h : Hears (λ bytes. bytes ≡ take len heard) old new) where
+  answers_as : (now : Status) → status ≡ now → Answers n now h.bytes
+  answers_as now e = subst (IsAnswerText (tag_text n) now) (sym h.is) (with_status tag (tag_text n) status now (take len heard) same e text)
+
+  pub answers_so : (now : Status) → status ≡ now → Hears (Answers n now) old new
+  answers_so now e = record { bytes = h.bytes; is = answers_as now e; grows = h.grows }
+
+  by_status : (now : Status) → status ≡ now → (status ≡ statuses.Ok → ⊥) → Declines n h.bytes
+  by_status statuses.Ok e other = absurd (other e)
+  by_status statuses.No e other = inl (answers_as statuses.No e)
+  by_status statuses.Bad e other = inr (answers_as statuses.Bad e)
+
+  pub declines_so : (status ≡ statuses.Ok → ⊥) → Hears (Declines n) old new
+  declines_so other = record { bytes = h.bytes; is = by_status status refl other; grows = h.grows }
 
 -- ---- a login
 

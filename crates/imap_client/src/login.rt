@@ -1,6 +1,6 @@
 //! What a session sends before its calls: CAPABILITY, LOGIN, ENABLE (RFC 9051, sections 6.1.1, 6.2.3 and 6.3.1).
 
-ghost use Rattle.std.specs.Prelude.{◌≡◌, ◌≤◌, List, true, false, length, take, IfOk, IfErr};
+ghost use Rattle.std.specs.Prelude.{◌≡◌, ◌≤◌, ◌+◌, List, true, false, length, take, IfOk, IfErr};
 ghost use Rattle.std.specs.List.{list_any};
 ghost use Rattle.imap_replies.specs.declared.reply.Reply.{Reply};
 ghost use Rattle.imap_session.specs.Heard.{AreReplies};
@@ -8,6 +8,7 @@ ghost use Rattle.imap_session.specs.Servers.{is_before_login, is_logged_in};
 ghost use Rattle.imap_link.specs.Outcomes.{Outcome, Never};
 ghost use Rattle.imap_client.specs.Logins.{tells_rev2, Authenticates, Rejects, Remains};
 ghost use Rattle.imap_client.specs.Requests.{IsWord};
+ghost use Rattle.imap_client.specs.Transcripts.{EndsBy, of_abilities, of_login, of_enable, LoginHears};
 ghost use Rattle.imap_answers.specs.Spoken.{Speaks};
 ghost use Rattle.imap_client.specs.States.{EndsSo};
 
@@ -37,6 +38,7 @@ impl<L: Link> Session<L> {
         ensures outcome { L.honest self.new.wire.link → is_before_login (server_of self.old).condition ≡ true
             → Outcome (λ _. Authenticates user.now password.now) (Rejects user.now password.now) (Authenticates user.now password.now) result
             (server_of self.old) (server_of self.new) }
+        ensures heard { LoginHears self.old.tags result self.old.transcript self.new.transcript }
     {
         self.ask_abilities()?;
         self.authenticate(user, password)?;
@@ -50,6 +52,7 @@ impl<L: Link> Session<L> {
         ensures stuck { self.old.is_ready ≡ false → self.new ≡ self.old }
         ensures ends { EndsSo 1 (state_of self.old) (state_of self.new) result }
         ensures outcome { L.honest self.new.wire.link → Outcome (λ _. Remains) Never Remains result (server_of self.old) (server_of self.new) }
+        ensures heard { EndsBy (of_abilities (self.old.tags + 1)) result self.old.transcript self.new.transcript }
     {
         let len = self.ask(&Call::Capability)?;
         let speaks = self.speaks_rev2(len)?;
@@ -82,6 +85,7 @@ impl<L: Link> Session<L> {
         ensures outcome { L.honest self.new.wire.link → is_before_login (server_of self.old).condition ≡ true
             → Outcome (λ _. Authenticates user.now password.now) (Rejects user.now password.now) (Authenticates user.now password.now) result
             (server_of self.old) (server_of self.new) }
+        ensures heard { EndsBy (of_login (self.old.tags + 1)) result self.old.transcript self.new.transcript }
     {
         let len = self.ask(&Call::Login(user, password))?;
         self.done(len);
@@ -96,6 +100,7 @@ impl<L: Link> Session<L> {
         ensures ends { EndsSo 1 (state_of self.old) (state_of self.new) result }
         ensures outcome { L.honest self.new.wire.link → is_logged_in (server_of self.old).condition ≡ true
             → Outcome (λ _. Remains) Never Remains result (server_of self.old) (server_of self.new) }
+        ensures heard { EndsBy (of_enable (self.old.tags + 1)) result self.old.transcript self.new.transcript }
     {
         let answered = self.ask_status(&Call::Enable)?;
         match answered.status {

@@ -1,4 +1,4 @@
-use Rattle.std.proofs.Common.{◌≡◌, inr, ℕ, ◌+◌, ◌++◌, ◌∷◌, [], true, false, sym, ◌∙◌, ap, subst, take, Result, Ok, Err}
+use Rattle.std.proofs.Common.{◌≡◌, inr, ℕ, ◌+◌, List, ◌++◌, ◌∷◌, [], true, false, sym, ◌∙◌, ap, subst, take, Result, Ok, Err}
 use Rattle.std.proofs.lemmas.Result.{err_from_is_err_and}
 use Rattle.imap_session.specs.Answering.{done}
 use Rattle.imap_link.specs.declared.fault.FarFault.{FarFault}
@@ -9,7 +9,42 @@ use Rattle.imap_client.specs.Saying.{HeardOf}
 use Rattle.imap_client.specs.Logins.{Remains}
 use Rattle.imap_client.proofs.Changed.{outcome_err}
 use Rattle.imap_client.proofs.LoggingIn.{abilities, ability_exchanged, named_so}
+use Rattle.imap_client.proofs.Transcribed.{command_ends, says_so, answers_ok}
+use Rattle.imap_client.specs.Transcripts.{EndsBy, Hears, Says, of_abilities, NamesRev2, LacksRev2}
+use Rattle.imap_replies.specs.declared.word.Status.TheVariants as statuses
 use Rattle.imap_client.proofs.session.Session.ask_abilities.Goals as goal
+
+pub returns-in_err-len-clause-heard : goal.returns-in_err-len-clause-heard
+returns-in_err-len-clause-heard g c =
+    let p = err_from_is_err_and c.from_residual.result c.from_residual.ensures.1 in
+    let n = c.args.self.now.tags + 1 in
+    let old = c.args.self.now.transcript in
+    let new = c.ask.new.self.transcript in
+    subst (λ (r : Result (Unit {0}) FarFault). EndsBy (of_abilities n) r old new) (sym (p.1 ∙ ap Err p.2))
+    (command_ends n c.ask.new.self.wire.heard.items (Unit {0}) (of_abilities n) (λ b h. h) (λ b h. h) c.in_err-len.field-0.0 old new c.in_err-len.ensures.heard)
+
+pub returns-then-not-speaks-clause-heard : goal.returns-then-not-speaks-clause-heard
+returns-then-not-speaks-clause-heard g c =
+    let n = c.args.self.now.tags + 1 in
+    says_so n c.in_ok-len.len c.ask.new.self.wire.heard.items c.args.self.now.transcript c.ask.new.self.transcript c.in_ok-len.ensures.heard LacksRev2
+    (λ rs are. sym (c.in_ok-speaks.ensures.told rs are) ∙ c.if-not-speaks.true)
+
+pub returns-in_err-speaks-clause-heard : goal.returns-in_err-speaks-clause-heard
+returns-in_err-speaks-clause-heard g c =
+    let p = err_from_is_err_and c.from_residual-in_err-speaks.result c.from_residual-in_err-speaks.ensures.1 in
+    let n = c.args.self.now.tags + 1 in
+    let old = c.args.self.now.transcript in
+    let new = c.ask.new.self.transcript in
+    subst (λ (r : Result (Unit {0}) FarFault). EndsBy (of_abilities n) r old new) (sym (p.1 ∙ ap Err (p.2 ∙ c.in_err-speaks.ensures.err)))
+    (inr (answers_ok n c.in_ok-len.len c.ask.new.self.wire.heard.items old new c.in_ok-len.ensures.heard))
+
+pub returns-clause-heard : goal.returns-clause-heard
+returns-clause-heard g c =
+    let n = c.args.self.now.tags + 1 in
+    let old = c.args.self.now.transcript in
+    subst (λ (t : List (List ℕ)). Hears (Says n statuses.Ok NamesRev2) old t) (sym c.done.ensures.transcript)
+    (says_so n c.in_ok-len.len c.ask.new.self.wire.heard.items old c.ask.new.self.transcript c.in_ok-len.ensures.heard NamesRev2
+    (λ rs are. sym (c.in_ok-speaks.ensures.told rs are) ∙ c.if-not-speaks.false))
 
 pub returns-in_err-len-clause-outcome : goal.returns-in_err-len-clause-outcome
 returns-in_err-len-clause-outcome g c honest =

@@ -1,4 +1,4 @@
-use Rattle.std.proofs.Common.{◌≡◌, ℕ, ◌+◌, true, sym, ◌∙◌, ap, subst, Result, Ok, Err}
+use Rattle.std.proofs.Common.{◌≡◌, ℕ, ◌+◌, List, true, sym, ◌∙◌, ap, subst, Result, Ok, Err}
 use Rattle.std.proofs.lemmas.Result.{err_from_is_err_and}
 use Rattle.imap_session.specs.Servers.{is_before_login}
 use Rattle.imap_link.specs.declared.fault.FarFault.{FarFault}
@@ -6,7 +6,26 @@ use Rattle.imap_link.specs.Outcomes.{Outcome}
 use Rattle.imap_client.specs.Logins.{Authenticates, Rejects}
 use Rattle.imap_client.proofs.Changed.{outcome_err}
 use Rattle.imap_client.proofs.LoggingIn.{login_exchanged}
+use Rattle.imap_client.proofs.Transcribed.{command_ends, answers_ok}
+use Rattle.imap_client.specs.Transcripts.{EndsBy, Hears, Answers, of_login}
+use Rattle.imap_replies.specs.declared.word.Status.TheVariants as statuses
 use Rattle.imap_client.proofs.session.Session.authenticate.Goals as goal
+
+pub returns-in_err-len-clause-heard : goal.returns-in_err-len-clause-heard
+returns-in_err-len-clause-heard g c =
+    let p = err_from_is_err_and c.from_residual.result c.from_residual.ensures.1 in
+    let n = c.args.self.now.tags + 1 in
+    let old = c.args.self.now.transcript in
+    let new = c.ask.new.self.transcript in
+    subst (λ (r : Result (Unit {0}) FarFault). EndsBy (of_login n) r old new) (sym (p.1 ∙ ap Err p.2))
+    (command_ends n c.ask.new.self.wire.heard.items (Unit {0}) (of_login n) (λ b h. h) (λ b h. h) c.in_err-len.field-0.0 old new c.in_err-len.ensures.heard)
+
+pub returns-clause-heard : goal.returns-clause-heard
+returns-clause-heard g c =
+    let n = c.args.self.now.tags + 1 in
+    let old = c.args.self.now.transcript in
+    subst (λ (t : List (List ℕ)). Hears (Answers n statuses.Ok) old t) (sym c.done.ensures.transcript)
+    (answers_ok n c.in_ok-len.len c.ask.new.self.wire.heard.items old c.ask.new.self.transcript c.in_ok-len.ensures.heard)
 
 pub returns-in_err-len-clause-outcome : goal.returns-in_err-len-clause-outcome
 returns-in_err-len-clause-outcome g c honest before =

@@ -1,4 +1,4 @@
-use Rattle.std.proofs.Common.{◌≡◌, ◌+◌, true, sym, ◌∙◌, ap, subst, Result, Ok, Err}
+use Rattle.std.proofs.Common.{◌≡◌, ℕ, ◌+◌, List, true, sym, ◌∙◌, ap, subst, Result, Ok, Err}
 use Rattle.std.proofs.lemmas.Result.{err_from_is_err_and}
 use Rattle.imap_replies.specs.declared.word.Status.TheVariants as statuses
 use Rattle.imap_session.specs.Servers.{is_logged_in}
@@ -9,7 +9,35 @@ use Rattle.imap_client.specs.Logins.{Remains}
 use Rattle.imap_client.specs.States.{EndsSo}
 use Rattle.imap_client.proofs.Changed.{outcome_err, state_of_parts}
 use Rattle.imap_client.proofs.LoggingIn.{enable_answered, asked_ends}
+use Rattle.imap_client.proofs.Transcribed.{unheard, answers_so, declines_so}
+use Rattle.imap_client.specs.Tags.{tag_text}
+use Rattle.imap_client.specs.Transcripts.{EndsBy, Hears, Answers, of_enable}
 use Rattle.imap_client.proofs.session.Session.enable.Goals as goal
+
+pub returns-in_err-answered-clause-heard : goal.returns-in_err-answered-clause-heard
+returns-in_err-answered-clause-heard g c =
+    let p = err_from_is_err_and c.from_residual.result c.from_residual.ensures.1 in
+    let n = c.args.self.now.tags + 1 in
+    let old = c.args.self.now.transcript in
+    let new = c.ask_status.new.self.transcript in
+    subst (λ (r : Result (Unit {0}) FarFault). EndsBy (of_enable n) r old new) (sym (p.1 ∙ ap Err p.2))
+    (unheard (Unit {0}) (of_enable n) c.ask_status.new.self.wire.heard.items old new c.in_err-answered.field-0.0 c.in_err-answered.ensures.heard)
+
+pub returns-in_default-clause-heard : goal.returns-in_default-clause-heard
+returns-in_default-clause-heard g c =
+    let a = c.in_ok-answered.answered in
+    let e = c.in_ok-answered.ensures in
+    declines_so (c.args.self.now.tags + 1) a.len (tag_text c.ask_status.new.self.tags) (ap tag_text e.asked.tags) a.status c.ask_status.new.self.wire.heard.items e.answer.1 c.args.self.now.transcript c.ask_status.new.self.transcript
+    e.heard c.in_default.not-Ok
+
+pub returns-in-Ok-clause-heard : goal.returns-in-Ok-clause-heard
+returns-in-Ok-clause-heard g c =
+    let n = c.args.self.now.tags + 1 in
+    let a = c.in_ok-answered.answered in
+    let e = c.in_ok-answered.ensures in
+    let old = c.args.self.now.transcript in
+    subst (λ (t : List (List ℕ)). Hears (Answers n statuses.Ok) old t) (sym c.done.ensures.transcript)
+    (answers_so n a.len (tag_text c.ask_status.new.self.tags) (ap tag_text e.asked.tags) a.status c.ask_status.new.self.wire.heard.items e.answer.1 old c.ask_status.new.self.transcript e.heard statuses.Ok c.in-Ok.is)
 
 pub returns-in_err-answered-clause-ends : goal.returns-in_err-answered-clause-ends
 returns-in_err-answered-clause-ends g c =

@@ -1,4 +1,4 @@
-use Rattle.std.proofs.Common.{sym, ◌∙◌, ap, subst, arith, Result, Err}
+use Rattle.std.proofs.Common.{◌≡◌, ℕ, ◌+◌, List, sym, ◌∙◌, ap, subst, arith, Result, Ok, Err}
 use Rattle.std.proofs.lemmas.Result.{err_from_is_err_and}
 use Rattle.imap_session.specs.Servers.{Server, is_before_login, is_logged_in}
 use Rattle.imap_link.specs.declared.fault.FarFault.{FarFault}
@@ -7,7 +7,44 @@ use Rattle.imap_client.specs.Logins.{Authenticates, Rejects}
 use Rattle.imap_client.specs.States.{EndsSo}
 use Rattle.imap_client.proofs.Changed.{state_of_parts}
 use Rattle.imap_client.proofs.LoggingIn.{not_yet, let_in, then_ends, ends_more}
+use Rattle.imap_client.proofs.Transcribed.{first_fails, second_fails, third_ends}
+use Rattle.imap_client.specs.Transcripts.{EndsBy, of_login, of_enable, LoginHears}
 use Rattle.imap_client.proofs.session.Session.login.Goals as goal
+
+pub returns-in_err-ask_abilities-clause-heard : goal.returns-in_err-ask_abilities-clause-heard
+returns-in_err-ask_abilities-clause-heard g c =
+    let p = err_from_is_err_and c.from_residual.result c.from_residual.ensures.1 in
+    let n = c.args.self.now.tags in
+    let old = c.args.self.now.transcript in
+    let new = c.ask_abilities.new.self.transcript in
+    subst (λ (r : Result (Unit {0}) FarFault). LoginHears n r old new) (sym (p.1 ∙ ap Err p.2)) (first_fails n old c.in_err-ask_abilities.field-0.0 new c.in_err-ask_abilities.ensures.heard)
+
+pub returns-in_err-authenticate-clause-heard : goal.returns-in_err-authenticate-clause-heard
+returns-in_err-authenticate-clause-heard g c =
+    let p = err_from_is_err_and c.from_residual-in_err-authenticate.result c.from_residual-in_err-authenticate.ensures.1 in
+    let n = c.args.self.now.tags in
+    let f = c.in_err-authenticate.field-0.0 in
+    let old = c.args.self.now.transcript in
+    let mid = c.ask_abilities.new.self.transcript in
+    let new = c.authenticate.new.self.transcript in
+    let first : c.ask_abilities.new.self.tags ≡ n + 1 = c.in_ok-ask_abilities.ensures.ends.tags in
+    let at : c.ask_abilities.new.self.tags + 1 ≡ n + 2 = omega (arith, first) in
+    let second = subst (λ (k : ℕ). EndsBy (of_login k) (Err f) mid new) at c.in_err-authenticate.ensures.heard in
+    subst (λ (r : Result (Unit {0}) FarFault). LoginHears n r old new) (sym (p.1 ∙ ap Err p.2)) (second_fails n old mid c.in_ok-ask_abilities.ensures.heard f new second)
+
+pub returns-clause-heard : goal.returns-clause-heard
+returns-clause-heard g c =
+    let n = c.args.self.now.tags in
+    let mid = c.ask_abilities.new.self.transcript in
+    let late = c.authenticate.new.self.transcript in
+    let new = c.enable.new.self.transcript in
+    let first : c.ask_abilities.new.self.tags ≡ n + 1 = c.in_ok-ask_abilities.ensures.ends.tags in
+    let next : c.authenticate.new.self.tags ≡ c.ask_abilities.new.self.tags + 1 = c.in_ok-authenticate.ensures.ends.tags in
+    let at : c.ask_abilities.new.self.tags + 1 ≡ n + 2 = omega (arith, first) in
+    let at_last : c.authenticate.new.self.tags + 1 ≡ n + 3 = omega (arith, first, next) in
+    let second = subst (λ (k : ℕ). EndsBy {T = Unit {0}} (of_login k) (Ok tt) mid late) at c.in_ok-authenticate.ensures.heard in
+    let third = subst (λ (k : ℕ). EndsBy (of_enable k) c.enable.result late new) at_last c.enable.ensures.heard in
+    third_ends n c.args.self.now.transcript mid c.in_ok-ask_abilities.ensures.heard late second c.enable.result new third
 
 pub returns-in_err-ask_abilities-clause-outcome : goal.returns-in_err-ask_abilities-clause-outcome
 returns-in_err-ask_abilities-clause-outcome g c honest before =
