@@ -1,5 +1,8 @@
 -- What calls have heard.
-use Rattle.std.proofs.Common.{◌≡◌, ◌⊎◌, inl, inr, ℕ, ◌+◌, Bool, List, sym, ◌∙◌, ap, subst, refl, take, Result, Ok, Err, OnOk}
+use Rattle.std.proofs.Common.{◌≡◌, ◌⊎◌, inl, inr, ℕ, ◌+◌, Bool, true, false, List, Option, None, Some, sym, ◌∙◌, ap, subst, refl, take, Result, Ok, Err, OnOk}
+use Rattle.std.specs.Prelude.{◌&&◌, is_some}
+use Rattle.imap_answers.specs.declared.opening.Opening.{Opening}
+use Rattle.imap_answers.specs.Openings.{opening_of}
 use Rattle.imap_replies.specs.declared.reply.Reply.{Reply}
 use Rattle.imap_replies.specs.declared.word.Status.{Status}
 use Rattle.imap_replies.specs.declared.word.Status.TheVariants as statuses
@@ -10,7 +13,7 @@ use Rattle.imap_link.specs.declared.fault.FarFault.{FarFault}
 use Rattle.imap_link.specs.declared.fault.FarFault.TheVariants as faults
 use Rattle.imap_client.specs.States.{Judged}
 use Rattle.imap_client.specs.Tags.{tag_text}
-use Rattle.imap_client.specs.Transcripts.{Hears, Answers, Says, NoAnswer, Meaning, EndsBy, of_any, of_command, of_abilities, of_login, of_enable, Declines, HearsTwo, HearsThree, Unanswered, Nothing, Named, LetIn, LoginHears, NamesRev2}
+use Rattle.imap_client.specs.Transcripts.{Hears, Answers, Says, NoAnswer, Meaning, EndsBy, of_any, of_command, of_abilities, of_login, of_enable, of_select, opened, TellsNumbers, LacksNumber, Declines, HearsTwo, HearsThree, Unanswered, Nothing, Named, LetIn, LoginHears, NamesRev2}
 
 -- where hearing failed, nothing was heard
 pub hearing_ends : (T : Type 0) (m : Meaning T) (old new : List (List ℕ)) (f : FarFault) → IsHearing f → new ≡ old → EndsBy m (Err f) old new
@@ -146,3 +149,45 @@ module _ (n : ℕ) (old : List (List ℕ)) where
       third_ends (Err faults.ReadOnly) new h = absurd h.is
       third_ends (Err faults.NoMemory) new (inl e) = inl (on_two new e)
       third_ends (Err faults.NoMemory) new (inr h) = absurd h.is
+
+-- ---- a selection
+
+pub none_of : (x : Option ℕ) → ((y : ℕ) → x ≡ Some y → ⊥) → is_some x ≡ false
+none_of None other = refl
+none_of (Some y) other = absurd (other y refl)
+
+first_lacks : (o : Opening) → is_some o.next ≡ false → LacksNumber o
+first_lacks o e = ap (λ (b : Bool). b && is_some o.validity) e
+
+second_by : (a b : Bool) → b ≡ false → (a && b) ≡ false
+second_by true b e = e
+second_by false b e = refl
+
+opened_so : (o : Opening) (validity next : ℕ) (read_only : Bool) → o.next ≡ Some next → o.validity ≡ Some validity → o.is_read_only ≡ read_only → o ≡ record { next = Some next; validity = Some validity; is_read_only = read_only }
+opened_so o validity next read_only n v r =
+    ap (λ (x : Option ℕ). (let y : Opening = record { next = x; validity = o.validity; is_read_only = o.is_read_only } in y)) n
+    ∙ ap (λ (x : Option ℕ). (let y : Opening = record { next = Some next; validity = x; is_read_only = o.is_read_only } in y)) v
+    ∙ ap (λ (x : Bool). (let y : Opening = record { next = Some next; validity = Some validity; is_read_only = x } in y)) r
+
+-- what is told of the mailbox is that of an answer in the buffer
+module _ (T : Type 0) (told : T → Opening) (n len : ℕ) (heard : List ℕ) (old new : List (List ℕ)) (h : Hears (λ bytes. Answers n statuses.Ok bytes × (bytes ≡ take len heard)) old new)
+    (o : Opening) (is : (rs : List Reply) → AreReplies rs (take len heard) → o ≡ opening_of rs) where
+  lacks : LacksNumber o → EndsBy (of_select n told) (Err faults.Protocol) old new
+  lacks e =
+      let s = says_so n len heard old new h (λ rs. LacksNumber (opening_of rs)) (λ rs are. subst LacksNumber (is rs are) e) in
+      inr (record { bytes = s.bytes; is = inr s.is; grows = s.grows })
+
+  pub lacks_next : ((y : ℕ) → o.next ≡ Some y → ⊥) → EndsBy (of_select n told) (Err faults.Protocol) old new
+  lacks_next other = lacks (first_lacks o (none_of o.next other))
+
+  pub lacks_validity : ((y : ℕ) → o.validity ≡ Some y → ⊥) → EndsBy (of_select n told) (Err faults.Protocol) old new
+  lacks_validity other = lacks (second_by (is_some o.next) (is_some o.validity) (none_of o.validity other))
+
+  module _ (validity next : ℕ) (at_next : o.next ≡ Some next) (at_validity : o.validity ≡ Some validity) where
+    pub is_read_only : o.is_read_only ≡ true → EndsBy (of_select n told) (Err faults.ReadOnly) old new
+    is_read_only r =
+        says_so n len heard old new h (λ rs. TellsNumbers (opening_of rs) × ((opening_of rs).is_read_only ≡ true))
+        (λ rs are. subst (λ (x : Opening). TellsNumbers x × (x.is_read_only ≡ true)) (sym (opened_so o validity next true at_next at_validity r) ∙ is rs are) (refl, refl))
+
+    pub is_opened : o.is_read_only ≡ false → Hears (Says n statuses.Ok (λ rs. opening_of rs ≡ opened validity next)) old new
+    is_opened r = says_so n len heard old new h (λ rs. opening_of rs ≡ opened validity next) (λ rs are. sym (is rs are) ∙ opened_so o validity next false at_next at_validity r)

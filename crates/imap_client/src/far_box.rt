@@ -1,6 +1,6 @@
 //! A far mailbox: a session, and the mailbox that is selected in it.
 
-ghost use Rattle.std.specs.Prelude.{◌≡◌, ◌<◌, ◌≤◌, true, false, List, Some, length, take, IfOk, IfErr, IsErrOf, OnErr, OnOk, Ok, Err};
+ghost use Rattle.std.specs.Prelude.{◌≡◌, ◌<◌, ◌≤◌, ◌+◌, true, false, List, Some, length, take, IfOk, IfErr, IsErrOf, OnErr, OnOk, Ok, Err};
 ghost use Rattle.imap_commands.specs.declared.command.StoreMode.TheVariants as modes;
 ghost use Rattle.imap_replies.specs.declared.reply.Reply.{Reply};
 ghost use Rattle.imap_session.specs.Heard.{AreReplies};
@@ -18,6 +18,7 @@ ghost use Rattle.imap_client.specs.Requests.{IsWord};
 ghost use Rattle.imap_answers.specs.Spoken.{Speaks};
 ghost use Rattle.imap_client.specs.States.{EndsSo, Opened, SendStops};
 ghost use Rattle.imap_client.specs.Tags.{tag_text};
+ghost use Rattle.imap_client.specs.Transcripts.{EndsBy, LoginHears, of_select, opened};
 ghost use Rattle.std.proofs.Props.{props};
 
 use crate::call::Call;
@@ -79,6 +80,9 @@ impl<L: Link> Session<L> {
             → Selects name.now b.validity b.next (server_of self) (server_of b.session)) }
         ensures fails { IfErr result (λ e. L.honest e.1.wire.link → is_logged_in (server_of self).condition ≡ true
             → Outcome {T = FarBox L L.Link} (λ b. Never) (NoMailbox name.now) (Chooses name.now) (Err e.0) (server_of self) (server_of e.1)) }
+        ensures heard { IfOk result (λ b. EndsBy (of_select (self.tags + 1) (λ x. opened x.validity x.next)) (Ok b) self.transcript b.session.transcript) }
+        ensures heard_err { IfErr result (λ e. EndsBy {T = FarBox L L.Link} (of_select (self.tags + 1) (λ x. opened x.validity x.next)) (Err e.0)
+            self.transcript e.1.transcript) }
     {
         let mut session = self;
         match session.choose(name) {
@@ -115,6 +119,7 @@ impl<L: Link> Session<L> {
         ensures outcome { L.honest self.new.wire.link → is_logged_in (server_of self.old).condition ≡ true
             → Outcome (λ c. Selects name.now c.validity c.next) (NoMailbox name.now) (Chooses name.now) result (server_of self.old)
             (server_of self.new) }
+        ensures heard { EndsBy (of_select (self.old.tags + 1) (λ x. opened x.validity x.next)) result self.old.transcript self.new.transcript }
     {
         let len = self.ask(&Call::Select(name))?;
         let opening = self.opening(len)?;
@@ -223,6 +228,7 @@ impl<L: Link> FarBox<L> {
         ensures outcome { L.honest self.new.session.wire.link → is_before_login (server_of self.old.session).condition ≡ true
             → Outcome (λ _. Authenticates user.now password.now) (Rejects user.now password.now) (Authenticates user.now password.now) result
             (server_of self.old.session) (server_of self.new.session) }
+        ensures heard { LoginHears self.old.session.tags result self.old.session.transcript self.new.session.transcript }
     {
         self.is_selected = false;
         self.session.login(user, password)
@@ -245,6 +251,8 @@ impl<L: Link> FarBox<L> {
         ensures outcome { L.honest self.new.session.wire.link → is_logged_in (server_of self.old.session).condition ≡ true
             → Outcome (λ _. Selects name.now self.new.validity self.new.next) (NoMailbox name.now) (Chooses name.now) result
             (server_of self.old.session) (server_of self.new.session) }
+        ensures heard { EndsBy (of_select (self.old.session.tags + 1) (λ _. opened self.new.validity self.new.next)) result
+            self.old.session.transcript self.new.session.transcript }
     {
         self.is_selected = false;
         let Chosen {

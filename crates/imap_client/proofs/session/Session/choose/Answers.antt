@@ -1,4 +1,4 @@
-use Rattle.std.proofs.Common.{◌≡◌, inr, ℕ, ◌+◌, true, false, sym, ◌∙◌, ap, subst, take, Result, Ok, Err}
+use Rattle.std.proofs.Common.{◌≡◌, inl, inr, ℕ, ◌+◌, List, true, false, sym, ◌∙◌, ap, subst, take, Result, Ok, Err}
 use Rattle.std.proofs.lemmas.Result.{err_from_is_err_and}
 use Rattle.imap_replies.specs.declared.word.Status.TheVariants as statuses
 use Rattle.imap_session.specs.Servers.{is_logged_in}
@@ -11,7 +11,58 @@ use Rattle.imap_client.specs.Boxes.{Selects, NoMailbox, Chooses}
 use Rattle.imap_client.specs.States.{EndsSo}
 use Rattle.imap_client.proofs.Changed.{outcome_err, state_of_parts}
 use Rattle.imap_client.proofs.Selecting.{ChosenBy, select_exchanged, ok_chosen, told_so, effect_so, selects_so, speaks_of}
+use Rattle.imap_client.proofs.Transcribed.{command_ends, answers_ok, lacks_next, lacks_validity, is_read_only, is_opened}
+use Rattle.imap_client.specs.Transcripts.{EndsBy, Hears, Says, of_select, opened}
+use Rattle.imap_answers.specs.Openings.{opening_of}
+use Rattle.imap_link.specs.declared.fault.FarFault.TheVariants as faults
 use Rattle.imap_client.proofs.session.Session.choose.Goals as goal
+
+abbrev told : Chosen → Opening
+told x = opened x.validity x.next
+
+pub returns-in_err-len-clause-heard : goal.returns-in_err-len-clause-heard
+returns-in_err-len-clause-heard g c =
+    let p = err_from_is_err_and c.from_residual.result c.from_residual.ensures.1 in
+    let n = c.args.self.now.tags + 1 in
+    let old = c.args.self.now.transcript in
+    let new = c.ask.new.self.transcript in
+    subst (λ (r : Result Chosen FarFault). EndsBy (of_select n told) r old new) (sym (p.1 ∙ ap Err p.2))
+    (command_ends n c.ask.new.self.wire.heard.items Chosen (of_select n told) (λ b h. h) (λ b h. inl h) c.in_err-len.field-0.0 old new c.in_err-len.ensures.heard)
+
+pub returns-in_err-opening-clause-heard : goal.returns-in_err-opening-clause-heard
+returns-in_err-opening-clause-heard g c =
+    let p = err_from_is_err_and c.from_residual-in_err-opening.result c.from_residual-in_err-opening.ensures.1 in
+    let n = c.args.self.now.tags + 1 in
+    let old = c.args.self.now.transcript in
+    let new = c.ask.new.self.transcript in
+    subst (λ (r : Result Chosen FarFault). EndsBy (of_select n told) r old new) (sym (p.1 ∙ ap Err (p.2 ∙ c.in_err-opening.ensures.err)))
+    (inr (answers_ok n c.in_ok-len.len c.ask.new.self.wire.heard.items old new c.in_ok-len.ensures.heard))
+
+pub returns-in_default-clause-heard : goal.returns-in_default-clause-heard
+returns-in_default-clause-heard g c =
+    lacks_next Chosen told (c.args.self.now.tags + 1) c.in_ok-len.len c.ask.new.self.wire.heard.items c.args.self.now.transcript c.ask.new.self.transcript c.in_ok-len.ensures.heard c.in_ok-opening.opening c.in_ok-opening.ensures.told
+    c.in_default.not-Some
+
+pub returns-in_default-validity-clause-heard : goal.returns-in_default-validity-clause-heard
+returns-in_default-validity-clause-heard g c =
+    lacks_validity Chosen told (c.args.self.now.tags + 1) c.in_ok-len.len c.ask.new.self.wire.heard.items c.args.self.now.transcript c.ask.new.self.transcript c.in_ok-len.ensures.heard c.in_ok-opening.opening c.in_ok-opening.ensures.told
+    c.in_default-validity.not-Some
+
+pub returns-then-opening-clause-heard : goal.returns-then-opening-clause-heard
+returns-then-opening-clause-heard g c =
+    let n = c.args.self.now.tags + 1 in
+    let old = c.args.self.now.transcript in
+    subst (λ (t : List (List ℕ)). EndsBy (of_select n told) (Err faults.ReadOnly) old t) (sym c.done.ensures.transcript)
+    (is_read_only Chosen told n c.in_ok-len.len c.ask.new.self.wire.heard.items old c.ask.new.self.transcript c.in_ok-len.ensures.heard c.in_ok-opening.opening c.in_ok-opening.ensures.told
+    c.in-Some-validity.validity c.in-Some.next c.in-Some.is c.in-Some-validity.is c.if-opening.true)
+
+pub returns-clause-heard : goal.returns-clause-heard
+returns-clause-heard g c =
+    let n = c.args.self.now.tags + 1 in
+    let old = c.args.self.now.transcript in
+    subst (λ (t : List (List ℕ)). Hears (Says n statuses.Ok (λ rs. opening_of rs ≡ opened c.in-Some-validity.validity c.in-Some.next)) old t) (sym c.done.ensures.transcript)
+    (is_opened Chosen told n c.in_ok-len.len c.ask.new.self.wire.heard.items old c.ask.new.self.transcript c.in_ok-len.ensures.heard c.in_ok-opening.opening c.in_ok-opening.ensures.told
+    c.in-Some-validity.validity c.in-Some.next c.in-Some.is c.in-Some-validity.is c.if-opening.false)
 
 pub opening-requires-clause-speaks : goal.opening-requires-clause-speaks
 opening-requires-clause-speaks g c = speaks_of (tag_text c.ask.new.self.tags) statuses.Ok _ c.in_ok-len.ensures.answer.1
