@@ -1,5 +1,5 @@
 -- What calls have heard.
-use Rattle.std.proofs.Common.{◌≡◌, ◌⊎◌, inl, inr, ℕ, ◌+◌, Bool, true, false, List, Option, None, Some, sym, ◌∙◌, ap, subst, refl, take, Result, Ok, Err, OnOk}
+use Rattle.std.proofs.Common.{◌≡◌, inl, inr, ℕ, ◌+◌, Bool, true, false, List, Option, None, Some, sym, ◌∙◌, ap, subst, refl, take, Result, Ok, Err, OnOk}
 use Rattle.std.specs.Prelude.{◌&&◌, is_some}
 use Rattle.imap_answers.specs.declared.opening.Opening.{Opening}
 use Rattle.imap_answers.specs.Openings.{opening_of}
@@ -13,7 +13,7 @@ use Rattle.imap_link.specs.declared.fault.FarFault.{FarFault}
 use Rattle.imap_link.specs.declared.fault.FarFault.TheVariants as faults
 use Rattle.imap_client.specs.States.{Judged}
 use Rattle.imap_client.specs.Tags.{tag_text}
-use Rattle.imap_client.specs.Transcripts.{Hears, Answers, Says, NoAnswer, Meaning, EndsBy, of_any, of_command, of_abilities, of_login, of_enable, of_select, opened, TellsNumbers, LacksNumber, Declines, HearsTwo, HearsThree, Unanswered, Nothing, Named, LetIn, LoginHears, NamesRev2}
+use Rattle.imap_client.specs.Transcripts.{Hears, Answers, Says, Meaning, EndsBy, of_any, of_command, of_abilities, of_login, of_enable, of_select, opened, TellsNumbers, LacksNumber, Declines, HearsTwo, Unanswered, Nothing, Named, LetIn, LoginHears, NamesRev2}
 
 -- where hearing failed, nothing was heard
 pub hearing_ends : (T : Type 0) (m : Meaning T) (old new : List (List ℕ)) (f : FarFault) → IsHearing f → new ≡ old → EndsBy m (Err f) old new

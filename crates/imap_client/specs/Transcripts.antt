@@ -1,4 +1,5 @@
--- What a session has heard: the bytes of each answer, the last one first. Each stands here as it was read, whoever sent it.
+-- What a session has heard: the bytes of each answer, the last one first. The replies before the tagged one are those that the command
+-- reads. Nothing is supposed of the server: the bytes stand here as they came.
 use Rattle.std.specs.Prelude.{◌≡◌, ◌⊎◌, ℕ, ◌+◌, ◌&&◌, true, false, List, ◌∷◌, take, Some, Result, Ok, Err, is_some}
 use Rattle.std.specs.List.{list_any}
 use Rattle.imap_replies.specs.declared.reply.Reply.{Reply}
