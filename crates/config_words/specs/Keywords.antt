@@ -1,5 +1,6 @@
--- Keywords that begin sections.
-use Rattle.std.specs.Prelude.{Bool, Option, Some, None, if◌then◌else◌}
+-- The keywords that words name, and those that begin sections.
+use Rattle.std.specs.Prelude.{ℕ, Bool, ◌||◌, List, Option, Some, None, codes, if◌then◌else◌}
+use Rattle.std.specs.Str.{str_eq_ignore_ascii_case}
 use Rattle.config_words.specs.declared.keyword.Keyword.{Keyword}
 use Rattle.config_words.specs.declared.keyword.Keyword.TheVariants.{ImapStore, MaildirStore, Channel, Group, Host, Port, User, Pass, Path, Inbox, SubFolders, Far, Near, Patterns, Sync, Create, Expunge, SyncState, Channels}
 use Rattle.config_words.specs.declared.keyword.Place.{Place}
@@ -31,3 +32,47 @@ section_of Channels = None
 -- the section that it begins at a place: none within another one
 abbrev pub opened_by : Place → Keyword → Option Place
 opened_by place keyword = if is_section place then None else section_of keyword
+
+-- ---- words, which compare without case
+
+abbrev pub manner_keyword : List ℕ → Option Keyword
+manner_keyword word =
+    if str_eq_ignore_ascii_case word (codes "Sync") then Some Sync
+    else (if str_eq_ignore_ascii_case word (codes "Create") then Some Create
+    else (if str_eq_ignore_ascii_case word (codes "Expunge") then Some Expunge
+    else (if str_eq_ignore_ascii_case word (codes "SyncState") then Some SyncState
+    else (if str_eq_ignore_ascii_case word (codes "Channels") then Some Channels else None))))
+
+abbrev pub setting_keyword : List ℕ → Option Keyword
+setting_keyword word =
+    if str_eq_ignore_ascii_case word (codes "Host") then Some Host
+    else (if str_eq_ignore_ascii_case word (codes "Port") then Some Port
+    else (if str_eq_ignore_ascii_case word (codes "User") then Some User
+    else (if str_eq_ignore_ascii_case word (codes "Pass") then Some Pass
+    else (if str_eq_ignore_ascii_case word (codes "Path") then Some Path
+    else (if str_eq_ignore_ascii_case word (codes "Inbox") then Some Inbox
+    else (if str_eq_ignore_ascii_case word (codes "SubFolders") then Some SubFolders
+    else (if str_eq_ignore_ascii_case word (codes "Far") then Some Far
+    else (if str_eq_ignore_ascii_case word (codes "Near") then Some Near
+    else (if str_eq_ignore_ascii_case word (codes "Pattern") || str_eq_ignore_ascii_case word (codes "Patterns") then Some Patterns
+    else manner_keyword word)))))))))
+
+abbrev pub section_keyword : List ℕ → Option Keyword
+section_keyword word =
+    if str_eq_ignore_ascii_case word (codes "IMAPStore") then Some ImapStore
+    else (if str_eq_ignore_ascii_case word (codes "MaildirStore") then Some MaildirStore
+    else (if str_eq_ignore_ascii_case word (codes "Channel") then Some Channel
+    else (if str_eq_ignore_ascii_case word (codes "Group") then Some Group else None)))
+
+-- the keyword that a word names, one that begins sections or else another one
+abbrev pub or_setting : Option Keyword → List ℕ → Option Keyword
+or_setting (Some k) word = Some k
+or_setting None word = setting_keyword word
+
+abbrev pub keyword_named : List ℕ → Option Keyword
+keyword_named word = or_setting (section_keyword word) word
+
+-- what it means at a place: in a group `Channel` adds channels
+abbrev pub meant_at : Place → Keyword → Keyword
+meant_at place.Group Channel = Channels
+meant_at _ k = k

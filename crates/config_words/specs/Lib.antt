@@ -4,3 +4,4 @@ pub mod Places
 pub mod Words
 pub mod Splitters
 pub mod Settings
+pub mod Meanings

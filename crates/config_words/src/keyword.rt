@@ -1,7 +1,7 @@
 //! The keywords of a configuration, and where each may stand.
 
 ghost use Rattle.std.specs.Prelude.{◌≡◌, false, not, IfNone, IsSome, option_and_then};
-ghost use Rattle.config_words.specs.Keywords.{opened_by, section_of};
+ghost use Rattle.config_words.specs.Keywords.{keyword_named, manner_keyword, meant_at, opened_by, section_keyword, section_of, setting_keyword};
 ghost use Rattle.config_words.specs.Places.{is_section, section_named};
 
 /// What the first word of a line is.
@@ -44,7 +44,8 @@ pub enum Place {
 impl Keyword {
     /// The keyword of this word, or none if it is none. Words compare without case.
     pub fn read(word: &[u8]) -> Option<Keyword>
-        ensures { option_and_then section_of result ≡ section_named word.now }
+        ensures section { option_and_then section_of result ≡ section_named word.now }
+        ensures named { result ≡ keyword_named word.now }
     {
         match Keyword::of_section(word) {
             Some(keyword) => Some(keyword),
@@ -56,6 +57,7 @@ impl Keyword {
     fn of_section(word: &[u8]) -> Option<Keyword>
         ensures section { option_and_then section_of result ≡ section_named word.now }
         ensures none { IfNone result (section_named word.now ≡ None) }
+        ensures named { result ≡ section_keyword word.now }
     {
         if word.eq_ignore_ascii_case(b"IMAPStore") {
             Some(Keyword::ImapStore)
@@ -72,7 +74,8 @@ impl Keyword {
 
     /// The keyword of this word, if it is one that begins no section.
     fn of_setting(word: &[u8]) -> Option<Keyword>
-        ensures { option_and_then section_of result ≡ None }
+        ensures section { option_and_then section_of result ≡ None }
+        ensures named { result ≡ setting_keyword word.now }
     {
         if word.eq_ignore_ascii_case(b"Host") {
             Some(Keyword::Host)
@@ -101,7 +104,8 @@ impl Keyword {
 
     /// The keyword of this word, if it is one of those that are left.
     fn of_manner(word: &[u8]) -> Option<Keyword>
-        ensures { option_and_then section_of result ≡ None }
+        ensures section { option_and_then section_of result ≡ None }
+        ensures named { result ≡ manner_keyword word.now }
     {
         if word.eq_ignore_ascii_case(b"Sync") {
             Some(Keyword::Sync)
@@ -120,7 +124,8 @@ impl Keyword {
 
     /// What it means at this place: in a group `Channel` adds channels.
     pub fn at(self, place: Place) -> Keyword
-        ensures { opened_by place result ≡ opened_by place self }
+        ensures opened { opened_by place result ≡ opened_by place self }
+        ensures meant { result ≡ meant_at place self }
     {
         if self == Keyword::Channel && place == Place::Group {
             Keyword::Channels

@@ -1,8 +1,10 @@
 //! What the lines of a configuration say: a keyword with arguments that it takes.
 
-ghost use Rattle.std.specs.Prelude.{◌≡◌, ◌==◌, not, IfErr, IsTrue, map, option_and_then, string_bytes};
+ghost use Rattle.std.specs.Prelude.{◌≡◌, ◌==◌, not, IfErr, IfOk, IsTrue, MatchOption, map, option_and_then, string_bytes};
 ghost use Rattle.std.specs.List.{list_all};
 ghost use Rattle.config_words.specs.Keywords.{section_of};
+ghost use Rattle.config_words.specs.Meanings.{Gives, all_said, box_of, cells_of, group_of, one_said, parts_of, path_of, patterns_of, place_of};
+ghost use Rattle.config_words.specs.Meanings.{place_value, port_of, said, said_of, sides_of, some_of, text_said, word_said};
 ghost use Rattle.config_words.specs.Settings.{IsRefusal, SaysName, SaysNoName, SaysOne, heading, is_argument, name_among, name_said};
 ghost use Rattle.config_words.specs.declared.keyword.Place.TheVariants.{Group as in_group};
 
@@ -56,7 +58,8 @@ pub enum Setting {
 impl Setting {
     /// What this keyword says with these arguments. `WrongArguments`: it does not take them. `NoMemory`.
     pub fn read(alloc: Global, keyword: Keyword, arguments: &[String]) -> Result<Self, FaultKind>
-        ensures { SaysName (heading keyword (map string_bytes arguments.now)) result }
+        ensures name { SaysName (heading keyword (map string_bytes arguments.now)) result }
+        ensures means { Gives said_of (said keyword (map string_bytes arguments.now)) result }
     {
         if are_arguments(arguments) {
             read_plainly(alloc, keyword, arguments)
@@ -78,7 +81,8 @@ impl Setting {
 
 /// What this keyword says with arguments of which each is one.
 fn read_plainly(alloc: Global, keyword: Keyword, arguments: &[String]) -> Result<Setting, FaultKind>
-    ensures { SaysName (option_and_then (λ p. name_among p (map string_bytes arguments.now)) (section_of keyword)) result }
+    ensures name { SaysName (option_and_then (λ p. name_among p (map string_bytes arguments.now)) (section_of keyword)) result }
+    ensures means { Gives said_of (all_said keyword (map string_bytes arguments.now)) result }
 {
     match keyword {
         Keyword::Group => read_group(alloc, arguments),
@@ -112,7 +116,8 @@ fn has_no_tab(text: &[u8]) -> bool
 
 /// What a keyword says that takes one argument.
 fn read_one(alloc: Global, keyword: Keyword, argument: &str) -> Result<Setting, FaultKind>
-    ensures { SaysOne keyword argument.now result }
+    ensures name { SaysOne keyword argument.now result }
+    ensures means { Gives said_of (one_said keyword argument.now) result }
 {
     match keyword {
         Keyword::Port => Ok(Setting::Port(read_port(argument)?)),
@@ -129,7 +134,8 @@ fn read_one(alloc: Global, keyword: Keyword, argument: &str) -> Result<Setting, 
 
 /// What a keyword says that takes any text.
 fn read_text(keyword: Keyword, text: String) -> Result<Setting, FaultKind>
-    ensures { SaysOne keyword (string_bytes text) result }
+    ensures name { SaysOne keyword (string_bytes text) result }
+    ensures means { Gives said_of (text_said keyword (string_bytes text)) result }
 {
     match keyword {
         Keyword::ImapStore | Keyword::MaildirStore | Keyword::Channel => Ok(Setting::Section(text)),
@@ -143,7 +149,8 @@ fn read_text(keyword: Keyword, text: String) -> Result<Setting, FaultKind>
 
 /// The one word that a keyword takes.
 fn read_word(argument: &str, word: &str) -> Result<Setting, FaultKind>
-    ensures { SaysNoName result }
+    ensures name { SaysNoName result }
+    ensures means { Gives said_of (word_said word.now argument.now) result }
 {
     if argument == word {
         Ok(Setting::Nothing)
@@ -153,18 +160,23 @@ fn read_word(argument: &str, word: &str) -> Result<Setting, FaultKind>
 }
 
 fn read_port(argument: &str) -> Result<u16, FaultKind>
-    ensures { IfErr result IsRefusal }
+    ensures refused { IfErr result IsRefusal }
+    ensures means { Gives (λ p. p) (port_of argument.now) result }
 {
-    match read_u32(argument.as_bytes(), 65535) {
-        None | Some(0) => Err(FaultKind::WrongArguments),
-        Some(port) => u16::try_from(port).map_err(|_| FaultKind::WrongArguments),
+    let Some(port) = read_u32(argument.as_bytes(), 65535) else {
+        return Err(FaultKind::WrongArguments);
+    };
+    if port == 0 {
+        return Err(FaultKind::WrongArguments);
     }
+    Ok(port as u16)
 }
 
 fn read_path(alloc: Global, argument: &str) -> Result<String, FaultKind>
-    ensures { IfErr result IsRefusal }
+    ensures refused { IfErr result IsRefusal }
+    ensures means { Gives string_bytes (path_of argument.now) result }
 {
-    if argument.ends_with("/") {
+    if argument.as_bytes().ends_with(b"/") {
         Ok(String::from_str(alloc, argument)?)
     } else {
         Err(FaultKind::WrongArguments)
@@ -173,7 +185,8 @@ fn read_path(alloc: Global, argument: &str) -> Result<String, FaultKind>
 
 /// A mailbox of a store, from `:STORE:BOX`.
 fn read_place(alloc: Global, argument: &str) -> Result<BoxPlace, FaultKind>
-    ensures { IfErr result IsRefusal }
+    ensures refused { IfErr result IsRefusal }
+    ensures means { Gives place_value (place_of argument.now) result }
 {
     let Some((store, mailbox)) = split_place(argument) else {
         return Err(FaultKind::WrongArguments);
@@ -183,13 +196,20 @@ fn read_place(alloc: Global, argument: &str) -> Result<BoxPlace, FaultKind>
     Ok(BoxPlace { store, mailbox })
 }
 
-fn split_place(argument: &str) -> Option<(&str, &str)> {
-    argument.strip_prefix(":")?.split_once(":")
+/// STORE and BOX of `:STORE:BOX`.
+fn split_place(argument: &str) -> Option<(&str, &str)>
+    ensures { MatchOption result (parts_of argument.now ≡ None) (λ parts. parts_of argument.now ≡ Some (parts.0.now, parts.1.now)) }
+{
+    match argument.strip_prefix(':') {
+        Some(parts) => parts.split_once(':'),
+        None => None,
+    }
 }
 
 /// The mailbox of this name, or none for an empty name.
 fn read_box(alloc: Global, name: &str) -> Result<Option<MailboxName>, FaultKind>
-    ensures { IfErr result IsRefusal }
+    ensures refused { IfErr result IsRefusal }
+    ensures means { Gives (λ b. b) (box_of name.now) result }
 {
     if name.is_empty() {
         Ok(None)
@@ -201,7 +221,8 @@ fn read_box(alloc: Global, name: &str) -> Result<Option<MailboxName>, FaultKind>
 }
 
 fn read_sides(argument: &str) -> Result<Sides, FaultKind>
-    ensures { IfErr result IsRefusal }
+    ensures refused { IfErr result IsRefusal }
+    ensures means { Gives (λ s. s) (sides_of argument.now) result }
 {
     let (far, near) = match argument {
         "None" => (false, false),
@@ -215,7 +236,8 @@ fn read_sides(argument: &str) -> Result<Sides, FaultKind>
 
 /// The name of a group and its channels.
 fn read_group(alloc: Global, arguments: &[String]) -> Result<Setting, FaultKind>
-    ensures { SaysName (name_among in_group (map string_bytes arguments.now)) result }
+    ensures name { SaysName (name_among in_group (map string_bytes arguments.now)) result }
+    ensures means { Gives said_of (group_of (map string_bytes arguments.now)) result }
 {
     let [name, channels @ ..] = arguments else {
         return Err(FaultKind::WrongArguments);
@@ -227,7 +249,8 @@ fn read_group(alloc: Global, arguments: &[String]) -> Result<Setting, FaultKind>
 
 /// One name or more.
 fn some_copies(alloc: Global, names: &[String]) -> Result<Vec<String>, FaultKind>
-    ensures { IfErr result IsRefusal }
+    ensures refused { IfErr result IsRefusal }
+    ensures means { Gives (λ v. map string_bytes v.items) (some_of (map string_bytes names.now)) result }
 {
     if names.is_empty() {
         return Err(FaultKind::WrongArguments);
@@ -235,7 +258,9 @@ fn some_copies(alloc: Global, names: &[String]) -> Result<Vec<String>, FaultKind
     Ok(copies(alloc, names)?)
 }
 
-fn copies(alloc: Global, names: &[String]) -> Result<Vec<String>, AllocError> {
+fn copies(alloc: Global, names: &[String]) -> Result<Vec<String>, AllocError>
+    ensures { IfOk result (λ v. map string_bytes v.items ≡ map string_bytes names.now) }
+{
     let mut list = Vec::with_capacity(alloc, names.len())?;
     for name in names {
         list.push(name.clone()?)?;
@@ -245,14 +270,17 @@ fn copies(alloc: Global, names: &[String]) -> Result<Vec<String>, AllocError> {
 
 /// One pattern or more.
 fn read_patterns(alloc: Global, words: &[String]) -> Result<Vec<Pattern>, FaultKind>
-    ensures { IfErr result IsRefusal }
+    ensures refused { IfErr result IsRefusal }
+    ensures means { Gives (λ v. v.items) (patterns_of (map string_bytes words.now)) result }
 {
     if words.is_empty() {
         return Err(FaultKind::WrongArguments);
     }
     let mut patterns = Vec::with_capacity(alloc, words.len())?;
     for word in words {
-        let pattern = Pattern::from_string(word.clone()?).ok_or(FaultKind::WrongArguments)?;
+        let Some(pattern) = Pattern::from_string(word.clone()?) else {
+            return Err(FaultKind::WrongArguments);
+        };
         patterns.push(pattern)?;
     }
     Ok(patterns)
@@ -260,15 +288,23 @@ fn read_patterns(alloc: Global, words: &[String]) -> Result<Vec<Pattern>, FaultK
 
 /// The cells that Sync words choose, or none where one is asserted twice.
 fn read_cells(alloc: Global, arguments: &[String]) -> Result<Option<Cells>, FaultKind>
-    ensures { IfErr result IsRefusal }
+    ensures refused { IfErr result IsRefusal }
+    ensures means { Gives (λ c. c) (cells_of (map string_bytes arguments.now)) result }
 {
-    let words = arguments
-        .iter()
-        .map(|argument| argument.as_bytes())
-        .collect::<Vec<_>>(alloc)?;
-    match sync_ops(&words) {
+    match sync_ops(&bytes_of(alloc, arguments)?) {
         Ok(cells) => Ok(Some(cells)),
         Err(SyncFault::CellTwice) => Ok(None),
         Err(SyncFault::BadWord) => Err(FaultKind::WrongArguments),
     }
+}
+
+/// The bytes of each of these.
+fn bytes_of<'a>(alloc: Global, arguments: &'a [String]) -> Result<Vec<&'a [u8]>, AllocError>
+    ensures { IfOk result (λ v. map (λ word. word.now) v.items ≡ map string_bytes arguments.now) }
+{
+    let mut words = Vec::with_capacity(alloc, arguments.len())?;
+    for argument in arguments {
+        words.push(argument.as_bytes())?;
+    }
+    Ok(words)
 }

@@ -19,8 +19,8 @@ returns c =
     let at = place_of c.args.self.now.section in
     let text = c.args.arguments.now in
     let met =
-    subst (λ (p : Place). opened_by p c.at-keyword.result ≡ opened_by p c.in-Some.keyword) c.place.ensures c.at-keyword.ensures in
-    let same = opens_same at c.in-Some.keyword c.at-keyword.result c.args.keyword.now met c.in-Some.ensures in
+    subst (λ (p : Place). opened_by p c.at-keyword.result ≡ opened_by p c.in-Some.keyword) c.place.ensures c.at-keyword.ensures.opened in
+    let same = opens_same at c.in-Some.keyword c.at-keyword.result c.args.keyword.now met c.in-Some.ensures.section in
     subst (λ (s : Option Place). IsTaken (begins_again s text old) (begun s text old) (standing_of c.read_arguments.new.self) c.read_arguments.result) same
     (placed (is_section at) (section_of c.at-keyword.result) c.in_ok-misplaced.misplaced text old (standing_of c.meet.new.self)
     (standing_of c.read_arguments.new.self) c.read_arguments.result c.in_ok-misplaced.ensures c.read_arguments.ensures)

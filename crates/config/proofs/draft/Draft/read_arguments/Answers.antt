@@ -13,7 +13,7 @@ returns-then-contradicts c =
     let section = section_of c.args.keyword in
     let list = ap (λ (items : List (String Global)). map string_bytes items) c.deref.ensures.value ∙ c.in_ok-arguments.ensures.list in
     let nothing : name_given section (arguments_of c.args.arguments.now).list ≡ None =
-    sym (ap (λ (arguments : List (List ℕ)). name_given section arguments) list) ∙ (sym c.in_ok-setting.ensures ∙ c.contradicts.ensures c.if-contradicts.true) in
+    sym (ap (λ (arguments : List (List ℕ)). name_given section arguments) list) ∙ (sym c.in_ok-setting.ensures.name ∙ c.contradicts.ensures c.if-contradicts.true) in
     let none = nothing_said c.args.misplaced (section_of c.args.keyword) c.args.arguments.now nothing in
     let Refused : Option (List ℕ) → Type 0 =
     λ name. (is_again name (standing_of c.args.self.now) ≡ false) × (standing_of c.args.self.now ≡ named name (standing_of c.args.self.now)) in
