@@ -6,3 +6,6 @@ pub mod Names
 pub mod Standing
 pub mod Drafts
 pub mod Outlines
+pub mod Sections
+pub mod Configurations
+pub mod Views

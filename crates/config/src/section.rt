@@ -1,7 +1,12 @@
 //! Sections of a configuration while they are read.
 
-ghost use Rattle.std.specs.Prelude.{◌≡◌, IsTrue};
+ghost use Rattle.std.specs.Prelude.{◌≡◌, [], IsTrue, IfOk, MatchOption, OnOk, codes, option_map, string_bytes, unwrap_or};
+ghost use Rattle.config.specs.Configurations.{channel_value, imap_value, maildir_value};
 ghost use Rattle.config.specs.Drafts.{place_of};
+ghost use Rattle.config.specs.Sections.{boxes_of, imap_store_of};
+ghost use Rattle.config.specs.Views.{channel_ended, channel_said, channel_view, channel_with, imap_view, imap_with, maildir_ended, maildir_said, maildir_view};
+ghost use Rattle.config.specs.Views.{maildir_with, manner_said, manner_view, manner_with, sketch, sketch_at, IsStoreOf, IsMaildirOf, IsChannelOf};
+ghost use Rattle.config_words.specs.Meanings.{said_of};
 ghost use Rattle.config_words.specs.Settings.{name_said};
 
 use crate::config::{Boxes, Channel, ImapStore, MaildirStore};
@@ -31,7 +36,8 @@ pub(crate) enum Section {
 impl Section {
     /// The section that begins at this place.
     pub fn new(alloc: Global, place: Place) -> Self
-        ensures { place_of result ≡ place }
+        ensures place { place_of result ≡ place }
+        ensures sketch { sketch result ≡ sketch_at place }
     {
         match place {
             Place::Start => Section::Start,
@@ -81,7 +87,9 @@ pub(crate) struct ImapDraft {
 }
 
 impl ImapDraft {
-    fn new() -> Self {
+    fn new() -> Self
+        ensures { imap_view result ≡ imap_store_of [] [] }
+    {
         ImapDraft {
             host: None,
             port: PORT,
@@ -91,7 +99,9 @@ impl ImapDraft {
     }
 
     /// Takes what a line of the section says.
-    pub fn set(&mut self, setting: Setting) {
+    pub fn set(&mut self, setting: Setting)
+        ensures { imap_view self.new ≡ imap_with (said_of setting) (imap_view self.old) }
+    {
         match setting {
             Setting::Host(host) => self.host = Some(host),
             Setting::Port(port) => self.port = port,
@@ -102,7 +112,9 @@ impl ImapDraft {
     }
 
     /// The store, or none if a keyword is missing that it has to have.
-    pub fn finish(self, name: String) -> Option<ImapStore> {
+    pub fn finish(self, name: String) -> Option<ImapStore>
+        ensures { IsStoreOf (string_bytes name) (imap_view self) result }
+    {
         Some(ImapStore {
             name,
             host: self.host?,
@@ -121,7 +133,9 @@ pub(crate) struct MaildirDraft {
 }
 
 impl MaildirDraft {
-    fn new() -> Self {
+    fn new() -> Self
+        ensures { maildir_view result ≡ maildir_said [] }
+    {
         MaildirDraft {
             path: None,
             inbox: None,
@@ -129,7 +143,9 @@ impl MaildirDraft {
     }
 
     /// Takes what a line of the section says.
-    pub fn set(&mut self, setting: Setting) {
+    pub fn set(&mut self, setting: Setting)
+        ensures { maildir_view self.new ≡ maildir_with (said_of setting) (maildir_view self.old) }
+    {
         match setting {
             Setting::Path(path) => self.path = Some(path),
             Setting::Inbox(inbox) => self.inbox = Some(inbox),
@@ -138,7 +154,9 @@ impl MaildirDraft {
     }
 
     /// The store, or none if its path is missing.
-    pub fn finish(self, alloc: Global, name: String) -> Result<Option<MaildirStore>, AllocError> {
+    pub fn finish(self, alloc: Global, name: String) -> Result<Option<MaildirStore>, AllocError>
+        ensures { IfOk result (IsMaildirOf (string_bytes name) (maildir_view self)) }
+    {
         let MaildirDraft { path, inbox } = self;
         let Some(path) = path else {
             return Ok(None);
@@ -161,7 +179,9 @@ pub(crate) struct Manner {
 
 impl Manner {
     /// Nothing is said.
-    pub fn new() -> Self {
+    pub fn new() -> Self
+        ensures { manner_view result ≡ manner_said [] }
+    {
         Manner {
             cells: None,
             create: None,
@@ -170,9 +190,11 @@ impl Manner {
     }
 
     /// Takes what a line says.
-    pub fn set(&mut self, setting: Setting) {
+    pub fn set(&mut self, setting: Setting)
+        ensures { manner_view self.new ≡ manner_with (said_of setting) (manner_view self.old) }
+    {
         match setting {
-            Setting::Sync(cells) => self.cells = cells,
+            Setting::Sync(Some(cells)) => self.cells = Some(cells),
             Setting::Create(sides) => self.create = Some(sides),
             Setting::Expunge(sides) => self.expunge = Some(sides),
             _ => {}
@@ -216,7 +238,9 @@ pub(crate) struct ChannelDraft {
 }
 
 impl ChannelDraft {
-    fn new(alloc: Global) -> Self {
+    fn new(alloc: Global) -> Self
+        ensures { channel_view result ≡ channel_said [] [] [] }
+    {
         ChannelDraft {
             far: None,
             far_box: None,
@@ -236,7 +260,9 @@ impl ChannelDraft {
     }
 
     /// Takes what a line of the section says, but for its stores.
-    pub fn set(&mut self, setting: Setting) -> Result<(), AllocError> {
+    pub fn set(&mut self, setting: Setting) -> Result<(), AllocError>
+        ensures { OnOk result (channel_view self.new ≡ channel_with (said_of setting) (channel_view self.old)) }
+    {
         match setting {
             Setting::Patterns(patterns) => {
                 for pattern in patterns {
@@ -254,7 +280,9 @@ impl ChannelDraft {
         alloc: Global,
         name: String,
         defaults: Manner,
-    ) -> Result<Option<Channel>, AllocError> {
+    ) -> Result<Option<Channel>, AllocError>
+        ensures { IfOk result (IsChannelOf (channel_ended (string_bytes name) (manner_view defaults) (channel_view self))) }
+    {
         let ChannelDraft {
             far,
             far_box,
@@ -284,7 +312,9 @@ fn boxes(
     patterns: Patterns,
     far: Option<MailboxName>,
     near: Option<MailboxName>,
-) -> Result<Boxes, AllocError> {
+) -> Result<Boxes, AllocError>
+    ensures { IfOk result (λ boxes. boxes ≡ boxes_of patterns (unwrap_or far (codes "INBOX")) (unwrap_or near (codes "INBOX"))) }
+{
     if !patterns.as_slice().is_empty() {
         return Ok(Boxes::Matching(patterns));
     }
@@ -293,7 +323,9 @@ fn boxes(
     Ok(Boxes::Pair { far, near })
 }
 
-fn box_or_inbox(alloc: Global, mailbox: Option<MailboxName>) -> Result<MailboxName, AllocError> {
+fn box_or_inbox(alloc: Global, mailbox: Option<MailboxName>) -> Result<MailboxName, AllocError>
+    ensures { IfOk result (λ name. name ≡ unwrap_or mailbox (codes "INBOX")) }
+{
     match mailbox {
         Some(mailbox) => Ok(mailbox),
         None => MailboxName::inbox(alloc),

@@ -1,0 +1,149 @@
+-- What the lines of a text make of a configuration (docs/FORMATS.md, "Configuration").
+use Rattle.std.specs.Prelude.{ℕ, ◌≡◌, List, [], ◌∷◌, ◌++◌, fold, map, Option, Some, None, unwrap_or, option_and_then, option_to_list, string_bytes, if◌then◌else◌}
+use Rattle.config.specs.declared.config.Config.{Config}
+use Rattle.config.specs.declared.config.ImapStore.{ImapStore}
+use Rattle.config.specs.declared.config.MaildirStore.{MaildirStore}
+use Rattle.config.specs.declared.config.Channel.{Channel}
+use Rattle.config.specs.declared.config.Group.{Group}
+use Rattle.config_words.specs.declared.keyword.Place.{Place}
+use Rattle.config_words.specs.declared.keyword.Place.TheVariants as place
+use Rattle.config_words.specs.Keywords.{keyword_named, meant_at}
+use Rattle.config_words.specs.Meanings.{Said, said}
+use Rattle.config_words.specs.Places.{closed, is_section, opened}
+use Rattle.config_words.specs.Words.{Split, arguments_of, is_blank, words_of}
+use Rattle.config.specs.Sections.{ChannelMeaning, GroupMeaning, ImapMeaning, MaildirMeaning, channel_of, group_of, imap_store_of, maildir_store_of, place_among}
+use Rattle.config.specs.Standing.{lines_of, name_of}
+
+-- ---- the sections of a text
+
+-- a section: its kind, its name, and what its lines say
+pub record Part : Type 0 where
+  pub kind : Place
+  pub name : List ℕ
+  pub says : List Said
+
+-- behind some lines: what those before any section say, the sections that have ended, and the one that is open, which is
+-- none at the places Start and Between
+pub record Parts : Type 0 where
+  pub before : List Said
+  pub ended : List Part
+  pub current : Part
+
+abbrev pub outside : Place → Part
+outside place = record { kind = place; name = []; says = [] }
+
+abbrev pub no_parts : Parts
+no_parts = record { before = []; ended = []; current = outside place.Start }
+
+-- what a line of words says at a place
+abbrev pub line_said : Place → List ℕ × List ℕ → Option Said
+line_said at words = option_and_then (λ k. said (meant_at at k) (arguments_of words.1).list) (keyword_named words.0)
+
+-- a line of a section, or one before any
+abbrev pub add_at : Place → List Said → Parts → Parts
+add_at place.Start says p = record p { before = p.before ++ says }
+add_at place.Between says p = p
+add_at _ says p = record p { current = record p.current { says = p.current.says ++ says } }
+
+-- the first line of a section gives its name
+abbrev pub begin_at : Place → List ℕ × List ℕ → Parts → Parts
+begin_at kind words p =
+    record p { current = record { kind = kind; name = unwrap_or (name_of kind words.1) []; says = option_to_list (line_said p.current.kind words) } }
+
+abbrev pub words_at : Option Place → List ℕ × List ℕ → Parts → Parts
+words_at (Some kind) words p = begin_at kind words p
+words_at None words p = add_at p.current.kind (option_to_list (line_said p.current.kind words)) p
+
+abbrev pub parted_words : Option (List ℕ × List ℕ) → Parts → Parts
+parted_words None p = p
+parted_words (Some words) p = words_at (opened p.current.kind words.0) words p
+
+-- a section ends
+abbrev pub ended : Parts → Parts
+ended p = record {
+  before = p.before;
+  ended = if is_section p.current.kind then p.ended ++ p.current ∷ [] else p.ended;
+  current = outside (closed p.current.kind);
+}
+
+-- an empty line ends a section
+abbrev pub parted : Parts → List ℕ → Parts
+parted p line = if is_blank line then ended p else parted_words (words_of line) p
+
+-- ---- what they come to
+
+pub record Meaning : Type 0 where
+  pub imap_stores : List ImapMeaning
+  pub maildir_stores : List MaildirMeaning
+  pub channels : List ChannelMeaning
+  pub groups : List GroupMeaning
+
+abbrev pub no_meaning : Meaning
+no_meaning = record { imap_stores = []; maildir_stores = []; channels = []; groups = [] }
+
+abbrev pub imap_names : Meaning → List (List ℕ)
+imap_names m = map (λ store. store.name) m.imap_stores
+
+abbrev pub maildir_names : Meaning → List (List ℕ)
+maildir_names m = map (λ store. store.name) m.maildir_stores
+
+-- a section adds what it says, which for a channel names stores above
+abbrev pub added_at : Place → List Said → Meaning → Part → Meaning
+added_at place.ImapStore before m s = record m { imap_stores = m.imap_stores ++ imap_store_of s.name s.says ∷ [] }
+added_at place.MaildirStore before m s = record m { maildir_stores = m.maildir_stores ++ maildir_store_of s.name s.says ∷ [] }
+added_at place.Channel before m s = record m { channels = m.channels ++ channel_of (imap_names m) (maildir_names m) before s.name s.says ∷ [] }
+added_at place.Group before m s = record m { groups = m.groups ++ group_of s.name s.says ∷ [] }
+added_at _ before m s = m
+
+abbrev pub with_section : List Said → Meaning → Part → Meaning
+with_section before m s = added_at s.kind before m s
+
+abbrev pub meaning_of : Parts → Meaning
+meaning_of p = fold (with_section p.before) no_meaning p.ended
+
+-- what a text means: its last section ends with it
+abbrev pub text_meaning : List ℕ → Meaning
+text_meaning text = meaning_of (ended (fold parted no_parts (lines_of text)))
+
+-- ---- a configuration as values
+
+abbrev pub imap_value : ImapStore → ImapMeaning
+imap_value s = record {
+  name = string_bytes s.name;
+  host = Some (string_bytes s.host);
+  port = s.port;
+  user = Some (string_bytes s.user);
+  pass = Some (string_bytes s.pass);
+}
+
+abbrev pub maildir_value : MaildirStore → MaildirMeaning
+maildir_value s = record { name = string_bytes s.name; path = Some (string_bytes s.path); inbox = string_bytes s.inbox }
+
+abbrev pub channel_value : Channel → ChannelMeaning
+channel_value c = record {
+  name = string_bytes c.name;
+  far = Some c.far;
+  near = Some c.near;
+  boxes = c.boxes;
+  cells = c.cells;
+  create = c.create;
+  expunge = c.expunge;
+}
+
+-- a group, by the places of its channels
+pub record PlacedGroup : Type 0 where
+  pub name : List ℕ
+  pub channels : List (Option ℕ)
+
+abbrev pub group_value : Group → PlacedGroup
+group_value g = record { name = string_bytes g.name; channels = map (λ place. Some place) g.channels.items }
+
+abbrev pub placed : List (List ℕ) → GroupMeaning → PlacedGroup
+placed names g = record { name = g.name; channels = map (place_among names) g.channels }
+
+-- a configuration has just this meaning
+pub record Means (m : Meaning) (config : Config) : Type 0 where
+  pub imap_stores : map imap_value config.imap_stores.items ≡ m.imap_stores
+  pub maildir_stores : map maildir_value config.maildir_stores.items ≡ m.maildir_stores
+  pub channels : map channel_value config.channels.items ≡ m.channels
+  pub groups : map group_value config.groups.items ≡ map (placed (map (λ c. c.name) m.channels)) m.groups

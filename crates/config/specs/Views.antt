@@ -1,0 +1,271 @@
+-- What a draft holds, as values: what each line changes of it, and what lines make of it.
+use Rattle.std.specs.Prelude.{ℕ, ◌≡◌, ◌⊎◌, List, [], ◌∷◌, ◌++◌, map, flat_map, string_bytes, Option, Some, None, option_map, option_and_then, unwrap_or, codes}
+use Rattle.std.specs.Option.{option_or}
+use Rattle.rules.specs.declared.options.Cells.{Cells}
+use Rattle.rules.specs.declared.options.Sides.{Sides}
+use Rattle.config.specs.declared.config.ImapStore as store
+use Rattle.config.specs.declared.config.MaildirStore as folder
+use Rattle.config.specs.declared.config.Channel as chan
+use Rattle.config.specs.declared.draft.Draft.{Draft}
+use Rattle.config.specs.declared.section.ImapDraft.{ImapDraft}
+use Rattle.config.specs.declared.section.MaildirDraft.{MaildirDraft}
+use Rattle.config.specs.declared.section.ChannelDraft.{ChannelDraft}
+use Rattle.config.specs.declared.section.Manner.{Manner}
+use Rattle.config.specs.declared.section.Section.{Section}
+use Rattle.config.specs.declared.section.Section.TheVariants.{Start, Between, ImapStore, MaildirStore, Channel, Group}
+use Rattle.config_words.specs.declared.keyword.Place.{Place}
+use Rattle.config_words.specs.declared.keyword.Place.TheVariants as place
+use Rattle.config_words.specs.Meanings.{Said, SectionIs, GroupIs, HostIs, PortIs, UserIs, PassIs, PathIs, InboxIs, FarIs, NearIs, PatternsAre, SyncIs, CreateIs, ExpungeIs, ChannelsAre, SaysNothing}
+use Rattle.config.specs.Configurations.{Meaning, Part, Parts, PlacedGroup, channel_value, group_value, imap_names, imap_value, maildir_names, maildir_value, meaning_of}
+use Rattle.config.specs.Sections.{ChannelMeaning, GroupMeaning, ImapMeaning, MaildirMeaning, box_at, boxes_of, cells_in, create_in, everything, expunge_in, far_in, host_in, imap_store_of, inbox_in, maildir_store_of, near_in, neither, pass_in, path_in, patterns_in, place_among, port_in, store_at, the, user_in}
+
+-- ---- IMAP stores, without their names
+
+abbrev pub imap_view : ImapDraft → ImapMeaning
+imap_view d = record {
+  name = [];
+  host = option_map string_bytes d.host;
+  port = d.port;
+  user = option_map string_bytes d.user;
+  pass = option_map string_bytes d.pass;
+}
+
+abbrev pub imap_with : Said → ImapMeaning → ImapMeaning
+imap_with s m = record {
+  name = m.name;
+  host = option_or (host_in s) m.host;
+  port = unwrap_or (port_in s) m.port;
+  user = option_or (user_in s) m.user;
+  pass = option_or (pass_in s) m.pass;
+}
+
+-- ---- Maildir stores
+
+-- the folder of INBOX is kept as none until the section ends
+pub record MaildirView : Type 0 where
+  pub path : Option (List ℕ)
+  pub inbox : Option (List ℕ)
+
+abbrev pub maildir_view : MaildirDraft → MaildirView
+maildir_view d = record { path = option_map string_bytes d.path; inbox = option_map string_bytes d.inbox }
+
+abbrev pub maildir_with : Said → MaildirView → MaildirView
+maildir_with s m = record { path = option_or (path_in s) m.path; inbox = option_or (inbox_in s) m.inbox }
+
+abbrev pub maildir_said : List Said → MaildirView
+maildir_said says = record { path = the path_in says; inbox = the inbox_in says }
+
+-- ---- how mailboxes are synchronised
+
+pub record MannerView : Type 0 where
+  pub cells : Option Cells
+  pub create : Option Sides
+  pub expunge : Option Sides
+
+abbrev pub manner_view : Manner → MannerView
+manner_view m = record { cells = m.cells; create = m.create; expunge = m.expunge }
+
+abbrev pub manner_with : Said → MannerView → MannerView
+manner_with s m = record { cells = option_or (cells_in s) m.cells; create = option_or (create_in s) m.create; expunge = option_or (expunge_in s) m.expunge }
+
+abbrev pub manner_said : List Said → MannerView
+manner_said says = record { cells = the cells_in says; create = the create_in says; expunge = the expunge_in says }
+
+-- ---- channels
+
+pub record ChannelView : Type 0 where
+  pub far : Option ℕ
+  pub far_box : Option (List ℕ)
+  pub near : Option ℕ
+  pub near_box : Option (List ℕ)
+  pub patterns : List (List ℕ)
+  pub manner : MannerView
+
+abbrev pub channel_view : ChannelDraft → ChannelView
+channel_view d = record { far = d.far; far_box = d.far_box; near = d.near; near_box = d.near_box; patterns = d.patterns; manner = manner_view d.manner }
+
+-- but for its stores
+abbrev pub channel_with : Said → ChannelView → ChannelView
+channel_with s c = record {
+  far = c.far;
+  far_box = c.far_box;
+  near = c.near;
+  near_box = c.near_box;
+  patterns = c.patterns ++ patterns_in s;
+  manner = manner_with s c.manner;
+}
+
+abbrev pub channel_said : (imap_stores maildir_stores : List (List ℕ)) → List Said → ChannelView
+channel_said imap_stores maildir_stores says = record {
+  far = store_at imap_stores (the far_in says);
+  far_box = option_and_then (λ p. p.1) (the far_in says);
+  near = store_at maildir_stores (the near_in says);
+  near_box = option_and_then (λ p. p.1) (the near_in says);
+  patterns = flat_map patterns_in says;
+  manner = manner_said says;
+}
+
+abbrev pub sides_chosen : (own before : Option Sides) → Sides
+sides_chosen own before = unwrap_or (option_or own before) neither
+
+-- the channel that a section comes to
+abbrev pub channel_ended : List ℕ → MannerView → ChannelView → ChannelMeaning
+channel_ended name before c = record {
+  name = name;
+  far = c.far;
+  near = c.near;
+  boxes = boxes_of c.patterns (unwrap_or c.far_box (codes "INBOX")) (unwrap_or c.near_box (codes "INBOX"));
+  cells = unwrap_or (option_or c.manner.cells before.cells) everything;
+  create = unwrap_or (option_or c.manner.create before.create) neither;
+  expunge = unwrap_or (option_or c.manner.expunge before.expunge) neither;
+}
+
+-- ---- what a section comes to, unless it lacks what it has to have
+
+abbrev pub IsStoreOf : List ℕ → ImapMeaning → Option store.ImapStore → Type 0
+IsStoreOf name m None = (m.host ≡ None) ⊎ ((m.user ≡ None) ⊎ (m.pass ≡ None))
+IsStoreOf name m (Some store) = imap_value store ≡ record m { name = name }
+
+abbrev pub maildir_ended : List ℕ → MaildirView → MaildirMeaning
+maildir_ended name m = record { name = name; path = m.path; inbox = unwrap_or m.inbox (codes "~/Maildir") }
+
+abbrev pub IsMaildirOf : List ℕ → MaildirView → Option folder.MaildirStore → Type 0
+IsMaildirOf name m None = m.path ≡ None
+IsMaildirOf name m (Some store) = maildir_value store ≡ maildir_ended name m
+
+abbrev pub IsChannelOf : ChannelMeaning → Option chan.Channel → Type 0
+IsChannelOf m None = (m.far ≡ None) ⊎ (m.near ≡ None)
+IsChannelOf m (Some channel) = channel_value channel ≡ m
+
+-- ---- sections
+
+pub data Sketch : Type 0 where
+  AtStart : Sketch
+  AtImapStore : ImapMeaning → Sketch
+  AtMaildirStore : MaildirView → Sketch
+  AtChannel : ChannelView → Sketch
+  AtGroup : Sketch
+  AtBetween : Sketch
+
+abbrev pub sketch : Section → Sketch
+sketch Start = AtStart
+sketch (ImapStore draft) = AtImapStore (imap_view draft)
+sketch (MaildirStore draft) = AtMaildirStore (maildir_view draft)
+sketch (Channel draft) = AtChannel (channel_view draft)
+sketch Group = AtGroup
+sketch Between = AtBetween
+
+abbrev pub sketch_with : Said → Sketch → Sketch
+sketch_with s AtStart = AtStart
+sketch_with s (AtImapStore m) = AtImapStore (imap_with s m)
+sketch_with s (AtMaildirStore m) = AtMaildirStore (maildir_with s m)
+sketch_with s (AtChannel c) = AtChannel (channel_with s c)
+sketch_with s AtGroup = AtGroup
+sketch_with s AtBetween = AtBetween
+
+abbrev pub with_far : Option ℕ → Option (List ℕ) → Sketch → Sketch
+with_far store box (AtChannel c) = AtChannel (record c { far = store; far_box = box })
+with_far store box other = other
+
+abbrev pub with_near : Option ℕ → Option (List ℕ) → Sketch → Sketch
+with_near store box (AtChannel c) = AtChannel (record c { near = store; near_box = box })
+with_near store box other = other
+
+-- the section that has just begun at a place
+abbrev pub sketch_at : Place → Sketch
+sketch_at place.Start = AtStart
+sketch_at place.ImapStore = AtImapStore (imap_store_of [] [])
+sketch_at place.MaildirStore = AtMaildirStore (maildir_said [])
+sketch_at place.Channel = AtChannel (channel_said [] [] [])
+sketch_at place.Group = AtGroup
+sketch_at place.Between = AtBetween
+
+-- ---- a draft, but for the channels of its groups
+
+pub record View : Type 0 where
+  pub section : Sketch
+  pub name : List ℕ
+  pub before : MannerView
+  pub imap_stores : List ImapMeaning
+  pub maildir_stores : List MaildirMeaning
+  pub channels : List ChannelMeaning
+
+abbrev pub view : Draft → View
+view d = record {
+  section = sketch d.section;
+  name = string_bytes d.name;
+  before = manner_view d.defaults;
+  imap_stores = map imap_value d.config.imap_stores.items;
+  maildir_stores = map maildir_value d.config.maildir_stores.items;
+  channels = map channel_value d.config.channels.items;
+}
+
+abbrev pub first_view : View
+first_view = record { section = AtStart; name = []; before = manner_said []; imap_stores = []; maildir_stores = []; channels = [] }
+
+-- before any section, a line is for all channels
+abbrev pub before_with : Said → Sketch → MannerView → MannerView
+before_with s AtStart before = manner_with s before
+before_with s _ before = before
+
+abbrev pub set_in_section : Said → View → View
+set_in_section s v = record v { section = sketch_with s v.section; before = before_with s v.section v.before }
+
+abbrev pub imap_place : View → List ℕ → Option ℕ
+imap_place v store = place_among (map (λ s. s.name) v.imap_stores) store
+
+abbrev pub maildir_place : View → List ℕ → Option ℕ
+maildir_place v store = place_among (map (λ s. s.name) v.maildir_stores) store
+
+abbrev pub set : Said → View → View
+set (SectionIs name) v = record v { name = name }
+set (GroupIs name channels) v = record v { name = name }
+set (ChannelsAre channels) v = v
+set (FarIs store box) v = record v { section = with_far (imap_place v store) box v.section }
+set (NearIs store box) v = record v { section = with_near (maildir_place v store) box v.section }
+set s v = set_in_section s v
+
+abbrev pub set_said : Option Said → View → View
+set_said None v = v
+set_said (Some s) v = set s v
+
+-- a section begins
+abbrev pub begun_view : Option Place → View → View
+begun_view None v = v
+begun_view (Some kind) v = record v { section = sketch_at kind; name = [] }
+
+-- a section ends, unless it lacks what it has to have
+abbrev pub ended_view : Sketch → View → View
+ended_view AtStart v = v
+ended_view (AtImapStore m) v = record v { section = AtBetween; name = []; imap_stores = v.imap_stores ++ record m { name = v.name } ∷ [] }
+ended_view (AtMaildirStore m) v = record v {
+  section = AtBetween;
+  name = [];
+  maildir_stores = v.maildir_stores ++ maildir_ended v.name m ∷ [];
+}
+ended_view (AtChannel c) v = record v { section = AtBetween; name = []; channels = v.channels ++ channel_ended v.name v.before c ∷ [] }
+ended_view AtGroup v = record v { section = AtBetween; name = [] }
+ended_view AtBetween v = v
+
+-- ---- what lines make of it
+
+abbrev pub part_sketch : (imap_stores maildir_stores : List (List ℕ)) → Place → List Said → Sketch
+part_sketch imap_stores maildir_stores place.Start says = AtStart
+part_sketch imap_stores maildir_stores place.ImapStore says = AtImapStore (imap_store_of [] says)
+part_sketch imap_stores maildir_stores place.MaildirStore says = AtMaildirStore (maildir_said says)
+part_sketch imap_stores maildir_stores place.Channel says = AtChannel (channel_said imap_stores maildir_stores says)
+part_sketch imap_stores maildir_stores place.Group says = AtGroup
+part_sketch imap_stores maildir_stores place.Between says = AtBetween
+
+abbrev pub view_from : Meaning → Parts → View
+view_from m p = record {
+  section = part_sketch (imap_names m) (maildir_names m) p.current.kind p.current.says;
+  name = p.current.name;
+  before = manner_said p.before;
+  imap_stores = m.imap_stores;
+  maildir_stores = m.maildir_stores;
+  channels = m.channels;
+}
+
+abbrev pub view_of : Parts → View
+view_of p = view_from (meaning_of p) p
