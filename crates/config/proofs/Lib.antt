@@ -2,3 +2,4 @@ pub mod LineLemmas
 pub mod NameLemmas
 pub mod OutlineLemmas
 pub mod ReadingLemmas
+pub mod ViewLemmas

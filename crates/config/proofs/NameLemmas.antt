@@ -1,7 +1,8 @@
 -- Names of sections, and the lines that give them.
-use Rattle.std.proofs.Common.{◌≡◌, ℕ, Bool, true, false, List, [], ◌∷◌, refl, ap, subst, sym, ◌∙◌, map}
-use Rattle.std.specs.Prelude.{nat_eq, ◌||◌, ◌&&◌, not, Option, Some, None, Result, IfSome, if◌then◌else◌}
-use Rattle.std.specs.List.{list_all, list_any}
+use Rattle.std.proofs.Common.{◌≡◌, ℕ, Bool, true, false, List, [], ◌∷◌, ◌+◌, cond, length, refl, ap, subst, sym, ◌∙◌, map}
+use Rattle.std.specs.Prelude.{bytes_eq, nat_eq, nat_lt, position, ◌||◌, ◌&&◌, not, Option, Some, None, Result, IfSome, if◌then◌else◌}
+use Rattle.std.specs.List.{list_all, list_any, prefix_len}
+use Rattle.std.proofs.lemmas.List.{length-map}
 use Rattle.config_words.specs.declared.keyword.Place.{Place}
 use Rattle.config_words.specs.declared.fault.FaultKind.{FaultKind}
 use Rattle.config_words.specs.declared.keyword.Keyword.{Keyword}
@@ -9,6 +10,7 @@ use Rattle.config.specs.Drafts.{IsMet, IsMisplaced, IsTaken, given}
 use Rattle.config_words.specs.Keywords.{opened_by, section_of}
 use Rattle.config_words.specs.Places.{is_section, opened, section_named}
 use Rattle.config_words.specs.Settings.{is_argument, name_given}
+use Rattle.config.specs.Sections.{place_among}
 use Rattle.config.specs.Standing.{Standing, begins_again, begun, is_again, name_of, named, standing_at}
 use Rattle.config_words.specs.Words.{arguments_of, is_plain}
 
@@ -67,3 +69,18 @@ misplaced_so true (Some p) old mid (Some fault) met = met.0
 pub opens_same : (p : Place) (read met : Keyword) (word : List ℕ) → opened_by p met ≡ opened_by p read → section_of read ≡ section_named word
     → (if is_section p then None else section_of met) ≡ opened p word
 opens_same p read met word same named = same ∙ ap (λ (s : Option Place). if is_section p then None else s) named
+
+-- ---- places of names
+
+passed_map : {A B : Type 0} (f : A → B) (p : B → Bool) (xs : List A) → prefix_len (λ x. p (f x)) xs ≡ prefix_len p (map f xs)
+passed_map f p [] = refl
+passed_map f p (x ∷ xs) = ap (λ (n : ℕ). cond (p (f x)) (1 + n) 0) (passed_map f p xs)
+
+place_map : {A B : Type 0} (f : A → B) (p : B → Bool) (xs : List A) → position (λ x. p (f x)) xs ≡ position p (map f xs)
+place_map f p xs =
+    ap (λ (n : ℕ). cond (nat_lt n (length xs)) (Some n) None) (passed_map f (λ y. not (p y)) xs)
+    ∙ ap (λ (l : ℕ). cond (nat_lt (prefix_len (λ y. not (p y)) (map f xs)) l) (Some (prefix_len (λ y. not (p y)) (map f xs))) None) (sym (length-map xs f))
+
+pub named_place : {A B : Type 0} (f : A → B) (g : B → List ℕ) (name : List ℕ) (xs : List A)
+    → position (λ x. bytes_eq (g (f x)) name) xs ≡ place_among (map g (map f xs)) name
+named_place f g name xs = place_map f (λ y. bytes_eq (g y) name) xs ∙ place_map g (λ other. bytes_eq other name) (map f xs)

@@ -11,8 +11,8 @@ use Rattle.config_words.specs.Keywords.{keyword_named, meant_at}
 use Rattle.config_words.specs.Meanings.{Said, said}
 use Rattle.config_words.specs.Places.{closed, is_section, opened}
 use Rattle.config_words.specs.Words.{Split, arguments_of, is_blank, words_of}
-use Rattle.config.specs.Sections.{ChannelMeaning, GroupMeaning, ImapMeaning, MaildirMeaning, channel_of, group_of, imap_store_of, maildir_store_of, place_among}
-use Rattle.config.specs.Standing.{lines_of, name_of}
+use Rattle.config.specs.Sections.{ChannelMeaning, GroupMeaning, ImapMeaning, MaildirMeaning, channel_of, group_of, imap_store_of, maildir_store_of, place_among, title_in}
+use Rattle.config.specs.Standing.{lines_of}
 
 -- ---- the sections of a text
 
@@ -45,18 +45,17 @@ add_at place.Start says p = record p { before = p.before ++ says }
 add_at place.Between says p = p
 add_at _ says p = record p { current = record p.current { says = p.current.says ++ says } }
 
--- the first line of a section gives its name
-abbrev pub begin_at : Place → List ℕ × List ℕ → Parts → Parts
-begin_at kind words p =
-    record p { current = record { kind = kind; name = unwrap_or (name_of kind words.1) []; says = option_to_list (line_said p.current.kind words) } }
+-- a section begins, and its first line names it
+abbrev pub begin_at : Place → Option Said → Parts → Parts
+begin_at kind s p = record p { current = record { kind = kind; name = unwrap_or (option_and_then title_in s) []; says = option_to_list s } }
 
-abbrev pub words_at : Option Place → List ℕ × List ℕ → Parts → Parts
-words_at (Some kind) words p = begin_at kind words p
-words_at None words p = add_at p.current.kind (option_to_list (line_said p.current.kind words)) p
+abbrev pub said_at : Option Place → Option Said → Parts → Parts
+said_at (Some kind) s p = begin_at kind s p
+said_at None s p = add_at p.current.kind (option_to_list s) p
 
 abbrev pub parted_words : Option (List ℕ × List ℕ) → Parts → Parts
 parted_words None p = p
-parted_words (Some words) p = words_at (opened p.current.kind words.0) words p
+parted_words (Some words) p = said_at (opened p.current.kind words.0) (line_said p.current.kind words) p
 
 -- a section ends
 abbrev pub ended : Parts → Parts

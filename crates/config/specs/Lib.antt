@@ -9,3 +9,4 @@ pub mod Outlines
 pub mod Sections
 pub mod Configurations
 pub mod Views
+pub mod Meant

@@ -9,6 +9,12 @@ use Rattle.config_words.specs.Meanings.{Said, SectionIs, GroupIs, HostIs, PortIs
 
 -- ---- what one line says of each thing
 
+-- the name of the section that begins
+abbrev pub title_in : Said → Option (List ℕ)
+title_in (SectionIs name) = Some name
+title_in (GroupIs name channels) = Some name
+title_in _ = None
+
 abbrev pub host_in : Said → Option (List ℕ)
 host_in (HostIs host) = Some host
 host_in _ = None

@@ -1,5 +1,5 @@
 -- What a draft holds, as values: what each line changes of it, and what lines make of it.
-use Rattle.std.specs.Prelude.{ℕ, ◌≡◌, ◌⊎◌, List, [], ◌∷◌, ◌++◌, map, flat_map, string_bytes, Option, Some, None, option_map, option_and_then, unwrap_or, codes}
+use Rattle.std.specs.Prelude.{ℕ, Bool, true, false, ◌≡◌, ◌⊎◌, List, [], ◌∷◌, ◌++◌, map, flat_map, string_bytes, Option, Some, None, option_map, option_and_then, unwrap_or, codes}
 use Rattle.std.specs.Option.{option_or}
 use Rattle.rules.specs.declared.options.Cells.{Cells}
 use Rattle.rules.specs.declared.options.Sides.{Sides}
@@ -217,35 +217,36 @@ imap_place v store = place_among (map (λ s. s.name) v.imap_stores) store
 abbrev pub maildir_place : View → List ℕ → Option ℕ
 maildir_place v store = place_among (map (λ s. s.name) v.maildir_stores) store
 
-abbrev pub set : Said → View → View
-set (SectionIs name) v = record v { name = name }
-set (GroupIs name channels) v = record v { name = name }
-set (ChannelsAre channels) v = v
-set (FarIs store box) v = record v { section = with_far (imap_place v store) box v.section }
-set (NearIs store box) v = record v { section = with_near (maildir_place v store) box v.section }
-set s v = set_in_section s v
+abbrev pub view_with : Said → View → View
+view_with (SectionIs name) v = record v { name = name }
+view_with (GroupIs name channels) v = record v { name = name }
+view_with (ChannelsAre channels) v = v
+view_with (FarIs store box) v = record v { section = with_far (imap_place v store) box v.section }
+view_with (NearIs store box) v = record v { section = with_near (maildir_place v store) box v.section }
+view_with s v = set_in_section s v
 
-abbrev pub set_said : Option Said → View → View
-set_said None v = v
-set_said (Some s) v = set s v
+abbrev pub view_said : Option Said → View → View
+view_said None v = v
+view_said (Some s) v = view_with s v
 
 -- a section begins
 abbrev pub begun_view : Option Place → View → View
 begun_view None v = v
 begun_view (Some kind) v = record v { section = sketch_at kind; name = [] }
 
--- a section ends, unless it lacks what it has to have
-abbrev pub ended_view : Sketch → View → View
-ended_view AtStart v = v
-ended_view (AtImapStore m) v = record v { section = AtBetween; name = []; imap_stores = v.imap_stores ++ record m { name = v.name } ∷ [] }
-ended_view (AtMaildirStore m) v = record v {
-  section = AtBetween;
-  name = [];
-  maildir_stores = v.maildir_stores ++ maildir_ended v.name m ∷ [];
-}
-ended_view (AtChannel c) v = record v { section = AtBetween; name = []; channels = v.channels ++ channel_ended v.name v.before c ∷ [] }
-ended_view AtGroup v = record v { section = AtBetween; name = [] }
-ended_view AtBetween v = v
+-- a section of this name is put to the others
+abbrev pub put_view : Sketch → List ℕ → View → View
+put_view AtStart name v = v
+put_view (AtImapStore m) name v = record v { imap_stores = v.imap_stores ++ record m { name = name } ∷ [] }
+put_view (AtMaildirStore m) name v = record v { maildir_stores = v.maildir_stores ++ maildir_ended name m ∷ [] }
+put_view (AtChannel c) name v = record v { channels = v.channels ++ channel_ended name v.before c ∷ [] }
+put_view AtGroup name v = v
+put_view AtBetween name v = v
+
+-- a section ends, if one is open
+abbrev pub ended_view : Bool → View → View
+ended_view false v = v
+ended_view true v = put_view v.section v.name (record v { section = AtBetween; name = [] })
 
 -- ---- what lines make of it
 

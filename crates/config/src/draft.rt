@@ -1,8 +1,13 @@
 //! A configuration while it is read: what its lines say, whatever their numbers.
 
-ghost use Rattle.std.specs.Prelude.{◌≡◌, IfOk, IfSome, OnOk, false, string_bytes};
+ghost use Rattle.std.specs.Prelude.{◌≡◌, IfOk, IfSome, IsTrue, OnOk, None, false, option_and_then, string_bytes};
 ghost use Rattle.config.specs.Drafts.{IsMet, IsMisplaced, IsTaken, given, standing_of};
+ghost use Rattle.config.specs.Configurations.{line_said};
+ghost use Rattle.config.specs.Sections.{title_in};
+ghost use Rattle.config.specs.Views.{begun_view, ended_view, first_view, imap_place, maildir_place, put_view, set_in_section, sketch, view, view_said, view_with};
 ghost use Rattle.config_words.specs.Keywords.{section_of};
+ghost use Rattle.config_words.specs.Meanings.{FarIs, NearIs, said, said_of};
+ghost use Rattle.config_words.specs.Words.{Split, arguments_of};
 ghost use Rattle.config_words.specs.Places.{closed, is_section, opened};
 ghost use Rattle.config_words.specs.Settings.{name_said};
 ghost use Rattle.config.specs.Standing.{before_all, begins_again, begun, is_again, named, standing_at};
@@ -46,7 +51,8 @@ pub(crate) struct Draft {
 impl Draft {
     /// Before the first line.
     pub fn new(alloc: Global) -> Self
-        ensures { standing_of result ≡ before_all }
+        ensures standing { standing_of result ≡ before_all }
+        ensures view { view result ≡ first_view }
     {
         Draft {
             alloc,
@@ -64,7 +70,9 @@ impl Draft {
     }
 
     /// The sections that have ended.
-    pub fn into_config(self) -> Config {
+    pub fn into_config(self) -> Config
+        ensures { result ≡ self.config }
+    {
         self.config
     }
 
@@ -83,9 +91,13 @@ impl Draft {
 
     /// Reads a line of words. The fault is the one with the lowest number, but for keywords that the section lacks.
     pub fn read(&mut self, keyword: &[u8], arguments: &[u8]) -> Result<(), FaultKind>
-        ensures { let section = opened (standing_of self.old).at keyword.now in
+        ensures standing { let section = opened (standing_of self.old).at keyword.now in
             IsTaken (begins_again section arguments.now (standing_of self.old)) (begun section arguments.now (standing_of self.old))
             (standing_of self.new) result }
+        ensures view { let at = (standing_of self.old).at in
+            OnOk result (view self.new ≡ view_said (line_said at (keyword.now, arguments.now)) (begun_view (opened at keyword.now) (view self.old))) }
+        ensures titled { let at = (standing_of self.old).at in
+            OnOk result (opened at keyword.now ≡ None → option_and_then title_in (line_said at (keyword.now, arguments.now)) ≡ None) }
     {
         let Some(keyword) = Keyword::read(keyword) else {
             return Err(FaultKind::UnknownKeyword);
@@ -103,8 +115,11 @@ impl Draft {
         arguments: &[u8],
     ) -> Result<(), FaultKind>
         requires { IfSome misplaced IsMisplaced }
-        ensures { let name = given misplaced (section_of keyword) arguments.now in
+        ensures standing { let name = given misplaced (section_of keyword) arguments.now in
             IsTaken (is_again name (standing_of self.old)) (named name (standing_of self.old)) (standing_of self.new) result }
+        ensures placed { OnOk result (misplaced ≡ None) }
+        ensures view { OnOk result (view self.new ≡ view_said (said keyword (arguments_of arguments.now).list) (view self.old)) }
+        ensures titled { OnOk result (section_of keyword ≡ None → option_and_then title_in (said keyword (arguments_of arguments.now).list) ≡ None) }
     {
         let is_plain = is_plain(arguments);
         let arguments = Arguments::read(self.alloc, arguments)?;
@@ -123,8 +138,9 @@ impl Draft {
 
     /// Notes that a keyword stands here, and opens the section that it begins. It tells whether the keyword may not.
     fn meet(&mut self, keyword: Keyword) -> Result<Option<FaultKind>, AllocError>
-        ensures { IfOk result (λ misplaced.
+        ensures standing { IfOk result (λ misplaced.
             IsMet (is_section (standing_of self.old).at) (section_of keyword) (standing_of self.old) (standing_of self.new) misplaced) }
+        ensures view { IfOk result (λ misplaced. misplaced ≡ None → view self.new ≡ begun_view (section_of keyword) (view self.old)) }
     {
         if !keyword.fits(self.section.place()) {
             return Ok(Some(FaultKind::OutsideSection));
@@ -141,7 +157,8 @@ impl Draft {
     }
 
     fn open(&mut self, place: Place)
-        ensures { standing_of self.new ≡ standing_at place (standing_of self.old) }
+        ensures standing { standing_of self.new ≡ standing_at place (standing_of self.old) }
+        ensures view { view self.new ≡ begun_view (Some place) (view self.old) }
     {
         self.section = Section::new(self.alloc, place);
         self.name = String::new(self.alloc);
@@ -150,8 +167,9 @@ impl Draft {
 
     /// Takes what a line says.
     fn set(&mut self, setting: Setting) -> Result<(), FaultKind>
-        ensures { IsTaken (is_again (name_said setting) (standing_of self.old)) (named (name_said setting) (standing_of self.old))
+        ensures standing { IsTaken (is_again (name_said setting) (standing_of self.old)) (named (name_said setting) (standing_of self.old))
             (standing_of self.new) result }
+        ensures view { OnOk result (view self.new ≡ view_with (said_of setting) (view self.old)) }
     {
         match setting {
             Setting::Section(name) => self.set_name(name),
@@ -171,7 +189,8 @@ impl Draft {
     }
 
     fn set_in_section(&mut self, setting: Setting) -> Result<(), AllocError>
-        ensures { standing_of self.new ≡ standing_of self.old }
+        ensures standing { standing_of self.new ≡ standing_of self.old }
+        ensures view { OnOk result (view self.new ≡ set_in_section (said_of setting) (view self.old)) }
     {
         match &mut self.section {
             Section::Start => self.defaults.set(setting),
@@ -185,8 +204,9 @@ impl Draft {
 
     /// Names the section. `DefinedTwice`: the name is another's.
     fn set_name(&mut self, name: String) -> Result<(), FaultKind>
-        ensures { IsTaken (is_again (Some (string_bytes name)) (standing_of self.old))
+        ensures standing { IsTaken (is_again (Some (string_bytes name)) (standing_of self.old))
             (named (Some (string_bytes name)) (standing_of self.old)) (standing_of self.new) result }
+        ensures view { OnOk result (view self.new ≡ record (view self.old) { name = string_bytes name }) }
     {
         self.name = name.clone()?;
         match self.section.place() {
@@ -201,7 +221,9 @@ impl Draft {
     }
 
     /// The place of the IMAP store of this name.
-    fn imap_store(&self, name: &str) -> Option<usize> {
+    fn imap_store(&self, name: &str) -> Option<usize>
+        ensures { result ≡ imap_place (view self.now) name.now }
+    {
         self.config
             .imap_stores
             .iter()
@@ -209,7 +231,9 @@ impl Draft {
     }
 
     /// The place of the Maildir store of this name.
-    fn maildir_store(&self, name: &str) -> Option<usize> {
+    fn maildir_store(&self, name: &str) -> Option<usize>
+        ensures { result ≡ maildir_place (view self.now) name.now }
+    {
         self.config
             .maildir_stores
             .iter()
@@ -218,7 +242,8 @@ impl Draft {
 
     /// Takes the far store and mailbox of a channel. `UnknownName`: no IMAP store above has this name.
     fn set_far(&mut self, place: BoxPlace) -> Result<(), FaultKind>
-        ensures { IsTaken false (standing_of self.old) (standing_of self.new) result }
+        ensures standing { IsTaken false (standing_of self.old) (standing_of self.new) result }
+        ensures view { OnOk result (view self.new ≡ view_with (FarIs (string_bytes place.store) place.mailbox) (view self.old)) }
     {
         let store = self.imap_store(&place.store);
         if let Section::Channel(draft) = &mut self.section {
@@ -233,7 +258,8 @@ impl Draft {
 
     /// Takes the near store and mailbox of a channel. `UnknownName`: no Maildir store above has this name.
     fn set_near(&mut self, place: BoxPlace) -> Result<(), FaultKind>
-        ensures { IsTaken false (standing_of self.old) (standing_of self.new) result }
+        ensures standing { IsTaken false (standing_of self.old) (standing_of self.new) result }
+        ensures view { OnOk result (view self.new ≡ view_with (NearIs (string_bytes place.store) place.mailbox) (view self.old)) }
     {
         let store = self.maildir_store(&place.store);
         if let Section::Channel(draft) = &mut self.section {
@@ -246,49 +272,50 @@ impl Draft {
         }
     }
 
-    /// Ends the section, if one is open. One that lacks a keyword, or has a faulty one, goes.
-    pub fn end_section(&mut self) -> Result<(), AllocError>
-        ensures { standing_of self.new ≡ standing_at (closed (standing_of self.old).at) (standing_of self.old) }
+    /// Ends the section, if one is open, and tells whether it is kept: one that lacks a keyword, or has a faulty one, goes.
+    pub fn end_section(&mut self) -> Result<bool, AllocError>
+        ensures standing { standing_of self.new ≡ standing_at (closed (standing_of self.old).at) (standing_of self.old) }
+        ensures view { IfOk result (λ kept. IsTrue kept → view self.new ≡ ended_view (is_section (standing_of self.old).at) (view self.old)) }
     {
         if !self.is_in_section() {
-            return Ok(());
+            return Ok(true);
         }
         let section = mem::replace(&mut self.section, Section::Between);
         let name = mem::replace(&mut self.name, String::new(self.alloc));
         self.put(section, name)
     }
 
-    fn put(&mut self, section: Section, name: String) -> Result<(), AllocError>
-        ensures { standing_of self.new ≡ standing_of self.old }
+    /// Puts a section to those that have ended, and tells whether it is kept.
+    fn put(&mut self, section: Section, name: String) -> Result<bool, AllocError>
+        ensures standing { standing_of self.new ≡ standing_of self.old }
+        ensures view { IfOk result (λ kept. IsTrue kept → view self.new ≡ put_view (sketch section) (string_bytes name) (view self.old)) }
     {
         match section {
-            Section::ImapStore(draft) => {
-                if let Some(store) = draft.finish(name) {
-                    self.config.imap_stores.push(store)?;
-                }
-            }
-            Section::MaildirStore(draft) => {
-                if let Some(store) = draft.finish(self.alloc, name)? {
-                    self.config.maildir_stores.push(store)?;
-                }
-            }
-            Section::Channel(draft) => {
-                if let Some(channel) = draft.finish(self.alloc, name, self.defaults)? {
-                    self.config.channels.push(channel)?;
-                }
-            }
+            Section::ImapStore(draft) => match draft.finish(name) {
+                Some(store) => self.config.imap_stores.push(store)?,
+                None => return Ok(false),
+            },
+            Section::MaildirStore(draft) => match draft.finish(self.alloc, name)? {
+                Some(store) => self.config.maildir_stores.push(store)?,
+                None => return Ok(false),
+            },
+            Section::Channel(draft) => match draft.finish(self.alloc, name, self.defaults)? {
+                Some(channel) => self.config.channels.push(channel)?,
+                None => return Ok(false),
+            },
             Section::Group => self.config.groups.push(Group {
                 name,
                 channels: Vec::new(self.alloc),
             })?,
             Section::Start | Section::Between => {}
         }
-        Ok(())
+        Ok(true)
     }
 
     /// The channels that the last line adds to the group that is open, which are given away.
     pub fn take_members(&mut self) -> Vec<String>
-        ensures { standing_of self.new ≡ standing_of self.old }
+        ensures standing { standing_of self.new ≡ standing_of self.old }
+        ensures view { view self.new ≡ view self.old }
     {
         mem::replace(&mut self.members, Vec::new(self.alloc))
     }
@@ -300,7 +327,8 @@ impl Draft {
 
     /// Adds a channel to a group, and tells whether there is one of this name.
     pub fn add_member(&mut self, group: usize, name: &str) -> Result<bool, AllocError>
-        ensures { standing_of self.new ≡ standing_of self.old }
+        ensures standing { standing_of self.new ≡ standing_of self.old }
+        ensures view { view self.new ≡ view self.old }
     {
         let Some(channel) = place_of(&self.channels, name) else {
             return Ok(false);

@@ -2,7 +2,10 @@
 
 ghost use Rattle.std.specs.Prelude.{◌≡◌, ◌<◌, ◌+◌, ℕ, List, [], All, IfErr, IfOk, IfSome, MatchResult, OnOk};
 ghost use Rattle.config.specs.Lines.{IsUpTo};
+ghost use Rattle.config.specs.Configurations.{Parts, ended, meaning_of, no_parts, parted, parted_words};
 ghost use Rattle.config.specs.Drafts.{standing_of};
+ghost use Rattle.config.specs.Meant.{IsDrawn, IsMeant, Knows};
+ghost use Rattle.config.specs.Views.{view};
 ghost use Rattle.config.specs.Outlines.{IsBehindWords, IsOutlined, IsToldOf, Tells, earlier};
 ghost use Rattle.config_words.specs.Places.{closed};
 ghost use Rattle.config.specs.Readings.{IsLine, IsRead};
@@ -44,6 +47,7 @@ impl Reading {
     pub fn new(alloc: Global) -> Self
         ensures read { IsRead 0 result }
         ensures outlined { IsOutlined no_lines result }
+        ensures meant { IsMeant no_parts result }
     {
         Reading {
             draft: Draft::new(alloc),
@@ -60,6 +64,7 @@ impl Reading {
         ensures read { OnOk result (IsRead line.entry.number self.new) }
         ensures outlined { (o : Outline) → IsOutlined o self.old → line.entry.number ≡ o.count + 1 →
             OnOk result (IsOutlined (outlined o line.entry.text.now) self.new) }
+        ensures meant { (p : Parts) → Knows p self.old → OnOk result (Knows (parted p line.entry.text.now) self.new) }
     {
         match LineKind::of(line.text) {
             LineKind::Empty => self.end_section(),
@@ -80,6 +85,7 @@ impl Reading {
         ensures read { OnOk result (IsRead number self.new) }
         ensures outlined { (o : Outline) → IsOutlined o self.old →
             OnOk result (IsBehindWords o (keyword.now, arguments.now) number self.new) }
+        ensures meant { (p : Parts) → Knows p self.old → OnOk result (Knows (parted_words (Some (keyword.now, arguments.now)) p) self.new) }
     {
         self.take_words(number, keyword, arguments)?;
         if self.begun.is_none() && self.draft.is_in_section() {
@@ -100,6 +106,7 @@ impl Reading {
         ensures read { OnOk result (IsRead number self.new) }
         ensures outlined { (o : Outline) → IsOutlined o self.old →
             OnOk result (IsBehindWords o (keyword.now, arguments.now) number self.new) }
+        ensures meant { (p : Parts) → Knows p self.old → OnOk result (self.new.first ≡ None → IsDrawn (parted_words (Some (keyword.now, arguments.now)) p) self.new.draft) }
     {
         match self.draft.read(keyword, arguments) {
             Ok(()) => Ok(()),
@@ -129,6 +136,8 @@ impl Reading {
         ensures read { OnOk result (IsRead line self.new) }
         ensures first { self.new.first ≡ self.old.first }
         ensures standing { standing_of self.new.draft ≡ standing_of self.old.draft }
+        ensures view { view self.new.draft ≡ view self.old.draft }
+        ensures begun { self.new.begun ≡ self.old.begun }
     {
         let group = self.draft.group();
         for name in self.draft.take_members() {
@@ -142,14 +151,18 @@ impl Reading {
         ensures read { (last : ℕ) → IsRead last self.old → OnOk result (IsRead last self.new) }
         ensures told { (again : List ℕ) → Tells again self.old.first → Tells again self.new.first }
         ensures standing { standing_of self.new.draft ≡ standing_at (closed (standing_of self.old.draft).at) (standing_of self.old.draft) }
+        ensures meant { (p : Parts) → Knows p self.old → OnOk result (Knows (ended p) self.new) }
     {
+        let is_whole = self.draft.is_whole();
+        let is_kept = self.draft.end_section()?;
         if let Some(line) = self.begun {
-            if !self.draft.is_whole() {
+            // A section that is not kept never passes, even if each of its lines did.
+            if !is_whole || (!is_kept && self.first.is_none()) {
                 self.note(line, FaultKind::KeywordMissing);
             }
             self.begun = None;
         }
-        self.draft.end_section()
+        Ok(())
     }
 
     /// The configuration behind the last line, or the first faulty line.

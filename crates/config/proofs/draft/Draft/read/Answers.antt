@@ -1,20 +1,26 @@
-use Rattle.std.specs.Prelude.{Option}
-use Rattle.std.proofs.Common.{◌≡◌, subst}
+use Rattle.std.specs.Prelude.{Option, Some, None}
+use Rattle.std.proofs.Common.{◌≡◌, ◌∙◌, ap, subst}
 use Rattle.config_words.specs.declared.keyword.Place.{Place}
 use Rattle.config.specs.Drafts.{IsTaken, place_of, standing_of}
-use Rattle.config_words.specs.Keywords.{opened_by, section_of}
+use Rattle.config_words.specs.Keywords.{meant_at, opened_by, section_of}
 use Rattle.config_words.specs.Places.{is_section}
 use Rattle.config.specs.Standing.{begins_again, begun}
 use Rattle.config.proofs.NameLemmas.{misplaced_so, opens_same, placed}
+use Rattle.config.specs.Configurations.{line_said}
+use Rattle.config_words.specs.Meanings.{said}
+use Rattle.config_words.specs.Places.{opened}
+use Rattle.config_words.specs.Words.{Split, arguments_of}
+use Rattle.config.specs.Views.{view}
+use Rattle.config.proofs.ViewLemmas.{begins_so, line_at, read_titled, read_view}
 use Rattle.config.proofs.draft.Draft.read.Goals as goal
 
 pub read_arguments-requires : goal.read_arguments-requires
 read_arguments-requires c =
     misplaced_so (is_section (place_of c.args.self.now.section)) (section_of c.at-keyword.result) (standing_of c.args.self.now) (standing_of c.meet.new.self)
-    c.in_ok-misplaced.misplaced c.in_ok-misplaced.ensures
+    c.in_ok-misplaced.misplaced c.in_ok-misplaced.ensures.standing
 
-pub returns : goal.returns
-returns c =
+pub returns-clause-standing : goal.returns-clause-standing
+returns-clause-standing c =
     let old = standing_of c.args.self.now in
     let at = place_of c.args.self.now.section in
     let text = c.args.arguments.now in
@@ -23,4 +29,39 @@ returns c =
     let same = opens_same at c.in-Some.keyword c.at-keyword.result c.args.keyword.now met c.in-Some.ensures.section in
     subst (λ (s : Option Place). IsTaken (begins_again s text old) (begun s text old) (standing_of c.read_arguments.new.self) c.read_arguments.result) same
     (placed (is_section at) (section_of c.at-keyword.result) c.in_ok-misplaced.misplaced text old (standing_of c.meet.new.self)
-    (standing_of c.read_arguments.new.self) c.read_arguments.result c.in_ok-misplaced.ensures c.read_arguments.ensures)
+    (standing_of c.read_arguments.new.self) c.read_arguments.result c.in_ok-misplaced.ensures.standing c.read_arguments.ensures.standing)
+
+pub returns-clause-view : goal.returns-clause-view
+returns-clause-view c =
+    let at = place_of c.args.self.now.section in
+    let read = c.in-Some.keyword in
+    let meant = c.at-keyword.result in
+    let word = c.args.keyword.now in
+    let text = c.args.arguments.now in
+    let same : said meant (arguments_of text).list ≡ line_said at (word, text) =
+    line_at at read meant word text c.in-Some.ensures.named (c.at-keyword.ensures.meant ∙ ap (λ (p : Place). meant_at p read) c.place.ensures) in
+    let opens = opens_same at read meant word (subst (λ (p : Place). opened_by p meant ≡ opened_by p read) c.place.ensures c.at-keyword.ensures.opened)
+    c.in-Some.ensures.section in
+    let begins : c.in_ok-misplaced.misplaced ≡ None → section_of meant ≡ opened at word =
+    λ none. begins_so (is_section at) (section_of meant) c.in_ok-misplaced.misplaced (standing_of c.args.self.now) (standing_of c.meet.new.self)
+    c.in_ok-misplaced.ensures.standing none ∙ opens in
+    read_view c.read_arguments.result c.in_ok-misplaced.misplaced (section_of meant) (opened at word) (said meant (arguments_of text).list)
+    (line_said at (word, text)) (view c.args.self.now) (view c.meet.new.self) (view c.read_arguments.new.self) begins same c.in_ok-misplaced.ensures.view
+    c.read_arguments.ensures.placed c.read_arguments.ensures.view
+
+pub returns-clause-titled : goal.returns-clause-titled
+returns-clause-titled c =
+    let at = place_of c.args.self.now.section in
+    let read = c.in-Some.keyword in
+    let meant = c.at-keyword.result in
+    let word = c.args.keyword.now in
+    let text = c.args.arguments.now in
+    let same : said meant (arguments_of text).list ≡ line_said at (word, text) =
+    line_at at read meant word text c.in-Some.ensures.named (c.at-keyword.ensures.meant ∙ ap (λ (p : Place). meant_at p read) c.place.ensures) in
+    let opens = opens_same at read meant word (subst (λ (p : Place). opened_by p meant ≡ opened_by p read) c.place.ensures c.at-keyword.ensures.opened)
+    c.in-Some.ensures.section in
+    let begins : c.in_ok-misplaced.misplaced ≡ None → section_of meant ≡ opened at word =
+    λ none. begins_so (is_section at) (section_of meant) c.in_ok-misplaced.misplaced (standing_of c.args.self.now) (standing_of c.meet.new.self)
+    c.in_ok-misplaced.ensures.standing none ∙ opens in
+    read_titled c.read_arguments.result c.in_ok-misplaced.misplaced (section_of meant) (opened at word) (said meant (arguments_of text).list)
+    (line_said at (word, text)) begins same c.read_arguments.ensures.placed c.read_arguments.ensures.titled

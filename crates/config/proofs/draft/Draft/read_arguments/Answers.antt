@@ -8,8 +8,8 @@ use Rattle.config_words.specs.Words.{arguments_of}
 use Rattle.config.proofs.NameLemmas.{nothing_said}
 use Rattle.config.proofs.draft.Draft.read_arguments.Goals as goal
 
-pub returns-then-contradicts : goal.returns-then-contradicts
-returns-then-contradicts c =
+pub returns-then-contradicts-clause-standing : goal.returns-then-contradicts-clause-standing
+returns-then-contradicts-clause-standing c =
     let section = section_of c.args.keyword in
     let list = ap (λ (items : List (String Global)). map string_bytes items) c.deref.ensures.value ∙ c.in_ok-arguments.ensures.list in
     let nothing : name_given section (arguments_of c.args.arguments.now).list ≡ None =
