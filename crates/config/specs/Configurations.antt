@@ -1,5 +1,5 @@
 -- What the lines of a text make of a configuration (docs/FORMATS.md, "Configuration").
-use Rattle.std.specs.Prelude.{ℕ, ◌≡◌, List, [], ◌∷◌, ◌++◌, fold, map, Option, Some, None, unwrap_or, option_and_then, option_to_list, string_bytes, if◌then◌else◌}
+use Rattle.std.specs.Prelude.{ℕ, ◌≡◌, Bool, true, false, List, [], ◌∷◌, ◌++◌, fold, map, Option, Some, None, unwrap_or, option_and_then, option_to_list, string_bytes, if◌then◌else◌}
 use Rattle.config.specs.declared.config.Config.{Config}
 use Rattle.config.specs.declared.config.ImapStore.{ImapStore}
 use Rattle.config.specs.declared.config.MaildirStore.{MaildirStore}
@@ -9,7 +9,7 @@ use Rattle.config_words.specs.declared.keyword.Place.{Place}
 use Rattle.config_words.specs.declared.keyword.Place.TheVariants as place
 use Rattle.config_words.specs.Keywords.{keyword_named, meant_at}
 use Rattle.config_words.specs.Meanings.{Said, said}
-use Rattle.config_words.specs.Places.{closed, is_section, opened}
+use Rattle.config_words.specs.Places.{is_section, opened}
 use Rattle.config_words.specs.Words.{Split, arguments_of, is_blank, words_of}
 use Rattle.config.specs.Sections.{ChannelMeaning, GroupMeaning, ImapMeaning, MaildirMeaning, channel_of, group_of, imap_store_of, maildir_store_of, place_among, title_in}
 use Rattle.config.specs.Standing.{lines_of}
@@ -57,13 +57,13 @@ abbrev pub parted_words : Option (List ℕ × List ℕ) → Parts → Parts
 parted_words None p = p
 parted_words (Some words) p = said_at (opened p.current.kind words.0) (line_said p.current.kind words) p
 
--- a section ends
+-- the section that is open ends
+abbrev pub ended_if : Bool → Parts → Parts
+ended_if false p = p
+ended_if true p = record { before = p.before; ended = p.ended ++ p.current ∷ []; current = outside place.Between }
+
 abbrev pub ended : Parts → Parts
-ended p = record {
-  before = p.before;
-  ended = if is_section p.current.kind then p.ended ++ p.current ∷ [] else p.ended;
-  current = outside (closed p.current.kind);
-}
+ended p = ended_if (is_section p.current.kind) p
 
 -- an empty line ends a section
 abbrev pub parted : Parts → List ℕ → Parts
@@ -129,20 +129,8 @@ channel_value c = record {
   expunge = c.expunge;
 }
 
--- a group, by the places of its channels
-pub record PlacedGroup : Type 0 where
-  pub name : List ℕ
-  pub channels : List (Option ℕ)
-
-abbrev pub group_value : Group → PlacedGroup
-group_value g = record { name = string_bytes g.name; channels = map (λ place. Some place) g.channels.items }
-
-abbrev pub placed : List (List ℕ) → GroupMeaning → PlacedGroup
-placed names g = record { name = g.name; channels = map (place_among names) g.channels }
-
 -- a configuration has just this meaning
 pub record Means (m : Meaning) (config : Config) : Type 0 where
   pub imap_stores : map imap_value config.imap_stores.items ≡ m.imap_stores
   pub maildir_stores : map maildir_value config.maildir_stores.items ≡ m.maildir_stores
   pub channels : map channel_value config.channels.items ≡ m.channels
-  pub groups : map group_value config.groups.items ≡ map (placed (map (λ c. c.name) m.channels)) m.groups

@@ -4,13 +4,11 @@ use Rattle.config.specs.declared.draft.Draft.{Draft}
 use Rattle.config.specs.declared.reading.Reading.{Reading}
 use Rattle.config_words.specs.declared.keyword.Place.TheVariants.{Start}
 use Rattle.config.specs.Configurations.{Parts}
-use Rattle.config.specs.Drafts.{standing_of}
 use Rattle.config_words.specs.Places.{is_section}
 use Rattle.config.specs.Views.{view, view_of}
 
 -- a draft holds what these lines say
 pub record IsDrawn (p : Parts) (d : Draft) : Type 0 where
-  pub at : (standing_of d).at ≡ p.current.kind
   pub view : view d ≡ view_of p
   pub first : p.current.kind ≡ Start → p.ended ≡ []
 

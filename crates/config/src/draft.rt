@@ -1,6 +1,6 @@
 //! A configuration while it is read: what its lines say, whatever their numbers.
 
-ghost use Rattle.std.specs.Prelude.{◌≡◌, IfOk, IfSome, IsTrue, OnOk, None, false, option_and_then, string_bytes};
+ghost use Rattle.std.specs.Prelude.{◌≡◌, IfOk, IfSome, IsTrue, OnOk, None, false, true, option_and_then, string_bytes};
 ghost use Rattle.config.specs.Drafts.{IsMet, IsMisplaced, IsTaken, given, standing_of};
 ghost use Rattle.config.specs.Configurations.{line_said};
 ghost use Rattle.config.specs.Sections.{title_in};
@@ -276,6 +276,7 @@ impl Draft {
     pub fn end_section(&mut self) -> Result<bool, AllocError>
         ensures standing { standing_of self.new ≡ standing_at (closed (standing_of self.old).at) (standing_of self.old) }
         ensures view { IfOk result (λ kept. IsTrue kept → view self.new ≡ ended_view (is_section (standing_of self.old).at) (view self.old)) }
+        ensures kept { IfOk result (λ kept. is_section (standing_of self.old).at ≡ false → kept ≡ true) }
     {
         if !self.is_in_section() {
             return Ok(true);

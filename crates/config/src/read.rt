@@ -1,6 +1,7 @@
 //! How a configuration is read from its text (docs/FORMATS.md, "Configuration").
 
-ghost use Rattle.std.specs.Prelude.{◌≡◌, ◌≢◌, [], IfErr, MatchResult};
+ghost use Rattle.std.specs.Prelude.{◌≡◌, ◌≢◌, [], IfErr, IfOk, MatchResult};
+ghost use Rattle.config.specs.Configurations.{Means, text_meaning};
 ghost use Rattle.config.specs.Lines.{IsUpTo, line_count};
 ghost use Rattle.config.specs.Outlines.{IsToldOf};
 ghost use Rattle.config.specs.Standing.{lines_again};
@@ -15,11 +16,12 @@ use std::alloc::Global;
 /// faults of that line the one with the lowest number. `NoMemory` comes in place of any answer where memory ran out.
 ///
 /// A line that begins a section under a name that is taken is never passed over: it is told as `DefinedTwice`, unless a
-/// fault that comes before it is told.
+/// fault that comes before it is told. A configuration has just the stores and the channels that the lines say.
 pub fn read_config(alloc: Global, text: &[u8]) -> Result<Config, ConfigFault>
     ensures lines { IfErr result (IsUpTo (line_count text.now)) }
     ensures again { MatchResult result (λ config. lines_again text.now ≡ [])
         (λ fault. fault.kind ≢ FaultKind.NoMemory → IsToldOf (lines_again text.now) fault) }
+    ensures means { IfOk result (Means (text_meaning text.now)) }
 {
     let mut reading = Reading::new(alloc);
     let mut lines = Lines::new(text);

@@ -1,13 +1,13 @@
 //! The lines of a configuration, read one after another, and the first faulty one.
 
-ghost use Rattle.std.specs.Prelude.{◌≡◌, ◌<◌, ◌+◌, ℕ, List, [], All, IfErr, IfOk, IfSome, MatchResult, OnOk};
+ghost use Rattle.std.specs.Prelude.{◌≡◌, ◌<◌, ◌+◌, ℕ, List, [], All, IfErr, IfOk, IfSome, MatchResult, None, OnOk, IsSome, not, is_none, true, ◌&&◌, ◌||◌};
 ghost use Rattle.config.specs.Lines.{IsUpTo};
-ghost use Rattle.config.specs.Configurations.{Parts, ended, meaning_of, no_parts, parted, parted_words};
+ghost use Rattle.config.specs.Configurations.{Means, Parts, ended, meaning_of, no_parts, parted, parted_words};
 ghost use Rattle.config.specs.Drafts.{standing_of};
 ghost use Rattle.config.specs.Meant.{IsDrawn, IsMeant, Knows};
 ghost use Rattle.config.specs.Views.{view};
 ghost use Rattle.config.specs.Outlines.{IsBehindWords, IsOutlined, IsToldOf, Tells, earlier};
-ghost use Rattle.config_words.specs.Places.{closed};
+ghost use Rattle.config_words.specs.Places.{closed, is_section};
 ghost use Rattle.config.specs.Readings.{IsLine, IsRead};
 ghost use Rattle.config.specs.Standing.{Outline, no_lines, outlined, standing_at};
 
@@ -88,10 +88,20 @@ impl Reading {
         ensures meant { (p : Parts) → Knows p self.old → OnOk result (Knows (parted_words (Some (keyword.now, arguments.now)) p) self.new) }
     {
         self.take_words(number, keyword, arguments)?;
-        if self.begun.is_none() && self.draft.is_in_section() {
-            self.begun = Some(number);
-        }
+        self.begin(number);
         self.add_members(number)
+    }
+
+    /// Notes that a section begins at this line, if one does.
+    fn begin(&mut self, line: usize)
+        ensures read { (last : ℕ) → IsRead last self.old → IsLine last line → IsRead last self.new }
+        ensures first { self.new.first ≡ self.old.first }
+        ensures draft { self.new.draft ≡ self.old.draft }
+        ensures begun { is_section (standing_of self.new.draft).at ≡ true → IsSome self.new.begun }
+    {
+        if self.begun.is_none() && self.draft.is_in_section() {
+            self.begun = Some(line);
+        }
     }
 
     /// Takes what a line of words says, or its fault.
@@ -156,8 +166,7 @@ impl Reading {
         let is_whole = self.draft.is_whole();
         let is_kept = self.draft.end_section()?;
         if let Some(line) = self.begun {
-            // A section that is not kept never passes, even if each of its lines did.
-            if !is_whole || (!is_kept && self.first.is_none()) {
+            if self.lacks(is_whole, is_kept) {
                 self.note(line, FaultKind::KeywordMissing);
             }
             self.begun = None;
@@ -165,11 +174,19 @@ impl Reading {
         Ok(())
     }
 
+    /// Whether a section lacks a keyword. One that goes though no line was faulty never passes.
+    fn lacks(&self, is_whole: bool, is_kept: bool) -> bool
+        ensures { result ≡ (not is_whole || not is_kept && is_none self.now.first) }
+    {
+        !is_whole || (!is_kept && self.first.is_none())
+    }
+
     /// The configuration behind the last line, or the first faulty line.
     pub fn finish(mut self) -> Result<Result<Config, ConfigFault>, AllocError>
         ensures lines { (last : ℕ) → IsRead last self → IfOk result (λ told. IfErr told (IsUpTo last)) }
         ensures again { (again : List ℕ) → Tells again self.first →
             IfOk result (λ told. MatchResult told (λ config. again ≡ []) (IsToldOf again)) }
+        ensures means { (p : Parts) → Knows p self → IfOk result (λ told. IfOk told (Means (meaning_of (ended p)))) }
     {
         self.end_section()?;
         let Reading {
@@ -194,6 +211,8 @@ fn place_members(
     ensures lines { (last : ℕ) → All (λ m. IsLine last m.line) members.now → IfSome first (IsUpTo last)
         → IfOk result (λ f. IfSome f (IsUpTo last)) }
     ensures again { (again : List ℕ) → Tells again first → IfOk result (Tells again) }
+    ensures none { IfOk result (λ f. f ≡ None → first ≡ None) }
+    ensures view { OnOk result (view draft.new ≡ view draft.old) }
 {
     let mut first = first;
     for member in members {

@@ -1,7 +1,10 @@
 use Rattle.std.proofs.Common.{◌∙◌, ℕ, List, ap, arith, subst, sym}
 use Rattle.config.specs.Lines.{line_count}
 use Rattle.config.specs.Readings.{IsRead}
-use Rattle.config.specs.Standing.{lines_again}
+use Rattle.config.specs.Standing.{lines_again, lines_of}
+use Rattle.std.specs.Prelude.{fold}
+use Rattle.config.specs.Configurations.{no_parts, parted}
+use Rattle.config.proofs.ViewLemmas.{all_parted, first_parted, more_parted}
 use Rattle.config.proofs.ReadingLemmas.{all_so_far, first_so_far, more_so_far, unless_memory}
 use Rattle.config.proofs.read.read_config.Goals as goal
 
@@ -11,6 +14,8 @@ loop-line-init c = (
   omega (arith, c.new-lines.ensures.0, ap (λ (t : List ℕ). line_count t) c.new-lines.ensures.1),
   first_so_far c.args.text.now c.new-lines.result.rest.now c.new-lines.result.taken c.new-reading.result c.new-lines.ensures.0 c.new-lines.ensures.1
       c.new-reading.ensures.outlined,
+  first_parted c.args.text.now c.new-lines.result.rest.now c.new-lines.result.taken c.new-reading.result c.new-lines.ensures.0 c.new-lines.ensures.1
+      c.new-reading.ensures.meant,
 )
 
 pub loop-line-preserved : goal.loop-line-preserved
@@ -20,6 +25,8 @@ loop-line-preserved c = (
   more_so_far c.args.text.now c.loop-line.lines.taken c.take.new.self.taken c.in-Some.line.number c.in-Some.line.text.now c.loop-line.lines.rest.now
       c.take.new.self.rest.now c.loop-line.reading c.read.new.self c.loop-line.invariant.2 c.in-Some.ensures.number.1 c.in-Some.ensures.number.0
       c.in-Some.ensures.line c.in-Ok.ensures.outlined,
+  more_parted c.args.text.now c.loop-line.lines.taken c.take.new.self.taken c.in-Some.line.text.now c.loop-line.lines.rest.now c.take.new.self.rest.now
+      c.loop-line.reading c.read.new.self c.loop-line.invariant.3 c.in-Some.ensures.number.1 c.in-Some.ensures.line c.in-Ok.ensures.meant,
 )
 
 pub returns-in-Ok-finish-clause-again : goal.returns-in-Ok-finish-clause-again
@@ -27,3 +34,8 @@ returns-in-Ok-finish-clause-again c =
     unless_memory (lines_again c.args.text.now) c.in-Ok-finish.told
     (c.in-Ok-finish.ensures.again (lines_again c.args.text.now)
     (all_so_far c.args.text.now c.loop-line.lines.taken c.loop-line.lines.rest.now c.loop-line.reading c.loop-line.invariant.2 c.in_default.ensures.all))
+
+pub returns-in-Ok-finish-clause-means : goal.returns-in-Ok-finish-clause-means
+returns-in-Ok-finish-clause-means c =
+    c.in-Ok-finish.ensures.means (fold parted no_parts (lines_of c.args.text.now))
+    (all_parted c.args.text.now c.loop-line.lines.taken c.loop-line.lines.rest.now c.loop-line.reading c.loop-line.invariant.3 c.in_default.ensures.all)

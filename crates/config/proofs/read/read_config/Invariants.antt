@@ -2,12 +2,13 @@ use Rattle.std.proofs.Common.{◌≡◌, ◌+◌, length}
 use Rattle.config.specs.Lines.{line_count}
 use Rattle.config.specs.Readings.{IsRead}
 use Rattle.config.proofs.ReadingLemmas.{IsSoFar}
+use Rattle.config.proofs.ViewLemmas.{IsParted}
 use Rattle.config.proofs.read.read_config.Given as goal
 
 abbrev pub invariant-loop-line : goal.invariant-loop-line
 invariant-loop-line l =
     IsRead l.lines.taken l.reading × (l.lines.taken + line_count l.lines.rest.now ≡ line_count l.text)
-    × IsSoFar l.text l.lines.taken l.lines.rest.now l.reading
+    × IsSoFar l.text l.lines.taken l.lines.rest.now l.reading × IsParted l.text l.lines.taken l.lines.rest.now l.reading
 
 abbrev pub decreases-loop-line : goal.decreases-loop-line
 decreases-loop-line l = length l.lines.rest.now

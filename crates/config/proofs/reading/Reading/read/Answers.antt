@@ -1,6 +1,10 @@
 use Rattle.std.proofs.Common.{ℕ, List}
 use Rattle.config.specs.Outlines.{IsBehindWords, IsOutlined}
 use Rattle.config.specs.Standing.{outlined}
+use Rattle.config.specs.Configurations.{ended, parted, parted_words}
+use Rattle.config.specs.Meant.{Knows}
+use Rattle.std.specs.Prelude.{None, Some}
+use Rattle.config.proofs.ViewLemmas.{blank_parted, knows_also, words_parted}
 use Rattle.config.proofs.ReadingLemmas.{blank_line, comment_line, on_ok, on_ok_so, words_line}
 use Rattle.config.proofs.reading.Reading.read.Goals as goal
 
@@ -21,3 +25,24 @@ returns-in-Words-clause-outlined c = λ o is counted.
     (IsOutlined (outlined o c.args.line.text.now) c.read_words.new.self)
     (words_line o c.args.line.text.now words c.args.line.number c.read_words.new.self c.in-Words.ensures.0 c.in-Words.ensures.1 counted)
     (c.read_words.ensures.outlined o is)
+
+pub returns-in-Empty-clause-meant : goal.returns-in-Empty-clause-meant
+returns-in-Empty-clause-meant c = λ p knows.
+    let line = c.args.line.text.now in
+    let new = c.end_section.new.self in
+    on_ok_so c.end_section.result (Knows (ended p) new) (Knows (parted p line) new)
+    (knows_also (parted p line) (ended p) new (blank_parted p line c.in-Empty.ensures)) (c.end_section.ensures.meant p knows)
+
+pub returns-in-Comment-clause-meant : goal.returns-in-Comment-clause-meant
+returns-in-Comment-clause-meant c = λ p knows.
+    let line = c.args.line.text.now in
+    knows_also (parted p line) p c.args.self.now (words_parted p line None c.in-Comment.ensures.0 c.in-Comment.ensures.1) knows
+
+pub returns-in-Words-clause-meant : goal.returns-in-Words-clause-meant
+returns-in-Words-clause-meant c = λ p knows.
+    let line = c.args.line.text.now in
+    let words : List ℕ × List ℕ = (c.in-Words.keyword.now, c.in-Words.arguments.now) in
+    let new = c.read_words.new.self in
+    on_ok_so c.read_words.result (Knows (parted_words (Some words) p) new) (Knows (parted p line) new)
+    (knows_also (parted p line) (parted_words (Some words) p) new (words_parted p line (Some words) c.in-Words.ensures.0 c.in-Words.ensures.1))
+    (c.read_words.ensures.meant p knows)
