@@ -3,7 +3,7 @@ use Rattle.std.proofs.Common.{◌≡◌, ◌∙◌, ℕ, Bool, true, false, List
 use Rattle.std.specs.Prelude.{Option, Some, None, Result, Ok, Err, OnOk, fold, flat_map, unwrap_or, option_and_then, option_to_list, codes, IsSome, is_none, not, ◌&&◌, ◌||◌, if◌then◌else◌}
 use Rattle.std.specs.Str.{str_eq_ignore_ascii_case}
 use Rattle.std.specs.Option.{option_or}
-use Rattle.std.proofs.lemmas.List.{append-nil}
+use Rattle.std.proofs.lemmas.List.{append-nil, map-append}
 use Rattle.std.proofs.lemmas.List.Sums.{fold-append}
 use Rattle.config_words.specs.declared.keyword.Place.{Place}
 use Rattle.config_words.specs.declared.keyword.Place.TheVariants.{Start, Between, ImapStore, MaildirStore, Channel, Group}
@@ -28,9 +28,9 @@ use Rattle.config.specs.declared.reading.Reading.{Reading}
 use Rattle.config.specs.Meant.{IsDrawn, IsMeant, Knows}
 use Rattle.config.specs.Standing.{Standing, lines_of}
 use Rattle.config.proofs.OutlineLemmas.{all_taken, one_left, one_taken}
-use Rattle.config.specs.Configurations.{Meaning, Means, channel_value, imap_value, maildir_value, Part, Parts, add_at, begin_at, ended, ended_if, imap_names, line_said, maildir_names, meaning_of, no_meaning, no_parts, parted, parted_words, said_at, with_section}
-use Rattle.config.specs.Sections.{ImapMeaning, far_in, near_in, host_in, imap_store_of, later, patterns_in, place_among, port_in, store_at, the, title_in, user_in, pass_in, path_in, inbox_in, cells_in, create_in, expunge_in}
-use Rattle.config.specs.Views.{AtStart, AtImapStore, AtMaildirStore, AtChannel, AtGroup, AtBetween, ChannelView, MaildirView, MannerView, Sketch, View, sketch, view, begun_view, channel_said, channel_with, ended_view, imap_with, maildir_said, maildir_with, manner_said, manner_with, part_sketch, sketch_at, sketch_with, view_from, view_of, view_said, view_with}
+use Rattle.config.specs.Configurations.{Meaning, Means, channel_value, group_name, imap_value, maildir_value, Part, Parts, add_at, begin_at, ended, ended_if, imap_names, line_said, maildir_names, meaning_of, no_meaning, no_parts, parted, parted_words, said_at, with_section}
+use Rattle.config.specs.Sections.{ImapMeaning, far_in, near_in, host_in, imap_store_of, later, patterns_in, place_among, port_in, store_at, the, title_in, user_in, group_of, GroupMeaning, pass_in, path_in, inbox_in, cells_in, create_in, expunge_in}
+use Rattle.config.specs.Views.{AtStart, AtImapStore, AtMaildirStore, AtChannel, AtGroup, AtBetween, ChannelView, MaildirView, MannerView, Sketch, View, sketch, view, begun_view, channel_said, channel_with, ended_view, imap_with, maildir_said, maildir_with, manner_said, manner_with, part_sketch, put_view, sketch_at, sketch_with, view_from, view_of, view_said, view_with}
 
 -- ---- one line more
 
@@ -153,6 +153,7 @@ shown m section name before = record {
   imap_stores = m.imap_stores;
   maildir_stores = m.maildir_stores;
   channels = m.channels;
+  groups = map (λ g. g.name) m.groups;
 }
 
 at_start : (m : Meaning) (s : Said) (name : List ℕ) (before : MannerView) → title_in s ≡ None
@@ -400,6 +401,13 @@ behind : (before : List Said) (ends : List Part) (s : Part)
     → view_of (ended_if true (parts before ends s)) ≡ view_from (with_section before (meaning_of (parts before ends s)) s) (ended_if true (parts before ends s))
 behind before ends s = ap (λ (m : Meaning). view_from m (ended_if true (parts before ends s))) (fold-append (with_section before) no_meaning ends (s ∷ []))
 
+-- a group more
+more_groups : (p : Parts) → put_view AtGroup p.current.name (record (view_of p) { section = AtBetween; name = [] })
+    ≡ view_from (record (meaning_of p) { groups = (meaning_of p).groups ++ group_of p.current.name p.current.says ∷ [] }) (ended_if true p)
+more_groups p =
+    ap (λ (names : List (List ℕ)). record (view_of p) { section = AtBetween; name = []; groups = names })
+    (sym (map-append (λ (g : GroupMeaning). g.name) (meaning_of p).groups (group_of p.current.name p.current.says ∷ [])))
+
 -- the section that has ended
 end_view : (before : List Said) (ends : List Part) (kind : Place) (name : List ℕ) (says : List Said)
     → ended_view (is_section kind) (view_of (parts before ends (part kind name says))) ≡ view_of (ended (parts before ends (part kind name says)))
@@ -408,7 +416,8 @@ end_view before ends Between name says = refl
 end_view before ends ImapStore name says = sym (behind before ends (part ImapStore name says))
 end_view before ends MaildirStore name says = sym (behind before ends (part MaildirStore name says))
 end_view before ends Channel name says = sym (behind before ends (part Channel name says))
-end_view before ends Group name says = sym (behind before ends (part Group name says))
+end_view before ends Group name says =
+    more_groups (parts before ends (part Group name says)) ∙ sym (behind before ends (part Group name says))
 
 pub drawn_end : (p : Parts) (old new : Draft) → IsDrawn p old → view new ≡ ended_view (is_section (place_of old.section)) (view old) → IsDrawn (ended p) new
 drawn_end p old new is shows = record {
@@ -471,6 +480,7 @@ means_so p d config is same = record {
   imap_stores = ap (λ (c : Config). map imap_value c.imap_stores.items) same ∙ ap (λ (v : View). v.imap_stores) is.view;
   maildir_stores = ap (λ (c : Config). map maildir_value c.maildir_stores.items) same ∙ ap (λ (v : View). v.maildir_stores) is.view;
   channels = ap (λ (c : Config). map channel_value c.channels.items) same ∙ ap (λ (v : View). v.channels) is.view;
+  groups = ap (λ (c : Config). map group_name c.groups.items) same ∙ ap (λ (v : View). v.groups) is.view;
 }
 
 -- ---- the lines of a text, as far as they are read

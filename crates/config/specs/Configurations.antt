@@ -129,8 +129,12 @@ channel_value c = record {
   expunge = c.expunge;
 }
 
--- a configuration has just this meaning
+abbrev pub group_name : Group → List ℕ
+group_name g = string_bytes g.name
+
+-- a configuration has just these stores, channels and groups; of the channels of a group nothing is said
 pub record Means (m : Meaning) (config : Config) : Type 0 where
   pub imap_stores : map imap_value config.imap_stores.items ≡ m.imap_stores
   pub maildir_stores : map maildir_value config.maildir_stores.items ≡ m.maildir_stores
   pub channels : map channel_value config.channels.items ≡ m.channels
+  pub groups : map group_name config.groups.items ≡ map (λ g. g.name) m.groups

@@ -16,7 +16,7 @@ use Rattle.config.specs.declared.section.Section.TheVariants.{Start, Between, Im
 use Rattle.config_words.specs.declared.keyword.Place.{Place}
 use Rattle.config_words.specs.declared.keyword.Place.TheVariants as place
 use Rattle.config_words.specs.Meanings.{Said, SectionIs, GroupIs, HostIs, PortIs, UserIs, PassIs, PathIs, InboxIs, FarIs, NearIs, PatternsAre, SyncIs, CreateIs, ExpungeIs, ChannelsAre, SaysNothing}
-use Rattle.config.specs.Configurations.{Meaning, Part, Parts, channel_value, imap_names, imap_value, maildir_names, maildir_value, meaning_of}
+use Rattle.config.specs.Configurations.{Meaning, Part, Parts, channel_value, group_name, imap_names, imap_value, maildir_names, maildir_value, meaning_of}
 use Rattle.config.specs.Sections.{ChannelMeaning, GroupMeaning, ImapMeaning, MaildirMeaning, box_at, boxes_of, cells_in, create_in, everything, expunge_in, far_in, host_in, imap_store_of, inbox_in, maildir_store_of, near_in, neither, pass_in, path_in, patterns_in, place_among, port_in, store_at, the, user_in}
 
 -- ---- IMAP stores, without their names
@@ -189,6 +189,7 @@ pub record View : Type 0 where
   pub imap_stores : List ImapMeaning
   pub maildir_stores : List MaildirMeaning
   pub channels : List ChannelMeaning
+  pub groups : List (List ℕ)
 
 abbrev pub view : Draft → View
 view d = record {
@@ -198,10 +199,11 @@ view d = record {
   imap_stores = map imap_value d.config.imap_stores.items;
   maildir_stores = map maildir_value d.config.maildir_stores.items;
   channels = map channel_value d.config.channels.items;
+  groups = map group_name d.config.groups.items;
 }
 
 abbrev pub first_view : View
-first_view = record { section = AtStart; name = []; before = manner_said []; imap_stores = []; maildir_stores = []; channels = [] }
+first_view = record { section = AtStart; name = []; before = manner_said []; imap_stores = []; maildir_stores = []; channels = []; groups = [] }
 
 -- before any section, a line is for all channels
 abbrev pub before_with : Said → Sketch → MannerView → MannerView
@@ -240,7 +242,7 @@ put_view AtStart name v = v
 put_view (AtImapStore m) name v = record v { imap_stores = v.imap_stores ++ record m { name = name } ∷ [] }
 put_view (AtMaildirStore m) name v = record v { maildir_stores = v.maildir_stores ++ maildir_ended name m ∷ [] }
 put_view (AtChannel c) name v = record v { channels = v.channels ++ channel_ended name v.before c ∷ [] }
-put_view AtGroup name v = v
+put_view AtGroup name v = record v { groups = v.groups ++ name ∷ [] }
 put_view AtBetween name v = v
 
 -- a section ends, if one is open
@@ -266,6 +268,7 @@ view_from m p = record {
   imap_stores = m.imap_stores;
   maildir_stores = m.maildir_stores;
   channels = m.channels;
+  groups = map (λ g. g.name) m.groups;
 }
 
 abbrev pub view_of : Parts → View
