@@ -3,3 +3,5 @@ pub mod NameLemmas
 pub mod OutlineLemmas
 pub mod ReadingLemmas
 pub mod ViewLemmas
+pub mod PartedLemmas
+pub mod MeaningExamples

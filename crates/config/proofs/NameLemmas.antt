@@ -1,6 +1,6 @@
 -- Names of sections, and the lines that give them.
 use Rattle.std.proofs.Common.{◌≡◌, ℕ, Bool, true, false, List, [], ◌∷◌, ◌+◌, cond, length, refl, ap, subst, sym, ◌∙◌, map}
-use Rattle.std.specs.Prelude.{bytes_eq, nat_eq, nat_lt, position, ◌||◌, ◌&&◌, not, Option, Some, None, Result, IfSome, if◌then◌else◌}
+use Rattle.std.specs.Prelude.{bytes_eq, nat_lt, position, ◌||◌, ◌&&◌, not, Option, Some, None, Result, IfSome, if◌then◌else◌}
 use Rattle.std.specs.List.{list_all, list_any, prefix_len}
 use Rattle.std.proofs.lemmas.List.{length-map}
 use Rattle.config_words.specs.declared.keyword.Place.{Place}
@@ -11,7 +11,7 @@ use Rattle.config_words.specs.Keywords.{opened_by, section_of}
 use Rattle.config_words.specs.Places.{is_section, opened, section_named}
 use Rattle.config_words.specs.Settings.{is_argument, name_given}
 use Rattle.config.specs.Sections.{place_among}
-use Rattle.config.specs.Standing.{Standing, begins_again, begun, is_again, name_of, named, standing_at}
+use Rattle.config.specs.Standing.{Standing, begins_again, begun, is_again, name_of, named}
 use Rattle.config_words.specs.Words.{arguments_of, is_plain}
 
 pub any_map : {A : Type 0} (f : A → List ℕ) (p : List ℕ → Bool) (xs : List A) → list_any (λ x. p (f x)) xs ≡ list_any p (map f xs)

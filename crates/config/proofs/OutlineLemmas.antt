@@ -1,6 +1,6 @@
 -- The lines of a text, what is known behind some of them, and which fault is told of several.
-use Rattle.std.proofs.Common.{◌≡◌, ◌≢◌, ◌⊎◌, inl, inr, ℕ, ◌+◌, ◌<◌, ◌≤◌, Bool, true, false, cond, List, [], ◌∷◌, ◌++◌, length, take, drop, get_or, refl, ap, subst, sym, ◌∙◌, arith, add-one, length-drop, suc}
-use Rattle.std.specs.Prelude.{All, Contains, Option, Some, None, fold, nat_lt, nat_le, ◌==◌, ◌||◌, ◌&&◌, if◌then◌else◌}
+use Rattle.std.proofs.Common.{◌≡◌, ◌≢◌, ◌⊎◌, inr, ℕ, ◌+◌, ◌<◌, ◌≤◌, Bool, true, false, cond, List, [], ◌∷◌, ◌++◌, length, take, drop, get_or, refl, ap, subst, sym, ◌∙◌, arith, add-one, length-drop, suc}
+use Rattle.std.specs.Prelude.{All, Option, Some, None, fold, nat_lt, nat_le, ◌==◌, ◌||◌, ◌&&◌, if◌then◌else◌}
 use Rattle.std.proofs.lemmas.Bool.{ne_eqb}
 use Rattle.std.proofs.lemmas.Grind.{common_steps}
 use Rattle.std.proofs.lemmas.List.{append-nil, take-append-drop, take_more}
@@ -9,7 +9,6 @@ use Rattle.std.proofs.Math.Seq.{drop-cons}
 use Rattle.std.proofs.lemmas.Bool.Decides.{nat_tests}
 use Rattle.std.proofs.lemmas.List.Elements.{All-head, All-tail, All-push, All-nil, All-cons, Contains-append_left, Contains-push}
 use Rattle.config_words.specs.declared.fault.ConfigFault.{ConfigFault}
-use Rattle.config_words.specs.declared.fault.FaultKind.{FaultKind}
 use Rattle.config_words.specs.declared.fault.FaultKind.TheVariants.{DefinedTwice, NoMemory}
 use Rattle.config_words.specs.Faults.{number_of}
 use Rattle.config_words.specs.Faults.{precedes}

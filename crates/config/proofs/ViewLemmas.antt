@@ -1,36 +1,28 @@
 -- What lines make of the sections of a text is what each of them changes of a draft.
-use Rattle.std.proofs.Common.{◌≡◌, ◌∙◌, ℕ, Bool, true, false, List, [], ◌∷◌, ◌++◌, append_assoc, ◌+◌, drop, map, take, refl, ap, sym, subst}
-use Rattle.std.specs.Prelude.{Option, Some, None, Result, Ok, Err, OnOk, fold, flat_map, unwrap_or, option_and_then, option_to_list, codes, IsSome, is_none, not, ◌&&◌, ◌||◌, if◌then◌else◌}
+use Rattle.std.proofs.Common.{◌≡◌, ◌∙◌, ℕ, Bool, true, false, List, [], ◌∷◌, ◌++◌, append_assoc, map, refl, ap, sym, subst}
+use Rattle.std.specs.Prelude.{Option, Some, None, Result, Ok, Err, OnOk, fold, flat_map, unwrap_or, option_and_then, option_to_list, codes, if◌then◌else◌}
 use Rattle.std.specs.Str.{str_eq_ignore_ascii_case}
 use Rattle.std.specs.Option.{option_or}
 use Rattle.std.proofs.lemmas.List.{append-nil, map-append}
 use Rattle.std.proofs.lemmas.List.Sums.{fold-append}
 use Rattle.config_words.specs.declared.keyword.Place.{Place}
 use Rattle.config_words.specs.declared.keyword.Place.TheVariants.{Start, Between, ImapStore, MaildirStore, Channel, Group}
-use Rattle.config_words.specs.Meanings.{Said, SectionIs, GroupIs, HostIs, PortIs, UserIs, PassIs, PathIs, InboxIs, FarIs, NearIs, PatternsAre, SyncIs, CreateIs, ExpungeIs, ChannelsAre, SaysNothing}
-use Rattle.std.specs.List.{list_all}
+use Rattle.config_words.specs.Meanings.{Said, SectionIs, GroupIs, FarIs, NearIs, ChannelsAre}
 use Rattle.config_words.specs.declared.fault.FaultKind.{FaultKind}
 use Rattle.config_words.specs.declared.keyword.Keyword.{Keyword}
-use Rattle.config_words.specs.declared.setting.Setting.{Setting}
-use Rattle.config_words.specs.declared.setting.Setting.TheVariants as says
 use Rattle.config_words.specs.Keywords.{keyword_named, meant_at}
-use Rattle.config_words.specs.Meanings.{said, said_of}
+use Rattle.config_words.specs.Meanings.{said}
 use Rattle.config_words.specs.Places.{is_section, opened, section_named}
-use Rattle.config_words.specs.Settings.{is_argument, name_among, name_given, name_said}
-use Rattle.config_words.specs.Words.{Split, arguments_of, is_blank, words_of}
-use Rattle.config_words.specs.declared.fault.ConfigFault.{ConfigFault}
-use Rattle.config.specs.declared.config.Config.{Config}
+use Rattle.config_words.specs.Words.{arguments_of}
 use Rattle.config.specs.declared.draft.Draft.{Draft}
 use Rattle.config.specs.declared.section.Section.{Section}
 use Rattle.config.specs.declared.section.Section.TheVariants as sections
 use Rattle.config.specs.Drafts.{IsMet, place_of}
-use Rattle.config.specs.declared.reading.Reading.{Reading}
-use Rattle.config.specs.Meant.{IsDrawn, IsMeant, Knows}
-use Rattle.config.specs.Standing.{Standing, lines_of}
-use Rattle.config.proofs.OutlineLemmas.{all_taken, one_left, one_taken}
-use Rattle.config.specs.Configurations.{Meaning, Means, channel_value, group_name, imap_value, maildir_value, Part, Parts, add_at, begin_at, ended, ended_if, imap_names, line_said, maildir_names, meaning_of, no_meaning, no_parts, parted, parted_words, said_at, with_section}
+use Rattle.config.specs.Meant.{IsDrawn}
+use Rattle.config.specs.Standing.{Standing}
+use Rattle.config.specs.Configurations.{Meaning, Part, Parts, add_at, begin_at, ended, ended_if, imap_names, line_said, maildir_names, meaning_of, no_meaning, parted_words, said_at, with_section}
 use Rattle.config.specs.Sections.{ImapMeaning, far_in, near_in, host_in, imap_store_of, later, patterns_in, place_among, port_in, store_at, the, title_in, user_in, group_of, GroupMeaning, pass_in, path_in, inbox_in, cells_in, create_in, expunge_in}
-use Rattle.config.specs.Views.{AtStart, AtImapStore, AtMaildirStore, AtChannel, AtGroup, AtBetween, ChannelView, MaildirView, MannerView, Sketch, View, sketch, view, begun_view, channel_said, channel_with, ended_view, imap_with, maildir_said, maildir_with, manner_said, manner_with, part_sketch, put_view, sketch_at, sketch_with, view_from, view_of, view_said, view_with}
+use Rattle.config.specs.Views.{AtStart, AtImapStore, AtMaildirStore, AtChannel, AtGroup, AtBetween, ChannelView, MaildirView, MannerView, Sketch, View, sketch, view, begun_view, channel_said, ended_view, imap_with, maildir_said, maildir_with, manner_said, manner_with, part_sketch, put_view, view_from, view_of, view_said, view_with}
 
 -- ---- one line more
 
@@ -56,43 +48,6 @@ manner_more : (says : List Said) (s : Said) → manner_said (says ++ s ∷ []) �
 manner_more says s = simp (the_more cells_in says s, the_more create_in says s, the_more expunge_in says s)
 
 -- ---- a line of words
-
-none_given : (arguments : List (List ℕ)) → name_given None arguments ≡ None
-none_given arguments = by (list_all is_argument arguments)
-  where
-    by : (b : Bool) → (if b then option_and_then (λ (p : Place). name_among p arguments) None else None) ≡ None
-    by true = refl
-    by false = refl
-
-title_said : (setting : Setting) → title_in (said_of setting) ≡ name_said setting
-title_said (says.Section name) = refl
-title_said (says.Group name channels) = refl
-title_said (says.Host host) = refl
-title_said (says.Port port) = refl
-title_said (says.User user) = refl
-title_said (says.Pass pass) = refl
-title_said (says.Path path) = refl
-title_said (says.Inbox inbox) = refl
-title_said (says.Far place) = refl
-title_said (says.Near place) = refl
-title_said (says.Patterns patterns) = refl
-title_said (says.Sync cells) = refl
-title_said (says.Create sides) = refl
-title_said (says.Expunge sides) = refl
-title_said (says.Channels channels) = refl
-title_said says.Nothing = refl
-
--- what a setting changes is what its keyword says
-pub set_so : (r : Result (Unit {0}) FaultKind) (wanted : Option Said) (setting : Setting) (old new : View) → wanted ≡ Some (said_of setting)
-    → OnOk r (new ≡ view_with (said_of setting) old) → OnOk r (new ≡ view_said wanted old)
-set_so r wanted setting old new is known = subst (λ (w : Option Said). OnOk r (new ≡ view_said w old)) (sym is) known
-
--- only a keyword that begins a section names one
-pub untitled : (section : Option Place) (arguments : List (List ℕ)) (wanted : Option Said) (setting : Setting) → wanted ≡ Some (said_of setting)
-    → name_said setting ≡ name_given section arguments → section ≡ None → option_and_then title_in wanted ≡ None
-untitled section arguments wanted setting is named none =
-    ap (λ (w : Option Said). option_and_then title_in w) is
-    ∙ (title_said setting ∙ (named ∙ (ap (λ (s : Option Place). name_given s arguments) none ∙ none_given arguments)))
 
 -- a keyword that may stand here begins what its word begins
 pub begins_so : (within : Bool) (section : Option Place) (misplaced : Option FaultKind) (old mid : Standing) → IsMet within section old mid misplaced
@@ -430,101 +385,3 @@ drawn_end p old new is shows = record {
     by : (b : Bool) → (ended_if b p).current.kind ≡ Start → (ended_if b p).ended ≡ []
     by false start = is.first start
     by true start = cc
-
--- ---- lines
-
-pub some_first : {A : Type 0} {o : Option A} {x : A} → o ≡ Some x → o ≡ None → ⊥
-some_first is none = let both : Some _ ≡ None = sym is ∙ none in cc
-
-pub blank_parted : (p : Parts) (line : List ℕ) → is_blank line ≡ true → parted p line ≡ ended p
-blank_parted p line blank = ap (λ (b : Bool). if b then ended p else parted_words (words_of line) p) blank
-
-pub words_parted : (p : Parts) (line : List ℕ) (words : Option (List ℕ × List ℕ)) → is_blank line ≡ false → words_of line ≡ words → parted p line ≡ parted_words words p
-words_parted p line words some are =
-    ap (λ (b : Bool). if b then ended p else parted_words (words_of line) p) some ∙ ap (λ (w : Option (List ℕ × List ℕ)). parted_words w p) are
-
-pub knows_also : (p q : Parts) (reading : Reading) → p ≡ q → Knows q reading → Knows p reading
-knows_also p q reading same knows = subst (λ (x : Parts). Knows x reading) (sym same) knows
-
--- ---- sections that end
-
-not_open : (p : Parts) → is_section (ended p).current.kind ≡ true → ⊥
-not_open p = by (is_section p.current.kind) refl
-  where
-    by : (b : Bool) → is_section p.current.kind ≡ b → is_section (ended_if b p).current.kind ≡ true → ⊥
-    by false is within = cc
-    by true is within = cc
-
-pub ended_meant : (p : Parts) (old : Draft) (new : Reading) → IsDrawn p old → view new.draft ≡ ended_view (is_section (place_of old.section)) (view old)
-    → IsMeant (ended p) new
-ended_meant p old new is shows = record { draft = drawn_end p old new.draft is shows; begun = λ within. absurd (not_open p within) }
-
--- where no section has begun, none is open
-pub outside_so : (p : Parts) (old : Reading) → IsMeant p old → old.begun ≡ None → is_section (place_of old.draft.section) ≡ false
-outside_so p old is none = ap is_section (at_drawn p old.draft is.draft) ∙ by (is_section p.current.kind) refl
-  where
-    by : (b : Bool) → is_section p.current.kind ≡ b → is_section p.current.kind ≡ false
-    by false closed = closed
-    by true within = let some : false ≡ true = subst (λ (o : Option ℕ). IsSome o) none (is.begun within) in cc
-
-pub kept_so : (whole kept lacks : Bool) (first : Option ConfigFault) → lacks ≡ (not whole || not kept && is_none first) → lacks ≡ false → first ≡ None → kept ≡ true
-kept_so whole true lacks first is passes none = refl
-kept_so false false lacks first is passes none = cc
-kept_so true false lacks first is passes none = let some : is_none first ≡ true = ap (λ (f : Option ConfigFault). is_none f) none in cc
-
-pub drawn_same : (p : Parts) (old new : Draft) → IsDrawn p old → view new ≡ view old → IsDrawn p new
-drawn_same p old new is same = record { view = same ∙ is.view; first = is.first }
-
-pub means_so : (p : Parts) (d : Draft) (config : Config) → IsDrawn p d → config ≡ d.config → Means (meaning_of p) config
-means_so p d config is same = record {
-  imap_stores = ap (λ (c : Config). map imap_value c.imap_stores.items) same ∙ ap (λ (v : View). v.imap_stores) is.view;
-  maildir_stores = ap (λ (c : Config). map maildir_value c.maildir_stores.items) same ∙ ap (λ (v : View). v.maildir_stores) is.view;
-  channels = ap (λ (c : Config). map channel_value c.channels.items) same ∙ ap (λ (v : View). v.channels) is.view;
-  groups = ap (λ (c : Config). map group_name c.groups.items) same ∙ ap (λ (v : View). v.groups) is.view;
-}
-
--- ---- the lines of a text, as far as they are read
-
-pub record IsParted (text : List ℕ) (taken : ℕ) (rest : List ℕ) (reading : Reading) : Type 0 where
-  pub known : Knows (fold parted no_parts (take taken (lines_of text))) reading
-  pub left : drop taken (lines_of text) ≡ lines_of rest
-
-pub first_parted : (text rest : List ℕ) (taken : ℕ) (reading : Reading) → taken ≡ 0 → rest ≡ text → IsMeant no_parts reading → IsParted text taken rest reading
-first_parted text rest taken reading none whole is =
-    subst (λ (r : List ℕ). IsParted text taken r reading) (sym whole)
-    (subst (λ (n : ℕ). IsParted text n text reading) (sym none) (record { known = λ first. is; left = refl }))
-
-pub more_parted : (text : List ℕ) (taken grown : ℕ) (line rest behind : List ℕ) (old new : Reading) → IsParted text taken rest old
-    → grown ≡ taken + 1 → lines_of rest ≡ line ∷ lines_of behind → ((p : Parts) → Knows p old → Knows (parted p line) new) → IsParted text grown behind new
-more_parted text taken grown line rest behind old new so is_grown next read =
-    let all = lines_of text in
-    let here : drop taken all ≡ line ∷ lines_of behind = so.left ∙ next in
-    let more : fold parted no_parts (take (taken + 1) all) ≡ parted (fold parted no_parts (take taken all)) line =
-    ap (λ (l : List (List ℕ)). fold parted no_parts l) (one_taken all taken line (lines_of behind) here)
-    ∙ fold-append parted no_parts (take taken all) (line ∷ []) in
-    subst (λ (n : ℕ). IsParted text n behind new) (sym is_grown)
-    (record {
-      known = knows_also (fold parted no_parts (take (taken + 1) all)) (parted (fold parted no_parts (take taken all)) line) new more
-          (read (fold parted no_parts (take taken all)) so.known);
-      left = one_left all taken line (lines_of behind) here;
-    })
-
-pub all_parted : (text : List ℕ) (taken : ℕ) (rest : List ℕ) (reading : Reading) → IsParted text taken rest reading → lines_of rest ≡ []
-    → Knows (fold parted no_parts (lines_of text)) reading
-all_parted text taken rest reading so none =
-    let all = lines_of text in
-    knows_also (fold parted no_parts all) (fold parted no_parts (take taken all)) reading
-    (sym (ap (λ (l : List (List ℕ)). fold parted no_parts l) (all_taken all taken (so.left ∙ none)))) so.known
-
--- behind a line of words, which may have begun a section
-pub words_known : (q : Parts) (mid begun new : Reading) → (mid.first ≡ None → IsDrawn q mid.draft) → begun.draft ≡ mid.draft → begun.first ≡ mid.first
-    → (is_section (place_of begun.draft.section) ≡ true → IsSome begun.begun) → view new.draft ≡ view begun.draft → new.first ≡ begun.first
-    → new.begun ≡ begun.begun → Knows q new
-words_known q mid begun new known draft first begins shows same still = λ none.
-    let drawn = known (sym first ∙ (sym same ∙ none)) in
-    record {
-      draft = drawn_same q mid.draft new.draft drawn (shows ∙ ap (λ (d : Draft). view d) draft);
-      begun = λ within.
-          subst (λ (o : Option ℕ). IsSome o) (sym still)
-          (begins (ap (λ (d : Draft). is_section (place_of d.section)) draft ∙ (ap is_section (at_drawn q mid.draft drawn) ∙ within)));
-    }

@@ -10,8 +10,8 @@ use Rattle.config_words.specs.declared.keyword.Place.TheVariants as place
 use Rattle.config_words.specs.Keywords.{keyword_named, meant_at}
 use Rattle.config_words.specs.Meanings.{Said, said}
 use Rattle.config_words.specs.Places.{is_section, opened}
-use Rattle.config_words.specs.Words.{Split, arguments_of, is_blank, words_of}
-use Rattle.config.specs.Sections.{ChannelMeaning, GroupMeaning, ImapMeaning, MaildirMeaning, channel_of, group_of, imap_store_of, maildir_store_of, place_among, title_in}
+use Rattle.config_words.specs.Words.{arguments_of, is_blank, words_of}
+use Rattle.config.specs.Sections.{ChannelMeaning, GroupMeaning, ImapMeaning, MaildirMeaning, channel_of, group_of, imap_store_of, maildir_store_of, title_in}
 use Rattle.config.specs.Standing.{lines_of}
 
 -- ---- the sections of a text

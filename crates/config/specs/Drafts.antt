@@ -9,7 +9,7 @@ use Rattle.config.specs.declared.section.Section.{Section}
 use Rattle.config.specs.declared.section.Section.TheVariants.{Start, Between, ImapStore, MaildirStore, Channel, Group}
 use Rattle.config_words.specs.Settings.{name_given}
 use Rattle.config.specs.Standing.{Standing, standing_at}
-use Rattle.config_words.specs.Words.{Split, arguments_of, is_plain}
+use Rattle.config_words.specs.Words.{arguments_of, is_plain}
 
 abbrev pub place_of : Section → Place
 place_of Start = place.Start

@@ -1,5 +1,5 @@
 -- What a reading knows of the sections of its lines, where none of these was faulty.
-use Rattle.std.specs.Prelude.{◌≡◌, true, [], Option, IsSome, None}
+use Rattle.std.specs.Prelude.{◌≡◌, true, [], IsSome, None}
 use Rattle.config.specs.declared.draft.Draft.{Draft}
 use Rattle.config.specs.declared.reading.Reading.{Reading}
 use Rattle.config_words.specs.declared.keyword.Place.TheVariants.{Start}

@@ -1,12 +1,11 @@
 -- What a reading has told so far of the names that are defined twice.
 use Rattle.std.specs.Prelude.{ℕ, ◌≡◌, ◌≢◌, ◌<◌, ◌≤◌, ◌⊎◌, List, [], ◌∷◌, ◌++◌, All, Contains, Option, Some, None, if◌then◌else◌}
 use Rattle.config_words.specs.declared.fault.ConfigFault.{ConfigFault}
-use Rattle.config_words.specs.declared.fault.FaultKind.{FaultKind}
 use Rattle.config_words.specs.declared.fault.FaultKind.TheVariants.{DefinedTwice, NoMemory}
 use Rattle.config.specs.declared.reading.Reading.{Reading}
 use Rattle.config.specs.Drafts.{standing_of}
 use Rattle.config_words.specs.Faults.{number_of, precedes}
-use Rattle.config.specs.Standing.{Outline, Standing, behind_words, words_again}
+use Rattle.config.specs.Standing.{Outline, behind_words, words_again}
 
 abbrev pub earlier : Option ConfigFault → ConfigFault → ConfigFault
 earlier None fault = fault

@@ -1,13 +1,11 @@
 -- What is known behind some lines of a configuration: where the next line stands, and the names of the sections so far.
-use Rattle.std.specs.Prelude.{ℕ, ◌≡◌, ◌+◌, ◌==◌, fold, Bool, true, false, not, ◌&&◌, List, [], ◌∷◌, ◌++◌, Option, Some, None, Result, Ok, Err, if◌then◌else◌}
+use Rattle.std.specs.Prelude.{ℕ, ◌+◌, ◌==◌, fold, Bool, false, not, ◌&&◌, List, [], ◌∷◌, ◌++◌, Option, Some, None, if◌then◌else◌}
 use Rattle.config_words.specs.declared.keyword.Place.{Place}
-use Rattle.config_words.specs.declared.keyword.Place.TheVariants.{Start, Between, ImapStore, MaildirStore, Channel, Group}
-use Rattle.config_words.specs.declared.fault.FaultKind.{FaultKind}
-use Rattle.config_words.specs.declared.fault.FaultKind.TheVariants.{DefinedTwice, NoMemory}
+use Rattle.config_words.specs.declared.keyword.Place.TheVariants.{Start, ImapStore, MaildirStore}
 use Rattle.config.specs.Names.{is_taken}
 use Rattle.config_words.specs.Places.{opened, closed}
 use Rattle.config_words.specs.Settings.{name_given}
-use Rattle.config_words.specs.Words.{Split, arguments_of, is_blank, is_plain, words_of}
+use Rattle.config_words.specs.Words.{arguments_of, is_blank, is_plain, words_of}
 
 -- IMAP stores and Maildir stores have their names apart; channels and groups share theirs
 pub record Standing : Type 0 where

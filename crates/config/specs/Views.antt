@@ -15,9 +15,9 @@ use Rattle.config.specs.declared.section.Section.{Section}
 use Rattle.config.specs.declared.section.Section.TheVariants.{Start, Between, ImapStore, MaildirStore, Channel, Group}
 use Rattle.config_words.specs.declared.keyword.Place.{Place}
 use Rattle.config_words.specs.declared.keyword.Place.TheVariants as place
-use Rattle.config_words.specs.Meanings.{Said, SectionIs, GroupIs, HostIs, PortIs, UserIs, PassIs, PathIs, InboxIs, FarIs, NearIs, PatternsAre, SyncIs, CreateIs, ExpungeIs, ChannelsAre, SaysNothing}
-use Rattle.config.specs.Configurations.{Meaning, Part, Parts, channel_value, group_name, imap_names, imap_value, maildir_names, maildir_value, meaning_of}
-use Rattle.config.specs.Sections.{ChannelMeaning, GroupMeaning, ImapMeaning, MaildirMeaning, box_at, boxes_of, cells_in, create_in, everything, expunge_in, far_in, host_in, imap_store_of, inbox_in, maildir_store_of, near_in, neither, pass_in, path_in, patterns_in, place_among, port_in, store_at, the, user_in}
+use Rattle.config_words.specs.Meanings.{Said, SectionIs, GroupIs, FarIs, NearIs, ChannelsAre}
+use Rattle.config.specs.Configurations.{Meaning, Parts, channel_value, group_name, imap_names, imap_value, maildir_names, maildir_value, meaning_of}
+use Rattle.config.specs.Sections.{ChannelMeaning, ImapMeaning, MaildirMeaning, boxes_of, cells_in, create_in, everything, expunge_in, far_in, host_in, imap_store_of, inbox_in, near_in, neither, pass_in, path_in, patterns_in, place_among, port_in, store_at, the, user_in}
 
 -- ---- IMAP stores, without their names
 

@@ -4,7 +4,7 @@ use Rattle.config.specs.Readings.{IsRead}
 use Rattle.config.specs.Standing.{lines_again, lines_of}
 use Rattle.std.specs.Prelude.{fold}
 use Rattle.config.specs.Configurations.{no_parts, parted}
-use Rattle.config.proofs.ViewLemmas.{all_parted, first_parted, more_parted}
+use Rattle.config.proofs.PartedLemmas.{all_parted, first_parted, more_parted}
 use Rattle.config.proofs.ReadingLemmas.{all_so_far, first_so_far, more_so_far, unless_memory}
 use Rattle.config.proofs.read.read_config.Goals as goal
 

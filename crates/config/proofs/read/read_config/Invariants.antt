@@ -2,7 +2,7 @@ use Rattle.std.proofs.Common.{◌≡◌, ◌+◌, length}
 use Rattle.config.specs.Lines.{line_count}
 use Rattle.config.specs.Readings.{IsRead}
 use Rattle.config.proofs.ReadingLemmas.{IsSoFar}
-use Rattle.config.proofs.ViewLemmas.{IsParted}
+use Rattle.config.proofs.PartedLemmas.{IsParted}
 use Rattle.config.proofs.read.read_config.Given as goal
 
 abbrev pub invariant-loop-line : goal.invariant-loop-line

@@ -1,9 +1,8 @@
 use Rattle.std.proofs.Common.{◌∙◌, sym, subst, rules}
 use Rattle.std.specs.Prelude.{Option}
-use Rattle.std.proofs.lemmas.Grind.{common_steps}
 use Rattle.config_words.specs.declared.fault.ConfigFault.{ConfigFault}
 use Rattle.config.specs.Outlines.{Tells}
-use Rattle.config.proofs.ViewLemmas.{some_first}
+use Rattle.config.proofs.PartedLemmas.{some_first}
 use Rattle.config.proofs.reading.place_members.Goals as goal
 use Rattle.config.proofs.reading.place_members.Goals.{then-not-branch, else-not-branch}
 

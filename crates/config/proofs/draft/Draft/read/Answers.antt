@@ -1,4 +1,4 @@
-use Rattle.std.specs.Prelude.{Option, Some, None}
+use Rattle.std.specs.Prelude.{Option, None}
 use Rattle.std.proofs.Common.{◌≡◌, ◌∙◌, ap, subst}
 use Rattle.config_words.specs.declared.keyword.Place.{Place}
 use Rattle.config.specs.Drafts.{IsTaken, place_of, standing_of}
@@ -9,7 +9,7 @@ use Rattle.config.proofs.NameLemmas.{misplaced_so, opens_same, placed}
 use Rattle.config.specs.Configurations.{line_said}
 use Rattle.config_words.specs.Meanings.{said}
 use Rattle.config_words.specs.Places.{opened}
-use Rattle.config_words.specs.Words.{Split, arguments_of}
+use Rattle.config_words.specs.Words.{arguments_of}
 use Rattle.config.specs.Views.{view}
 use Rattle.config.proofs.ViewLemmas.{begins_so, line_at, read_titled, read_view}
 use Rattle.config.proofs.draft.Draft.read.Goals as goal

@@ -1,6 +1,6 @@
 use Rattle.std.proofs.Common.{◌≡◌, ◌∙◌, ℕ, List, false, ap, map, refl, subst, sym, Global}
 use Rattle.std.specs.Prelude.{Option, None, String, string_bytes}
-use Rattle.config.specs.Drafts.{given, standing_of}
+use Rattle.config.specs.Drafts.{standing_of}
 use Rattle.config_words.specs.Keywords.{section_of}
 use Rattle.config_words.specs.Settings.{name_given}
 use Rattle.config.specs.Standing.{is_again, named}

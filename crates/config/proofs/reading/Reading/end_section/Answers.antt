@@ -2,7 +2,7 @@ use Rattle.std.proofs.Common.{◌≡◌, ◌∙◌, ap, sym}
 use Rattle.std.specs.Prelude.{None}
 use Rattle.config.specs.declared.reading.Reading.{Reading}
 use Rattle.config.specs.Views.{view}
-use Rattle.config.proofs.ViewLemmas.{ended_meant, kept_so, outside_so, some_first}
+use Rattle.config.proofs.PartedLemmas.{ended_meant, kept_so, outside_so, some_first}
 use Rattle.config.proofs.reading.Reading.end_section.Goals as goal
 use Rattle.config.proofs.reading.Reading.end_section.Goals.{then-lacks, else-lacks}
 

@@ -3,7 +3,7 @@ use Rattle.std.specs.Prelude.{Option}
 use Rattle.config_words.specs.declared.fault.ConfigFault.{ConfigFault}
 use Rattle.config.specs.Configurations.{ended}
 use Rattle.config.specs.Outlines.{Tells}
-use Rattle.config.proofs.ViewLemmas.{drawn_same, means_so}
+use Rattle.config.proofs.PartedLemmas.{drawn_same, means_so}
 use Rattle.config.proofs.reading.Reading.finish.Goals as goal
 
 pub returns-in-Some-clause-again : goal.returns-in-Some-clause-again

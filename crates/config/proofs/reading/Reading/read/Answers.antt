@@ -4,7 +4,7 @@ use Rattle.config.specs.Standing.{outlined}
 use Rattle.config.specs.Configurations.{ended, parted, parted_words}
 use Rattle.config.specs.Meant.{Knows}
 use Rattle.std.specs.Prelude.{None, Some}
-use Rattle.config.proofs.ViewLemmas.{blank_parted, knows_also, words_parted}
+use Rattle.config.proofs.PartedLemmas.{blank_parted, knows_also, words_parted}
 use Rattle.config.proofs.ReadingLemmas.{blank_line, comment_line, on_ok, on_ok_so, words_line}
 use Rattle.config.proofs.reading.Reading.read.Goals as goal
 

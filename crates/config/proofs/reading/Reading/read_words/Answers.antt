@@ -2,7 +2,7 @@ use Rattle.std.specs.Prelude.{Some}
 use Rattle.config.specs.Configurations.{parted_words}
 use Rattle.config.specs.Meant.{Knows}
 use Rattle.config.proofs.ReadingLemmas.{on_ok}
-use Rattle.config.proofs.ViewLemmas.{words_known}
+use Rattle.config.proofs.PartedLemmas.{words_known}
 use Rattle.config.proofs.reading.Reading.read_words.Goals as goal
 
 pub returns-clause-meant : goal.returns-clause-meant

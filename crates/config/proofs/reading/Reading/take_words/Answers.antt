@@ -2,7 +2,8 @@ use Rattle.std.proofs.Common.{arith, ap}
 use Rattle.config.specs.declared.draft.Draft.{Draft}
 use Rattle.config.specs.Drafts.{standing_of}
 use Rattle.config.proofs.ReadingLemmas.{noted}
-use Rattle.config.proofs.ViewLemmas.{drawn_words, some_first}
+use Rattle.config.proofs.PartedLemmas.{some_first}
+use Rattle.config.proofs.ViewLemmas.{drawn_words}
 use Rattle.config.proofs.reading.Reading.take_words.Goals as goal
 
 pub returns-in_default : goal.returns-in_default

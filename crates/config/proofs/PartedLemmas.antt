@@ -1,0 +1,115 @@
+-- A reading and the sections of the lines that it has read.
+use Rattle.std.proofs.Common.{◌≡◌, ◌∙◌, ℕ, Bool, true, false, List, [], ◌∷◌, ◌+◌, drop, map, take, refl, ap, sym, subst}
+use Rattle.std.specs.Prelude.{Option, Some, None, fold, IsSome, is_none, not, ◌&&◌, ◌||◌, if◌then◌else◌}
+use Rattle.std.proofs.lemmas.List.Sums.{fold-append}
+use Rattle.config_words.specs.Places.{is_section}
+use Rattle.config_words.specs.Words.{is_blank, words_of}
+use Rattle.config_words.specs.declared.fault.ConfigFault.{ConfigFault}
+use Rattle.config.specs.declared.config.Config.{Config}
+use Rattle.config.specs.declared.draft.Draft.{Draft}
+use Rattle.config.specs.Drafts.{place_of}
+use Rattle.config.specs.declared.reading.Reading.{Reading}
+use Rattle.config.specs.Meant.{IsDrawn, IsMeant, Knows}
+use Rattle.config.specs.Standing.{lines_of}
+use Rattle.config.proofs.OutlineLemmas.{all_taken, one_left, one_taken}
+use Rattle.config.specs.Configurations.{Means, channel_value, group_name, imap_value, maildir_value, Parts, ended, ended_if, meaning_of, no_parts, parted, parted_words}
+use Rattle.config.specs.Views.{View, view, ended_view}
+use Rattle.config.proofs.ViewLemmas.{at_drawn, drawn_end}
+
+-- ---- lines
+
+pub some_first : {A : Type 0} {o : Option A} {x : A} → o ≡ Some x → o ≡ None → ⊥
+some_first is none = let both : Some _ ≡ None = sym is ∙ none in cc
+
+pub blank_parted : (p : Parts) (line : List ℕ) → is_blank line ≡ true → parted p line ≡ ended p
+blank_parted p line blank = ap (λ (b : Bool). if b then ended p else parted_words (words_of line) p) blank
+
+pub words_parted : (p : Parts) (line : List ℕ) (words : Option (List ℕ × List ℕ)) → is_blank line ≡ false → words_of line ≡ words → parted p line ≡ parted_words words p
+words_parted p line words some are =
+    ap (λ (b : Bool). if b then ended p else parted_words (words_of line) p) some ∙ ap (λ (w : Option (List ℕ × List ℕ)). parted_words w p) are
+
+pub knows_also : (p q : Parts) (reading : Reading) → p ≡ q → Knows q reading → Knows p reading
+knows_also p q reading same knows = subst (λ (x : Parts). Knows x reading) (sym same) knows
+
+-- ---- sections that end
+
+not_open : (p : Parts) → is_section (ended p).current.kind ≡ true → ⊥
+not_open p = by (is_section p.current.kind) refl
+  where
+    by : (b : Bool) → is_section p.current.kind ≡ b → is_section (ended_if b p).current.kind ≡ true → ⊥
+    by false is within = cc
+    by true is within = cc
+
+pub ended_meant : (p : Parts) (old : Draft) (new : Reading) → IsDrawn p old → view new.draft ≡ ended_view (is_section (place_of old.section)) (view old)
+    → IsMeant (ended p) new
+ended_meant p old new is shows = record { draft = drawn_end p old new.draft is shows; begun = λ within. absurd (not_open p within) }
+
+-- where no section has begun, none is open
+pub outside_so : (p : Parts) (old : Reading) → IsMeant p old → old.begun ≡ None → is_section (place_of old.draft.section) ≡ false
+outside_so p old is none = ap is_section (at_drawn p old.draft is.draft) ∙ by (is_section p.current.kind) refl
+  where
+    by : (b : Bool) → is_section p.current.kind ≡ b → is_section p.current.kind ≡ false
+    by false closed = closed
+    by true within = let some : false ≡ true = subst (λ (o : Option ℕ). IsSome o) none (is.begun within) in cc
+
+pub kept_so : (whole kept lacks : Bool) (first : Option ConfigFault) → lacks ≡ (not whole || not kept && is_none first) → lacks ≡ false → first ≡ None → kept ≡ true
+kept_so whole true lacks first is passes none = refl
+kept_so false false lacks first is passes none = cc
+kept_so true false lacks first is passes none = let some : is_none first ≡ true = ap (λ (f : Option ConfigFault). is_none f) none in cc
+
+pub drawn_same : (p : Parts) (old new : Draft) → IsDrawn p old → view new ≡ view old → IsDrawn p new
+drawn_same p old new is same = record { view = same ∙ is.view; first = is.first }
+
+pub means_so : (p : Parts) (d : Draft) (config : Config) → IsDrawn p d → config ≡ d.config → Means (meaning_of p) config
+means_so p d config is same = record {
+  imap_stores = ap (λ (c : Config). map imap_value c.imap_stores.items) same ∙ ap (λ (v : View). v.imap_stores) is.view;
+  maildir_stores = ap (λ (c : Config). map maildir_value c.maildir_stores.items) same ∙ ap (λ (v : View). v.maildir_stores) is.view;
+  channels = ap (λ (c : Config). map channel_value c.channels.items) same ∙ ap (λ (v : View). v.channels) is.view;
+  groups = ap (λ (c : Config). map group_name c.groups.items) same ∙ ap (λ (v : View). v.groups) is.view;
+}
+
+-- ---- the lines of a text, as far as they are read
+
+pub record IsParted (text : List ℕ) (taken : ℕ) (rest : List ℕ) (reading : Reading) : Type 0 where
+  pub known : Knows (fold parted no_parts (take taken (lines_of text))) reading
+  pub left : drop taken (lines_of text) ≡ lines_of rest
+
+pub first_parted : (text rest : List ℕ) (taken : ℕ) (reading : Reading) → taken ≡ 0 → rest ≡ text → IsMeant no_parts reading → IsParted text taken rest reading
+first_parted text rest taken reading none whole is =
+    subst (λ (r : List ℕ). IsParted text taken r reading) (sym whole)
+    (subst (λ (n : ℕ). IsParted text n text reading) (sym none) (record { known = λ first. is; left = refl }))
+
+pub more_parted : (text : List ℕ) (taken grown : ℕ) (line rest behind : List ℕ) (old new : Reading) → IsParted text taken rest old
+    → grown ≡ taken + 1 → lines_of rest ≡ line ∷ lines_of behind → ((p : Parts) → Knows p old → Knows (parted p line) new) → IsParted text grown behind new
+more_parted text taken grown line rest behind old new so is_grown next read =
+    let all = lines_of text in
+    let here : drop taken all ≡ line ∷ lines_of behind = so.left ∙ next in
+    let more : fold parted no_parts (take (taken + 1) all) ≡ parted (fold parted no_parts (take taken all)) line =
+    ap (λ (l : List (List ℕ)). fold parted no_parts l) (one_taken all taken line (lines_of behind) here)
+    ∙ fold-append parted no_parts (take taken all) (line ∷ []) in
+    subst (λ (n : ℕ). IsParted text n behind new) (sym is_grown)
+    (record {
+      known = knows_also (fold parted no_parts (take (taken + 1) all)) (parted (fold parted no_parts (take taken all)) line) new more
+          (read (fold parted no_parts (take taken all)) so.known);
+      left = one_left all taken line (lines_of behind) here;
+    })
+
+pub all_parted : (text : List ℕ) (taken : ℕ) (rest : List ℕ) (reading : Reading) → IsParted text taken rest reading → lines_of rest ≡ []
+    → Knows (fold parted no_parts (lines_of text)) reading
+all_parted text taken rest reading so none =
+    let all = lines_of text in
+    knows_also (fold parted no_parts all) (fold parted no_parts (take taken all)) reading
+    (sym (ap (λ (l : List (List ℕ)). fold parted no_parts l) (all_taken all taken (so.left ∙ none)))) so.known
+
+-- behind a line of words, which may have begun a section
+pub words_known : (q : Parts) (mid begun new : Reading) → (mid.first ≡ None → IsDrawn q mid.draft) → begun.draft ≡ mid.draft → begun.first ≡ mid.first
+    → (is_section (place_of begun.draft.section) ≡ true → IsSome begun.begun) → view new.draft ≡ view begun.draft → new.first ≡ begun.first
+    → new.begun ≡ begun.begun → Knows q new
+words_known q mid begun new known draft first begins shows same still = λ none.
+    let drawn = known (sym first ∙ (sym same ∙ none)) in
+    record {
+      draft = drawn_same q mid.draft new.draft drawn (shows ∙ ap (λ (d : Draft). view d) draft);
+      begun = λ within.
+          subst (λ (o : Option ℕ). IsSome o) (sym still)
+          (begins (ap (λ (d : Draft). is_section (place_of d.section)) draft ∙ (ap is_section (at_drawn q mid.draft drawn) ∙ within)));
+    }
