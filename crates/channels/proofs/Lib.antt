@@ -1,2 +1,5 @@
 pub mod StreamLemmas
 pub mod AskLemmas
+pub mod CourseLemmas
+pub mod OrderLemmas
+pub mod ChannelLemmas

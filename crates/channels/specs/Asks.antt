@@ -1,5 +1,5 @@
 -- What the stores are asked for, over a record that grows with each thing.
-use Rattle.std.specs.Prelude.{◌≡◌, ℕ, Bool, true, false, List, [], ◌∷◌, ◌++◌, Option, Some, Ok, if◌then◌else◌}
+use Rattle.std.specs.Prelude.{◌≡◌, ℕ, Bool, true, false, List, [], ◌∷◌, ◌++◌, ◌||◌, Option, Some, Ok, if◌then◌else◌}
 use Rattle.std.specs.Borrow.{MutBor}
 use Rattle.std.specs.List.{fold, flat_map}
 use Rattle.mailcore.specs.declared.side.Side.{Side}
@@ -15,7 +15,7 @@ use Rattle.request.specs.Cells.{line_cells}
 use Rattle.choosing.specs.Boxes.{Tells, boxes_among}
 use Rattle.choosing.specs.Chosen.{chosen_among}
 use Rattle.choosing.specs.Scope.{options_of}
-use Rattle.stores.specs.Asked.{Asked, FarListed, IsJoined, Joined, Made, NearListed, Place, Ran}
+use Rattle.stores.specs.Asked.{Asked, Done, Ended, FarListed, FoundNew, IsJoined, Joined, Made, NearListed, Place, Ran}
 use Rattle.channels.specs.declared.verdict.Verdict.{Verdict}
 use Rattle.channels.specs.declared.verdict.Verdict.TheVariants.{Clean}
 use Rattle.channels.specs.Founds.{absent_in}
@@ -26,17 +26,21 @@ run_attempts = 3
 
 -- ---- what is asked
 
--- a mailbox is made on a side on which it is absent
+-- a mailbox that is absent on a side is a new one
+abbrev pub finding : (absent : Bool) → Place → List Asked
+finding absent place = if absent then FoundNew place Done ∷ [] else []
+
+-- it is made on a side on which it is absent
 abbrev pub making : Side → (absent : Bool) → Place → List Asked
-making side absent place = if absent then Made side place ∷ [] else []
+making side absent place = if absent then Made side place Done ∷ [] else []
 
 -- on each such side, the far one first
 abbrev pub makings : Place → (absent : Sides) → List Asked
-makings place absent = making Far absent.far place ++ making Near absent.near place
+makings place absent = finding (absent.far || absent.near) place ++ making Far absent.far place ++ making Near absent.near place
 
 -- it is made where it is absent, and then run to an answer
 abbrev pub box_asked : Options → Place → (absent : Sides) → List Asked
-box_asked options place absent = makings place absent ++ Ran place options run_attempts true ∷ []
+box_asked options place absent = makings place absent ++ Ran place options run_attempts Done ∷ []
 
 -- so is each of these mailboxes, whose names are the same on both sides
 abbrev pub boxes_asked : Options → Joined → (fars nears names : List (List ℕ)) → List Asked
@@ -106,8 +110,14 @@ GoesOver {L} noted config ways (p ∷ ps) old new = (middle : L) × GoesAt noted
 abbrev pub ways_of : Request → Option Cells → Ways
 ways_of request cells = record { lists = request.lists; cells = cells; expunges = request.expunges }
 
+-- so is each of these channels, and what stands at servers is ended then
+pub record GoesThrough {L : Type 0} (noted : L → Asked → L) (config : Config) (ways : Ways) (places : List ℕ) (old new : L) : Type 0 where
+  pub last : L
+  pub over : GoesOver noted config ways places old last
+  pub ended : new ≡ noted last Ended
+
 -- so is each channel that the command line names
 pub record GoesAll {L : Type 0} (noted : L → Asked → L) (config : Config) (request : Request) (old new : L) : Type 0 where
   pub cells : Option Cells
   pub words : line_cells request.sync_words.items ≡ Ok cells
-  pub over : GoesOver noted config (ways_of request cells) (chosen_among config request.chosen) old new
+  pub through : GoesThrough noted config (ways_of request cells) (chosen_among config request.chosen) old new

@@ -5,3 +5,5 @@ pub mod Openings
 pub mod Lines
 pub mod Founds
 pub mod Asks
+pub mod Outcomes
+pub mod Courses

@@ -1,5 +1,9 @@
 //! Why a mailbox was not synchronised.
 
+ghost use Rattle.std.specs.Prelude.{◌≡◌};
+ghost use Rattle.stores.specs.Asked.{outcome_of_fault};
+ghost use Rattle.channels.specs.Outcomes.{outcome_of_box_fault};
+
 use mailcore::side::Side;
 use rules::plan::Step;
 use runner::fault::RunFault;
@@ -58,6 +62,8 @@ impl BoxFault {
 }
 
 impl From<StoreFault> for BoxFault {
+    ghost from_gives = { λ fault told. outcome_of_box_fault told ≡ outcome_of_fault fault };
+
     fn from(fault: StoreFault) -> BoxFault {
         match fault {
             StoreFault::CannotOpen(name) => BoxFault::CannotOpen(name),

@@ -1,9 +1,10 @@
 //! Which mailboxes a channel has, and on which sides they are there.
 
-ghost use Rattle.std.specs.Prelude.{◌≡◌, ℕ, Bool, List, false, IfOk};
+ghost use Rattle.std.specs.Prelude.{◌≡◌, ℕ, Bool, List, false, IfOk, OnErr};
 ghost use Rattle.std.specs.List.{fold};
 ghost use Rattle.stores.specs.Asked.{joined_of};
 ghost use Rattle.channels.specs.Asks.{lists_asked};
+ghost use Rattle.channels.specs.Courses.{Goes, IsUnlisted};
 ghost use Rattle.channels.specs.Founds.{absent_in};
 ghost use Rattle.choosing.specs.Boxes.{Tells, boxes_among};
 
@@ -36,6 +37,7 @@ impl Found {
         ensures stores { stores.new.stores.ghost_name ≡ stores.old.stores.ghost_name }
         ensures asks { IfOk result (λ found. S.asked stores.new.stores.now
             ≡ fold S.noted (S.asked stores.old.stores.now) (lists_asked (joined_of of.entry) found.far.items found.near.items)) }
+        ensures unlisted { OnErr result (Goes S.noted (S.asked stores.old.stores.now) (S.asked stores.new.stores.now) (IsUnlisted (joined_of of.entry))) }
     {
         let far = stores.far_boxes(of.far_store)?;
         let near = stores.near_boxes(of.near_store)?;

@@ -35,14 +35,14 @@ pub(crate) struct RunOnce<'a, R> {
 }
 
 impl<R: Rng> Work for RunOnce<'_, R> {
-    ghost use Rattle.std.specs.Prelude.{is_ok};
     ghost use Rattle.channels.specs.Asks.{run_attempts};
+    ghost use Rattle.channels.specs.Outcomes.{outcome_of};
 
     ghost options = { λ run. run.options.now };
 
     ghost attempts = { λ _. run_attempts };
 
-    ghost is_done = { λ answer. is_ok answer };
+    ghost ends = { λ answer. outcome_of answer };
 
     type Answer = Result<Pass, BoxFault>;
 

@@ -6,6 +6,7 @@ ghost use Rattle.std.specs.List.{flat_map};
 ghost use Rattle.stores.specs.Asked.{joined_of};
 ghost use Rattle.channels.specs.declared.verdict.Verdict.TheVariants.{Clean};
 ghost use Rattle.channels.specs.Asks.{Asks, Lists, ListsBoth};
+ghost use Rattle.channels.specs.Courses.{Goes, IsListAsked, IsListedAlone, IsListedAsked, SoFar, listing_verdict};
 ghost use Rattle.channels.specs.Founds.{IsPair};
 ghost use Rattle.channels.specs.Lines.{box_line};
 ghost use Rattle.channels.specs.Streams.{Extends, IsQuiet, Notes};
@@ -40,6 +41,8 @@ pub(crate) fn list_channel<S: BoxLists, O: Write, E: Write>(
     ensures stores { stores.new.stores.ghost_name ≡ stores.old.stores.ghost_name }
     ensures asks { IfOk result (λ verdict. verdict ≡ Clean
         → Lists S.noted (joined_of of.entry) of.entry.channel.now.boxes (S.asked stores.old.stores.now) (S.asked stores.new.stores.now)) }
+    ensures asked { Goes S.noted (S.asked stores.old.stores.now) (S.asked stores.new.stores.now)
+        (SoFar result (IsListAsked (joined_of of.entry) of.entry.channel.now.boxes)) }
 {
     match &of.channel.boxes {
         Boxes::Pair { far, .. } => {
@@ -64,6 +67,8 @@ fn matching<S: BoxLists, O: Write, E: Write>(
     ensures others { stores.new ≡ record stores.old { stores = stores.new.stores } }
     ensures stores { stores.new.stores.ghost_name ≡ stores.old.stores.ghost_name }
     ensures asks { OnOk result (ListsBoth S.noted (joined_of of.entry) (S.asked stores.old.stores.now) (S.asked stores.new.stores.now)) }
+    ensures listed { Goes S.noted (S.asked stores.old.stores.now) (S.asked stores.new.stores.now)
+        (IsListedAsked (joined_of of.entry) IsListedAlone (listing_verdict result)) }
 {
     let found = Found::of(of, stores)?;
     found.matching(alloc, patterns)
@@ -83,6 +88,7 @@ fn list_boxes<S: BoxLists, O: Write, E: Write>(
     ensures whole { OnOk result (Extends (O.contents stores.old.out.now) (O.contents stores.new.out.now)) }
     ensures failed { Notes false stores.new.write_failed result }
     ensures asks { Asks S.noted S.asked stores.old.stores stores.new.stores [] }
+    ensures clean { IfOk result (λ verdict. verdict ≡ Clean) }
 {
     stores.tell_notices()?;
     print_boxes(stores, channel, boxes)?;

@@ -3,7 +3,8 @@
 ghost use Rattle.std.specs.Prelude.{◌≡◌, ◌≤◌, ◌<◌, true, false, IsSome, IfOk, OnOk};
 ghost use Rattle.choosing.specs.Chosen.{unknown_among};
 ghost use Rattle.channels.specs.declared.verdict.Verdict.TheVariants.{Clean};
-ghost use Rattle.channels.specs.Asks.{GoesAll, GoesAt, GoesOver, ways_of};
+ghost use Rattle.channels.specs.Asks.{GoesAll, GoesAt, GoesOver, GoesThrough, ways_of};
+ghost use Rattle.channels.specs.Courses.{Goes, GoesAsFar, GoesUntil, IsLineAsked, IsPlaceAsked, SoFar};
 ghost use Rattle.channels.specs.Refusals.{IsRefused};
 ghost use Rattle.channels.specs.Streams.{Extends, HasNotices, IsQuiet, Notes};
 
@@ -50,6 +51,7 @@ pub fn run_config<S: Stores, R: Rng, O: Write, E: Write>(
     ensures clean { result ≡ 0 → HasNotices (E.contents err.old) (E.contents err.new) }
     ensures whole { result ≡ 0 → Extends (O.contents out.old) (O.contents out.new) }
     ensures asks { result ≡ 0 → GoesAll S.noted config.now request.now (S.asked stores.old) (S.asked stores.new) }
+    ensures asked { GoesAsFar S.noted config.now request.now result (S.asked stores.old) (S.asked stores.new) }
     ensures usage { result ≡ 2 → IsRefused config.now request.now }
     ensures refused { IsRefused config.now request.now → (0 < result) × (stores.new ≡ stores.old) × (rng.new ≡ rng.old) × (out.new ≡ out.old) }
 {
@@ -83,8 +85,10 @@ fn run_told<S: Stores, R: Rng, O: Write, E: Write>(
     ensures whole { result ≡ 0 → Extends (O.contents stores.old.out.now) (O.contents stores.new.out.now) }
     ensures unwritten { stores.new.write_failed ≡ true → result ≡ 1 }
     ensures stores { stores.new.stores.ghost_name ≡ stores.old.stores.ghost_name }
-    ensures asks { result ≡ 0 → GoesOver S.noted work.entry.config.now (ways_of work.entry.request.now course.now.cells)
+    ensures asks { result ≡ 0 → GoesThrough S.noted work.entry.config.now (ways_of work.entry.request.now course.now.cells)
         course.now.places.items (S.asked stores.old.stores.now) (S.asked stores.new.stores.now) }
+    ensures asked { GoesUntil S.noted stores.new.write_failed (IsLineAsked work.entry.config.now (ways_of work.entry.request.now course.now.cells)
+        course.now.places.items) result (S.asked stores.old.stores.now) (S.asked stores.new.stores.now) }
 {
     match run_course(work, course, stores, rng) {
         Ok(verdict) => {
@@ -113,6 +117,8 @@ fn run_course<S: Stores, R: Rng, O: Write, E: Write>(
     ensures asks { IfOk result (λ verdict. verdict ≡ Clean
         → GoesOver S.noted work.entry.config.now (ways_of work.entry.request.now course.now.cells) course.now.places.items
         (S.asked stores.old.stores.now) (S.asked stores.new.stores.now)) }
+    ensures asked { Goes S.noted (S.asked stores.old.stores.now) (S.asked stores.new.stores.now)
+        (SoFar result (IsLineAsked work.entry.config.now (ways_of work.entry.request.now course.now.cells) course.now.places.items)) }
 {
     let mut verdict = Verdict::Clean;
     for place in &course.places {
@@ -139,6 +145,8 @@ fn run_place<S: Stores, R: Rng, O: Write, E: Write>(
     ensures asks { IfOk result (λ verdict. verdict ≡ Clean
         → GoesAt S.noted work.entry.config.now (ways_of work.entry.request.now cells) place
         (S.asked stores.old.stores.now) (S.asked stores.new.stores.now)) }
+    ensures asked { Goes S.noted (S.asked stores.old.stores.now) (S.asked stores.new.stores.now)
+        (SoFar result (IsPlaceAsked work.entry.config.now (ways_of work.entry.request.now cells) place)) }
 {
     let Some(of) = ChannelStores::at(work.config, place) else {
         return stores.tell_no_channel();

@@ -1,11 +1,14 @@
 //! The mailboxes of channels as they are synchronised.
 
-ghost use Rattle.std.specs.Prelude.{◌≡◌, ◌∷◌, [], false, true, Err, IfOk, IfSome, IsSome, OnOk};
+ghost use Rattle.std.specs.Prelude.{◌≡◌, ◌∷◌, ◌||◌, [], false, true, is_some, Err, IfOk, IfSome, IsSome, OnOk};
 ghost use Rattle.std.specs.List.{fold};
 ghost use Rattle.choosing.specs.Scope.{uncovered};
-ghost use Rattle.stores.specs.Asked.{Ran, joined_of, place_of};
+ghost use Rattle.rules.specs.Options.{covers};
+ghost use Rattle.stores.specs.Asked.{Done, FoundNew, Made, Ran, joined_of, place_of};
 ghost use Rattle.channels.specs.declared.verdict.Verdict.TheVariants.{Clean};
 ghost use Rattle.channels.specs.Asks.{Asks, AsksIfClean, Settles, SettlesFound, box_asked, boxes_asked, makings, run_attempts};
+ghost use Rattle.channels.specs.Courses.{Follows, Goes, InOrder, IsBoxAsked, IsChannelAsked, IsFoundAsked, IsNamedAsked, IsRunAsked, Makes, SoFar, asking_if, is_over};
+ghost use Rattle.channels.specs.Outcomes.{IsToldOf, outcome_of};
 ghost use Rattle.channels.specs.Streams.{Extends, IsQuiet, Notes};
 
 use crate::fault::BoxFault;
@@ -54,6 +57,8 @@ pub(crate) fn settle_channel<S: Stores, R: Rng, O: Write, E: Write>(
     ensures stores { stores.new.stores.ghost_name ≡ stores.old.stores.ghost_name }
     ensures asks { IfOk result (λ verdict. verdict ≡ Clean
         → Settles S.noted work.entry.options.now (joined_of work.entry.of) (S.asked stores.old.stores.now) (S.asked stores.new.stores.now)) }
+    ensures asked { Goes S.noted (S.asked stores.old.stores.now) (S.asked stores.new.stores.now)
+        (SoFar result (IsChannelAsked work.entry.options.now (joined_of work.entry.of))) }
 {
     match Found::of(work.of, stores) {
         Ok(found) => {
@@ -81,6 +86,9 @@ fn settle_found<S: Stores, R: Rng, O: Write, E: Write>(
     ensures asks { IfOk result (λ verdict. verdict ≡ Clean
         → SettlesFound S.noted work.entry.options.now (joined_of work.entry.of) found.now.far.items found.now.near.items
         work.entry.of.channel.now.boxes (S.asked stores.old.stores.now) (S.asked stores.new.stores.now)) }
+    ensures asked { Goes S.noted (S.asked stores.old.stores.now) (S.asked stores.new.stores.now)
+        (SoFar result (IsFoundAsked work.entry.options.now (joined_of work.entry.of) found.now.far.items found.now.near.items
+        work.entry.of.channel.now.boxes)) }
 {
     match &work.of.channel.boxes {
         Boxes::Pair { far, near } => {
@@ -116,6 +124,9 @@ fn settle_boxes<S: Stores, R: Rng, O: Write, E: Write>(
     ensures stores { stores.new.stores.ghost_name ≡ stores.old.stores.ghost_name }
     ensures asks { IfOk result (AsksIfClean S.noted (S.asked stores.old.stores.now) (S.asked stores.new.stores.now)
         (boxes_asked work.entry.options.now (joined_of work.entry.of) found.now.far.items found.now.near.items boxes.now)) }
+    ensures asked { Goes S.noted (S.asked stores.old.stores.now) (S.asked stores.new.stores.now)
+        (SoFar result (InOrder is_over (IsNamedAsked work.entry.options.now (joined_of work.entry.of) found.now.far.items
+        found.now.near.items) boxes.now)) }
 {
     let mut verdict = Verdict::Clean;
     for name in boxes {
@@ -150,6 +161,8 @@ fn settle_box<S: Stores, R: Rng, O: Write, E: Write>(
     ensures stores { stores.new.stores.ghost_name ≡ stores.old.stores.ghost_name }
     ensures asks { IfOk result (AsksIfClean S.noted (S.asked stores.old.stores.now) (S.asked stores.new.stores.now)
         (box_asked work.entry.options.now (place_of place.entry) absent)) }
+    ensures asked { Goes S.noted (S.asked stores.old.stores.now) (S.asked stores.new.stores.now)
+        (SoFar result (IsBoxAsked work.entry.options.now (place_of place.entry) absent)) }
 {
     let verdict = make_and_run(work, place, absent, stores, rng)?;
     stores.tell_notices()?;
@@ -174,6 +187,8 @@ fn make_and_run<S: Stores, R: Rng, O: Write, E: Write>(
     ensures stores { stores.new.stores.ghost_name ≡ stores.old.stores.ghost_name }
     ensures asks { IfOk result (AsksIfClean S.noted (S.asked stores.old.stores.now) (S.asked stores.new.stores.now)
         (box_asked work.entry.options.now (place_of place.entry) absent)) }
+    ensures asked { Goes S.noted (S.asked stores.old.stores.now) (S.asked stores.new.stores.now)
+        (SoFar result (IsBoxAsked work.entry.options.now (place_of place.entry) absent)) }
 {
     match make_absent(place, absent, stores) {
         Ok(()) => {
@@ -200,7 +215,9 @@ fn run_box<S: Stores, R: Rng, O: Write, E: Write>(
     ensures failed { Notes false stores.new.write_failed result }
     ensures stores { stores.new.stores.ghost_name ≡ stores.old.stores.ghost_name }
     ensures asks { IfOk result (AsksIfClean S.noted (S.asked stores.old.stores.now) (S.asked stores.new.stores.now)
-        (Ran (place_of place.entry) work.entry.options.now run_attempts true ∷ [])) }
+        (Ran (place_of place.entry) work.entry.options.now run_attempts Done ∷ [])) }
+    ensures asked { Goes S.noted (S.asked stores.old.stores.now) (S.asked stores.new.stores.now)
+        (SoFar result (IsRunAsked work.entry.options.now (place_of place.entry))) }
 {
     stores.print_box(place.of.channel, place.far)?;
     match stores.settle(work.alloc, place, work.options, rng) {
@@ -227,26 +244,61 @@ fn make_absent<S: Stores, O: Write, E: Write>(
     ensures stores { stores.new.stores.ghost_name ≡ stores.old.stores.ghost_name }
     ensures asks { OnOk result (S.asked stores.new.stores.now
         ≡ fold S.noted (S.asked stores.old.stores.now) (makings (place_of place.entry) absent)) }
+    ensures asked { Makes S.noted (place_of place.entry) absent (outcome_of result) (S.asked stores.old.stores.now) (S.asked stores.new.stores.now) }
 {
     if let Some(side) = uncovered(absent, place.of.channel.create) {
         return Err(BoxFault::Absent(side));
     }
-    if let Some(side) = first_of(absent) {
-        if stores.has_state(place)? {
-            return Err(BoxFault::Removed(side));
-        }
+    find_new(place, absent, stores)?;
+    make_side(Side::Far, absent.far, place, stores)?;
+    make_side(Side::Near, absent.near, place, stores)
+}
+
+/// Finds that no former run has synchronised a mailbox, where it is absent on a side.
+fn find_new<S: Stores, O: Write, E: Write>(
+    place: ChannelBox<'_>,
+    absent: Sides,
+    stores: &mut ToldStores<'_, S, O, E>,
+) -> Result<(), BoxFault>
+    requires going { stores.old.write_failed ≡ false }
+    ensures others { stores.new ≡ record stores.old { stores = stores.new.stores } }
+    ensures stores { stores.new.stores.ghost_name ≡ stores.old.stores.ghost_name }
+    ensures asked { Follows S.noted (S.asked stores.old.stores.now) (S.asked stores.new.stores.now) (outcome_of result)
+        (asking_if (absent.far || absent.near) (FoundNew (place_of place.entry)) (outcome_of result)) }
+{
+    let Some(side) = first_of(absent) else {
+        return Ok(());
+    };
+    if stores.has_state(place)? {
+        return Err(BoxFault::Removed(side));
     }
-    if absent.far {
-        stores.make(Side::Far, place)?;
-    }
-    if absent.near {
-        stores.make(Side::Near, place)?;
+    Ok(())
+}
+
+/// Makes this side of a mailbox, where it is absent.
+fn make_side<S: Stores, O: Write, E: Write>(
+    side: Side,
+    is_absent: bool,
+    place: ChannelBox<'_>,
+    stores: &mut ToldStores<'_, S, O, E>,
+) -> Result<(), BoxFault>
+    requires going { stores.old.write_failed ≡ false }
+    requires covered { is_absent ≡ true → covers place.of.channel.now.create side ≡ true }
+    ensures others { stores.new ≡ record stores.old { stores = stores.new.stores } }
+    ensures stores { stores.new.stores.ghost_name ≡ stores.old.stores.ghost_name }
+    ensures asked { Follows S.noted (S.asked stores.old.stores.now) (S.asked stores.new.stores.now) (outcome_of result)
+        (asking_if is_absent (Made side (place_of place.entry)) (outcome_of result)) }
+{
+    if is_absent {
+        stores.make(side, place)?;
     }
     Ok(())
 }
 
 /// The first of these sides, far before near.
-fn first_of(sides: Sides) -> Option<Side> {
+fn first_of(sides: Sides) -> Option<Side>
+    ensures { is_some result ≡ (sides.far || sides.near) }
+{
     if sides.far {
         Some(Side::Far)
     } else if sides.near {
@@ -268,6 +320,7 @@ fn tell_left_out<S: Stores, O: Write, E: Write>(
     ensures quiet { IfOk result (IsQuiet (E.contents stores.old.err.now) (E.contents stores.new.err.now)) }
     ensures failed { Notes false stores.new.write_failed result }
     ensures asks { Asks S.noted S.asked stores.old.stores stores.new.stores [] }
+    ensures goes_on { IfOk result (IsToldOf Done) }
 {
     let mut verdict = Verdict::Clean;
     for path in stores.left_out() {
@@ -291,6 +344,7 @@ fn print_answer<S: Stores, O: Write, E: Write>(
     ensures whole { OnOk result (Extends (O.contents stores.old.out.now) (O.contents stores.new.out.now)) }
     ensures failed { Notes false stores.new.write_failed result }
     ensures asks { Asks S.noted S.asked stores.old.stores stores.new.stores [] }
+    ensures goes_on { IfOk result (IsToldOf Done) }
 {
     match answer_text(alloc, pass) {
         Ok(text) => {

@@ -3,6 +3,8 @@
 ghost use Rattle.std.specs.Prelude.{◌≡◌, IfOk, OnOk, string_bytes};
 ghost use Rattle.std.specs.Io.KnownBytes.{Appends};
 ghost use Rattle.channels.specs.Lines.{box_line, notice_line};
+ghost use Rattle.channels.specs.declared.verdict.Verdict.TheVariants.{Over};
+ghost use Rattle.channels.specs.Outcomes.{outcome_of_box_fault, verdict_of};
 ghost use Rattle.channels.specs.Streams.{Extends, IsTold};
 
 use crate::advice::advise;
@@ -56,7 +58,8 @@ pub(crate) fn tell_list<E: Write>(
     fault: &ListFault,
     words: Option<&str>,
 ) -> io::Result<Verdict>
-    ensures { IfOk result IsTold }
+    ensures told { IfOk result IsTold }
+    ensures over { IfOk result (λ verdict. verdict ≡ Over) }
 {
     writeln!(err, "mbsync: {fault}")?;
     if let ListFault::Server(store, why) = fault {
@@ -68,7 +71,8 @@ pub(crate) fn tell_list<E: Write>(
 
 /// Tells that a channel or a store of it is not in the configuration. This does not come where the configuration was read from a file.
 pub(crate) fn tell_no_channel<E: Write>(err: &mut E) -> io::Result<Verdict>
-    ensures { IfOk result IsTold }
+    ensures told { IfOk result IsTold }
+    ensures over { IfOk result (λ verdict. verdict ≡ Over) }
 {
     writeln!(err, "mbsync: config")?;
     Ok(Verdict::Over)
@@ -82,7 +86,8 @@ pub(crate) fn tell<E: Write>(
     fault: &BoxFault,
     words: Option<&str>,
 ) -> io::Result<Verdict>
-    ensures { IfOk result IsTold }
+    ensures told { IfOk result IsTold }
+    ensures verdict { IfOk result (λ verdict. verdict ≡ verdict_of (outcome_of_box_fault fault.now)) }
 {
     let verdict = tell_fault(err, place, fault)?;
     advise(err, fault)?;
@@ -92,7 +97,8 @@ pub(crate) fn tell<E: Write>(
 
 /// Tells why a mailbox was not synchronised, on one line.
 fn tell_fault<E: Write>(err: &mut E, place: ChannelBox<'_>, fault: &BoxFault) -> io::Result<Verdict>
-    ensures { IfOk result IsTold }
+    ensures told { IfOk result IsTold }
+    ensures verdict { IfOk result (λ verdict. verdict ≡ verdict_of (outcome_of_box_fault fault.now)) }
 {
     if let BoxFault::CannotOpen(name) | BoxFault::Server(name, _) = fault {
         writeln!(err, "mbsync: cannot open {name}")?;

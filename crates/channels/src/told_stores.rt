@@ -1,11 +1,13 @@
 //! The stores of a run behind its streams: they are asked only as long as what is done could be told.
 
-ghost use Rattle.std.specs.Prelude.{◌≡◌, ◌∷◌, [], false, true, is_ok, IfOk, OnOk, string_bytes};
+ghost use Rattle.std.specs.Prelude.{◌≡◌, ◌∷◌, [], false, true, IfOk, OnOk, string_bytes};
 ghost use Rattle.std.specs.Io.KnownBytes.{Appends};
 ghost use Rattle.rules.specs.Options.{covers};
-ghost use Rattle.stores.specs.Asked.{FarListed, Made, NearListed, Ran, names_of, place_of};
+ghost use Rattle.stores.specs.Asked.{Ended, Failed, FarListed, FoundNew, Made, NearListed, Ran, names_of, outcome_of_making, outcome_of_state, place_of};
+ghost use Rattle.channels.specs.declared.verdict.Verdict.TheVariants.{Over};
 ghost use Rattle.channels.specs.Asks.{Asks, run_attempts};
 ghost use Rattle.channels.specs.Lines.{box_line};
+ghost use Rattle.channels.specs.Outcomes.{outcome_of, outcome_of_box_fault, verdict_of};
 ghost use Rattle.channels.specs.Streams.{Extends, HasNotices, IsTold, Notes};
 
 use crate::fault::BoxFault;
@@ -147,6 +149,7 @@ impl<'a, S: BoxLists, O: Write, E: Write> ToldStores<'a, S, O, E> {
         ensures asks { Asks S.noted S.asked self.old.stores self.new.stores [] }
         ensures err { self.new.err.ghost_name ≡ self.old.err.ghost_name }
         ensures told { IfOk result IsTold }
+        ensures over { IfOk result (λ verdict. verdict ≡ Over) }
         ensures failed { Notes self.old.write_failed self.new.write_failed result }
     {
         let words = self.words_on(matches!(fault, ListFault::Server(..)));
@@ -162,6 +165,7 @@ impl<'a, S: BoxLists, O: Write, E: Write> ToldStores<'a, S, O, E> {
         ensures asks { Asks S.noted S.asked self.old.stores self.new.stores [] }
         ensures err { self.new.err.ghost_name ≡ self.old.err.ghost_name }
         ensures told { IfOk result IsTold }
+        ensures over { IfOk result (λ verdict. verdict ≡ Over) }
         ensures failed { Notes false self.new.write_failed result }
     {
         let verdict = self.tell_list(fault)?;
@@ -174,6 +178,7 @@ impl<'a, S: BoxLists, O: Write, E: Write> ToldStores<'a, S, O, E> {
         ensures others { self.new ≡ record self.old { err = self.new.err; write_failed = self.new.write_failed } }
         ensures err { self.new.err.ghost_name ≡ self.old.err.ghost_name }
         ensures told { IfOk result IsTold }
+        ensures over { IfOk result (λ verdict. verdict ≡ Over) }
         ensures failed { Notes self.old.write_failed self.new.write_failed result }
     {
         let written = telling::tell_no_channel(self.err);
@@ -188,6 +193,7 @@ impl<'a, S: BoxLists, O: Write, E: Write> ToldStores<'a, S, O, E> {
         ensures asks { Asks S.noted S.asked self.old.stores self.new.stores [] }
         ensures err { self.new.err.ghost_name ≡ self.old.err.ghost_name }
         ensures told { IfOk result IsTold }
+        ensures verdict { IfOk result (λ verdict. verdict ≡ verdict_of (outcome_of_box_fault fault.now)) }
         ensures failed { Notes self.old.write_failed self.new.write_failed result }
     {
         let words = self.words_on(fault.is_of_server());
@@ -203,7 +209,7 @@ impl<S: Stores, O: Write, E: Write> ToldStores<'_, S, O, E> {
         requires going { self.old.write_failed ≡ false }
         requires covered { covers place.of.channel.now.create side ≡ true }
         ensures others { self.new ≡ record self.old { stores = self.new.stores } }
-        ensures asks { Asks S.noted S.asked self.old.stores self.new.stores (Made side (place_of place.entry) ∷ []) }
+        ensures asks { Asks S.noted S.asked self.old.stores self.new.stores (Made side (place_of place.entry) (outcome_of_making result) ∷ []) }
     {
         self.stores.make(side, place)
     }
@@ -212,7 +218,7 @@ impl<S: Stores, O: Write, E: Write> ToldStores<'_, S, O, E> {
     pub(crate) fn has_state(&mut self, place: ChannelBox<'_>) -> Result<bool, StoreFault>
         requires going { self.old.write_failed ≡ false }
         ensures others { self.new ≡ record self.old { stores = self.new.stores } }
-        ensures asks { Asks S.noted S.asked self.old.stores self.new.stores [] }
+        ensures asks { Asks S.noted S.asked self.old.stores self.new.stores (FoundNew (place_of place.entry) (outcome_of_state result) ∷ []) }
     {
         self.stores.has_state(place)
     }
@@ -230,7 +236,7 @@ impl<S: Stores, O: Write, E: Write> ToldStores<'_, S, O, E> {
     pub(crate) fn end(&mut self)
         requires going { self.old.write_failed ≡ false }
         ensures others { self.new ≡ record self.old { stores = self.new.stores } }
-        ensures asks { Asks S.noted S.asked self.old.stores self.new.stores [] }
+        ensures asks { Asks S.noted S.asked self.old.stores self.new.stores (Ended ∷ []) }
     {
         self.stores.end();
     }
@@ -246,7 +252,7 @@ impl<S: Stores, O: Write, E: Write> ToldStores<'_, S, O, E> {
         requires going { self.old.write_failed ≡ false }
         ensures others { self.new ≡ record self.old { stores = self.new.stores } }
         ensures asks { Asks S.noted S.asked self.old.stores self.new.stores
-            (Ran (place_of place.entry) options.now run_attempts (is_ok result) ∷ []) }
+            (Ran (place_of place.entry) options.now run_attempts (outcome_of result) ∷ []) }
     {
         match self.settle_open(alloc, place, options, rng) {
             Err(BoxFault::Run(RunFault::Stopped)) => Err(self.stopped()),
@@ -266,7 +272,7 @@ impl<S: Stores, O: Write, E: Write> ToldStores<'_, S, O, E> {
         requires going { self.old.write_failed ≡ false }
         ensures others { self.new ≡ record self.old { stores = self.new.stores } }
         ensures asks { Asks S.noted S.asked self.old.stores self.new.stores
-            (Ran (place_of place.entry) options.now run_attempts (is_ok result) ∷ []) }
+            (Ran (place_of place.entry) options.now run_attempts (outcome_of result) ∷ []) }
     {
         let run = RunOnce {
             alloc,
@@ -284,6 +290,7 @@ impl<S: Stores, O: Write, E: Write> ToldStores<'_, S, O, E> {
         requires going { self.old.write_failed ≡ false }
         ensures others { self.new ≡ record self.old { stores = self.new.stores } }
         ensures asks { Asks S.noted S.asked self.old.stores self.new.stores [] }
+        ensures ends { outcome_of_box_fault result ≡ Failed }
     {
         match self.stores.stop_cause() {
             Some(cause) => BoxFault::Stopped(cause),
@@ -296,6 +303,7 @@ impl<S: Stores, O: Write, E: Write> ToldStores<'_, S, O, E> {
         requires going { self.old.write_failed ≡ false }
         ensures others { self.new ≡ record self.old { stores = self.new.stores } }
         ensures asks { Asks S.noted S.asked self.old.stores self.new.stores [] }
+        ensures ends { outcome_of_box_fault result ≡ Failed }
     {
         match self.stores.stop_cause() {
             Some(StopCause::GivenAgain(uid)) => BoxFault::GivenAgain(uid),

@@ -1,7 +1,7 @@
 //! The mailboxes of a channel, with the stores that they are in.
 
-ghost use Rattle.std.specs.Prelude.{IfSome};
-ghost use Rattle.stores.specs.Asked.{IsJoined, joined_of};
+ghost use Rattle.std.specs.Prelude.{MatchOption};
+ghost use Rattle.stores.specs.Asked.{IsJoined, IsUnjoined, joined_of};
 
 use config::config::{Channel, Config, ImapStore, MaildirStore};
 use mailcore::mailbox_name::MailboxName;
@@ -21,7 +21,7 @@ impl<'a> ChannelStores<'a> {
     /// The channel of this place, or none if it or a store of it is not in the configuration.
     #[tactic(auto, using(std::proofs::lemmas::Option::gets))]
     pub fn at(config: &'a Config, place: usize) -> Option<Self>
-        ensures { IfSome result (λ of. IsJoined config.now place (joined_of of)) }
+        ensures { MatchOption result (IsUnjoined config.now place) (λ of. IsJoined config.now place (joined_of of)) }
     {
         let channel = config.channels.get(place)?;
         let far_store = config.imap_stores.get(channel.far)?;

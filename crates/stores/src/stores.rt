@@ -1,9 +1,9 @@
 //! The stores that channels are synchronised over.
 
-ghost use Rattle.std.specs.Prelude.{◌≡◌, ℕ, Bool, true};
+ghost use Rattle.std.specs.Prelude.{◌≡◌, ℕ, true};
 ghost use Rattle.rules.specs.Options.{covers};
 ghost use Rattle.rules.specs.declared.options.Options.{Options};
-ghost use Rattle.stores.specs.Asked.{Asked, FarListed, Made, NearListed, Ran, done_of, names_of, place_of};
+ghost use Rattle.stores.specs.Asked.{Asked, Ended, FarListed, FoundNew, Made, NearListed, Outcome, Ran, names_of, outcome_by, outcome_of_making, outcome_of_state, place_of};
 
 use crate::channel_box::ChannelBox;
 use crate::fault::{ListFault, StoreFault};
@@ -61,8 +61,8 @@ pub trait Work {
     /// In up to how many attempts.
     ghost attempts: { Self → ℕ };
 
-    /// Whether it came to what it was to be.
-    ghost is_done: { Self.Answer → Bool };
+    /// How it ended.
+    ghost ends: { Self.Answer → Outcome };
 
     /// Does it, over both sides of the mailbox and its state, and tells how far it is.
     fn over<O: Outside, P: Progress>(self, outside: &mut O, progress: &P) -> Self::Answer;
@@ -72,12 +72,12 @@ pub trait Work {
 pub trait Stores: BoxLists {
     /// Whether the near folder of a mailbox has the state of a former run.
     fn has_state(&mut self, place: ChannelBox<'_>) -> Result<bool, StoreFault>
-        ensures { Self.asked self.new ≡ Self.asked self.old };
+        ensures { Self.asked self.new ≡ Self.noted (Self.asked self.old) (FoundNew (place_of place.entry) (outcome_of_state result)) };
 
     /// Makes this side of a mailbox, which is absent there. Only a side that the channel's Create covers is made.
     fn make(&mut self, side: Side, place: ChannelBox<'_>) -> Result<(), StoreFault>
         requires { covers place.of.channel.now.create side ≡ true }
-        ensures { Self.asked self.new ≡ Self.noted (Self.asked self.old) (Made side (place_of place.entry)) };
+        ensures { Self.asked self.new ≡ Self.noted (Self.asked self.old) (Made side (place_of place.entry) (outcome_of_making result)) };
 
     /// Opens both sides of a mailbox, and does this over them. Its lock is held as long.
     fn work_over<W: Work + Drop>(
@@ -86,7 +86,7 @@ pub trait Stores: BoxLists {
         work: W,
     ) -> Result<W::Answer, StoreFault>
         ensures { Self.asked self.new ≡ Self.noted (Self.asked self.old)
-            (Ran (place_of place.entry) (W.options work) (W.attempts work) (done_of W.is_done result)) };
+            (Ran (place_of place.entry) (W.options work) (W.attempts work) (outcome_by W.ends result)) };
 
     /// What stopped the run over the mailbox that was opened last, if it was stopped and this is known. It is told once.
     fn stop_cause(&mut self) -> Option<StopCause>
@@ -99,5 +99,5 @@ pub trait Stores: BoxLists {
 
     /// Ends what stands at servers: nothing more is asked.
     fn end(&mut self)
-        ensures { Self.asked self.new ≡ Self.asked self.old };
+        ensures { Self.asked self.new ≡ Self.noted (Self.asked self.old) Ended };
 }

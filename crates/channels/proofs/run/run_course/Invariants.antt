@@ -1,7 +1,9 @@
-use Rattle.std.specs.Prelude.{◌≡◌, false, take}
+use Rattle.std.specs.Prelude.{◌≡◌, false, take, drop}
 use Rattle.channels.specs.declared.verdict.Verdict.TheVariants.{Clean}
 use Rattle.channels.specs.Asks.{GoesOver, ways_of}
+use Rattle.channels.specs.Courses.{Goes, IsPlaceAsked}
 use Rattle.channels.specs.Streams.{Extends, IsQuiet}
+use Rattle.channels.proofs.OrderLemmas.{Ahead}
 use Rattle.channels.proofs.run.run_course.Given as goal
 
 abbrev pub invariant-loop-place : goal.invariant-loop-place
@@ -12,5 +14,6 @@ invariant-loop-place g l = record {
   err : l.stores.err.ghost_name ≡ l.initial.stores.err.ghost_name;
   quiet : IsQuiet (g.E.Write.contents l.initial.stores.err.now) (g.E.Write.contents l.stores.err.now) l.verdict;
   whole : Extends (g.O.Write.contents l.initial.stores.out.now) (g.O.Write.contents l.stores.out.now);
+  asked : Goes g.S.BoxLists.noted (g.S.BoxLists.asked l.initial.stores.stores.now) (g.S.BoxLists.asked l.stores.stores.now) (Ahead (λ _. false) (IsPlaceAsked l.work.config.now (ways_of l.work.request.now l.course.cells)) l.course.places.items (drop l.place-index l.course.places.items) l.verdict);
   going : l.stores.write_failed ≡ false;
 }

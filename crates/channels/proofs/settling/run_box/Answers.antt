@@ -1,6 +1,12 @@
-use Rattle.std.proofs.Common.{◌≡◌, arith}
+use Rattle.std.proofs.Common.{◌≡◌, arith, ap, ◌∙◌}
 use Rattle.std.proofs.lemmas.Grind.{common_steps}
 use Rattle.channels.proofs.StreamLemmas.{IsQuiet-both, IsQuiet-from, stream_steps}
+use Rattle.std.proofs.lemmas.Result.{err_from_is_err_and}
+use Rattle.stores.specs.Asked.{Asked, Done, Ran, place_of}
+use Rattle.channels.specs.Asks.{run_attempts}
+use Rattle.channels.specs.Outcomes.{outcome_of_box_fault}
+use Rattle.channels.proofs.CourseLemmas.{IsToldOf-both}
+use Rattle.channels.proofs.OrderLemmas.{Begun-run, Begun-unrun, Goes-run, SoFar-fault}
 use Rattle.channels.proofs.settling.run_box.Goals as goal
 
 -- the answer and what was left out were told, over what the run left as it was
@@ -12,3 +18,50 @@ returns-in_ok-tell_left_out-in-Ok-clause-quiet g c =
 
 pub returns-in_ok-tell_left_out-in-Ok-clause-whole : goal.returns-in_ok-tell_left_out-in-Ok-clause-whole
 returns-in_ok-tell_left_out-in-Ok-clause-whole g c = grind (arith, common_steps, stream_steps)
+
+-- a write failed before the run
+pub returns-in_err-print_box-clause-asked : goal.returns-in_err-print_box-clause-asked
+returns-in_err-print_box-clause-asked g c =
+    let p = err_from_is_err_and c.from_residual.result c.from_residual.ensures.1 in
+    let same : g.S.BoxLists.asked c.print_box.new.self.stores.now ≡ g.S.BoxLists.asked c.args.stores.now.stores.now = grind (arith, common_steps) in
+    rw p.1 (Begun-unrun g.S.BoxLists.noted c.args.work.options.now (place_of c.args.place) (g.S.BoxLists.asked c.args.stores.now.stores.now)
+    (g.S.BoxLists.asked c.print_box.new.self.stores.now) same)
+
+-- or behind it
+pub returns-in_err-verdict-in-Ok-clause-asked : goal.returns-in_err-verdict-in-Ok-clause-asked
+returns-in_err-verdict-in-Ok-clause-asked g c =
+    let ran : Asked = Ran (place_of c.args.place) c.args.work.options.now run_attempts Done in
+    let same : g.S.BoxLists.asked c.print_box.new.self.stores.now ≡ g.S.BoxLists.asked c.args.stores.now.stores.now = grind (arith, common_steps) in
+    let p = err_from_is_err_and c.from_residual-in_err-verdict-in-Ok.result c.from_residual-in_err-verdict-in-Ok.ensures.1 in
+    rw p.1 (Begun-run g.S.BoxLists.noted c.args.work.options.now (place_of c.args.place) Done (g.S.BoxLists.asked c.args.stores.now.stores.now)
+    (g.S.BoxLists.asked c.print_answer.new.stores.stores.now)
+    (c.print_answer.ensures.asks.1 ∙ c.in-Ok.ensures.asks.1 ∙ ap (λ l. g.S.BoxLists.noted l ran) same))
+
+pub returns-in_err-tell_left_out-in-Ok-clause-asked : goal.returns-in_err-tell_left_out-in-Ok-clause-asked
+returns-in_err-tell_left_out-in-Ok-clause-asked g c =
+    let ran : Asked = Ran (place_of c.args.place) c.args.work.options.now run_attempts Done in
+    let same : g.S.BoxLists.asked c.print_box.new.self.stores.now ≡ g.S.BoxLists.asked c.args.stores.now.stores.now = grind (arith, common_steps) in
+    let p = err_from_is_err_and c.from_residual-in_err-tell_left_out-in-Ok.result c.from_residual-in_err-tell_left_out-in-Ok.ensures.1 in
+    rw p.1 (Begun-run g.S.BoxLists.noted c.args.work.options.now (place_of c.args.place) Done (g.S.BoxLists.asked c.args.stores.now.stores.now)
+    (g.S.BoxLists.asked c.tell_left_out.new.stores.stores.now)
+    (c.tell_left_out.ensures.asks.1 ∙ c.print_answer.ensures.asks.1 ∙ c.in-Ok.ensures.asks.1 ∙ ap (λ l. g.S.BoxLists.noted l ran) same))
+
+-- it was run to an answer
+pub returns-in_ok-tell_left_out-in-Ok-clause-asked : goal.returns-in_ok-tell_left_out-in-Ok-clause-asked
+returns-in_ok-tell_left_out-in-Ok-clause-asked g c =
+    let ran : Asked = Ran (place_of c.args.place) c.args.work.options.now run_attempts Done in
+    let same : g.S.BoxLists.asked c.print_box.new.self.stores.now ≡ g.S.BoxLists.asked c.args.stores.now.stores.now = grind (arith, common_steps) in
+    Goes-run g.S.BoxLists.noted c.args.work.options.now (place_of c.args.place) Done c.and.result (g.S.BoxLists.asked c.args.stores.now.stores.now)
+    (g.S.BoxLists.asked c.tell_left_out.new.stores.stores.now)
+    (c.tell_left_out.ensures.asks.1 ∙ c.print_answer.ensures.asks.1 ∙ c.in-Ok.ensures.asks.1 ∙ ap (λ l. g.S.BoxLists.noted l ran) same)
+    (IsToldOf-both c.in_ok-verdict-in-Ok.verdict c.in_ok-tell_left_out-in-Ok.field-0 c.and.result c.and.ensures c.in_ok-verdict-in-Ok.ensures.goes_on
+    c.in_ok-tell_left_out-in-Ok.ensures.goes_on)
+
+-- or to a fault
+pub returns-in-Err-clause-asked : goal.returns-in-Err-clause-asked
+returns-in-Err-clause-asked g c =
+    let ran : Asked = Ran (place_of c.args.place) c.args.work.options.now run_attempts (outcome_of_box_fault c.in-Err.fault) in
+    let same : g.S.BoxLists.asked c.print_box.new.self.stores.now ≡ g.S.BoxLists.asked c.args.stores.now.stores.now = grind (arith, common_steps) in
+    SoFar-fault g.S.BoxLists.noted c.args.work.options.now (place_of c.args.place) c.in-Err.fault c.tell.result (g.S.BoxLists.asked c.args.stores.now.stores.now)
+    (g.S.BoxLists.asked c.tell.new.self.stores.now)
+    (c.tell.ensures.asks.1 ∙ c.in-Err.ensures.asks.1 ∙ ap (λ l. g.S.BoxLists.noted l ran) same) c.tell.ensures.verdict

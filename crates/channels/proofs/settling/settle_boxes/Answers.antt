@@ -1,13 +1,18 @@
-use Rattle.std.proofs.Common.{arith, sym, ◌∙◌}
+use Rattle.std.proofs.Common.{◌≡◌, ◌+◌, Err, IfOk, drop, arith, refl, sym, ◌∙◌, drop_of_length-le}
 use Rattle.std.proofs.lemmas.Grind.{common_steps}
-use Rattle.channels.proofs.StreamLemmas.{IsQuiet-both, stream_steps}
+use Rattle.channels.proofs.StreamLemmas.{IsQuiet-both, quiet_steps, stream_steps}
+use Rattle.std.proofs.lemmas.Result.{err_from_is_err_and}
 use Rattle.stores.specs.Asked.{joined_of}
+use Rattle.channels.specs.declared.verdict.Verdict.TheVariants.{Over}
+use Rattle.channels.specs.Courses.{Begun, IsNamedAsked, is_over}
+use Rattle.channels.proofs.ChannelLemmas.{Goes-named, IsNamedAsked-possible}
+use Rattle.channels.proofs.OrderLemmas.{Goes-all, Goes-begun, Goes-next, Goes-none, Goes-stops, drop_next, is_over-last, is_over-not}
 use Rattle.channels.proofs.AskLemmas.{boxes_asked-next, both_clean}
 use Rattle.channels.proofs.settling.settle_boxes.Goals as goal
 
 -- what was told of one more mailbox
 pub loop-name-preserved : goal.loop-name-preserved
-loop-name-preserved g c = record {
+loop-name-preserved g c = let over : c.and-verdict.result ≡ Over → ⊥ = grind (arith, common_steps) in record {
   stores = grind (arith, common_steps);
   asks = λ clean.
       let both = both_clean c.loop-name.verdict c.in_ok-settle_box.field-0 (sym c.and-verdict.ensures ∙ clean) in
@@ -16,5 +21,45 @@ loop-name-preserved g c = record {
   err = grind (arith, common_steps);
   quiet = IsQuiet-both _ _ _ _ _ _ c.and-verdict.ensures c.loop-name.invariant.quiet c.in_ok-settle_box.ensures.quiet;
   whole = grind (arith, common_steps, stream_steps);
+  asked = Goes-next g.S.BoxLists.noted (g.S.BoxLists.asked c.args.stores.now.stores.now) (g.S.BoxLists.asked c.loop-name.stores.stores.now) (g.S.BoxLists.asked c.settle_box.new.stores.stores.now) is_over (IsNamedAsked c.args.work.options.now (joined_of c.args.work.of) c.args.found.now.far.items c.args.found.now.near.items) c.args.boxes.now (drop c.loop-name.name-index c.args.boxes.now) (drop (c.loop-name.name-index + 1) c.args.boxes.now) c.name-item.result c.loop-name.verdict c.in_ok-settle_box.field-0 c.and-verdict.result (drop_next c.args.boxes.now c.loop-name.name-index c.name-item.result c.name-item.result c.loop-name-test.true c.name-item.is) c.and-verdict.ensures
+      (is_over-not c.loop-name.verdict c.in_ok-settle_box.field-0 c.and-verdict.result c.and-verdict.ensures over) c.loop-name.invariant.asked
+      (Goes-named g.S.BoxLists.noted c.args.work.options.now (joined_of c.args.work.of) c.args.found.now.far.items c.args.found.now.near.items c.name-item.result c.absent-absent.result (g.S.BoxLists.asked c.loop-name.stores.stores.now) (g.S.BoxLists.asked c.settle_box.new.stores.stores.now) (λ is_such. is_such c.in_ok-settle_box.field-0) c.absent-absent.ensures c.in_ok-settle_box.ensures.asked);
+  goes_on = over;
   going = grind (arith, common_steps);
 }
+
+-- nothing was asked yet
+pub loop-name-init : goal.loop-name-init
+loop-name-init g c = record {
+  stores = refl;
+  asks = λ clean. refl;
+  out = refl;
+  err = refl;
+  quiet = grind (arith, common_steps, quiet_steps);
+  whole = grind (arith, common_steps, stream_steps);
+  asked = Goes-none g.S.BoxLists.noted (g.S.BoxLists.asked c.args.stores.now.stores.now) (g.S.BoxLists.asked c.args.stores.now.stores.now) is_over (IsNamedAsked c.args.work.options.now (joined_of c.args.work.of) c.args.found.now.far.items c.args.found.now.near.items) c.args.boxes.now refl;
+  goes_on = grind (arith, common_steps);
+  going = grind (arith, common_steps);
+}
+
+-- a write failed in the midst of one
+pub returns-in_err-settle_box-clause-asked : goal.returns-in_err-settle_box-clause-asked
+returns-in_err-settle_box-clause-asked g c =
+    let p = err_from_is_err_and c.from_residual.result c.from_residual.ensures.1 in
+    rw p.1 (Goes-begun g.S.BoxLists.noted (g.S.BoxLists.asked c.args.stores.now.stores.now) (g.S.BoxLists.asked c.loop-name.stores.stores.now) (g.S.BoxLists.asked c.settle_box.new.stores.stores.now) is_over (IsNamedAsked c.args.work.options.now (joined_of c.args.work.of) c.args.found.now.far.items c.args.found.now.near.items) c.args.boxes.now (drop c.loop-name.name-index c.args.boxes.now) (drop (c.loop-name.name-index + 1) c.args.boxes.now) c.name-item.result c.loop-name.verdict (drop_next c.args.boxes.now c.loop-name.name-index c.name-item.result c.name-item.result c.loop-name-test.true c.name-item.is)
+    (IsNamedAsked-possible c.args.work.options.now (joined_of c.args.work.of) c.args.found.now.far.items c.args.found.now.near.items) c.loop-name.invariant.asked
+    (Goes-named g.S.BoxLists.noted c.args.work.options.now (joined_of c.args.work.of) c.args.found.now.far.items c.args.found.now.near.items c.name-item.result c.absent-absent.result (g.S.BoxLists.asked c.loop-name.stores.stores.now) (g.S.BoxLists.asked c.settle_box.new.stores.stores.now) Begun c.absent-absent.ensures c.in_err-settle_box.ensures.asked))
+
+-- a store does not open
+pub returns-then-eq-clause-asked : goal.returns-then-eq-clause-asked
+returns-then-eq-clause-asked g c =
+    let over : c.and-verdict.result ≡ Over = grind (arith, common_steps) in
+    Goes-stops g.S.BoxLists.noted (g.S.BoxLists.asked c.args.stores.now.stores.now) (g.S.BoxLists.asked c.loop-name.stores.stores.now) (g.S.BoxLists.asked c.settle_box.new.stores.stores.now) is_over (IsNamedAsked c.args.work.options.now (joined_of c.args.work.of) c.args.found.now.far.items c.args.found.now.near.items) c.args.boxes.now (drop c.loop-name.name-index c.args.boxes.now) (drop (c.loop-name.name-index + 1) c.args.boxes.now) c.name-item.result c.loop-name.verdict c.in_ok-settle_box.field-0 c.and-verdict.result (drop_next c.args.boxes.now c.loop-name.name-index c.name-item.result c.name-item.result c.loop-name-test.true c.name-item.is) c.and-verdict.ensures
+    (is_over-last c.loop-name.verdict c.in_ok-settle_box.field-0 c.and-verdict.result c.and-verdict.ensures c.loop-name.invariant.goes_on over) c.loop-name.invariant.asked
+    (Goes-named g.S.BoxLists.noted c.args.work.options.now (joined_of c.args.work.of) c.args.found.now.far.items c.args.found.now.near.items c.name-item.result c.absent-absent.result (g.S.BoxLists.asked c.loop-name.stores.stores.now) (g.S.BoxLists.asked c.settle_box.new.stores.stores.now) (λ is_such. is_such c.in_ok-settle_box.field-0) c.absent-absent.ensures c.in_ok-settle_box.ensures.asked)
+
+-- all were asked for
+pub returns-clause-asked : goal.returns-clause-asked
+returns-clause-asked g c =
+    Goes-all g.S.BoxLists.noted (g.S.BoxLists.asked c.args.stores.now.stores.now) (g.S.BoxLists.asked c.loop-name.stores.stores.now) is_over (IsNamedAsked c.args.work.options.now (joined_of c.args.work.of) c.args.found.now.far.items c.args.found.now.near.items) c.args.boxes.now (drop c.loop-name.name-index c.args.boxes.now) c.loop-name.verdict
+    (drop_of_length-le c.args.boxes.now c.loop-name-test.false) c.loop-name.invariant.asked

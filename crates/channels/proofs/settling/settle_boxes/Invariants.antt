@@ -1,7 +1,10 @@
-use Rattle.std.specs.Prelude.{◌≡◌, false, take}
+use Rattle.std.specs.Prelude.{◌≡◌, false, take, drop}
 use Rattle.stores.specs.Asked.{joined_of}
 use Rattle.channels.specs.Asks.{AsksIfClean, boxes_asked}
+use Rattle.channels.specs.Courses.{Goes, IsNamedAsked, is_over}
+use Rattle.channels.specs.declared.verdict.Verdict.TheVariants.{Over}
 use Rattle.channels.specs.Streams.{Extends, IsQuiet}
+use Rattle.channels.proofs.OrderLemmas.{Ahead}
 use Rattle.channels.proofs.settling.settle_boxes.Given as goal
 
 abbrev pub invariant-loop-name : goal.invariant-loop-name
@@ -12,5 +15,7 @@ invariant-loop-name g l = record {
   err : l.stores.err.ghost_name ≡ l.initial.stores.err.ghost_name;
   quiet : IsQuiet (g.E.Write.contents l.initial.stores.err.now) (g.E.Write.contents l.stores.err.now) l.verdict;
   whole : Extends (g.O.Write.contents l.initial.stores.out.now) (g.O.Write.contents l.stores.out.now);
+  asked : Goes g.S.BoxLists.noted (g.S.BoxLists.asked l.initial.stores.stores.now) (g.S.BoxLists.asked l.stores.stores.now) (Ahead is_over (IsNamedAsked l.work.options.now (joined_of l.work.of) l.found.far.items l.found.near.items) l.boxes (drop l.name-index l.boxes) l.verdict);
+  goes_on : l.verdict ≡ Over → ⊥;
   going : l.stores.write_failed ≡ false;
 }

@@ -1,4 +1,6 @@
 use Rattle.std.specs.Prelude.{◌≡◌, false}
+use Rattle.stores.specs.Asked.{Done}
+use Rattle.channels.specs.Outcomes.{IsToldOf}
 use Rattle.channels.specs.Streams.{IsQuiet}
 use Rattle.channels.proofs.settling.tell_left_out.Given as goal
 
@@ -11,5 +13,6 @@ invariant-loop-path g l = record {
   out : l.stores.out ≡ l.initial.stores.out;
   err : l.stores.err.ghost_name ≡ l.initial.stores.err.ghost_name;
   quiet : IsQuiet (g.E.Write.contents l.initial.stores.err.now) (g.E.Write.contents l.stores.err.now) l.verdict;
+  goes_on : IsToldOf Done l.verdict;
   going : l.stores.write_failed ≡ false;
 }

@@ -1,0 +1,234 @@
+-- What is asked of the stores, whatever they answer.
+use Rattle.std.specs.Prelude.{◌≡◌, ◌<◌, ℕ, Bool, true, false, is_some, ◌||◌, ◌⊎◌, List, [], ◌∷◌, ◌++◌, Option, None, Some, Result, Ok, Err, if◌then◌else◌}
+use Rattle.std.specs.List.{fold}
+use Rattle.mailcore.specs.declared.side.Side.TheVariants.{Far, Near}
+use Rattle.rules.specs.declared.options.Cells.{Cells}
+use Rattle.rules.specs.declared.options.Options.{Options}
+use Rattle.rules.specs.declared.options.Sides.{Sides}
+use Rattle.config.specs.declared.config.Boxes.{Boxes}
+use Rattle.config.specs.declared.config.Boxes.TheVariants.{Pair, Matching}
+use Rattle.config.specs.declared.config.Config.{Config}
+use Rattle.request.specs.declared.request.Request.{Request}
+use Rattle.request.specs.Cells.{line_cells}
+use Rattle.choosing.specs.Boxes.{Tells, boxes_among}
+use Rattle.choosing.specs.Chosen.{chosen_among}
+use Rattle.choosing.specs.Scope.{options_of, uncovered}
+use Rattle.stores.specs.Asked.{Asked, Ended, FarListed, FoundNew, IsJoined, IsUnjoined, Joined, Made, NearListed, Outcome, Done, Failed, Unopened, Place, Ran}
+use Rattle.channels.specs.declared.verdict.Verdict.{Verdict}
+use Rattle.channels.specs.declared.verdict.Verdict.TheVariants.{Clean, Faulty, Over}
+use Rattle.channels.specs.Asks.{Ways, run_attempts, ways_of}
+use Rattle.channels.specs.Founds.{absent_in}
+use Rattle.channels.specs.Outcomes.{IsToldOf}
+use Rattle.channels.specs.Verdicts.{both, status_of}
+
+-- ---- of a mailbox
+
+-- what is asked, one thing behind another, and how it ends
+pub record Course : Type 0 where
+  pub asked : List Asked
+  pub outcome : Outcome
+
+-- one thing, if it is to be asked
+abbrev pub asking_if : Bool → (Outcome → Asked) → Outcome → Course
+asking_if is_due question outcome =
+    if is_due then record { asked = question outcome ∷ []; outcome = outcome } else record { asked = []; outcome = Done }
+
+-- behind one thing the next, where it is done
+abbrev pub onward_by : Outcome → List Asked → Course → Course
+onward_by Done asked next = record { asked = asked ++ next.asked; outcome = next.outcome }
+onward_by Failed asked next = record { asked = asked; outcome = Failed }
+onward_by Unopened asked next = record { asked = asked; outcome = Unopened }
+
+abbrev pub onward : Course → Course → Course
+onward first next = onward_by first.outcome first.asked next
+
+-- how each thing ends that may be asked of a mailbox
+pub record BoxEnds : Type 0 where
+  pub found_new : Outcome
+  pub made_far : Outcome
+  pub made_near : Outcome
+  pub ran : Outcome
+
+-- where it is absent it is made, the far side first, if it is a new one
+abbrev pub making_course : Place → (absent : Sides) → BoxEnds → Course
+making_course place absent ends = onward (asking_if (absent.far || absent.near) (FoundNew place) ends.found_new)
+    (onward (asking_if absent.far (Made Far place) ends.made_far) (asking_if absent.near (Made Near place) ends.made_near))
+
+-- if it is absent on a side that Create does not cover, nothing is made
+abbrev pub covered_course : Place → (absent : Sides) → BoxEnds → Course
+covered_course place absent ends =
+    if is_some (uncovered absent place.of.channel.create) then record { asked = []; outcome = Failed } else making_course place absent ends
+
+-- then it is run, once
+abbrev pub box_course : Options → Place → (absent : Sides) → BoxEnds → Course
+box_course options place absent ends = onward (covered_course place absent ends) (asking_if true (Ran place options run_attempts) ends.ran)
+
+-- it is run, and this is told of it
+pub record IsRunAsked (options : Options) (place : Place) (verdict : Verdict) (asked : List Asked) : Type 0 where
+  pub ran : Outcome
+  pub all : asked ≡ Ran place options run_attempts ran ∷ []
+  pub told : IsToldOf ran verdict
+
+-- so much is asked of a mailbox, and this is told of it
+pub record IsBoxAsked (options : Options) (place : Place) (absent : Sides) (verdict : Verdict) (asked : List Asked) : Type 0 where
+  pub ends : BoxEnds
+  pub all : asked ≡ (box_course options place absent ends).asked
+  pub told : IsToldOf (box_course options place absent ends).outcome verdict
+
+-- ---- of several
+
+-- so much is asked and told of one, and so much behind it, unless what is told of it stops them
+abbrev pub NextOf : (stops : Bool) → (next : Verdict → List Asked → Type 0) → Verdict → List Asked → Type 0
+NextOf true next verdict asked = (verdict ≡ Clean) × (asked ≡ [])
+NextOf false next verdict asked = next verdict asked
+
+pub record Behind (stops : Verdict → Bool) (one next : Verdict → List Asked → Type 0) (verdict : Verdict) (asked : List Asked) : Type 0 where
+  pub told : Verdict
+  pub later : Verdict
+  pub first : List Asked
+  pub rest : List Asked
+  pub is_first : one told first
+  pub is_rest : NextOf (stops told) next later rest
+  pub all : asked ≡ first ++ rest
+  pub together : verdict ≡ both told later
+
+-- each of these, one behind another
+abbrev pub InOrder : {X : Type 0} → (stops : Verdict → Bool) → (one : X → Verdict → List Asked → Type 0) → List X → Verdict → List Asked → Type 0
+InOrder stops one [] verdict asked = (verdict ≡ Clean) × (asked ≡ [])
+InOrder stops one (x ∷ xs) verdict asked = Behind stops (one x) (InOrder stops one xs) verdict asked
+
+-- a store does not open, so no other mailbox of its channel is tried
+abbrev pub is_over : Verdict → Bool
+is_over Clean = false
+is_over Faulty = false
+is_over Over = true
+
+-- ---- of a channel
+
+-- nothing more is asked of it
+abbrev pub IsOver : Verdict → List Asked → Type 0
+IsOver verdict asked = (verdict ≡ Over) × (asked ≡ [])
+
+abbrev pub IsNamedAsked : Options → Joined → (fars nears : List (List ℕ)) → (name : List ℕ) → Verdict → List Asked → Type 0
+IsNamedAsked options of fars nears name verdict asked =
+    IsBoxAsked options (record { of = of; far = name; near = name }) (absent_in fars nears name name) verdict asked
+
+-- of a channel whose stores have these mailboxes, the one on each side, or each one that the patterns choose; these only if there is
+-- memory for their names
+abbrev pub IsFoundAsked : Options → Joined → (fars nears : List (List ℕ)) → Boxes → Verdict → List Asked → Type 0
+IsFoundAsked options of fars nears (Pair far near) verdict asked =
+    IsBoxAsked options (record { of = of; far = far; near = near }) (absent_in fars nears far near) verdict asked
+IsFoundAsked options of fars nears (Matching patterns) verdict asked = IsOver verdict asked ⊎ ((is_chosen : List ℕ → Bool) → Tells is_chosen patterns
+    → InOrder is_over (IsNamedAsked options of fars nears) (boxes_among is_chosen fars nears) verdict asked)
+
+-- the mailboxes of both stores are listed, those of the near one only if the far one told its own
+abbrev pub listing_asked : Joined → (fars nears : Option (List (List ℕ))) → List Asked
+listing_asked of None nears = FarListed of.far_store None ∷ []
+listing_asked of (Some fars) nears = FarListed of.far_store (Some fars) ∷ NearListed of.near_store nears ∷ []
+
+-- where both told them, this follows
+abbrev pub IfListed : (fars nears : Option (List (List ℕ))) → (next : (fars nears : List (List ℕ)) → Verdict → List Asked → Type 0) → Verdict → List Asked → Type 0
+IfListed None nears next verdict asked = IsOver verdict asked
+IfListed (Some fars) None next verdict asked = IsOver verdict asked
+IfListed (Some fars) (Some nears) next verdict asked = next fars nears verdict asked
+
+-- one of them did not tell its own
+abbrev pub IsUnlisted : Joined → List Asked → Type 0
+IsUnlisted of asked = (asked ≡ FarListed of.far_store None ∷ [])
+    ⊎ ((fars : List (List ℕ)) × (asked ≡ FarListed of.far_store (Some fars) ∷ NearListed of.near_store None ∷ []))
+
+pub record IsListedAsked (of : Joined) (next : (fars nears : List (List ℕ)) → Verdict → List Asked → Type 0) (verdict : Verdict) (asked : List Asked) : Type 0 where
+  pub fars : Option (List (List ℕ))
+  pub nears : Option (List (List ℕ))
+  pub rest : List Asked
+  pub is_rest : IfListed fars nears next verdict rest
+  pub all : asked ≡ listing_asked of fars nears ++ rest
+
+-- its stores are listed, and its mailboxes made and run
+abbrev pub IsChannelAsked : Options → Joined → Verdict → List Asked → Type 0
+IsChannelAsked options of verdict asked = IsListedAsked of (λ fars nears. IsFoundAsked options of fars nears of.channel.boxes) verdict asked
+
+-- nothing but its mailboxes is told, or that there is no memory for their names
+abbrev pub IsListedAlone : (fars nears : List (List ℕ)) → Verdict → List Asked → Type 0
+IsListedAlone fars nears verdict asked = (verdict ≡ Faulty → ⊥) × (asked ≡ [])
+
+abbrev pub listing_verdict : {T E : Type 0} → Result T E → Verdict
+listing_verdict (Ok names) = Clean
+listing_verdict (Err fault) = Over
+
+-- with `-l` its stores are listed, if it has patterns, and nothing else
+abbrev pub IsListAsked : Joined → Boxes → Verdict → List Asked → Type 0
+IsListAsked of (Pair far near) verdict asked = (verdict ≡ Clean) × (asked ≡ [])
+IsListAsked of (Matching patterns) verdict asked = IsListedAsked of IsListedAlone verdict asked
+
+-- ---- of a command line
+
+abbrev pub IsAskedBy : (lists : Bool) → Options → Joined → Verdict → List Asked → Type 0
+IsAskedBy true options of verdict asked = IsListAsked of of.channel.boxes verdict asked
+IsAskedBy false options of verdict asked = IsChannelAsked options of verdict asked
+
+-- the channel of this place is listed or run
+pub record IsJoinedAsked (config : Config) (ways : Ways) (place : ℕ) (verdict : Verdict) (asked : List Asked) : Type 0 where
+  pub of : Joined
+  pub joined : IsJoined config place of
+  pub by : IsAskedBy ways.lists (options_of of.channel ways.cells ways.expunges) of verdict asked
+
+-- of a channel that is not there nothing is asked
+abbrev pub IsPlaceAsked : Config → Ways → (place : ℕ) → Verdict → List Asked → Type 0
+IsPlaceAsked config ways place verdict asked = (IsUnjoined config place × IsOver verdict asked) ⊎ IsJoinedAsked config ways place verdict asked
+
+-- each of these channels, one behind another, whatever is told of those before
+abbrev pub IsLineAsked : Config → Ways → (places : List ℕ) → Verdict → List Asked → Type 0
+IsLineAsked config ways places verdict asked = InOrder (λ _. false) (IsPlaceAsked config ways) places verdict asked
+
+-- each channel that the command line names
+pub record IsRequestAsked (config : Config) (request : Request) (verdict : Verdict) (asked : List Asked) : Type 0 where
+  pub cells : Option Cells
+  pub words : line_cells request.sync_words.items ≡ Ok cells
+  pub line : IsLineAsked config (ways_of request cells) (chosen_among config request.chosen) verdict asked
+
+-- ---- of a record
+
+-- so much more was asked, and it is such
+pub record Goes {L : Type 0} (noted : L → Asked → L) (old new : L) (is_such : List Asked → Type 0) : Type 0 where
+  pub more : List Asked
+  pub is : is_such more
+  pub grown : new ≡ fold noted old more
+
+-- a beginning of what is such
+pub record Begun (is_such : Verdict → List Asked → Type 0) (asked : List Asked) : Type 0 where
+  pub verdict : Verdict
+  pub rest : List Asked
+  pub is : is_such verdict (asked ++ rest)
+
+-- all of it, or, where a write failed, a beginning of it
+abbrev pub SoFar : {E : Type 0} → Result Verdict E → (Verdict → List Asked → Type 0) → List Asked → Type 0
+SoFar (Ok verdict) is_such asked = is_such verdict asked
+SoFar (Err fault) is_such asked = Begun is_such asked
+
+-- the record is the old one and this course, and this is how it ended
+pub record Follows {L : Type 0} (noted : L → Asked → L) (old new : L) (outcome : Outcome) (course : Course) : Type 0 where
+  pub grown : new ≡ fold noted old course.asked
+  pub ended : outcome ≡ course.outcome
+
+-- a mailbox was made where it is absent
+pub record Makes {L : Type 0} (noted : L → Asked → L) (place : Place) (absent : Sides) (outcome : Outcome) (old new : L) : Type 0 where
+  pub ends : BoxEnds
+  pub follows : Follows noted old new outcome (covered_course place absent ends)
+
+-- all of it was asked, and then what stands at servers was ended
+pub record GoesToEnd {L : Type 0} (noted : L → Asked → L) (is_such : Verdict → List Asked → Type 0) (status : ℕ) (old new : L) : Type 0 where
+  pub verdict : Verdict
+  pub last : L
+  pub goes : Goes noted old last (is_such verdict)
+  pub ended : new ≡ noted last Ended
+  pub tells : status ≡ status_of verdict
+
+-- or a beginning of it, without an end, where a write failed
+abbrev pub GoesUntil : {L : Type 0} → (L → Asked → L) → (write_failed : Bool) → (Verdict → List Asked → Type 0) → (status : ℕ) → (old new : L) → Type 0
+GoesUntil noted false is_such status old new = GoesToEnd noted is_such status old new
+GoesUntil noted true is_such status old new = (status ≡ 1) × Goes noted old new (Begun is_such)
+
+-- nothing, where the line is refused before; or what it names
+abbrev pub GoesAsFar : {L : Type 0} → (L → Asked → L) → Config → Request → (status : ℕ) → (old new : L) → Type 0
+GoesAsFar noted config request status old new = ((0 < status) × (new ≡ old)) ⊎ ((write_failed : Bool) × GoesUntil noted write_failed (IsRequestAsked config request) status old new)
