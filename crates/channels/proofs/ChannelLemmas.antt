@@ -19,7 +19,7 @@ use Rattle.stores.specs.Asked.{Asked, Done, Ended, FarListed, IsJoined, IsUnjoin
 use Rattle.channels.specs.declared.verdict.Verdict.{Verdict}
 use Rattle.channels.specs.declared.verdict.Verdict.TheVariants.{Clean, Faulty, Over}
 use Rattle.channels.specs.Asks.{Ways, lists_asked, ways_of}
-use Rattle.channels.specs.Courses.{Begun, BoxEnds, Goes, GoesToEnd, GoesUntil, InOrder, IsAskedBy, IsBoxAsked, IsChannelAsked, IsFoundAsked, IsJoinedAsked, IsLineAsked, IsListAsked, IsListedAlone, IsListedAsked, IsNamedAsked, IsPlaceAsked, IsRequestAsked, IsUnlisted, SoFar, box_course, is_over, listing_asked, listing_verdict}
+use Rattle.channels.specs.Courses.{Begun, BoxEnds, Goes, GoesAsFar, GoesToEnd, GoesUntil, InOrder, IsAskedBy, IsBoxAsked, IsChannelAsked, IsFoundAsked, IsJoinedAsked, IsLineAsked, IsListAsked, IsListedAlone, IsListedAsked, IsNamedAsked, IsPlaceAsked, IsRequestAsked, IsUnlisted, SoFar, box_course, is_over, listing_asked, listing_verdict}
 use Rattle.channels.specs.Founds.{absent_in}
 use Rattle.channels.specs.Outcomes.{verdict_of}
 use Rattle.channels.specs.Verdicts.{status_of}
@@ -40,13 +40,13 @@ IsBoxAsked-possible options place absent =
 pub IsNamedAsked-possible : (options : Options) (of : Joined) (fars nears : List (List ℕ)) (name : List ℕ) → Possible (IsNamedAsked options of fars nears name)
 IsNamedAsked-possible options of fars nears name =
     let p : Possible (IsBoxAsked options (record { of = of; far = name; near = name }) (absent_in fars nears name name)) =
-        IsBoxAsked-possible options (record { of = of; far = name; near = name }) (absent_in fars nears name name) in
+    IsBoxAsked-possible options (record { of = of; far = name; near = name }) (absent_in fars nears name name) in
     record { verdict = p.verdict; asked = p.asked; is = p.is }
 
 pub IsFoundAsked-possible : (options : Options) (of : Joined) (fars nears : List (List ℕ)) (boxes : Boxes) → Possible (IsFoundAsked options of fars nears boxes)
 IsFoundAsked-possible options of fars nears (Pair far near) =
     let p : Possible (IsBoxAsked options (record { of = of; far = far; near = near }) (absent_in fars nears far near)) =
-        IsBoxAsked-possible options (record { of = of; far = far; near = near }) (absent_in fars nears far near) in
+    IsBoxAsked-possible options (record { of = of; far = far; near = near }) (absent_in fars nears far near) in
     record { verdict = p.verdict; asked = p.asked; is = p.is }
 IsFoundAsked-possible options of fars nears (Matching patterns) = record { verdict = Over; asked = []; is = inl (refl, refl) }
 
@@ -211,7 +211,7 @@ IsPlaceAsked-by : (config : Config) (ways : Ways) (place : ℕ) → IsThere conf
 IsPlaceAsked-by config ways place (inl u) = record { verdict = Over; asked = []; is = inl (u, (refl, refl)) }
 IsPlaceAsked-by config ways place (inr p) =
     let q : Possible (IsAskedBy ways.lists (options_of p.0.channel ways.cells ways.expunges) p.0) =
-        IsAskedBy-possible ways.lists (options_of p.0.channel ways.cells ways.expunges) p.0 in
+    IsAskedBy-possible ways.lists (options_of p.0.channel ways.cells ways.expunges) p.0 in
     record { verdict = q.verdict; asked = q.asked; is = inr (record { of = p.0; joined = p.1; by = q.is }) }
 
 pub IsPlaceAsked-possible : (config : Config) (ways : Ways) (place : ℕ) → Possible (IsPlaceAsked config ways place)
@@ -285,16 +285,32 @@ GoesUntil-request noted config request cells places status false old new w p h =
   ended = h.ended;
   tells = h.tells;
 }
-GoesUntil-request noted config request cells places status true old new w p h = (h.0, record {
-  more = h.1.more;
-  is = record {
-    verdict = h.1.is.verdict;
-    rest = h.1.is.rest;
+GoesUntil-request noted config request cells places status true old new w p h = (
+  h.0,
+  record {
+    more = h.1.more;
     is = record {
-      cells = cells;
-      words = w;
-      line = subst (λ ps. IsLineAsked config (ways_of request cells) ps h.1.is.verdict (h.1.more ++ h.1.is.rest)) p h.1.is.is;
+      verdict = h.1.is.verdict;
+      rest = h.1.is.rest;
+      is = record {
+        cells = cells;
+        words = w;
+        line = subst (λ ps. IsLineAsked config (ways_of request cells) ps h.1.is.verdict (h.1.more ++ h.1.is.rest)) p h.1.is.is;
+      };
     };
-  };
-  grown = h.1.grown;
-})
+    grown = h.1.grown;
+  },
+)
+
+-- nothing was refused before
+pub GoesAsFar-told : {L : Type 0} (noted : L → Asked → L) (config : Config) (request : Request) (cells : Option Cells) (places : List ℕ) (status : ℕ)
+    (write_failed : Bool) (old first last new : L) → line_cells request.sync_words.items ≡ Ok cells → places ≡ chosen_among config request.chosen
+    → first ≡ old → new ≡ last → GoesUntil noted write_failed (IsLineAsked config (ways_of request cells) places) status first last
+    → GoesAsFar noted config request status old new
+GoesAsFar-told noted config request cells places status write_failed old first last new w p e f h =
+    inr (
+      write_failed,
+      GoesUntil-request noted config request cells places status write_failed old new w p
+          (subst (λ l. GoesUntil noted write_failed (IsLineAsked config (ways_of request cells) places) status l new) e
+          (subst (λ l. GoesUntil noted write_failed (IsLineAsked config (ways_of request cells) places) status first l) (sym f) h)),
+    )

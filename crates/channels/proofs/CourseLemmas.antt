@@ -55,6 +55,25 @@ IsToldOf-both verdict Clean all e h k = λ over. h (sym e ∙ over)
 IsToldOf-both verdict Faulty all e h k = λ over. is_not_over Faulty tt (sym e ∙ over)
 IsToldOf-both verdict Over all e h k = λ over. k refl
 
+-- of a run, and of what is told behind it
+pub IsToldOf-behind : (has_void : Bool) (verdict later all : Verdict) → all ≡ both verdict later → IsToldOf (if has_void then Failed else Done) verdict
+    → IsToldOf Done later → IsToldOf (if has_void then Failed else Done) all
+IsToldOf-behind false verdict later all e h k = IsToldOf-both verdict later all e h k
+IsToldOf-behind true verdict Clean all e h k = e ∙ h
+IsToldOf-behind true verdict Faulty all e h k = e
+IsToldOf-behind true verdict Over all e h k = absurd (k refl)
+
+abbrev IsClean : Verdict → Type 0
+IsClean Clean = Unit {0}
+IsClean Faulty = ⊥
+IsClean Over = ⊥
+
+-- a run of which no fault was told was done
+pub was_done : (has_void : Bool) (verdict : Verdict) → IsToldOf (if has_void then Failed else Done) verdict → verdict ≡ Clean
+    → (if has_void then Failed else Done) ≡ Done
+was_done false verdict h e = refl
+was_done true verdict h e = absurd (subst IsClean (sym e ∙ h) tt)
+
 -- ---- of a record
 
 pub Follows-asked : {L : Type 0} (noted : L → Asked → L) (old new : L) (is_due : Bool) (question : Outcome → Asked) (outcome : Outcome)

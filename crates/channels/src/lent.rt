@@ -36,13 +36,13 @@ pub(crate) struct RunOnce<'a, R> {
 
 impl<R: Rng> Work for RunOnce<'_, R> {
     ghost use Rattle.channels.specs.Asks.{run_attempts};
-    ghost use Rattle.channels.specs.Outcomes.{outcome_of};
+    ghost use Rattle.channels.specs.Outcomes.{outcome_of_run};
 
     ghost options = { λ run. run.options.now };
 
     ghost attempts = { λ _. run_attempts };
 
-    ghost ends = { λ answer. outcome_of answer };
+    ghost ends = { λ answer. outcome_of_run answer };
 
     type Answer = Result<Pass, BoxFault>;
 

@@ -1,14 +1,14 @@
 //! The mailboxes of channels as they are synchronised.
 
 ghost use Rattle.std.specs.Prelude.{◌≡◌, ◌∷◌, ◌||◌, [], false, true, is_some, Err, IfOk, IfSome, IsSome, OnOk};
-ghost use Rattle.std.specs.List.{fold};
+ghost use Rattle.std.specs.List.{fold, list_any};
 ghost use Rattle.choosing.specs.Scope.{uncovered};
 ghost use Rattle.rules.specs.Options.{covers};
 ghost use Rattle.stores.specs.Asked.{Done, FoundNew, Made, Ran, joined_of, place_of};
 ghost use Rattle.channels.specs.declared.verdict.Verdict.TheVariants.{Clean};
 ghost use Rattle.channels.specs.Asks.{Asks, AsksIfClean, Settles, SettlesFound, box_asked, boxes_asked, makings, run_attempts};
 ghost use Rattle.channels.specs.Courses.{Follows, Goes, InOrder, IsBoxAsked, IsChannelAsked, IsFoundAsked, IsNamedAsked, IsRunAsked, Makes, SoFar, asking_if, is_over};
-ghost use Rattle.channels.specs.Outcomes.{IsToldOf, outcome_of};
+ghost use Rattle.channels.specs.Outcomes.{IsToldOf, has_void, is_void, outcome_of, outcome_of_pass};
 ghost use Rattle.channels.specs.Streams.{Extends, IsQuiet, Notes};
 
 use crate::fault::BoxFault;
@@ -24,7 +24,7 @@ use reports::answer::answer_text;
 use rules::options::{Options, Sides};
 use runner::fault::RunFault;
 use runner::pass::Pass;
-use runner::performed::StepResult;
+use runner::performed::{Performed, StepResult};
 use std::alloc::Global;
 use std::io;
 use std::io::Write;
@@ -344,7 +344,7 @@ fn print_answer<S: Stores, O: Write, E: Write>(
     ensures whole { OnOk result (Extends (O.contents stores.old.out.now) (O.contents stores.new.out.now)) }
     ensures failed { Notes false stores.new.write_failed result }
     ensures asks { Asks S.noted S.asked stores.old.stores stores.new.stores [] }
-    ensures goes_on { IfOk result (IsToldOf Done) }
+    ensures tells { IfOk result (IsToldOf (outcome_of_pass pass.now)) }
 {
     match answer_text(alloc, pass) {
         Ok(text) => {
@@ -360,11 +360,25 @@ fn print_answer<S: Stores, O: Write, E: Write>(
 }
 
 /// Whether a step of a run was void.
-fn has_void(pass: &Pass) -> bool {
+fn has_void(pass: &Pass) -> bool
+    ensures { result ≡ has_void pass.now }
+{
     match pass {
         Pass::Already => false,
-        Pass::Ran(steps, _) | Pass::Finished(steps) => steps
-            .iter()
-            .any(|performed| performed.result == StepResult::Void),
+        Pass::Ran(steps, _) => any_void(steps),
+        Pass::Finished(steps) => any_void(steps),
     }
+}
+
+fn any_void(steps: &[Performed]) -> bool
+    ensures { result ≡ list_any is_void steps.now }
+{
+    steps.iter().any(|performed| is_void(performed))
+}
+
+/// Whether a message that was to be copied is not there any more, or not fit to be copied.
+fn is_void(performed: &Performed) -> bool
+    ensures { result ≡ is_void performed.now }
+{
+    matches!(performed.result, StepResult::Void)
 }

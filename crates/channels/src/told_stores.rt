@@ -7,7 +7,7 @@ ghost use Rattle.stores.specs.Asked.{Ended, Failed, FarListed, FoundNew, Made, N
 ghost use Rattle.channels.specs.declared.verdict.Verdict.TheVariants.{Over};
 ghost use Rattle.channels.specs.Asks.{Asks, run_attempts};
 ghost use Rattle.channels.specs.Lines.{box_line};
-ghost use Rattle.channels.specs.Outcomes.{outcome_of, outcome_of_box_fault, verdict_of};
+ghost use Rattle.channels.specs.Outcomes.{outcome_of_box_fault, outcome_of_run, verdict_of};
 ghost use Rattle.channels.specs.Streams.{Extends, HasNotices, IsTold, Notes};
 
 use crate::fault::BoxFault;
@@ -252,7 +252,7 @@ impl<S: Stores, O: Write, E: Write> ToldStores<'_, S, O, E> {
         requires going { self.old.write_failed ≡ false }
         ensures others { self.new ≡ record self.old { stores = self.new.stores } }
         ensures asks { Asks S.noted S.asked self.old.stores self.new.stores
-            (Ran (place_of place.entry) options.now run_attempts (outcome_of result) ∷ []) }
+            (Ran (place_of place.entry) options.now run_attempts (outcome_of_run result) ∷ []) }
     {
         match self.settle_open(alloc, place, options, rng) {
             Err(BoxFault::Run(RunFault::Stopped)) => Err(self.stopped()),
@@ -272,7 +272,7 @@ impl<S: Stores, O: Write, E: Write> ToldStores<'_, S, O, E> {
         requires going { self.old.write_failed ≡ false }
         ensures others { self.new ≡ record self.old { stores = self.new.stores } }
         ensures asks { Asks S.noted S.asked self.old.stores self.new.stores
-            (Ran (place_of place.entry) options.now run_attempts (outcome_of result) ∷ []) }
+            (Ran (place_of place.entry) options.now run_attempts (outcome_of_run result) ∷ []) }
     {
         let run = RunOnce {
             alloc,

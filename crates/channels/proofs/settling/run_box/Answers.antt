@@ -2,10 +2,10 @@ use Rattle.std.proofs.Common.{◌≡◌, arith, ap, ◌∙◌}
 use Rattle.std.proofs.lemmas.Grind.{common_steps}
 use Rattle.channels.proofs.StreamLemmas.{IsQuiet-both, IsQuiet-from, stream_steps}
 use Rattle.std.proofs.lemmas.Result.{err_from_is_err_and}
-use Rattle.stores.specs.Asked.{Asked, Done, Ran, place_of}
+use Rattle.stores.specs.Asked.{Asked, Ran, place_of}
 use Rattle.channels.specs.Asks.{run_attempts}
-use Rattle.channels.specs.Outcomes.{outcome_of_box_fault}
-use Rattle.channels.proofs.CourseLemmas.{IsToldOf-both}
+use Rattle.channels.specs.Outcomes.{has_void, outcome_of_box_fault, outcome_of_pass}
+use Rattle.channels.proofs.CourseLemmas.{IsToldOf-behind, was_done}
 use Rattle.channels.proofs.OrderLemmas.{Begun-run, Begun-unrun, Goes-run, SoFar-fault}
 use Rattle.channels.proofs.settling.run_box.Goals as goal
 
@@ -30,31 +30,31 @@ returns-in_err-print_box-clause-asked g c =
 -- or behind it
 pub returns-in_err-verdict-in-Ok-clause-asked : goal.returns-in_err-verdict-in-Ok-clause-asked
 returns-in_err-verdict-in-Ok-clause-asked g c =
-    let ran : Asked = Ran (place_of c.args.place) c.args.work.options.now run_attempts Done in
+    let ran : Asked = Ran (place_of c.args.place) c.args.work.options.now run_attempts (outcome_of_pass c.in-Ok.pass) in
     let same : g.S.BoxLists.asked c.print_box.new.self.stores.now ≡ g.S.BoxLists.asked c.args.stores.now.stores.now = grind (arith, common_steps) in
     let p = err_from_is_err_and c.from_residual-in_err-verdict-in-Ok.result c.from_residual-in_err-verdict-in-Ok.ensures.1 in
-    rw p.1 (Begun-run g.S.BoxLists.noted c.args.work.options.now (place_of c.args.place) Done (g.S.BoxLists.asked c.args.stores.now.stores.now)
+    rw p.1 (Begun-run g.S.BoxLists.noted c.args.work.options.now (place_of c.args.place) (outcome_of_pass c.in-Ok.pass) (g.S.BoxLists.asked c.args.stores.now.stores.now)
     (g.S.BoxLists.asked c.print_answer.new.stores.stores.now)
     (c.print_answer.ensures.asks.1 ∙ c.in-Ok.ensures.asks.1 ∙ ap (λ l. g.S.BoxLists.noted l ran) same))
 
 pub returns-in_err-tell_left_out-in-Ok-clause-asked : goal.returns-in_err-tell_left_out-in-Ok-clause-asked
 returns-in_err-tell_left_out-in-Ok-clause-asked g c =
-    let ran : Asked = Ran (place_of c.args.place) c.args.work.options.now run_attempts Done in
+    let ran : Asked = Ran (place_of c.args.place) c.args.work.options.now run_attempts (outcome_of_pass c.in-Ok.pass) in
     let same : g.S.BoxLists.asked c.print_box.new.self.stores.now ≡ g.S.BoxLists.asked c.args.stores.now.stores.now = grind (arith, common_steps) in
     let p = err_from_is_err_and c.from_residual-in_err-tell_left_out-in-Ok.result c.from_residual-in_err-tell_left_out-in-Ok.ensures.1 in
-    rw p.1 (Begun-run g.S.BoxLists.noted c.args.work.options.now (place_of c.args.place) Done (g.S.BoxLists.asked c.args.stores.now.stores.now)
+    rw p.1 (Begun-run g.S.BoxLists.noted c.args.work.options.now (place_of c.args.place) (outcome_of_pass c.in-Ok.pass) (g.S.BoxLists.asked c.args.stores.now.stores.now)
     (g.S.BoxLists.asked c.tell_left_out.new.stores.stores.now)
     (c.tell_left_out.ensures.asks.1 ∙ c.print_answer.ensures.asks.1 ∙ c.in-Ok.ensures.asks.1 ∙ ap (λ l. g.S.BoxLists.noted l ran) same))
 
 -- it was run to an answer
 pub returns-in_ok-tell_left_out-in-Ok-clause-asked : goal.returns-in_ok-tell_left_out-in-Ok-clause-asked
 returns-in_ok-tell_left_out-in-Ok-clause-asked g c =
-    let ran : Asked = Ran (place_of c.args.place) c.args.work.options.now run_attempts Done in
+    let ran : Asked = Ran (place_of c.args.place) c.args.work.options.now run_attempts (outcome_of_pass c.in-Ok.pass) in
     let same : g.S.BoxLists.asked c.print_box.new.self.stores.now ≡ g.S.BoxLists.asked c.args.stores.now.stores.now = grind (arith, common_steps) in
-    Goes-run g.S.BoxLists.noted c.args.work.options.now (place_of c.args.place) Done c.and.result (g.S.BoxLists.asked c.args.stores.now.stores.now)
+    Goes-run g.S.BoxLists.noted c.args.work.options.now (place_of c.args.place) (outcome_of_pass c.in-Ok.pass) c.and.result (g.S.BoxLists.asked c.args.stores.now.stores.now)
     (g.S.BoxLists.asked c.tell_left_out.new.stores.stores.now)
     (c.tell_left_out.ensures.asks.1 ∙ c.print_answer.ensures.asks.1 ∙ c.in-Ok.ensures.asks.1 ∙ ap (λ l. g.S.BoxLists.noted l ran) same)
-    (IsToldOf-both c.in_ok-verdict-in-Ok.verdict c.in_ok-tell_left_out-in-Ok.field-0 c.and.result c.and.ensures c.in_ok-verdict-in-Ok.ensures.goes_on
+    (IsToldOf-behind (has_void c.in-Ok.pass) c.in_ok-verdict-in-Ok.verdict c.in_ok-tell_left_out-in-Ok.field-0 c.and.result c.and.ensures c.in_ok-verdict-in-Ok.ensures.tells
     c.in_ok-tell_left_out-in-Ok.ensures.goes_on)
 
 -- or to a fault
@@ -65,3 +65,14 @@ returns-in-Err-clause-asked g c =
     SoFar-fault g.S.BoxLists.noted c.args.work.options.now (place_of c.args.place) c.in-Err.fault c.tell.result (g.S.BoxLists.asked c.args.stores.now.stores.now)
     (g.S.BoxLists.asked c.tell.new.self.stores.now)
     (c.tell.ensures.asks.1 ∙ c.in-Err.ensures.asks.1 ∙ ap (λ l. g.S.BoxLists.noted l ran) same) c.tell.ensures.verdict
+
+-- without a fault it was done
+pub returns-in_ok-tell_left_out-in-Ok-clause-asks : goal.returns-in_ok-tell_left_out-in-Ok-clause-asks
+returns-in_ok-tell_left_out-in-Ok-clause-asks g c =
+    let ran : Asked = Ran (place_of c.args.place) c.args.work.options.now run_attempts (outcome_of_pass c.in-Ok.pass) in
+    let same : g.S.BoxLists.asked c.print_box.new.self.stores.now ≡ g.S.BoxLists.asked c.args.stores.now.stores.now = grind (arith, common_steps) in
+    λ clean. c.tell_left_out.ensures.asks.1 ∙ c.print_answer.ensures.asks.1 ∙ c.in-Ok.ensures.asks.1 ∙ ap (λ l. g.S.BoxLists.noted l ran) same
+    ∙ ap (λ o. g.S.BoxLists.noted (g.S.BoxLists.asked c.args.stores.now.stores.now) (Ran (place_of c.args.place) c.args.work.options.now run_attempts o))
+    (was_done (has_void c.in-Ok.pass) c.and.result
+    (IsToldOf-behind (has_void c.in-Ok.pass) c.in_ok-verdict-in-Ok.verdict c.in_ok-tell_left_out-in-Ok.field-0 c.and.result c.and.ensures
+    c.in_ok-verdict-in-Ok.ensures.tells c.in_ok-tell_left_out-in-Ok.ensures.goes_on) clean)
