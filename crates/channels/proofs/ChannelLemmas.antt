@@ -19,12 +19,12 @@ use Rattle.stores.specs.Asked.{Asked, Done, Ended, FarListed, IsJoined, IsUnjoin
 use Rattle.channels.specs.declared.verdict.Verdict.{Verdict}
 use Rattle.channels.specs.declared.verdict.Verdict.TheVariants.{Clean, Faulty, Over}
 use Rattle.channels.specs.Asks.{Ways, lists_asked, ways_of}
-use Rattle.channels.specs.Courses.{Begun, BoxEnds, Goes, GoesAsFar, GoesToEnd, GoesUntil, InOrder, IsAskedBy, IsBoxAsked, IsChannelAsked, IsFoundAsked, IsJoinedAsked, IsLineAsked, IsListAsked, IsListedAlone, IsListedAsked, IsNamedAsked, IsPlaceAsked, IsRequestAsked, IsUnlisted, SoFar, box_course, is_over, listing_asked, listing_verdict}
+use Rattle.channels.specs.Courses.{Begun, BoxEnds, Goes, GoesAsFar, GoesUntil, InOrder, IsAskedBy, IsBoxAsked, IsChannelAsked, IsFoundAsked, IsLineAsked, IsListAsked, IsListedAlone, IsListedAsked, IsNamedAsked, IsPlaceAsked, IsRequestAsked, IsUnlisted, SoFar, box_course, is_over, listing_verdict}
 use Rattle.channels.specs.Founds.{absent_in}
 use Rattle.channels.specs.Outcomes.{verdict_of}
 use Rattle.channels.specs.Verdicts.{status_of}
 use Rattle.channels.proofs.CourseLemmas.{IsToldOf-verdict}
-use Rattle.channels.proofs.OrderLemmas.{InOrder-possible, Possible, SoFar-all, SoFar-behind}
+use Rattle.channels.proofs.OrderLemmas.{Possible, SoFar-all, SoFar-behind}
 
 -- ---- what can be asked
 

@@ -1,18 +1,17 @@
 -- What was asked, one thing behind another, and how it ended.
-use Rattle.std.proofs.Common.{◌≡◌, ℕ, Bool, true, false, is_some, ◌||◌, List, [], ◌∷◌, ◌++◌, Result, Ok, Err, OnOk, refl, ap, sym, ◌∙◌, subst, append_assoc, append-nil, if◌then◌else◌}
+use Rattle.std.proofs.Common.{◌≡◌, Bool, true, false, is_some, ◌||◌, List, [], ◌∷◌, ◌++◌, Result, Ok, Err, OnOk, refl, ap, sym, ◌∙◌, subst, append-nil, if◌then◌else◌}
 use Rattle.std.proofs.lemmas.Grind.{fold-append}
 use Rattle.std.specs.List.{fold}
 use Rattle.mailcore.specs.declared.side.Side.TheVariants.{Far, Near}
-use Rattle.rules.specs.declared.options.Options.{Options}
 use Rattle.rules.specs.declared.options.Sides.{Sides}
 use Rattle.choosing.specs.Scope.{uncovered}
-use Rattle.stores.specs.Asked.{Asked, FoundNew, Made, Outcome, Done, Failed, Unopened, Place, Ran}
+use Rattle.stores.specs.Asked.{Asked, FoundNew, Made, Outcome, Done, Failed, Unopened, Place}
 use Rattle.channels.specs.declared.fault.BoxFault.{BoxFault}
 use Rattle.channels.specs.declared.fault.BoxFault.TheVariants.{Absent, Removed, CannotOpen, Server, Locked, Refused, Stopped, GivenAgain, LeftOut, Run}
 use Rattle.channels.specs.declared.verdict.Verdict.{Verdict}
 use Rattle.channels.specs.declared.verdict.Verdict.TheVariants.{Clean, Faulty, Over}
-use Rattle.channels.specs.Asks.{finding, making, makings, run_attempts}
-use Rattle.channels.specs.Courses.{Begun, BoxEnds, Course, Follows, Goes, IsBoxAsked, IsRunAsked, Makes, SoFar, asking_if, box_course, covered_course, making_course, onward, onward_by}
+use Rattle.channels.specs.Asks.{finding, making, makings}
+use Rattle.channels.specs.Courses.{Begun, BoxEnds, Course, Follows, Goes, Makes, asking_if, making_course, onward, onward_by}
 use Rattle.channels.specs.Outcomes.{IsToldOf, outcome_of, outcome_of_box_fault, verdict_of}
 use Rattle.channels.specs.Verdicts.{both}
 

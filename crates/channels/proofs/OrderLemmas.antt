@@ -1,19 +1,17 @@
 -- What was asked of several, one behind another, and how far it came.
 use Rattle.std.proofs.Common.{◌≡◌, ℕ, suc, ◌+◌, ◌<◌, Bool, true, false, List, [], ◌∷◌, ◌++◌, length, get_or, drop, Result, Ok, Err, IfOk, refl, ap, sym, ◌∙◌, subst, append_assoc, append-nil, drop-cons, arith}
-use Rattle.std.proofs.lemmas.Grind.{fold-append}
 use Rattle.std.specs.List.{fold}
 use Rattle.rules.specs.declared.options.Options.{Options}
 use Rattle.rules.specs.declared.options.Sides.{Sides}
-use Rattle.mailcore.specs.declared.side.Side.TheVariants.{Far, Near}
 use Rattle.stores.specs.Asked.{Asked, Outcome, Done, Place, Ran}
 use Rattle.channels.specs.declared.fault.BoxFault.{BoxFault}
 use Rattle.channels.specs.declared.verdict.Verdict.{Verdict}
 use Rattle.channels.specs.declared.verdict.Verdict.TheVariants.{Clean, Faulty, Over}
 use Rattle.channels.specs.Asks.{run_attempts}
-use Rattle.channels.specs.Courses.{Begun, Behind, BoxEnds, Course, Follows, Goes, InOrder, IsBoxAsked, IsRunAsked, Makes, NextOf, SoFar, asking_if, is_over, box_course, covered_course, onward, onward_by}
+use Rattle.channels.specs.Courses.{Begun, Behind, Course, Follows, Goes, InOrder, IsBoxAsked, IsRunAsked, Makes, NextOf, SoFar, asking_if, is_over, covered_course, onward, onward_by}
 use Rattle.channels.specs.Outcomes.{IsToldOf, outcome_of_box_fault, verdict_of}
 use Rattle.channels.specs.Verdicts.{both}
-use Rattle.channels.proofs.CourseLemmas.{Follows-ends, Follows-onward, IsFault, IsToldOf-verdict, fold_behind, fault_is_fault, is_not_over}
+use Rattle.channels.proofs.CourseLemmas.{Follows-ends, IsToldOf-verdict, fold_behind, fault_is_fault, is_not_over}
 
 -- ---- so far
 

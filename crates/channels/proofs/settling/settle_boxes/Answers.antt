@@ -1,4 +1,4 @@
-use Rattle.std.proofs.Common.{◌≡◌, ◌+◌, Err, IfOk, drop, arith, refl, sym, ◌∙◌, drop_of_length-le}
+use Rattle.std.proofs.Common.{◌≡◌, ◌+◌, drop, arith, refl, sym, ◌∙◌, drop_of_length-le}
 use Rattle.std.proofs.lemmas.Grind.{common_steps}
 use Rattle.channels.proofs.StreamLemmas.{IsQuiet-both, quiet_steps, stream_steps}
 use Rattle.std.proofs.lemmas.Result.{err_from_is_err_and}

@@ -1,5 +1,4 @@
-use Rattle.std.proofs.Common.{◌≡◌, arith, refl, sym, ap, ◌∙◌}
-use Rattle.std.proofs.lemmas.Grind.{common_steps}
+use Rattle.std.proofs.Common.{◌∙◌}
 use Rattle.stores.specs.Asked.{joined_of}
 use Rattle.channels.proofs.ChannelLemmas.{SoFar-matching, SoFar-pair, SoFar-unnamed}
 use Rattle.channels.proofs.settling.settle_found.Goals as goal
