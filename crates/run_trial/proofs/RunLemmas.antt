@@ -42,8 +42,8 @@ module _ (ours : List ℕ → Bool) (alone : Bool) (w : World) (options : Option
 
   -- told as stopped
   pub stopped_from : (tries : ℕ) (old new : Seen) (r : Result Settled RunFault) → CountsAttempts tries old new r → IsErrOf r run.Stopped → MetStops tries old new
-  stopped_from tries old new (Ok settled) counts is = absurd is
-  stopped_from tries old new (Err fault) counts is = (counts.stopped is).0
+  stopped_from tries old new (Ok settled) counts is = absurd (cc)
+  stopped_from tries old new (Err fault) counts is = let same : fault ≡ run.Stopped = cc in (counts.stopped same).0
 
   -- ---- the world by its state
 
