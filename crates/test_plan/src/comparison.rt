@@ -68,10 +68,12 @@ fn tell_met(told: &mut Told, count: usize, met: Met) {
 /// Compares both planners on a world.
 fn compare(alloc: Global, world: &DrawnWorld, met: Met) -> Result<Met, Failure> {
     let (state, options) = (&world.state, &world.options);
-    let wanted = news(&world.far, &world.near, state, options);
-    let marks = marks(alloc, wanted)?;
-    let mut turns = Turns::new();
     let (far, near) = (&world.far, &world.near);
+    let marks = marks(alloc, news(far, near, state, options))?;
+    if marks.len() != news(far, near, state, options) {
+        return Err(Failure::Script);
+    }
+    let mut turns = Turns::new();
     let planned = plan_in(alloc, far, near, state, options, &marks, &mut turns);
     let met = met.with_halves(state.entries.as_slice());
     match planned {
