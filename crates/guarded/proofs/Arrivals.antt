@@ -6,7 +6,8 @@ use Rattle.mailcore.specs.declared.mailbox.Message.{Message}
 use Rattle.mailcore.specs.Content.{mark_of}
 use Rattle.mailcore.specs.Rise.{Rise}
 use Rattle.mailcore.specs.Stores.{Waiting}
-use Rattle.mailbox.specs.Arrivals.{IsForeign, IsMerge, none, left, right}
+use Rattle.visitors.specs.Visitors.{IsForeign}
+use Rattle.mailbox.specs.Arrivals.{IsMerge, none, left, right}
 use Rattle.outside.specs.Arrivals.{Arrives}
 use Rattle.outside.specs.Devices.{Device}
 

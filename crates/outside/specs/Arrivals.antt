@@ -4,7 +4,8 @@ use Rattle.mailcore.specs.declared.mailbox.Message.{Message}
 use Rattle.mailcore.specs.Content.{mark_of}
 use Rattle.mailcore.specs.Rise.{Rise}
 use Rattle.mailcore.specs.Stores.{Waiting}
-use Rattle.mailbox.specs.Arrivals.{IsForeign, IsMerge}
+use Rattle.visitors.specs.Visitors.{IsForeign}
+use Rattle.mailbox.specs.Arrivals.{IsMerge}
 use Rattle.outside.specs.Devices.{Device}
 
 -- Others add far messages, under UIDs of at least the next one, and near files, which wait for their UIDs. None of them bears a

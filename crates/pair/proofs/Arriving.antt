@@ -11,7 +11,8 @@ use Rattle.mailcore.specs.Content.{mark_of}
 use Rattle.mailcore.specs.Stores.{Waiting}
 use Rattle.mailcore.specs.Mailboxes.{Mailbox}
 use Rattle.mailbox.specs.Arrivals as box
-use Rattle.mailbox.specs.Arrivals.{IsForeign, IsMerge, none, left}
+use Rattle.visitors.specs.Visitors.{IsForeign}
+use Rattle.mailbox.specs.Arrivals.{IsMerge, none, left}
 use Rattle.outside.specs.Arrivals.{Arrives}
 use Rattle.outside.specs.Devices.{Device}
 use Rattle.pair.specs.Parts.{IsLess, both, put}

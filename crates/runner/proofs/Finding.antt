@@ -32,7 +32,7 @@ use Rattle.step_laws.specs.Steps.{Boxes, after, boxes_of, own, step_after, box a
 use Rattle.step_laws.specs.OwnLaws.{is_own}
 use Rattle.step_laws.proofs.Fold.{after-more}
 use Rattle.run_laws.specs.CommitLaws.{results_of}
-use Rattle.mailbox.specs.Arrivals.{IsForeign}
+use Rattle.visitors.specs.Visitors.{IsForeign}
 use Rattle.outside.specs.Arrivals.{Arrives}
 use Rattle.outside.specs.BookCalls.{OfBook}
 use Rattle.outside.specs.Calls.{Seen}

@@ -14,7 +14,7 @@ use Rattle.rules.specs.World.{World, store}
 use Rattle.step_laws.specs.Steps.{own_in, own}
 use Rattle.step_laws.specs.OwnLaws.{is_the, bears, is_own}
 use Rattle.step_laws.proofs.Among.{unseen}
-use Rattle.mailbox.specs.Arrivals.{IsForeign}
+use Rattle.visitors.specs.Visitors.{IsForeign}
 
 -- a fact of each side
 pub two : (p : Side → Type 0) → p Far → p Near → (side : Side) → p side

@@ -1,0 +1,12 @@
+-- Who else adds messages to a mailbox while it is read and changed: other programs, and people.
+use Rattle.std.specs.Prelude.{◌≡◌, ℕ, Bool, false, List, Option, None, Some}
+
+-- The marks that are those of a run, and whether nobody else adds any message. Others never write a mark of the run.
+pub record Visitors : Type 0 where
+  pub ours : List ℕ → Bool
+  pub alone : Bool
+
+-- no mark, or one that is none of the run's
+abbrev pub IsForeign : (ours : List ℕ → Bool) → Option (List ℕ) → Type 0
+IsForeign ours None = Unit {0}
+IsForeign ours (Some mark) = ours mark ≡ false
