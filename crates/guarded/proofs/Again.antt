@@ -13,6 +13,7 @@ use Rattle.outside.specs.Arrivals.{Arrives}
 use Rattle.outside.specs.BoxCalls.{Carry, ListsFar, SetsAside, copies_made}
 use Rattle.outside.specs.Calls.{Call, FromBox, LeavesBy, Reads, Seen, stopped, stops_told}
 use Rattle.outside.specs.Devices.{Device}
+use Rattle.outside.proofs.GoingOn.{goes_after}
 use Rattle.outside.specs.Opened.{IsOpen, Opened}
 use Rattle.guarded.proofs.Arrivals.{arrives_again}
 use Rattle.guarded.proofs.Rests.{Rests, rests_read}
@@ -32,6 +33,7 @@ rests_absent honest ours alone direction uid flags mark old new c = record {
   appends = let k = c.counts.appends in omega arith;
   reopened = c.counts.reopened;
   added = λ h. let f = c.acts.effect h in subst (λ (d : Device). Arrives ours alone old.device d) (sym f.behind.0) f.before;
+  goes_on = c.goes_on;
 }
 
 -- a copy that is asked for behind calls that left all as it was
@@ -43,6 +45,7 @@ asks_behind h1 h2 ours alone direction uid flags mark old mid new (Ok carried) r
     stops = c.acts.stops ∙ r.stops;
     effect = λ h. let f = c.acts.effect h in record { mid = f.mid; before = arrives_again ours alone old.device mid.device f.mid (r.added (before h)) f.before; behind = f.behind };
   };
+  goes_on = λ h. goes_after old.device.files mid.device.files new.device.files (r.goes_on (before h)) (c.goes_on h);
   counts = record {
     told = c.counts.told ∙ r.told;
     appends = c.counts.appends ∙ ap (λ n. n + copies_made carried) r.appends;
@@ -57,6 +60,7 @@ asks_behind h1 h2 ours alone direction uid flags mark old mid new (Err fault) r 
     stuck = λ is. absurd (both_ways old.is_broken r.was_whole is);
     left = λ h. let f = c.acts.left h in record { mid = f.mid; before = arrives_again ours alone old.device mid.device f.mid (r.added (before h)) f.before; behind = f.behind };
   };
+  goes_on = λ h. goes_after old.device.files mid.device.files new.device.files (r.goes_on (before h)) (c.goes_on h);
   counts = record {
     told = c.counts.told;
     noted = λ _. c.counts.noted r.is_whole ∙ ap (λ (ts : List OutsideFault). fault ∷ ts) r.told;
@@ -89,6 +93,7 @@ fails_so honest ours alone direction uid flags mark fault old new c = record {
     stuck = c.acts.stuck;
     left = λ h. let f = c.acts.left h in record { mid = f.mid; before = f.before; behind = left_so direction uid flags mark fault f.mid new.device f.behind };
   };
+  goes_on = c.goes_on;
   counts = record {
     told = c.counts.told;
     noted = c.counts.noted;

@@ -7,6 +7,7 @@ use Rattle.outside.specs.declared.fault.OutsideFault.TheVariants.{Stopped}
 use Rattle.outside.specs.Arrivals.{Arrives}
 use Rattle.outside.specs.Calls.{Call, FromBook, LeavesBy, Seen, Writes, stopped}
 use Rattle.outside.specs.Devices.{Device}
+use Rattle.outside.proofs.GoingOn.{stays}
 use Rattle.guarded.proofs.Arrivals.{quiet}
 use Rattle.guarded.proofs.Rests.{Rests, rests_none}
 
@@ -26,6 +27,7 @@ module _ {T : Type 0} (before honest : Type 0) (ours : List ℕ → Bool) (alone
           stuck = λ broken. absurd (both_ways old.is_broken r.was_whole broken);
           left = λ h. record { mid = mid.device; before = r.added (was h); behind = same mid.device };
         };
+        goes_on = λ h. r.goes_on (was h);
         counts = record {
           told = may;
           noted = λ _. ap (λ (ts : List OutsideFault). Stopped ∷ ts) r.told;
@@ -48,6 +50,7 @@ stuck honest ours alone copies may_tell does leaves s broken may same = record {
     stuck = λ _. (refl, refl);
     left = λ _. record { mid = s.device; before = quiet ours alone s.device; behind = same };
   };
+  goes_on = λ _. stays s.device.files s.device.files refl;
   counts = record {
     told = may;
     noted = λ whole. absurd (both_ways s.is_broken whole broken);

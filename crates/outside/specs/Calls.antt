@@ -4,6 +4,7 @@ use Rattle.device.specs.Calls.{Seen as DeviceSeen, Effect, Between, Acts, Leaves
 use Rattle.outside.specs.declared.fault.OutsideFault.{OutsideFault}
 use Rattle.outside.specs.declared.fault.OutsideFault.TheVariants.{Stopped, Refused, Box, BadState, BadJournal, NoMemory}
 use Rattle.outside.specs.Devices.{Device}
+use Rattle.outside.specs.GoingOn.{GoesOn}
 
 -- an outside as a contract sees it: the device, whether a call has failed since it was opened, how many calls have stopped, which
 -- faults calls have told, the last first, how many have made a copy, and how the device was each time the outside was opened again, the
@@ -87,10 +88,12 @@ FromShelf NoMemory = Unit {0}
 -- ---- calls
 
 -- Others may act first. A call that answers has its effect; one that does not leaves what its fault says, and from then on the
--- outside is broken. It is said where server, folder and shelf have kept their word; what is counted holds without that.
+-- outside is broken. Whatever a call does, what the files hold goes on. It is said where server, folder and shelf have kept their word; what
+-- is counted holds without that.
 pub record Call {T : Type 0} (honest : Type 0) (others : Effect Device) (copies : T → ℕ) (may_tell : OutsideFault → Type 0)
     (does : T → Effect Device) (leaves : OutsideFault → Effect Device) (old new : Seen) (result : Result T OutsideFault) : Type 0 where
   pub acts : Acts honest IsStop (Between others) does leaves (as_device old) (as_device new) result
+  pub goes_on : honest → GoesOn old.device.files new.device.files
   pub counts : Counts copies may_tell old new result
 
 -- the effect, with some answer

@@ -1,4 +1,5 @@
 pub mod Devices
+pub mod GoingOn
 pub mod Arrivals
 pub mod Calls
 pub mod Opened

@@ -8,7 +8,7 @@ use Rattle.sync_state.specs.declared.journal.Journal.{Journal}
 use Rattle.sync_state.specs.declared.journal.Logged.{Logged}
 use Rattle.book.specs.declared.book.Pending.{Pending}
 use Rattle.book.specs.declared.book.Pending.TheVariants.{Missing, Useless, Planned}
-use Rattle.book.specs.Books.{Fits, Holds, IsSound}
+use Rattle.book.specs.Books.{Fits, Holds, IsPlanned, IsSound}
 use Rattle.book.specs.BookLogs.{MayBegin, MayLog}
 use Rattle.book.specs.Commits.{IsFinished, Makes}
 use Rattle.outside.specs.Devices.{Device}
@@ -83,6 +83,11 @@ abbrev pub IsOpen : Side → Option Opened → Type 0
 IsOpen side None = ⊥
 IsOpen Far (Some o) = o.far ≡ true
 IsOpen Near (Some o) = o.near ≡ true
+
+-- no plan is pending: the journal may go
+abbrev pub TakesDiscard : Option Opened → Type 0
+TakesDiscard None = ⊥
+TakesDiscard (Some o) = IsPlanned o.pending → ⊥
 
 abbrev pub TakesPlan : Option Opened → Plan → Type 0
 TakesPlan None plan = ⊥

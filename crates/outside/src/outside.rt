@@ -39,7 +39,7 @@ pub trait Outside {
     ghost use Rattle.outside.specs.Arrivals.{Arrives};
     ghost use Rattle.outside.specs.Devices.{box};
     ghost use Rattle.outside.specs.Calls.{Call, Changes, FromBook, FromBox, FromShelf, LeavesBy, Reads, Seen, Writes, opened_again, stopped};
-    ghost use Rattle.outside.specs.Opened.{IsBook, IsHeld, IsOpen, IsRead, Opened, AreCommitted, TakesCommit, TakesLog, TakesPlan, journal_of, state_of, turned, with_box};
+    ghost use Rattle.outside.specs.Opened.{IsBook, IsHeld, IsOpen, IsRead, Opened, AreCommitted, TakesCommit, TakesDiscard, TakesLog, TakesPlan, journal_of, state_of, turned, with_box};
     ghost use Rattle.outside.specs.BookCalls.{FromLog, LeavesUnread, OfBook, ReadsBook};
     ghost use Rattle.mailbox.specs.Operations.{HasNumbers, removed};
     ghost use Rattle.outside.specs.BoxCalls.{Admits, AdmitsPart, Carry, ListsFar, ListsNear, SetsAside, Turns, copies_made};
@@ -77,9 +77,9 @@ pub trait Outside {
         requires read { IsRead (opened self.now) }
         ensures { option_map (λ journal. journal.now) result ≡ journal_of (opened self.now) };
 
-    /// Removes the journal, if there is one.
+    /// Removes the journal, if there is one. It holds no plan of the next run.
     fn discard(&mut self) -> Result<(), OutsideFault>
-        requires read { IsRead (opened self.old) }
+        requires takes { TakesDiscard (opened self.old) }
         ensures was_honest { honest self.new → honest self.old }
         ensures opened { OnOk result (opened self.new ≡ turned (λ _. Missing) (opened self.old)) }
         ensures call { Writes (honest self.new) (Arrives ours alone) FromBook (OfBook (λ p. TurnsJournal p Missing) (opened self.old))

@@ -19,7 +19,9 @@ use Rattle.outside.specs.Arrivals.{Arrives}
 use Rattle.outside.specs.BookCalls as there
 use Rattle.outside.specs.Calls.{Call, FromShelf, LeavesBy, Writes}
 use Rattle.outside.specs.Devices.{Device}
+use Rattle.outside.specs.GoingOn.{GoesOn}
 use Rattle.outside.specs.Opened as opened
+use Rattle.outside.proofs.GoingOn.{stays}
 use Rattle.pair.specs.PartCalls.{LeavesSome, Part, PartChanges}
 use Rattle.pair.specs.Stops.{Standing, StopsSo}
 use Rattle.pair.specs.declared.book_part.BookPart.{BookPart}
@@ -30,6 +32,7 @@ use Rattle.pair.specs.Pairs.{Failed, device_of, opened_of}
 use Rattle.pair.specs.Parts.{both, device_with, opened_with}
 use Rattle.pair.specs.Tallies.{Counts, Tallied, ended, no_copies, seen_with}
 use Rattle.pair.proofs.Arriving.{alone_right, arrives_at, box_quiet, less_right, quiet}
+use Rattle.pair.proofs.GoingOn.{LeadsOn, goes_by, is_at}
 use Rattle.pair.proofs.Ending.{done_call, failed_call, tallied, tally}
 
 -- ---- what was read
@@ -37,6 +40,10 @@ use Rattle.pair.proofs.Ending.{done_call, failed_call, tallied, tally}
 pub is_read : (f n : Bool) (k : Option Kept) → opened.IsRead (opened_with f n k) → IsRead k
 is_read f n None h = h
 is_read f n (Some k) h = h
+
+pub discard_read : (f n : Bool) (k : Option Kept) → opened.TakesDiscard (opened_with f n k) → IsRead k
+discard_read f n None h = h
+discard_read f n (Some k) h = tt
 
 pub takes_plan : (f n : Bool) (k : Option Kept) (plan : Plan) → opened.TakesPlan (opened_with f n k) plan → TakesPlan k plan
 takes_plan f n None plan h = h
@@ -100,13 +107,13 @@ module _ (honest own : Type 0) (others : Effect Device) (may_tell : OutsideFault
 
   -- others act first, on the device as it was
   files_call : (d : Device) (c : Counts) (answer : Result (Unit {0}) OutsideFault)
-      → (honest → own) → (honest → others d (put files)) → c.is_broken ≡ false → IfErr answer may_tell → (honest → PartChanges own (λ (x : Unit {0}). does) part files files' answer)
+      → (honest → GoesOn d.files (put files').files) → (honest → own) → (honest → others d (put files)) → c.is_broken ≡ false → IfErr answer may_tell → (honest → PartChanges own (λ (x : Unit {0}). does) part files files' answer)
       → Writes honest others may_tell does' part' (seen_with d c) (seen_with (put files') (ended (λ _. 0) answer c)) answer
-  files_call d c (Ok x) kept before whole may p =
-      done_call {T = Unit {0}} honest others (λ _. 0) may_tell (λ _. does') (LeavesBy {T = Unit {0}} (λ _. does') part') d (put files') c whole x
+  files_call d c (Ok x) goes kept before whole may p =
+      done_call {T = Unit {0}} honest others (λ _. 0) may_tell (λ _. does') (LeavesBy {T = Unit {0}} (λ _. does') part') d (put files') c whole goes x
       (λ h. record { mid = put files; before = before h; behind = all (p h (kept h)) })
-  files_call d c (Err e) kept before whole may p =
-      failed_call {T = Unit {0}} honest others (λ _. 0) may_tell (λ _. does') (LeavesBy {T = Unit {0}} (λ _. does') part') d (put files') c whole e may
+  files_call d c (Err e) goes kept before whole may p =
+      failed_call {T = Unit {0}} honest others (λ _. 0) may_tell (λ _. does') (LeavesBy {T = Unit {0}} (λ _. does') part') d (put files') c whole goes e may
       (λ h. record { mid = put files; before = before h; behind = left_so e (p h (kept h)) })
 
 -- ---- why it stops
@@ -149,15 +156,16 @@ pub record BookEnds (honest : Type 0) (others : Effect Device) (may_tell : Outsi
 module _ {F N S : Type 0} {fars : mailbox.Ghosts F} {nears : mailbox.Ghosts N} {shelves : shelf.Ghosts S} (p : Pair F N S fars nears shelves) where
   -- the near mailbox and the book are as they are now
   pub book_ends : (does part : Pending → Effect Files) (may_tell : OutsideFault → Type 0) (near : N) (book : BookPart S shelves) (c' : Counts) (answer result : Result (Unit {0}) OutsideFault)
-      → p.tally.is_broken ≡ false → result ≡ answer → c' ≡ ended no_copies answer p.tally → IfErr answer may_tell
+      → LeadsOn does (kept_of p.book) × LeadsOn part (kept_of p.book) → p.tally.is_broken ≡ false → result ≡ answer → c' ≡ ended no_copies answer p.tally → IfErr answer may_tell
       → (nears.honest near → box.Arrives side.Near nears.ours nears.alone (nears.seen p.near).stored (nears.seen near).stored)
       → (nears.honest near → PartChanges (shelves.is_honest ≡ true) (λ (x : Unit {0}). OfKept does (kept_of p.book)) (OfKept part (kept_of p.book)) (files_of p.book) (files_of book) answer)
       → BookEnds (fars.honest p.far × nears.honest near × (shelves.is_honest ≡ true)) (Arrives (both fars.ours nears.ours) (fars.alone && nears.alone)) may_tell
       (there.OfBook does (opened_of p)) (there.OfBook part (opened_of p)) (device_of p) (device_with (fars.seen p.far).stored (nears.seen near).stored (files_of book)) p.tally c' result
-  book_ends does part may_tell near book c' answer result whole same now may before changes = record {
+  book_ends does part may_tell near book c' answer result leads whole same now may before changes = record {
     call = tallied honest others (λ _. 0) may_tell (λ _. there.OfBook does (opened_of p)) (LeavesBy {T = Unit {0}} (λ _. there.OfBook does (opened_of p)) (there.OfBook part (opened_of p))) d (with_files (files_of book)) p.tally c' answer result same now
         (files_call honest (shelves.is_honest ≡ true) others may_tell (OfKept does k) (OfKept part k) (there.OfBook does (opened_of p)) (there.OfBook part (opened_of p)) with_files (files_of p.book) (files_of book)
-        (of_book f n k does _ _ _ _) (of_book f n k part _ _ _ _) d p.tally answer (λ h. h.2) (λ h. arrives h.1) whole may (λ h. changes h.1));
+        (of_book f n k does _ _ _ _) (of_book f n k part _ _ _ _) d p.tally answer
+        (λ h. goes_by does part (shelves.is_honest ≡ true) (files_of p.book) (files_of book) k (is_at p.book (p.book_whole whole) h.2) leads.0 leads.1 answer h.2 (changes h.1)) (λ h. h.2) (λ h. arrives h.1) whole may (λ h. changes h.1));
     tallied = tally no_copies answer result p.tally c' whole same now;
   }
     where
@@ -218,8 +226,8 @@ module _ {F N S : Type 0} {fars : mailbox.Ghosts F} {nears : mailbox.Ghosts N} {
       by_answer : (a : Result (Unit {0}) OutsideFault) → IfErr a FromShelf → Part (shelves.is_honest ≡ true) (λ (x : Unit {0}). ReadsFiles (kept_of book)) LeavesUnread (files_of p.book) (files_of book) a
           → Call honest others (λ _. 0) FromShelf does there.LeavesUnread (seen_with (device_of p) p.tally) (seen_with (with_files (files_of book)) (ended (λ _. 0) a p.tally)) a
       by_answer (Ok x) h r =
-          done_call honest others (λ _. 0) FromShelf does there.LeavesUnread (device_of p) (with_files (files_of book)) p.tally whole x
+          done_call honest others (λ _. 0) FromShelf does there.LeavesUnread (device_of p) (with_files (files_of book)) p.tally whole (λ y. stays (files_of p.book) (files_of book) (r y.2).0) x
           (λ y. record { mid = device_of p; before = quiet _ _ _; behind = reads_so (fars.is_open p.far) (nears.is_open p.near) (kept_of book) _ _ (files_of p.book) (files_of book) (r y.2) })
       by_answer (Err e) h r =
-          failed_call honest others (λ _. 0) FromShelf does there.LeavesUnread (device_of p) (with_files (files_of book)) p.tally whole e h
+          failed_call honest others (λ _. 0) FromShelf does there.LeavesUnread (device_of p) (with_files (files_of book)) p.tally whole (λ y. stays (files_of p.book) (files_of book) (r y.2).0) e h
           (λ y. record { mid = device_of p; before = quiet _ _ _; behind = (ap with_files (r y.2).0, (r y.2).1) })

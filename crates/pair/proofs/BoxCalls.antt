@@ -24,6 +24,8 @@ use Rattle.outside.specs.BoxCalls.{Admits, AdmitsPart, ListsFar, ListsNear, Turn
 use Rattle.outside.specs.Calls.{Call, FromBox, LeavesBy}
 use Rattle.outside.specs.Devices as devices
 use Rattle.outside.specs.Devices.{Device}
+use Rattle.outside.specs.GoingOn.{GoesOn}
+use Rattle.outside.proofs.GoingOn.{stays}
 use Rattle.pair.specs.declared.pair.Pair.{Pair}
 use Rattle.pair.specs.Faults.{IsTold, told, told_by}
 use Rattle.pair.specs.Pairs.{Failed, device_of}
@@ -148,6 +150,10 @@ pub record Ends {T : Type 0} (side : Side) (d d' : Device) (move : Move side d T
   pub why : IfErr result (IsTold own cause side move.because now)
   pub tallied : Tallied no_copies result c c'
 
+files_put : (side : Side) (b : Mailbox) (d : Device) → (put side b d).files ≡ d.files
+files_put Far b d = refl
+files_put Near b d = refl
+
 module _ {T : Type 0} (side : Side) (d : Device) (move : Move side d T) (honest own ended' cause : Type 0) (ours ours' : List ℕ → Bool) (alone alone' : Bool) (s s' : Seen)
     (kept : honest → own) (less : IsLess ours ours') (lone : alone' ≡ true → alone ≡ true) (so : HasCause ended' s s' → cause) (was : put side s.stored d ≡ d) where
   along : (own' : Effect Mailbox) (own'' : Effect Device) → ((b b' : Mailbox) → own' b b' → own'' (put side b d) (put side b' d))
@@ -158,18 +164,21 @@ module _ {T : Type 0} (side : Side) (d : Device) (move : Move side d T) (honest 
     behind = f h.mid s'.stored h.behind;
   }
 
+  same_files : GoesOn d.files (put side s'.stored d).files
+  same_files = stays d.files _ (files_put side s'.stored d)
+
   abbrev EndsSo : Counts → Counts → Result T OutsideFault → Type 0
   EndsSo c c' result = Ends side d (put side s'.stored d) move s'.stored honest own cause (Arrives ours' alone') c c' result
 
   ends_so : (c : Counts) (answer : Result T BoxFault) → c.is_broken ≡ false → calls.Call own ended' (box.Arrives side ours alone) move.because move.does move.part s s' answer
       → EndsSo c (ended no_copies (told_by side answer) c) (told_by side answer)
   ends_so c (Ok x) whole h = record {
-    call = done_call honest (Arrives ours' alone') (λ _. 0) FromBox move.does' move.leaves' d (put side s'.stored d) c whole x (λ k. along (move.does x) (move.does' x) (move.all x) (h.effect (kept k)));
+    call = done_call honest (Arrives ours' alone') (λ _. 0) FromBox move.does' move.leaves' d (put side s'.stored d) c whole (λ _. same_files) x (λ k. along (move.does x) (move.does' x) (move.all x) (h.effect (kept k)));
     why = tt;
     tallied = tally no_copies (Ok x) (Ok x) c (ended no_copies (Ok x) c) whole refl refl;
   }
   ends_so c (Err f) whole h = record {
-    call = failed_call honest (Arrives ours' alone') (λ _. 0) FromBox move.does' move.leaves' d (put side s'.stored d) c whole (told side f) (from_box side f)
+    call = failed_call honest (Arrives ours' alone') (λ _. 0) FromBox move.does' move.leaves' d (put side s'.stored d) c whole (λ _. same_files) (told side f) (from_box side f)
         (λ k. along (calls.LeavesBy move.does move.part move.because f) (move.leaves' (told side f)) (move.some f) (h.left (kept k)));
     why = is_told side own ended' cause (box.Arrives side ours alone) move.because move.does move.part s s' f so h;
     tallied = tally {T = T} no_copies (Err (told side f)) (Err (told side f)) c (ended {T = T} no_copies (Err (told side f)) c) whole refl refl;

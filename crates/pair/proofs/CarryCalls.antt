@@ -1,5 +1,5 @@
 -- From the clauses of a copy to those of the outside's call, in both directions.
-use Rattle.std.proofs.Common.{◌≡◌, ◌⊎◌, inl, inr, ℕ, Bool, true, false, List, Result, Ok, Err}
+use Rattle.std.proofs.Common.{◌≡◌, ◌⊎◌, inl, inr, refl, ℕ, Bool, true, false, List, Result, Ok, Err}
 use Rattle.std.specs.Prelude.{IfErr, ◌&&◌}
 use Rattle.book.specs.declared.shelf.Shelf as shelf
 use Rattle.mailbox.specs.declared.mailbox.Mailbox as mailbox
@@ -20,6 +20,7 @@ use Rattle.outside.specs.Arrivals.{Arrives}
 use Rattle.outside.specs.BoxCalls.{Carry, SetsAside, copies_made}
 use Rattle.outside.specs.Calls.{Call, FromBox, LeavesBy}
 use Rattle.outside.specs.Devices.{Device}
+use Rattle.outside.proofs.GoingOn.{stays}
 use Rattle.pair.specs.declared.pair.Pair.{Pair}
 use Rattle.pair.specs.Copies.{carries, with_two}
 use Rattle.pair.specs.Faults.{IsTold}
@@ -70,12 +71,12 @@ pub record CarryEnds (direction : Direction) (uid flags : ℕ) (mark : List ℕ)
   pub tallied : Tallied copies_made result c c'
 
 module _ (direction : Direction) (uid flags : ℕ) (mark : List ℕ) (honest : Type 0) (others : Effect Device) (by by' : OutsideFault → Type 0) (d d' : Device) (c c' : Counts)
-    (box : (e : OutsideFault) → by e → FromBox e) (so : (e : OutsideFault) → by e → by' e) (whole : c.is_broken ≡ false) where
+    (box : (e : OutsideFault) → by e → FromBox e) (so : (e : OutsideFault) → by e → by' e) (whole : c.is_broken ≡ false) (files : d'.files ≡ d.files) where
   carried : (answer : Result Carried OutsideFault) → IfErr answer by → (honest → Follows others (carries direction uid flags mark answer) d d')
       → Call honest others copies_made FromBox (Carry direction uid flags mark) (LeavesBy (Carry direction uid flags mark) (SetsAside (target direction))) (seen_with d c) (seen_with d' (ended copies_made answer c)) answer
-  carried (Ok x) why effect = done_call honest others copies_made FromBox (Carry direction uid flags mark) (LeavesBy (Carry direction uid flags mark) (SetsAside (target direction))) d d' c whole x effect
+  carried (Ok x) why effect = done_call honest others copies_made FromBox (Carry direction uid flags mark) (LeavesBy (Carry direction uid flags mark) (SetsAside (target direction))) d d' c whole (λ _. stays d.files d'.files files) x effect
   carried (Err e) why effect =
-      failed_call honest others copies_made FromBox (Carry direction uid flags mark) (LeavesBy (Carry direction uid flags mark) (SetsAside (target direction))) d d' c whole e (box e why) effect
+      failed_call honest others copies_made FromBox (Carry direction uid flags mark) (LeavesBy (Carry direction uid flags mark) (SetsAside (target direction))) d d' c whole (λ _. stays d.files d'.files files) e (box e why) effect
 
   carry_ends : (answer result : Result Carried OutsideFault) → result ≡ answer → c' ≡ ended copies_made answer c → IfErr answer by → (honest → Follows others (carries direction uid flags mark answer) d d')
       → CarryEnds direction uid flags mark honest others by' d d' c c' result
@@ -114,10 +115,10 @@ module _ {F N S : Type 0} {fars : mailbox.Ghosts F} {nears : mailbox.Ghosts N} {
       → Follows (Arrives ours alone) (carries Pull uid flags mark answer) (with_two Pull (fars.seen p.far).stored (nears.seen p.near).stored d) (with_two Pull (fars.seen far).stored (nears.seen near).stored d))
       → CarryEnds Pull uid flags mark honest others (pulls (Failed p far_cause) (Failed p near_cause)) (device_of p) (with_two Pull (fars.seen far).stored (nears.seen near).stored (device_of p)) p.tally c' result
   pull_ends why effect =
-      carry_ends Pull uid flags mark honest others (pulls far_cause near_cause) (pulls (Failed p far_cause) (Failed p near_cause)) (device_of p) _ p.tally c'
+      carry_ends Pull uid flags mark honest others (pulls far_cause near_cause) (pulls (Failed p far_cause) (Failed p near_cause)) (device_of p) (with_two Pull (fars.seen far).stored (nears.seen near).stored (device_of p)) p.tally c'
       (either_box (fars.honest far) (nears.honest near) far_cause near_cause far_cause near_cause sides.Far sides.Near Never (NoRoom sides.Near (λ _. 1)) (fars.seen far).stored (nears.seen near).stored)
       (either_so (fars.honest far) (nears.honest near) far_cause near_cause (Failed p far_cause) (Failed p near_cause) sides.Far sides.Near Never (NoRoom sides.Near (λ _. 1)) (fars.seen far).stored (nears.seen near).stored (λ k. inr k) (λ k. inr k))
-      whole answer result same now why
+      whole refl answer result same now why
       (λ h. effect h.0 h.1 (both fars.ours nears.ours) (fars.alone && nears.alone) (device_of p) (less_left fars.ours nears.ours) (less_right fars.ours nears.ours) (alone_left fars.alone nears.alone) (alone_right fars.alone nears.alone))
 
   pub push_ends : IfErr answer (pushes near_cause far_cause)
@@ -125,8 +126,8 @@ module _ {F N S : Type 0} {fars : mailbox.Ghosts F} {nears : mailbox.Ghosts N} {
       → Follows (Arrives ours alone) (carries Push uid flags mark answer) (with_two Push (nears.seen p.near).stored (fars.seen p.far).stored d) (with_two Push (nears.seen near).stored (fars.seen far).stored d))
       → CarryEnds Push uid flags mark honest others (pushes (Failed p near_cause) (Failed p far_cause)) (device_of p) (with_two Push (nears.seen near).stored (fars.seen far).stored (device_of p)) p.tally c' result
   push_ends why effect =
-      carry_ends Push uid flags mark honest others (pushes near_cause far_cause) (pushes (Failed p near_cause) (Failed p far_cause)) (device_of p) _ p.tally c'
+      carry_ends Push uid flags mark honest others (pushes near_cause far_cause) (pushes (Failed p near_cause) (Failed p far_cause)) (device_of p) (with_two Push (nears.seen near).stored (fars.seen far).stored (device_of p)) p.tally c'
       (either_box (nears.honest near) (fars.honest far) near_cause far_cause near_cause far_cause sides.Near sides.Far Never (NoRoom sides.Far (λ _. 1)) (nears.seen near).stored (fars.seen far).stored)
       (either_so (nears.honest near) (fars.honest far) near_cause far_cause (Failed p near_cause) (Failed p far_cause) sides.Near sides.Far Never (NoRoom sides.Far (λ _. 1)) (nears.seen near).stored (fars.seen far).stored (λ k. inr k) (λ k. inr k))
-      whole answer result same now why
+      whole refl answer result same now why
       (λ h. effect h.1 h.0 (both fars.ours nears.ours) (fars.alone && nears.alone) (device_of p) (less_right fars.ours nears.ours) (less_left fars.ours nears.ours) (alone_right fars.alone nears.alone) (alone_left fars.alone nears.alone))

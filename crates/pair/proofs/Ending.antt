@@ -7,6 +7,8 @@ use Rattle.outside.specs.declared.fault.OutsideFault.TheVariants as fault
 use Rattle.outside.specs.Arrivals.{Arrives}
 use Rattle.outside.specs.Calls.{Call, stops_told}
 use Rattle.outside.specs.Devices.{Device}
+use Rattle.outside.specs.GoingOn.{GoesOn}
+use Rattle.outside.proofs.GoingOn.{stays}
 use Rattle.pair.specs.Tallies.{Counts, Tallied, ended, failed, seen_with}
 use Rattle.pair.proofs.Arriving.{quiet}
 
@@ -23,6 +25,7 @@ stuck honest ours alone copies may_tell does leaves d c broken may same = record
     stuck = λ _. (refl, refl);
     left = λ _. record { mid = d; before = quiet ours alone d; behind = same };
   };
+  goes_on = λ _. stays d.files d.files refl;
   counts = record {
     told = may;
     noted = λ whole. absurd (cc);
@@ -36,7 +39,7 @@ stuck honest ours alone copies may_tell does leaves d c broken may same = record
 -- ---- an answer is told as it is
 
 module _ {T : Type 0} (honest : Type 0) (others : Effect Device) (copies : T → ℕ) (may_tell : OutsideFault → Type 0) (does : T → Effect Device) (leaves : OutsideFault → Effect Device) (d d' : Device) (c : Counts)
-    (whole : c.is_broken ≡ false) where
+    (whole : c.is_broken ≡ false) (goes : honest → GoesOn d.files d'.files) where
   pub failed_call : (e : OutsideFault) → may_tell e → (honest → Follows others (leaves e) d d')
       → Call honest others copies may_tell does leaves (seen_with d c) (seen_with d' (failed e c)) (Err e)
   failed_call e may left_so = record {
@@ -47,6 +50,7 @@ module _ {T : Type 0} (honest : Type 0) (others : Effect Device) (copies : T →
       stuck = λ broken. absurd (cc);
       left = left_so;
     };
+    goes_on = goes;
     counts = record {
       told = may;
       noted = λ _. refl;
@@ -60,6 +64,7 @@ module _ {T : Type 0} (honest : Type 0) (others : Effect Device) (copies : T →
   pub done_call : (x : T) → (honest → Follows others (does x) d d') → Call honest others copies may_tell does leaves (seen_with d c) (seen_with d' (ended copies (Ok x) c)) (Ok x)
   done_call x done_so = record {
     acts = record { was_whole = whole; is_whole = whole; stops = refl; effect = done_so };
+    goes_on = goes;
     counts = record { told = refl; appends = omega arith; reopened = refl };
   }
 

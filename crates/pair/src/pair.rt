@@ -108,7 +108,7 @@ impl<F: Mailbox + Drop, N: Mailbox + Drop, S: Shelf + Drop> Outside for Pair<F, 
     ghost use Rattle.outside.specs.Devices.{box};
     ghost use Rattle.outside.specs.Calls.{FromBook, FromBox, FromShelf, LeavesBy, opened_again, stopped};
     ghost use Rattle.outside.specs.Opened.{AreCommitted, IsBook, IsHeld, IsOpen, IsRead, turned, with_box};
-    ghost use Rattle.outside.specs.Opened.{TakesCommit, TakesLog, TakesPlan};
+    ghost use Rattle.outside.specs.Opened.{TakesCommit, TakesDiscard, TakesLog, TakesPlan};
     ghost use Rattle.outside.specs.BookCalls.{FromLog, LeavesUnread, ReadsBook};
     ghost use Rattle.mailbox.specs.Operations.{HasNumbers, removed, NoRoom};
     ghost use Rattle.outside.specs.BoxCalls.{Admits, AdmitsPart, Carry, ListsFar, ListsNear, SetsAside, Turns};
@@ -152,7 +152,7 @@ impl<F: Mailbox + Drop, N: Mailbox + Drop, S: Shelf + Drop> Outside for Pair<F, 
     }
 
     fn discard(&mut self) -> Result<(), OutsideFault>
-        requires read { IsRead (opened_of self.old) }
+        requires takes { TakesDiscard (opened_of self.old) }
         ensures was_honest { honest_of self.new → honest_of self.old }
         ensures opened { OnOk result (opened_of self.new ≡ turned (λ _. Missing) (opened_of self.old)) }
         ensures call { BookCall FromBook (λ p. TurnsJournal p Missing) (λ p. TurnsHalf p Missing) self.old self.new result }

@@ -1,5 +1,5 @@
 -- What stands between two attempts at a run.
-use Rattle.std.proofs.Common.{◌≡◌, ◌⊎◌, ◌≤◌, ◌<◌, ◌+◌, true, false, inl, inr, ⊎_elim, if◌then◌else◌, ℕ, Bool, List, Option, Some, None, Result, Ok, Err, IfOk, IsErrAnd, ◌^◌, refl, sym, ◌∙◌, ap, subst, arith}
+use Rattle.std.proofs.Common.{◌≡◌, ◌⊎◌, ◌≤◌, ◌<◌, ◌+◌, true, false, inl, inr, if◌then◌else◌, ℕ, Bool, List, Option, Some, None, Result, Ok, Err, IfOk, IsErrAnd, ⊎_elim, ◌^◌, refl, sym, ◌∙◌, ap, subst, arith}
 use Rattle.std.proofs.lemmas.Bool.{cases_eq, ne_eqb}
 use Rattle.rand_core.specs.Stream.{Stream}
 use Rattle.mailcore.specs.Draws.{Draws, after_pairs}
@@ -16,6 +16,7 @@ use Rattle.outside.specs.Arrivals.{Arrives}
 use Rattle.outside.specs.BookCalls.{TellsFiles}
 use Rattle.outside.specs.Calls.{FromShelf, Seen, opened_again}
 use Rattle.outside.specs.Devices.{Device}
+use Rattle.outside.specs.GoingOn.{GoesOn, GoesOnTo}
 use Rattle.outside.specs.Opened.{IsHeld, Opened, state_of}
 use Rattle.underway.specs.Conditions.{IsPending, Underway}
 use Rattle.underway.specs.Openings.{Opening, Unplanned}
@@ -25,10 +26,10 @@ use Rattle.mailcore.specs.declared.side.Side.{Side}
 use Rattle.runner.specs.declared.fault.RunFault.{RunFault}
 use Rattle.runner.specs.declared.pass.Pass.{Pass}
 use Rattle.runner.specs.declared.fault.RunFault.TheVariants as run
-use Rattle.runner.specs.Faults.{IsCaused, IsLastRun, Reasons, because, call_fault, or_beyond, or_refused, or_unread, stops_met}
+use Rattle.runner.specs.Faults.{IsBeyond, IsCaused, IsLastRun, Reasons, because, call_fault, or_beyond, or_refused, or_unread, stops_met}
 use Rattle.runner.specs.Parts.{IsStuck, Left, TellsMore}
 use Rattle.runner.specs.Answers.{Answers, IsAsked, Moves, RunsBy, as_read, run_of}
-use Rattle.runner.specs.Attempts.{AnswersAt, AtOpening, HasNoNext, MetBefore, MetStops, Reopens, TellsNoNext, TriedAt, failed_before, found_by}
+use Rattle.runner.specs.Attempts.{AnswersAt, AtOpening, HasNoNext, HasReached, IsReached, MetBefore, MetStops, Reopens, TellsNoNext, TriedAt, failed_before, found_by}
 use Rattle.runner.specs.Validities.{IsKept, TellsChanged}
 use Rattle.runner.proofs.PartCalls.{TellsNoBook, broken_or_whole, caused_after, caused_told, more_after, more_none}
 use Rattle.runner.proofs.Passes.{planned_state, run_of_state, unplanned_state}
@@ -161,6 +162,14 @@ last_read (Some o) last s p d e held k =
     let b = book_known d.files o.state s o.pending p held k in
     ap (λ (x : SyncState). x.run) (sym same ∙ b.0)
 
+-- the run that is fixed is the next one
+pub reached_read : (opened : Option Opened) (last : SyncState) (m d' : Device) → state_of opened ≡ Some last → d' ≡ m → IsHeld opened m → HasReached (last.run + 1) d'.files
+reached_read None last m d' e is held = absurd held
+reached_read (Some o) last m d' e is held =
+    let same : o.state ≡ last = cc in
+    let run = ap (λ (s : SyncState). s.run) same in
+    record { state = o.state; pending = o.pending; held = subst (λ (d : Device). Holds d.files o.state o.pending) (sym is) held; next = omega (arith, run) }
+
 module _ (ours : List ℕ → Bool) (alone : Bool) where
   held_since : (d m : Device) → Arrives ours alone d m → (s : SyncState) (p : Pending) → Holds d.files s p → Holds m.files s p
   held_since d m a s p h = let k = kept_arrives ours alone d m a in subst (λ (f : Files). Holds f s p) (sym k.files) h
@@ -285,9 +294,34 @@ caused_since {c} h a u repeats beyond unread f s0 s1 s2 more appends other l g b
     caused_told c (or_unread unread (or_refused (λ step. Unit {0}) (or_beyond beyond (because (λ side. Unit {0}) repeats)))) f s0 s2 (record { changed = λ side t. tt; repeats = g; beyond = b; unread = k; refused = λ step t. tt; unstepped = λ t. tt })
     (caused_after c f s0 s1 s2 (λ is. absurd (other is)) more appends l.caused)
 
--- the first attempt fixes the run, so that it is not beyond the next one
-pub beyond_later : (tried tries : ℕ) (fixed : Option ℕ) (honest : Type 0) → (tried ≡ 0 → fixed ≡ None) → tried < tries → (fixed ≡ None → honest → ⊥) → honest → 1 < tries
-beyond_later tried tries fixed honest unfixed few told h = ⊎_elim (λ z. absurd (told (unfixed z) h)) (λ f. omega (arith, f, few)) (cases_eq tried 0)
+-- ---- a run that is fixed is not beyond the next one
+
+-- it is so still of what the files have gone on to
+pub reached_on : (run : ℕ) (a b : Files) → GoesOn a b → HasReached run a → HasReached run b
+reached_on run a b on r =
+    let n = on r.state r.pending r.held in
+    record { state = n.state; pending = n.pending; held = n.held; next = by_case n.state n.pending n.goes_on r.next }
+  where
+    by_case : (t : SyncState) (q : Pending) → GoesOnTo r.state r.pending t q → run ≤ r.state.run + 1 → run ≤ t.run + 1
+    by_case t q (inl same) next = let e = ap (λ (s : SyncState). s.run) same.0 in omega (arith, e, next)
+    by_case t q (inr less) next = omega (arith, less, next)
+
+pub fixed_on : (fixed : Option ℕ) (run : ℕ) (a b : Files) → fixed ≡ Some run → GoesOn a b → HasReached run a → IsReached fixed b
+fixed_on fixed run a b is on r = subst (λ (x : Option ℕ). IsReached x b) (sym is) (reached_on run a b on r)
+
+pub none_reached : (fixed : Option ℕ) (files : Files) → fixed ≡ None → IsReached fixed files
+none_reached fixed files is = subst (λ (x : Option ℕ). IsReached x files) (sym is) tt
+
+pub some_reached : (fixed : Option ℕ) (run : ℕ) (files : Files) → fixed ≡ Some run → IsReached fixed files → HasReached run files
+some_reached fixed run files is r = subst (λ (x : Option ℕ). IsReached x files) is r
+
+pub never_beyond : (run : ℕ) (d : Device) → HasReached run d.files → IsBeyond run d → ⊥
+never_beyond run d r b =
+    let same = book_known d.files r.state b.state r.pending b.pending r.held b.held in
+    let e = ap (λ (s : SyncState). s.run) same.0 in
+    let over = b.beyond in
+    let next = r.next in
+    omega (arith, e, over, next)
 
 -- a step that is told as refused has its reason
 pub refused_for : {c : Reasons} (h : Type 0) (a u : Device → Type 0) (f : RunFault) (s0 s1 : Seen) (step : ℕ) → f ≡ run.Refused step → Left c h a u f s0 s1 → c.refused step

@@ -9,6 +9,8 @@ use Rattle.outside.specs.declared.fault.OutsideFault.TheVariants as out
 use Rattle.outside.specs.BookCalls.{FromLog}
 use Rattle.outside.specs.Calls.{Call, FromBook, FromBox, IsLast, Seen, stops_told}
 use Rattle.outside.specs.Devices.{Device}
+use Rattle.outside.specs.GoingOn.{GoesOn}
+use Rattle.outside.proofs.GoingOn.{goes_after, stays}
 use Rattle.outside.specs.Opened.{Opened}
 use Rattle.runner.specs.declared.fault.RunFault.{RunFault}
 use Rattle.runner.specs.declared.fault.RunFault.TheVariants as run
@@ -221,6 +223,7 @@ module _ {T : Type 0} (honest : Type 0) (from : Device → Type 0) (others : Eff
         told = n.told;
         appends = n.appends;
         reopened = n.reopened;
+        goes_on = c.goes_on;
         reaches = λ h at. let e = a.effect h in f e.mid at e.before e.behind;
       }
 
@@ -251,6 +254,7 @@ module _ {T : Type 0} (honest : Type 0) (from : Device → Type 0) (others : Eff
         caused = caused_by _ e number s0 s1 a.counted (noted e c) (line n.told) (λ is. (refl, refused is));
         no_less = no_less e c;
         stops = λ whole. n.stopped whole ∙ ap (λ (k : ℕ). s0.stops + k) (sym (step_stops e number));
+        goes_on = c.goes_on;
         left = λ h at. let k = a.left h in let r = f k.mid at k.before k.behind n.told in after_step underway e number s0 s1 (noted e c) r.0 r.1;
       }
 
@@ -263,6 +267,7 @@ module _ {T : Type 0} (honest : Type 0) (from : Device → Type 0) (others : Eff
         caused = called_by _ e s0 s1 a.counted (noted e c) (line n.told) unstepped;
         no_less = no_less e c;
         stops = λ whole. n.stopped whole ∙ ap (λ (k : ℕ). s0.stops + k) (sym (call_stops e));
+        goes_on = c.goes_on;
         left = λ h at. let k = a.left h in let r = f k.mid at k.before k.behind n.told in after_call underway e s0 s1 (noted e c) r.0 r.1;
       }
 
@@ -274,10 +279,16 @@ module _ {T : Type 0} (honest : Type 0) (others : Effect Device) (copies : T →
   pub stuck_call : (e : OutsideFault) → Call honest others copies tells does leaves s0 s1 (Err e) → s0.is_broken ≡ true → (call_fault e ≡ run.Stopped) × (s1 ≡ s0)
   stuck_call e c b = let a = c.acts in let n = c.counts in let k = a.stuck b in (ap call_fault k.0, n.stuck b)
 
+-- ---- what the files hold
+
+pub goes_on : {T : Type 0} (reasons : Reasons) (honest : Type 0) (from underway : Device → Type 0) (copies : T → ℕ) (reaches : T → Device → Type 0) (s0 s1 : Seen) (r : Result T RunFault) → PartOr reasons honest from underway copies reaches s0 s1 r → honest → GoesOn s0.device.files s1.device.files
+goes_on reasons honest from underway copies reaches s0 s1 (Ok x) p = p.goes_on
+goes_on reasons honest from underway copies reaches s0 s1 (Err e) p = p.goes_on
+
 -- ---- no call
 
 pub passed_none : (honest : Type 0) (from to : Device → Type 0) (s : Seen) → s.is_broken ≡ false → (from s.device → to s.device) → Passed honest from to 0 s s
-passed_none honest from to s whole f = record { is_whole = whole; stops = refl; told = refl; appends = omega arith; reopened = refl; reaches = λ h at. f at }
+passed_none honest from to s whole f = record { is_whole = whole; stops = refl; told = refl; appends = omega arith; reopened = refl; goes_on = λ h. stays s.device.files s.device.files refl; reaches = λ h at. f at }
 
 -- ---- one part after another
 
@@ -288,6 +299,7 @@ passed_after h0 h1 a b c m n s0 s1 s2 honest p q = record {
   told = q.told ∙ p.told;
   appends = omega (arith, p.appends, q.appends);
   reopened = q.reopened ∙ p.reopened;
+  goes_on = λ h. goes_after s0.device.files s1.device.files s2.device.files (p.goes_on (honest h)) (q.goes_on h);
   reaches = λ h at. q.reaches h (p.reaches (honest h) at);
 }
 
@@ -302,6 +314,7 @@ left_after {reasons} h0 h1 a b underway m f s0 s1 s2 honest p q =
       caused = caused_after reasons f s0 s1 s2 (stop_after s0 s1 s2 p.is_whole p.stops) more (omega (arith, p.appends)) q.caused;
       no_less = let n = q.no_less in record { stops = omega (arith, p.stops, n.stops); told = more_after s0 s1 s2 more n.told; appends = omega (arith, p.appends, n.appends); reopened = n.reopened ∙ p.reopened };
       stops = λ _. q.stops p.is_whole ∙ ap (λ (k : ℕ). k + stops_met f) p.stops;
+      goes_on = λ h. goes_after s0.device.files s1.device.files s2.device.files (p.goes_on (honest h)) (q.goes_on h);
       left = λ h at. leaves_after underway f s0 s1 s2 more (q.left h (p.reaches (honest h) at));
     }
 
@@ -311,6 +324,7 @@ left_here {reasons} h a b underway m f s0 s1 p caused g = record {
   caused = caused_after reasons f s0 s1 s1 (stop_after s0 s1 s1 p.is_whole p.stops) (more_none s0 s1 p.told) (omega (arith, p.appends)) caused;
   no_less = record { stops = omega (arith, p.stops); told = more_none s0 s1 p.told; appends = omega (arith, p.appends); reopened = p.reopened };
   stops = λ _. omega (arith, p.stops, no_stop reasons f s1 p.is_whole caused);
+  goes_on = p.goes_on;
   left = λ honest at. g (p.reaches honest at);
 }
 
@@ -320,6 +334,7 @@ left_lost h a underway m s0 s1 some p side number lost = record {
   caused = inr (inl (lost (omega (arith, some, p.appends))));
   no_less = record { stops = omega (arith, p.stops); told = more_none s0 s1 p.told; appends = omega (arith, p.appends); reopened = p.reopened };
   stops = λ _. omega (arith, p.stops);
+  goes_on = p.goes_on;
   left = λ honest at. absurd (p.reaches honest at);
 }
 
@@ -332,11 +347,12 @@ passed_weaker h a a' b b' m n s0 s1 same f g p = record {
   told = p.told;
   appends = omega (arith, p.appends);
   reopened = p.reopened;
+  goes_on = p.goes_on;
   reaches = λ honest at. g s1.device (p.reaches honest (f s0.device at));
 }
 
 pub left_weaker : {reasons : Reasons} (h : Type 0) (a a' underway : Device → Type 0) (f : RunFault) (s0 s1 : Seen) → ((d : Device) → a' d → a d) → Left reasons h a underway f s0 s1 → Left reasons h a' underway f s0 s1
-left_weaker h a a' underway f s0 s1 g l = record { caused = l.caused; no_less = l.no_less; stops = l.stops; left = λ honest at. l.left honest (g s0.device at) }
+left_weaker h a a' underway f s0 s1 g l = record { caused = l.caused; no_less = l.no_less; stops = l.stops; goes_on = l.goes_on; left = λ honest at. l.left honest (g s0.device at) }
 
 pub part_weaker : {T : Type 0} (reasons : Reasons) (h : Type 0) (a a' underway : Device → Type 0) (copies : T → ℕ) (reaches reaches' : T → Device → Type 0) (s0 s1 : Seen) (r : Result T RunFault) → ((d : Device) → a' d → a d) → ((x : T) (d : Device) → reaches x d → reaches' x d) → PartOr reasons h a underway copies reaches s0 s1 r → PartOr reasons h a' underway copies reaches' s0 s1 r
 part_weaker reasons h a a' underway copies reaches reaches' s0 s1 (Ok x) f g p = passed_weaker h a a' (reaches x) (reaches' x) (copies x) (copies x) s0 s1 refl f (g x) p
@@ -355,6 +371,7 @@ passed_with p h a b n s0 s1 k = record {
   told = k.told;
   appends = k.appends;
   reopened = k.reopened;
+  goes_on = k.goes_on;
   reaches = λ honest at. (at.0, k.reaches honest at.1);
 }
 
@@ -387,7 +404,7 @@ caused_told c c' run.MarksRepeat s0 s1 k h = k.repeats h
 caused_told c c' run.NoMemory s0 s1 k h = h
 
 pub left_told : (c c' : Reasons) (h : Type 0) (a underway : Device → Type 0) (f : RunFault) (s0 s1 : Seen) → AreReasons c c' → Left c h a underway f s0 s1 → Left c' h a underway f s0 s1
-left_told c c' h a underway f s0 s1 k l = record { caused = caused_told c c' f s0 s1 k l.caused; no_less = l.no_less; stops = l.stops; left = l.left }
+left_told c c' h a underway f s0 s1 k l = record { caused = caused_told c c' f s0 s1 k l.caused; no_less = l.no_less; stops = l.stops; goes_on = l.goes_on; left = l.left }
 
 pub part_told : {T : Type 0} (c c' : Reasons) (h : Type 0) (a underway : Device → Type 0) (copies : T → ℕ) (reaches : T → Device → Type 0) (s0 s1 : Seen) (r : Result T RunFault) → AreReasons c c' → PartOr c h a underway copies reaches s0 s1 r → PartOr c' h a underway copies reaches s0 s1 r
 part_told c c' h a underway copies reaches s0 s1 (Ok x) k p = p
@@ -396,14 +413,14 @@ part_told c c' h a underway copies reaches s0 s1 (Err e) k p = left_told c c' h 
 -- ---- the same part that leaves another condition
 
 pub left_mapped : {reasons : Reasons} (h : Type 0) (a a' u u' : Device → Type 0) (f : RunFault) (s0 s1 : Seen) → ((d : Device) → a' d → a d) → ((d : Device) → u d → u' d) → Left reasons h a u f s0 s1 → Left reasons h a' u' f s0 s1
-left_mapped h a a' u u' f s0 s1 g k l = record { caused = l.caused; no_less = l.no_less; stops = l.stops; left = λ honest at. leaves_map u u' f s0 s1 (k s1.device) (l.left honest (g s0.device at)) }
+left_mapped h a a' u u' f s0 s1 g k l = record { caused = l.caused; no_less = l.no_less; stops = l.stops; goes_on = l.goes_on; left = λ honest at. leaves_map u u' f s0 s1 (k s1.device) (l.left honest (g s0.device at)) }
 
 pub part_mapped : {T : Type 0} (reasons : Reasons) (h : Type 0) (a a' u u' : Device → Type 0) (copies : T → ℕ) (reaches reaches' : T → Device → Type 0) (s0 s1 : Seen) (r : Result T RunFault) → ((d : Device) → a' d → a d) → ((d : Device) → u d → u' d) → ((x : T) (d : Device) → reaches x d → reaches' x d) → PartOr reasons h a u copies reaches s0 s1 r → PartOr reasons h a' u' copies reaches' s0 s1 r
 part_mapped reasons h a a' u u' copies reaches reaches' s0 s1 (Ok x) f k g p = passed_weaker h a a' (reaches x) (reaches' x) (copies x) (copies x) s0 s1 refl f (g x) p
 part_mapped reasons h a a' u u' copies reaches reaches' s0 s1 (Err e) f k g p = left_mapped h a a' u u' e s0 s1 f k p
 
 pub left_with : {reasons : Reasons} (p h : Type 0) (a u : Device → Type 0) (f : RunFault) (s0 s1 : Seen) → Left reasons h a u f s0 s1 → Left reasons h (λ d. p × a d) (λ d. p × u d) f s0 s1
-left_with p h a u f s0 s1 k = record { caused = k.caused; no_less = k.no_less; stops = k.stops; left = λ honest at. leaves_map u (λ d. p × u d) f s0 s1 (λ x. (at.0, x)) (k.left honest at.1) }
+left_with p h a u f s0 s1 k = record { caused = k.caused; no_less = k.no_less; stops = k.stops; goes_on = k.goes_on; left = λ honest at. leaves_map u (λ d. p × u d) f s0 s1 (λ x. (at.0, x)) (k.left honest at.1) }
 
 pub part_with : {T : Type 0} (reasons : Reasons) (p h : Type 0) (a u : Device → Type 0) (copies : T → ℕ) (reaches : T → Device → Type 0) (s0 s1 : Seen) (r : Result T RunFault) → PartOr reasons h a u copies reaches s0 s1 r → PartOr reasons h (λ d. p × a d) (λ d. p × u d) copies (λ x d. p × reaches x d) s0 s1 r
 part_with reasons p h a u copies reaches s0 s1 (Ok x) k = passed_with p h a (reaches x) (copies x) s0 s1 k

@@ -23,7 +23,7 @@ use Rattle.outside.specs.Arrivals.{Arrives}
 use Rattle.outside.specs.BookCalls.{OfBook, OnFiles, TellsFiles}
 use Rattle.outside.specs.Calls.{FromShelf}
 use Rattle.outside.specs.Devices.{Device}
-use Rattle.outside.specs.Opened.{IsBook, IsHeld, IsRead, Opened, journal_in, journal_of, state_of, turned, with_box}
+use Rattle.outside.specs.Opened.{IsBook, IsHeld, IsRead, Opened, TakesDiscard, journal_in, journal_of, state_of, turned, with_box}
 use Rattle.underway.specs.Conditions.{Underway}
 use Rattle.underway.specs.Endings.{DoneAt}
 use Rattle.underway.specs.Moments.{PlannedAt, Stands, with_log}
@@ -66,6 +66,20 @@ some_of f (Some x) o e i = (f x, sym e)
 pub book_read : (opened : Option Opened) → IsBook opened → IsRead opened
 book_read None s = s
 book_read (Some o) s = tt
+
+pub never_both : (opened : Option Opened) → HasPlan opened → HasNoPlan opened → ⊥
+never_both None h n = h
+never_both (Some o) h n = of_pending o.pending h n
+  where
+    of_pending : (p : Pending) → HasPlanned p → IsIdle p → ⊥
+    of_pending Missing h n = h
+    of_pending Useless h n = h
+    of_pending (Planned written) h n = n
+
+-- where no plan is pending the journal may go
+pub none_taken : (opened : Option Opened) → HasNoPlan opened → TakesDiscard opened
+none_taken None n = n
+none_taken (Some o) n = λ h. never_both (Some o) h n
 
 pub none_read : (opened : Option Opened) → HasNoPlan opened → IsRead opened
 none_read None h = h

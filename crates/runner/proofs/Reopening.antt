@@ -5,10 +5,12 @@ use Rattle.std.proofs.lemmas.List.Elements.{All-cons, All-nil}
 use Rattle.rand_core.specs.Stream.{Stream}
 use Rattle.outside.specs.Calls.{Seen}
 use Rattle.outside.specs.Devices.{Device}
+use Rattle.outside.specs.GoingOn.{GoesOn}
+use Rattle.outside.proofs.GoingOn.{stays}
 use Rattle.underway.specs.Conditions.{Underway}
 use Rattle.underway.specs.Openings.{Opening}
 use Rattle.runner.specs.Answers.{Moves}
-use Rattle.runner.specs.Attempts.{Began, Reopens, TriedAt, began_on, found_by}
+use Rattle.runner.specs.Attempts.{Began, GoesOnOver, Reopens, TriedAt, began_on, found_by}
 use Rattle.runner.proofs.Attempts.{found_device, found_first, found_later, tried_underway}
 
 -- calls that keep it
@@ -20,26 +22,29 @@ module _ (ours : List ℕ → Bool) (alone : Bool) (opening : Opening) where
   pub record Attempted (from : Type 0) (times : ℕ) (start now : Seen) : Type 0 where
     pub reopens : Reopens times start now
     pub each : from → All (Underway ours alone opening) reopens.since
+    pub goes_on : from → GoesOnOver reopens.since start.device now.device
 
   pub attempted_none : (from : Type 0) (n : ℕ) (s : Seen) → n ≡ 0 → Attempted from n s s
-  attempted_none from n s z = record { reopens = record { since = []; now = refl; as_many = sym z }; each = λ f. All-nil (Underway ours alone opening) }
+  attempted_none from n s z = record { reopens = record { since = []; now = refl; as_many = sym z }; each = λ f. All-nil (Underway ours alone opening); goes_on = λ f. stays s.device.files s.device.files refl }
 
   -- an attempt behind these finds the outside so
-  record Found (n : ℕ) (before : List Device) (start s1 : Seen) : Type 0 where
+  record Found (n : ℕ) (before : List Device) (start now s1 : Seen) : Type 0 where
     reopens : Reopens n start s1
     at : began_on reopens.since start.device ≡ s1.device
     each : Underway ours alone opening s1.device → All (Underway ours alone opening) before → All (Underway ours alone opening) reopens.since
+    goes_on : (s2 : Seen) → GoesOnOver before start.device now.device → GoesOn s1.device.files s2.device.files → GoesOnOver reopens.since start.device s2.device
 
-  found_again : (n : ℕ) (start now s1 : Seen) → (n ≡ 0 → now ≡ start) → s1 ≡ found_by n now → (r : Reopens (n - 1) start now) → Found n r.since start s1
+  found_again : (n : ℕ) (start now s1 : Seen) → (n ≡ 0 → now ≡ start) → s1 ≡ found_by n now → (r : Reopens (n - 1) start now) → Found n r.since start now s1
   found_again n start now s1 first e r = by_first (cases_eq n 0)
     where
-      by_first : (n ≡ 0) ⊎ ((n ≡ 0) → ⊥) → Found n r.since start s1
+      by_first : (n ≡ 0) ⊎ ((n ≡ 0) → ⊥) → Found n r.since start now s1
       by_first (inl z) =
           let same : s1 ≡ start = e ∙ found_first n now z ∙ first z in
           record {
             reopens = record { since = []; now = ap (λ (s : Seen). s.reopened) same; as_many = sym z };
             at = sym (ap (λ (s : Seen). s.device) same);
             each = λ u us. All-nil (Underway ours alone opening);
+            goes_on = λ s2 over on. subst (λ (s : Seen). GoesOn s.device.files s2.device.files) same on;
           }
       by_first (inr f) =
           let later = e ∙ found_later n now f in
@@ -52,6 +57,7 @@ module _ (ours : List ℕ → Bool) (alone : Bool) (opening : Opening) where
             };
             at = sym (found_device n now s1 e);
             each = λ u us. All-cons (Underway ours alone opening) now.device r.since (subst (λ (d : Device). Underway ours alone opening d) (found_device n now s1 e) u) us;
+            goes_on = λ s2 over on. (over, subst (λ (d : Device). GoesOn d.files s2.device.files) (found_device n now s1 e) on);
           }
 
   -- where it began, as it is told behind it
@@ -64,8 +70,8 @@ module _ (ours : List ℕ → Bool) (alone : Bool) (opening : Opening) where
   underway_found n fixed now s1 e t = subst (λ (d : Device). Underway ours alone opening d) (sym (found_device n now s1 e)) (tried_underway ours alone opening fixed now.device t)
 
   pub began_at : (from : Type 0) (n : ℕ) (fixed : Option ℕ) (start now s1 s2 : Seen) (stream drawn : Stream) → (n ≡ 0 → now ≡ start) → (n ≡ 0 → drawn ≡ stream) → Moves stream drawn → s1 ≡ found_by n now
-      → Attempted from (n - 1) start now → from → TriedAt ours alone opening fixed now.device → s2.reopened ≡ s1.reopened → BeganAt n start s1 s2 stream drawn
-  began_at from n fixed start now s1 s2 stream drawn first undrawn moved e k f t kept =
+      → Attempted from (n - 1) start now → from → TriedAt ours alone opening fixed now.device → GoesOn s1.device.files s2.device.files → s2.reopened ≡ s1.reopened → BeganAt n start s1 s2 stream drawn
+  began_at from n fixed start now s1 s2 stream drawn first undrawn moved e k f t on kept =
       let found = found_again n start now s1 first e k.reopens in
       let u = underway_found n fixed now s1 e t in
       record {
@@ -73,6 +79,7 @@ module _ (ours : List ℕ → Bool) (alone : Bool) (opening : Opening) where
           reopens = reopens_kept n n start s1 s2 refl kept found.reopens;
           each = found.each u (k.each f);
           underway = subst (λ (d : Device). Underway ours alone opening d) (sym found.at) u;
+          goes_on = found.goes_on s2 (k.goes_on f) on;
           drawn = drawn;
           undrawn = undrawn;
           moved = moved;
@@ -87,10 +94,11 @@ module _ (ours : List ℕ → Bool) (alone : Bool) (opening : Opening) where
 
   -- one attempt more
   pub attempted_more : (from from' : Type 0) (n : ℕ) (fixed : Option ℕ) (start now s1 s2 : Seen) → (from' → from) → (n ≡ 0 → now ≡ start) → s1 ≡ found_by n now
-      → Attempted from (n - 1) start now → (from → TriedAt ours alone opening fixed now.device) → s2.reopened ≡ s1.reopened → Attempted from' (n + 1 - 1) start s2
-  attempted_more from from' n fixed start now s1 s2 before first e k t kept =
+      → Attempted from (n - 1) start now → (from → TriedAt ours alone opening fixed now.device) → (from' → GoesOn s1.device.files s2.device.files) → s2.reopened ≡ s1.reopened → Attempted from' (n + 1 - 1) start s2
+  attempted_more from from' n fixed start now s1 s2 before first e k t on kept =
       let found = found_again n start now s1 first e k.reopens in
       record {
         reopens = reopens_kept n (n + 1 - 1) start s1 s2 (omega arith) kept found.reopens;
         each = λ f. found.each (underway_found n fixed now s1 e (t (before f))) (k.each (before f));
+        goes_on = λ f. found.goes_on s2 (k.goes_on (before f)) (on f);
       }

@@ -8,8 +8,10 @@ use Rattle.rules.specs.Outcome.{count_new}
 use Rattle.rules.specs.World.{scene_of}
 use Rattle.book.specs.declared.book.Pending.{Pending}
 use Rattle.book.specs.Books.{Holds}
+use Rattle.book.specs.Shelves.{Files}
 use Rattle.outside.specs.Calls.{Seen}
 use Rattle.outside.specs.Devices.{Device}
+use Rattle.outside.specs.GoingOn.{GoesOn}
 use Rattle.underway.specs.Conditions.{IsPending, Underway}
 use Rattle.underway.specs.Openings.{Opening, Since, Unplanned}
 use Rattle.runner.specs.declared.fault.RunFault.{RunFault}
@@ -39,6 +41,25 @@ pub record IsTried (ours : List ℕ → Bool) (alone : Bool) (opening : Opening)
   pub asked : IsAsked ours opening options stream
   pub tried : TriedAt ours alone opening fixed d
 
+-- ---- what the files hold goes on
+
+-- the files hold a state that this run is not beyond
+pub record HasReached (run : ℕ) (files : Files) : Type 0 where
+  pub state : SyncState
+  pub pending : Pending
+  pub held : Holds files state pending
+  pub next : run ≤ state.run + 1
+
+-- the same of the run, once it is fixed
+abbrev pub IsReached : (fixed : Option ℕ) → Files → Type 0
+IsReached None files = Unit {0}
+IsReached (Some run) files = HasReached run files
+
+-- it has gone on from the first of several devices to the next one, and so on to this one; those between are given, the last first
+abbrev pub GoesOnOver : (since : List Device) → (start now : Device) → Type 0
+GoesOnOver [] start now = GoesOn start.files now.files
+GoesOnOver (d ∷ since) start now = GoesOnOver since start d × GoesOn d.files now.files
+
 -- ---- the last attempt
 
 -- the device on which the last of several attempts began: as it was when the outside was opened again the last time since, or else the first
@@ -53,12 +74,13 @@ pub record Reopens (times : ℕ) (old new : Seen) : Type 0 where
   pub as_many : length since ≡ times
 
 -- Where an attempt began that came after so many others. Behind each of those the outside was opened again, and not otherwise, with the run
--- underway. The first one began where `settle` was called, and each other where the outside was opened for it. The generator has moved by
--- whole pairs.
+-- underway. The first one began where `settle` was called, and each other where the outside was opened for it. From one to the next, and from
+-- the last to its end, no plan and no logged step was lost. The generator has moved by whole pairs.
 pub record Began (ours : List ℕ → Bool) (alone : Bool) (opening : Opening) (earlier : ℕ) (old new : Seen) (stream : Stream) : Type 0 where
   pub reopens : Reopens earlier old new
   pub each : All (Underway ours alone opening) reopens.since
   pub underway : Underway ours alone opening (began_on reopens.since old.device)
+  pub goes_on : GoesOnOver reopens.since old.device new.device
   pub drawn : Stream
   pub undrawn : earlier ≡ 0 → drawn ≡ stream
   pub moved : Moves stream drawn

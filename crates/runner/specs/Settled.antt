@@ -38,11 +38,10 @@ pub record IsUnsettled (ours : List ℕ → Bool) (alone : Bool) (opening : Open
 
 -- Why a fault that is no stop is told. A refusal or a fault of a box is the last that was told, unless it is that of a copy that was lost.
 -- Marks repeat only where the draws of an attempt do. A line of the state or the journal is told only where the files that stand there hold
--- no book from it on, but line 2 of the state where their run has the greatest number, and but line 0: where the outside has told it last, or
--- in an attempt behind the first.
-abbrev pub HasReason : (honest : Type 0) → (List ℕ → Bool) → Bool → Opening → Options → (tries : ℕ) → (stream after : Stream) → RunFault → (old new : Seen) → Type 0
-HasReason honest ours alone opening options tries stream after fault old new = (fault ≡ run.Stopped → ⊥) → IsCaused
-    (or_unread (TellsNoRun honest new.device) (or_refused (λ step. Unit {0}) (or_beyond (honest → 1 < tries)
+-- no book from it on, but line 2 of the state where their run has the greatest number, and but line 0, where the outside has told it last.
+abbrev pub HasReason : (honest : Type 0) → (List ℕ → Bool) → Bool → Opening → Options → (stream after : Stream) → RunFault → (old new : Seen) → Type 0
+HasReason honest ours alone opening options stream after fault old new = (fault ≡ run.Stopped → ⊥) → IsCaused
+    (or_unread (TellsNoRun honest new.device) (or_refused (λ step. Unit {0}) (or_beyond (honest → ⊥)
     (because (λ side. Unit {0}) (HaveRepeated honest ours alone opening options stream after old.device))))) fault old new
 
 -- behind a fault: each of all attempts met a stop where a stop is told, and else each but the last

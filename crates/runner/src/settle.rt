@@ -4,7 +4,7 @@ ghost use Rattle.std.specs.Prelude.{◌≡◌, ◌≤◌, ◌+◌, ◌^◌, None
 ghost use Rattle.underway.specs.Conditions.{IsOver};
 ghost use Rattle.underway.specs.Openings.{Opening};
 ghost use Rattle.runner.specs.Answers.{HasRepeats, Moves, OfFiles, made_in};
-ghost use Rattle.runner.specs.Attempts.{AnswersAt, AtOpening, FromOpening, HasNoNext, IsTried, TriedAt, found_by};
+ghost use Rattle.runner.specs.Attempts.{AnswersAt, AtOpening, FromOpening, HasNoNext, HasReached, IsReached, IsTried, TriedAt, found_by};
 ghost use Rattle.runner.specs.Faults.{TellsNoRun, because, or_beyond, or_unread};
 ghost use Rattle.runner.specs.Finding.{FindsAt, FindsSame};
 ghost use Rattle.runner.specs.Parts.{IsStuck, PartOr, RunPart, Unstepped};
@@ -25,7 +25,7 @@ use std::alloc::Global;
 fn next_run<O: Outside>(outside: &mut O) -> Result<u64, RunFault>
     ghost opening: { Opening }
     ensures was_honest { O.honest outside.new → O.honest outside.old }
-    ensures number { IfOk result (λ number. OfFiles (O.honest outside.new) (O.seen outside.new).device (λ s p. number ≡ s.run + 1)) }
+    ensures number { IfOk result (λ number. O.honest outside.new → HasReached number (O.seen outside.new).device.files) }
     ensures kept { OnOk result (O.honest outside.new → IsKept O.alone (O.seen outside.old).device (O.seen outside.new).device) }
     ensures greatest { HasNoNext (O.honest outside.new) O.alone (O.seen outside.old).device (O.seen outside.new).device result }
     ensures same { OnOk result (O.honest outside.new → FindsSame O.ours (O.seen outside.old).device (O.seen outside.new).device) }
@@ -54,8 +54,8 @@ fn fix_run<O: Outside>(outside: &mut O, run: &mut Option<u64>) -> Result<u64, Ru
     ensures was_honest { O.honest outside.new → O.honest outside.old }
     ensures unfixed { OnErr result ((run.old ≡ None) × (run.new ≡ None)) }
     ensures fixed { IfOk result (λ number. run.new ≡ Some number) }
-    ensures number { run.old ≡ None → IfOk result (λ number. OfFiles (O.honest outside.new) (O.seen outside.new).device
-        (λ s p. number ≡ s.run + 1)) }
+    ensures number { IfOk result (λ number. O.honest outside.new → IsReached run.old (O.seen outside.old).device.files
+        → HasReached number (O.seen outside.new).device.files) }
     ensures kept { OnOk result (O.honest outside.new → IsKept O.alone (O.seen outside.old).device (O.seen outside.new).device) }
     ensures greatest { run.old ≡ None → HasNoNext (O.honest outside.new) O.alone (O.seen outside.old).device (O.seen outside.new).device result }
     ensures same { OnOk result (O.honest outside.new → FindsSame O.ours (O.seen outside.old).device (O.seen outside.new).device) }
@@ -94,9 +94,11 @@ fn attempt<O: Outside, R: Rng, P: Progress>(
         (O.seen outside.old).device → FindsAt O.ours (O.seen outside.old).device pass) }
     ensures greatest { run.old ≡ None → HasNoNext (O.honest outside.new) O.alone (O.seen outside.old).device (O.seen outside.new).device result }
     ensures unfixed { run.old ≡ None → OfFiles (O.honest outside.new) (O.seen outside.old).device (λ s p. s.run + 1 ≡ 2 ^ 64 → run.new ≡ None) }
+    ensures reached { O.honest outside.new → IsReached run.old (O.seen outside.old).device.files
+        → IsReached run.new (O.seen outside.new).device.files }
     ensures stuck { IsStuck (O.seen outside.old) (O.seen outside.new) result }
     ensures part { RunPart (or_unread (TellsNoRun (O.honest outside.new) (O.seen outside.new).device)
-        (or_beyond (run.old ≡ None → O.honest outside.new → ⊥)
+        (or_beyond (O.honest outside.new → IsReached run.old (O.seen outside.old).device.files → ⊥)
         (because (TellsChanged (O.honest outside.new) O.alone (O.seen outside.old).device (O.seen outside.new).device)
         (HasRepeats O.alone opening (O.honest outside.new) (IsTried O.ours O.alone opening options.now (R.stream rng.old) run.old
         (O.seen outside.old).device) options.now (R.stream rng.old)))))
@@ -147,7 +149,7 @@ pub fn settle<O: Outside, R: Rng, P: Progress>(
     ensures results { IfOk result (λ settled. O.honest outside.new → HasResults settled.last (O.seen outside.new).device) }
 
     // A fault that is no stop has its reason, and behind the greatest run number there is no other.
-    ensures caused { IfErr result (λ fault. HasReason (O.honest outside.new) O.ours O.alone opening options.now tries (R.stream rng.old)
+    ensures caused { IfErr result (λ fault. HasReason (O.honest outside.new) O.ours O.alone opening options.now (R.stream rng.old)
         (R.stream rng.new) fault (O.seen outside.old) (O.seen outside.new)) }
     ensures greatest { HasNoNext (O.honest outside.new) O.alone (O.seen outside.old).device (O.seen outside.new).device result }
 

@@ -20,3 +20,8 @@ pub returns-then-not-is_taken_up-clause-found : goal.returns-then-not-is_taken_u
 returns-then-not-is_taken_up-clause-found g c =
     let down : c.args.is_taken_up ≡ false = grind (arith, common_steps) in
     rw down (made_fresh g.O.Outside.ours g.O.Outside.alone g.opening (g.O.Outside.opened c.args.outside.now) c.args.direction c.args.uid c.args.flags c.args.mark c.requires.1.1 c.copy.result _ (g.O.Outside.seen c.args.outside.now).device c.copy.ensures.made)
+
+pub returns-in-Some-clause-part : goal.returns-in-Some-clause-part
+returns-in-Some-clause-part g c =
+    let up : c.args.is_taken_up ≡ true = grind (arith, common_steps) in
+    rw up (rw c.in-Some.is at c.in_ok-copy.ensures.part)

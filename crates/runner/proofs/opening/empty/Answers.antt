@@ -4,13 +4,13 @@ use Rattle.outside.specs.Opened.{turned}
 use Rattle.underway.specs.Conditions.{Underway}
 use Rattle.runner.proofs.PartCalls.{from_book, left_call, line_of_book, passed_call}
 use Rattle.runner.proofs.Begun.{clear_underway}
-use Rattle.runner.proofs.Readings.{emptied, half_forgot, known_arrives, none_known, none_read}
+use Rattle.runner.proofs.Readings.{emptied, half_forgot, known_arrives, none_known, none_taken}
 use Rattle.runner.proofs.Stages.{left_by}
 use Rattle.runner.proofs.Validities.{emptied_validities}
 use Rattle.runner.proofs.opening.empty.Goals as goal
 
 pub discard-requires : goal.discard-requires
-discard-requires g c = record { read = none_read (g.O.Outside.opened c.args.outside.now) c.requires.1 }
+discard-requires g c = record { takes = none_taken (g.O.Outside.opened c.args.outside.now) c.requires.1 }
 
 pub returns-in-Ok-clause-part : goal.returns-in-Ok-clause-part
 returns-in-Ok-clause-part g c =

@@ -10,24 +10,21 @@ use Rattle.outside.specs.Opened.{Opened}
 use Rattle.underway.specs.Openings.{IsIdle}
 use Rattle.runner.specs.Before.{HasNoPlan, HasPlan, IsEmptied}
 use Rattle.runner.proofs.PartCalls.{from_book, left_call, line_of_book, passed_call}
-use Rattle.runner.proofs.Readings.{forgot, forgot_held, half_forgot, has_none, has_plan, none_of, some_of, stores_kept}
+use Rattle.runner.proofs.Readings.{forgot, forgot_held, half_forgot, has_none, has_plan, never_both, none_of, none_taken, some_of, stores_kept}
 use Rattle.runner.proofs.Stages.{left_by}
 use Rattle.runner.proofs.Validities.{missing_here}
 use Rattle.runner.proofs.opening.forget.Goals as goal
-
-never_both : (opened : Option Opened) → HasPlan opened → HasNoPlan opened → ⊥
-never_both None h n = h
-never_both (Some o) h n = of_pending o.pending h n
-  where
-    of_pending : (p : Pending) → IsPlanned p → IsIdle p → ⊥
-    of_pending Missing h n = h
-    of_pending Useless h n = h
-    of_pending (Planned written) h n = n
 
 -- a plan is pending
 planned_emptied : (opened : Option Opened) (d : Device) → HasPlan opened → IsEmptied opened d
 planned_emptied None d h = h
 planned_emptied (Some o) d h = λ idle. absurd (never_both (Some o) h idle)
+
+pub discard-requires : goal.discard-requires
+discard-requires g c =
+    let opened = g.O.Outside.opened c.args.outside.now in
+    let i : is_some c.pending.result ≡ false = grind (arith, common_steps) in
+    record { takes = none_taken opened (has_none opened c.requires.1.0 (none_of _ c.pending.result _ c.pending.ensures i)) }
 
 pub returns-in-Ok-clause-part : goal.returns-in-Ok-clause-part
 returns-in-Ok-clause-part g c =

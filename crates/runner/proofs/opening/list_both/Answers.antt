@@ -1,6 +1,6 @@
 use Rattle.std.proofs.Common.{rules}
 use Rattle.std.proofs.lemmas.Result.{err_from_is_err_and}
-use Rattle.runner.proofs.PartCalls.{left_after}
+use Rattle.runner.proofs.PartCalls.{left_after, passed_after}
 use Rattle.runner.proofs.Validities.{both_validities}
 use Rattle.runner.proofs.opening.list_both.Goals as goal
 
@@ -16,3 +16,9 @@ list_near-requires g c κs within = (search rules, rw c.list_far.ensures.opened 
 
 pub returns-clause-validities : goal.returns-clause-validities
 returns-clause-validities g c = λ honest. let before = c.in_ok-near.ensures.was_honest honest in both_validities _ _ _ _ _ (c.in_ok-far.ensures.validities before) (c.in_ok-far.ensures.validity before) (c.in_ok-near.ensures.validities honest) (c.in_ok-near.ensures.validity honest)
+
+pub returns-clause-part : goal.returns-clause-part
+returns-clause-part g c =
+    let s1 = g.O.Outside.seen c.list_far.new.outside in
+    let rest = rw c.list_far.ensures.opened at c.in_ok-near.ensures.part in
+    passed_after _ _ _ _ _ 0 0 _ s1 _ c.in_ok-near.ensures.was_honest c.in_ok-far.ensures.part rest

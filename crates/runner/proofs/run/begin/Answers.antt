@@ -1,7 +1,9 @@
-use Rattle.std.proofs.Common.{rules}
+use Rattle.std.proofs.Common.{arith, rules}
 use Rattle.std.proofs.lemmas.Result.{err_from_is_err_and}
+use Rattle.runner.specs.Answers.{IsChosen}
+use Rattle.runner.specs.Going.{made}
 use Rattle.runner.proofs.StepParts.{left_unstepped, steps_told, unrefused_told}
-use Rattle.runner.proofs.PartCalls.{left_after, passed_after, left_told}
+use Rattle.runner.proofs.PartCalls.{left_after, left_told, passed_after, passed_weaker}
 use Rattle.runner.proofs.Passes.{none_few, ran_answers, takes_commit, whole_steps}
 use Rattle.runner.proofs.Told.{told, told_whole}
 use Rattle.runner.proofs.Finding.{all_new, same_none}
@@ -44,6 +46,14 @@ returns-in_err-conclude-clause-part g c =
     let s2 = g.O.Outside.seen c.carry_out.new.outside in
     let so_far = passed_after _ _ _ _ _ _ _ _ s1 _ c.in_ok-performed.ensures.was_honest c.in_ok-unfit.ensures.part c.in_ok-performed.ensures.part in
     rw (e.1, e.2) (left_unstepped _ _ _ _ _ _ tt (left_after _ _ _ _ _ _ _ _ s2 _ c.in_err-conclude.ensures.was_honest so_far c.in_err-conclude.ensures.part))
+
+pub returns-clause-part : goal.returns-clause-part
+returns-clause-part g c =
+    let s1 = g.O.Outside.seen c.propose.new.outside in
+    let s2 = g.O.Outside.seen c.carry_out.new.outside in
+    let so_far = passed_after _ _ _ _ _ _ _ _ s1 _ c.in_ok-performed.ensures.was_honest c.in_ok-unfit.ensures.part c.in_ok-performed.ensures.part in
+    let from = IsChosen g.O.Outside.ours g.O.Outside.alone g.opening (g.O.Outside.opened c.args.outside.now) c.args.options.now (g.R.Rng.stream c.args.rng.now) in
+    passed_weaker _ from from _ _ _ (made c.in_ok-performed.performed.items) _ _ (omega arith) (λ d k. k) (λ d k. k) (passed_after _ _ _ _ _ _ _ _ s2 _ c.in_ok-conclude.ensures.was_honest so_far c.in_ok-conclude.ensures.part)
 
 pub returns-clause-answer : goal.returns-clause-answer
 returns-clause-answer g c = ran_answers (g.O.Outside.opened c.args.outside.now) c.in_ok-performed.performed c.in_ok-unfit.unfit c.requires.1.1.1.0

@@ -1,12 +1,13 @@
-use Rattle.std.proofs.Common.{◌≡◌, rules, subst}
+use Rattle.std.proofs.Common.{◌≡◌, arith, rules, subst}
 use Rattle.rules.specs.declared.plan.Plan.{Plan}
+use Rattle.runner.specs.Before.{IsTakenUp}
 use Rattle.runner.specs.Finding.{AreFoundSo}
-use Rattle.runner.specs.Going.{plan_at}
+use Rattle.runner.specs.Going.{made, plan_at}
 use Rattle.std.proofs.lemmas.Result.{err_from_is_err_and}
 use Rattle.book.specs.Books.{mended}
 use Rattle.outside.specs.Opened.{turned}
 use Rattle.runner.proofs.StepParts.{left_unstepped, steps_told}
-use Rattle.runner.proofs.PartCalls.{left_after, passed_after, left_told}
+use Rattle.runner.proofs.PartCalls.{left_after, left_told, passed_after, passed_weaker}
 use Rattle.runner.proofs.Passes.{book_few, finished_answers, mended_book, mended_going, mended_rest, takes_commit}
 use Rattle.runner.proofs.Told.{told, told_rest}
 use Rattle.runner.proofs.Finding.{mended_plan, same_then}
@@ -49,6 +50,14 @@ returns-in_err-conclude-clause-part g c =
     let s2 = g.O.Outside.seen c.carry_out.new.outside in
     let so_far = passed_after _ _ _ _ _ _ _ _ s1 _ c.in_ok-performed.ensures.was_honest c.in_ok-untear.ensures.part c.in_ok-performed.ensures.part in
     rw (e.1, e.2) (left_unstepped _ _ _ _ _ _ tt (left_after _ _ _ _ _ _ _ _ s2 _ c.in_err-conclude.ensures.was_honest so_far c.in_err-conclude.ensures.part))
+
+pub returns-clause-part : goal.returns-clause-part
+returns-clause-part g c =
+    let s1 = g.O.Outside.seen c.untear.new.outside in
+    let s2 = g.O.Outside.seen c.carry_out.new.outside in
+    let so_far = passed_after _ _ _ _ _ _ _ _ s1 _ c.in_ok-performed.ensures.was_honest c.in_ok-untear.ensures.part c.in_ok-performed.ensures.part in
+    let from = IsTakenUp g.O.Outside.ours g.O.Outside.alone g.opening (g.O.Outside.opened c.args.outside.now) in
+    passed_weaker _ from from _ _ _ (made c.in_ok-performed.performed.items) _ _ (omega arith) (λ d k. k) (λ d k. k) (passed_after _ _ _ _ _ _ _ _ s2 _ c.in_ok-conclude.ensures.was_honest so_far c.in_ok-conclude.ensures.part)
 
 pub returns-clause-answer : goal.returns-clause-answer
 returns-clause-answer g c =

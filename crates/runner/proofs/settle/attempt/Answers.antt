@@ -3,8 +3,8 @@ use Rattle.std.proofs.lemmas.Result.{err_from_is_err_and}
 use Rattle.underway.specs.Conditions.{IsOver}
 use Rattle.runner.specs.Answers.{IsAsked, IsEntry}
 use Rattle.runner.specs.Attempts.{IsTried}
-use Rattle.runner.proofs.Attempts.{asked_later, attempt_answers, attempt_changed, fixed_tried, tried_fixed}
-use Rattle.runner.proofs.PartCalls.{left_mapped, left_told, left_with, part_after, part_mapped, part_told, part_with, passed_weaker, passed_with}
+use Rattle.runner.proofs.Attempts.{asked_later, attempt_answers, attempt_changed, fixed_on, fixed_tried, never_beyond, none_reached, tried_fixed}
+use Rattle.runner.proofs.PartCalls.{goes_on, left_mapped, left_told, left_with, part_after, part_mapped, part_told, part_with, passed_weaker, passed_with}
 use Rattle.runner.proofs.PlanFacts.{moved_none}
 use Rattle.runner.proofs.StepParts.{repeats_from}
 use Rattle.runner.proofs.PassTells.{found_in, told_in}
@@ -71,7 +71,14 @@ returns-clause-part g c =
     (part_mapped _ _ _ _ _ (IsTried ours alone g.opening options new run) _ _ (λ x d. IsOver ours alone g.opening d) _ _ _ (λ d k. k)
     (λ d k. record { asked = asked_later ours g.opening options old new c.pass.ensures.moved k.0.0; tried = fixed_tried ours alone g.opening run n d fixed (k.0.1, k.1) })
     (λ x d k. let r = k.1 in let e = k.0.1 in r.done (omega (arith, e)))
-    (part_with _ p _ _ _ _ _ _ _ _ (part_told _ _ _ _ _ _ _ _ _ _ (record { changed = λ side t. attempt_changed alone _ _ s0.device s1.device s2.device side c.pass.ensures.was_honest c.in_ok-number.ensures.kept t; repeats = λ k. repeats_from alone g.opening _ _ _ options old (λ h at. (ready.reaches (c.pass.ensures.was_honest h) at).1) k; beyond = λ b none h. let x = b h in let e = c.in_ok-number.ensures.number none (c.pass.ensures.was_honest h) x.state x.pending x.held in let l = x.beyond in omega (arith, e, l); unread = λ e t h. inl (t h); refused = λ step t h at. t h (ready.reaches (c.pass.ensures.was_honest h) at).1; unstepped = λ u. u }) c.pass.ensures.part)))
+    (part_with _ p _ _ _ _ _ _ _ _ (part_told _ _ _ _ _ _ _ _ _ _ (record { changed = λ side t. attempt_changed alone _ _ s0.device s1.device s2.device side c.pass.ensures.was_honest c.in_ok-number.ensures.kept t; repeats = λ k. repeats_from alone g.opening _ _ _ options old (λ h at. (ready.reaches (c.pass.ensures.was_honest h) at).1) k; beyond = λ b h at. never_beyond n s1.device (c.in_ok-number.ensures.number (c.pass.ensures.was_honest h) at) (b h); unread = λ e t h. inl (t h); refused = λ step t h at. t h (ready.reaches (c.pass.ensures.was_honest h) at).1; unstepped = λ u. u }) c.pass.ensures.part)))
+
+pub returns-in_err-number-clause-reached : goal.returns-in_err-number-clause-reached
+returns-in_err-number-clause-reached g c = λ h at. none_reached c.fix_run.new.run _ c.in_err-number.ensures.unfixed.1
+
+pub returns-clause-reached : goal.returns-clause-reached
+returns-clause-reached g c = λ h at.
+    fixed_on c.fix_run.new.run c.in_ok-number.number _ _ c.in_ok-number.ensures.fixed (goes_on _ _ _ _ _ _ _ _ c.pass.result c.pass.ensures.part h) (c.in_ok-number.ensures.number (c.pass.ensures.was_honest h) at)
 
 pub returns-clause-told : goal.returns-clause-told
 returns-clause-told g c =

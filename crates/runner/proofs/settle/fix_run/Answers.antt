@@ -1,6 +1,6 @@
 use Rattle.std.proofs.Common.{refl}
 use Rattle.std.proofs.lemmas.Result.{err_from_is_err_and}
-use Rattle.runner.proofs.Attempts.{opening_tried, opening_underway, tried_opening}
+use Rattle.runner.proofs.Attempts.{opening_tried, opening_underway, some_reached, tried_opening}
 use Rattle.runner.proofs.PartCalls.{left_mapped, passed_weaker}
 use Rattle.runner.proofs.settle.fix_run.Goals as goal
 
@@ -16,3 +16,6 @@ returns-clause-part g c =
     let ours = g.O.Outside.ours in
     let alone = g.O.Outside.alone in
     passed_weaker _ _ _ _ _ _ _ _ _ refl (λ d t. tried_opening ours alone g.opening _ d c.in_default.not-Some t) (λ d k. (k.0, opening_underway ours alone g.opening d k.1)) c.in_ok-number.ensures.part
+
+pub returns-in-Some-clause-number : goal.returns-in-Some-clause-number
+returns-in-Some-clause-number g c = λ h at. some_reached _ _ _ c.in-Some.is at

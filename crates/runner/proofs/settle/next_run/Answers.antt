@@ -2,7 +2,7 @@ use Rattle.std.proofs.Common.{◌≡◌, ◌+◌, inl, inr, refl, subst, arith}
 use Rattle.book.specs.Books.{Holds}
 use Rattle.outside.specs.Devices.{Device}
 use Rattle.runner.specs.Attempts.{AtOpening}
-use Rattle.runner.proofs.Attempts.{last_read, last_run, next_read, next_unread, opening_left, run_read}
+use Rattle.runner.proofs.Attempts.{last_run, next_read, next_unread, opening_left, reached_read, run_read}
 use Rattle.runner.proofs.PartCalls.{left_call, left_here, line_of_shelf, passed_call, stuck_call, whole_call}
 use Rattle.runner.proofs.Readings.{unread_files}
 use Rattle.runner.proofs.Validities.{kept_read}
@@ -32,13 +32,12 @@ returns-in-Err-clause-part g c =
     (λ m at a own told. opening_left g.O.Outside.ours g.O.Outside.alone g.opening c.in-Err.fault _ m s1.device at a own.0 own.1 told))
 
 pub returns-else-last-clause-number : goal.returns-else-last-clause-number
-returns-else-last-clause-number g c = λ honest s p held.
+returns-else-last-clause-number g c = λ honest.
     let w = c.in-Ok.ensures.call in
     let acts = w.acts in
     let e = acts.effect honest in
     let behind = e.behind in
-    let n = last_read _ c.state.result.now s p e.mid c.state.ensures.state behind.1 (subst (λ (d : Device). Holds d.files s p) behind.0 held) in
-    omega (arith, n)
+    reached_read _ c.state.result.now e.mid _ c.state.ensures.state behind.0 behind.1
 
 pub returns-else-last-clause-kept : goal.returns-else-last-clause-kept
 returns-else-last-clause-kept g c = λ honest.

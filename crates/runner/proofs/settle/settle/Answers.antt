@@ -1,11 +1,12 @@
 use Rattle.std.proofs.Common.{◌≡◌, ◌≤◌, ◌<◌, Ok, Err, refl, ap, subst, sym, rules, arith}
 use Rattle.outside.specs.Calls.{Seen}
+use Rattle.outside.specs.Devices.{Device}
 use Rattle.underway.specs.Conditions.{Underway}
 use Rattle.runner.specs.declared.fault.RunFault.TheVariants as run
 use Rattle.runner.specs.declared.pass.Pass.{Pass}
-use Rattle.runner.specs.Attempts.{HaveRepeated, IsTried}
+use Rattle.runner.specs.Attempts.{HaveRepeated, IsReached, IsTried}
 use Rattle.runner.specs.Faults.{TellsNoRun}
-use Rattle.runner.proofs.Attempts.{beyond_later, caused_since, failed_few, found_device, greatest_since, kept_none, met_before, more_found, moved_twice, refused_for, stops_kept, stops_more, stuck_first, stuck_more, tried_underway}
+use Rattle.runner.proofs.Attempts.{caused_since, failed_few, found_device, greatest_since, kept_none, met_before, more_found, moved_twice, refused_for, stops_kept, stops_more, stuck_first, stuck_more, tried_underway}
 use Rattle.runner.proofs.Ends.{changed_last, settled_so}
 use Rattle.runner.proofs.Reopening.{attempted_more, attempted_none, began_at, reopens_more}
 use Rattle.runner.proofs.PartCalls.{leaves_after, leaves_map, more_after, more_none}
@@ -22,6 +23,7 @@ loop-tried-init g c = record {
   reopened = attempted_none _ _ _ _ 0 _ refl;
   first = λ z. refl;
   unfixed = λ z. refl;
+  reached = λ h. tt;
   undrawn = λ z. refl;
   stuck = λ z b. refl;
   left = λ h asked at. record { asked = asked; tried = at };
@@ -52,9 +54,10 @@ loop-tried-preserved g c =
       stops = stops_more _ _ _ tried s0 now s1 s2 _ i.stops i.first e c.attempt.ensures.stuck part;
       told = more_after s0 s1 s2 (more_found tried s0 now s1 i.told e) n.told;
       appends = let k = i.appends in let m = n.appends in omega (arith, k, appends, m);
-      reopened = attempted_more ours alone g.opening _ _ tried run s0 now s1 s2 (λ f. (c.again.ensures.was_honest (c.attempt.ensures.was_honest f.0), f.1, f.2)) i.first e i.reopened (λ f. (i.left f.0 f.1 f.2).tried) n.reopened;
+      reopened = attempted_more ours alone g.opening _ _ tried run s0 now s1 s2 (λ f. (c.again.ensures.was_honest (c.attempt.ensures.was_honest f.0), f.1, f.2)) i.first e i.reopened (λ f. (i.left f.0 f.1 f.2).tried) (λ f. part.goes_on f.0) n.reopened;
       first = λ z. absurd (omega (arith, z));
       unfixed = λ z. absurd (omega (arith, z));
+      reached = λ h. c.attempt.ensures.reached h (subst (λ (d : Device). IsReached run d.files) (sym device) (i.reached (c.again.ensures.was_honest (c.attempt.ensures.was_honest h))));
       undrawn = λ z. absurd (omega (arith, z));
       stuck = stuck_more tried s0 now s1 s2 _ i.first e c.attempt.ensures.stuck;
       left = λ h asked at. part.left h (subst before (sym device) (i.left (c.again.ensures.was_honest (c.attempt.ensures.was_honest h)) asked at));
@@ -83,7 +86,7 @@ returns-in-Ok-clause-done g c = λ h asked at.
     let before = c.again.ensures.was_honest (c.attempt.ensures.was_honest h) in
     let t = i.left before asked at in
     let here = subst (IsTried ours alone g.opening c.args.options.now drawn c.loop-tried.run) (sym (found_device tried now s1 c.again.ensures.seen)) t in
-    let began = began_at ours alone g.opening _ tried c.loop-tried.run s0 now s1 s2 stream drawn i.first i.undrawn i.moved c.again.ensures.seen i.reopened (before, asked, at) t.tried said.part.reopened in
+    let began = began_at ours alone g.opening _ tried c.loop-tried.run s0 now s1 s2 stream drawn i.first i.undrawn i.moved c.again.ensures.seen i.reopened (before, asked, at) t.tried (said.part.goes_on h) said.part.reopened in
     settled_so ours alone g.opening s0 s1 s2 stream drawn c.args.options.now (record { stops = tried; last = c.in-Ok.last }) began (said.part.reaches h here) (said.answer h here.tried) (said.told h here) (said.found h here)
 
 pub returns-in-Ok-clause-greatest : goal.returns-in-Ok-clause-greatest
@@ -144,7 +147,7 @@ returns-in-Err-clause-left g c = λ h asked at.
     let here = subst (IsTried ours alone g.opening options drawn c.loop-tried.run) (sym (found_device tried now s1 e)) t in
     let after = IsTried ours alone g.opening options (g.R.Rng.stream c.attempt.new.rng) c.attempt.new.run in
     let kept = part.no_less.reopened in
-    let began = began_at ours alone g.opening _ tried c.loop-tried.run s0 now s1 s2 stream drawn i.first i.undrawn i.moved e i.reopened (before, asked, at) t.tried kept in
+    let began = began_at ours alone g.opening _ tried c.loop-tried.run s0 now s1 s2 stream drawn i.first i.undrawn i.moved e i.reopened (before, asked, at) t.tried (part.goes_on h) kept in
     record {
       left = leaves_after (Underway ours alone g.opening) fault s0 s1 s2 (more_found tried s0 now s1 i.told e)
           (leaves_map after (Underway ours alone g.opening) fault s1 s2 (λ k. tried_underway ours alone g.opening c.attempt.new.run s2.device k.tried) (part.left h here));
@@ -164,7 +167,7 @@ returns-in-Err-clause-caused g c = λ other.
     let start = g.R.Rng.stream c.args.rng.now in
     let before = IsTried g.O.Outside.ours g.O.Outside.alone g.opening c.args.options.now (g.R.Rng.stream c.loop-tried.rng) c.loop-tried.run in
     let device = found_device c.loop-tried.tried now s1 e in
-    caused_since _ _ _ (HaveRepeated (g.O.Outside.honest c.attempt.new.outside) g.O.Outside.ours g.O.Outside.alone g.opening c.args.options.now start (g.R.Rng.stream c.attempt.new.rng) s0.device) (g.O.Outside.honest c.attempt.new.outside → 1 < c.args.tries) (TellsNoRun (g.O.Outside.honest c.attempt.new.outside) (g.O.Outside.seen c.attempt.new.outside).device) c.in-Err.fault s0 s1 s2 (more_found c.loop-tried.tried s0 now s1 i.told e) appends other c.in-Err.ensures.part (λ k. record { drawn = g.R.Rng.stream c.loop-tried.rng; moved = i.moved; on = c.attempt.ensures.moved; count = k.count; repeats = k.repeats; wanted = λ h asked at. k.wanted h (subst before (sym device) (i.left (c.again.ensures.was_honest (c.attempt.ensures.was_honest h)) asked at)) }) (λ b. beyond_later c.loop-tried.tried c.args.tries c.loop-tried.run _ i.unfixed (omega arith) b) (λ e t. t)
+    caused_since _ _ _ (HaveRepeated (g.O.Outside.honest c.attempt.new.outside) g.O.Outside.ours g.O.Outside.alone g.opening c.args.options.now start (g.R.Rng.stream c.attempt.new.rng) s0.device) (g.O.Outside.honest c.attempt.new.outside → ⊥) (TellsNoRun (g.O.Outside.honest c.attempt.new.outside) (g.O.Outside.seen c.attempt.new.outside).device) c.in-Err.fault s0 s1 s2 (more_found c.loop-tried.tried s0 now s1 i.told e) appends other c.in-Err.ensures.part (λ k. record { drawn = g.R.Rng.stream c.loop-tried.rng; moved = i.moved; on = c.attempt.ensures.moved; count = k.count; repeats = k.repeats; wanted = λ h asked at. k.wanted h (subst before (sym device) (i.left (c.again.ensures.was_honest (c.attempt.ensures.was_honest h)) asked at)) }) (λ b h. b h (subst (λ (d : Device). IsReached c.loop-tried.run d.files) (sym device) (i.reached (c.again.ensures.was_honest (c.attempt.ensures.was_honest h))))) (λ e t. t)
 
 pub returns-in-Err-clause-counts : goal.returns-in-Err-clause-counts
 returns-in-Err-clause-counts g c =

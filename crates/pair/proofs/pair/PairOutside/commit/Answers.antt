@@ -4,6 +4,7 @@ use Rattle.outside.specs.Calls.{FromBook}
 use Rattle.pair.specs.BookParts.{kept_of}
 use Rattle.pair.specs.Pairs.{device_of}
 use Rattle.pair.proofs.BookCalls as books
+use Rattle.pair.proofs.GoingOn.{commits}
 use Rattle.pair.proofs.Ending.{at_ok, on_ok, stuck}
 use Rattle.pair.proofs.pair.PairOutside.commit.Goals as goal
 
@@ -22,7 +23,7 @@ returns g c =
     let b = c.commit_synced-answer in
     let e = c.end in
     let whole = sym c.is_broken.ensures ∙ c.if-is_broken.false in
-    let ends = books.book_ends p (CommitsTo) (CommitsHalf) FromBook b.new.near b.new.book e.new.self b.result e.result whole e.ensures.same e.ensures.now b.ensures.told b.ensures.arrives b.ensures.part in
+    let ends = books.book_ends p (CommitsTo) (CommitsHalf) FromBook b.new.near b.new.book e.new.self b.result e.result (commits (kept_of p.book)) whole e.ensures.same e.ensures.now b.ensures.told b.ensures.arrives b.ensures.part in
     record {
       was_honest = λ h. (h.0, b.ensures.was_honest h.1, h.2);
       opened = on_ok _ _ b.result e.result e.ensures.same (λ h. rw b.ensures.open (books.are_committed (g.F.Mailbox.is_open p.far) (g.N.Mailbox.is_open p.near) (kept_of p.book) (kept_of b.new.book) h)) b.ensures.kept;

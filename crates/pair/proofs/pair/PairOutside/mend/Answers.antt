@@ -4,6 +4,7 @@ use Rattle.outside.specs.Calls.{FromBook}
 use Rattle.pair.specs.BookParts.{kept_of}
 use Rattle.pair.specs.Pairs.{device_of}
 use Rattle.pair.proofs.BookCalls as books
+use Rattle.pair.proofs.GoingOn.{mends}
 use Rattle.pair.proofs.Ending.{on_ok, stuck}
 use Rattle.pair.proofs.pair.PairOutside.mend.Goals as goal
 
@@ -21,7 +22,7 @@ returns g c =
     let b = c.mend-answer in
     let e = c.end in
     let whole = sym c.is_broken.ensures ∙ c.if-is_broken.false in
-    let ends = books.book_ends p (λ p. Turns p (mended p)) (λ p. TurnsHalf p p) FromBook p.near b.new.self e.new.self b.result e.result whole e.ensures.same e.ensures.now b.ensures.told (books.near_stays p) (λ _. b.ensures.part) in
+    let ends = books.book_ends p (λ p. Turns p (mended p)) (λ p. TurnsHalf p p) FromBook p.near b.new.self e.new.self b.result e.result (mends (kept_of p.book)) whole e.ensures.same e.ensures.now b.ensures.told (books.near_stays p) (λ _. b.ensures.part) in
     record {
       was_honest = λ h. h;
       opened = on_ok _ _ b.result e.result e.ensures.same (books.is_turned (g.F.Mailbox.is_open p.far) (g.N.Mailbox.is_open p.near) (mended) (kept_of p.book) (kept_of b.new.self)) b.ensures.kept;
