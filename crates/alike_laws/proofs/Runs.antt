@@ -19,7 +19,7 @@ use Rattle.book.proofs.KnownBooks.{book_known}
 use Rattle.run_laws.specs.AlikeLaws.{own_world}
 use Rattle.run_laws.proofs.FoundAgain.{admitted_is_opening, found_is_opening}
 use Rattle.run_laws.proofs.Named.{names_below}
-use Rattle.mailbox.specs.Arrivals.{IsMerge, left, none}
+use Rattle.mailbox.proofs.Quiet.{none_come}
 use Rattle.outside.specs.Devices.{Device}
 use Rattle.underway.specs.Moments.{PlannedAt, Stands, with_log}
 use Rattle.underway.specs.Openings.{Grows, IsIdle, world_at}
@@ -62,10 +62,6 @@ planned_or_not ours alone quiet opening other d a u =
 
 -- ---- the next run
 
-merge_none : {A : Type 0} (xs : List A) → IsMerge xs [] xs
-merge_none [] = none
-merge_none (x ∷ xs) = left x xs [] xs (merge_none xs)
-
 pub grows_none : (alone : Bool) (w : World) → IsInOrder w → Grows alone w w
 grows_none alone w order = record {
   in_order = order;
@@ -78,7 +74,7 @@ grows_none alone w order = record {
   rise = omega arith;
   arrived = [];
   named = [];
-  merged = merge_none w.waiting;
+  gathered = none_come w.waiting;
   each = refl;
   near = sym (append-nil w.near.messages);
   nobody = λ e. (refl, refl);

@@ -1,8 +1,6 @@
 -- From what a call does to the list to the clause of the trait.
 use Rattle.std.proofs.Common.{◌≡◌, ◌+◌, inl, inr, ap, sym, ◌∙◌, refl, subst, ℕ, true, false, List, [], ◌∷◌, map, Ok, Err, Result, Some, arith}
 use Rattle.std.proofs.lemmas.Bool.{false≢true}
-use Rattle.std.proofs.lemmas.List.{append-nil}
-use Rattle.std.proofs.lemmas.List.Elements.{All-nil}
 use Rattle.device.specs.Calls.{Effect, Follows, Went}
 use Rattle.mailcore.specs.declared.listing.Listing.{Listing}
 use Rattle.mailcore.specs.declared.mailbox.Message.{Message}
@@ -11,11 +9,12 @@ use Rattle.mailcore.specs.declared.side.Side.TheVariants as side
 use Rattle.mailcore.specs.Operations.{added}
 use Rattle.mailcore.specs.Stores.{Store, Waiting, numbered}
 use Rattle.mailcore.specs.Mailboxes.{Mailbox, on_store}
-use Rattle.mailbox.specs.Arrivals.{IsMerge, none, left, Arrives}
+use Rattle.mailbox.specs.Arrivals.{Arrives}
 use Rattle.mailbox.specs.declared.fault.BoxFault.{BoxFault}
 use Rattle.mailbox.specs.declared.fault.BoxFault.TheVariants as fault
 use Rattle.mailbox.specs.Calls.{Call, Halts, LeavesBy}
 use Rattle.mailbox.specs.Operations.{Appends, IsFull, Lists, NoRoom, is_full}
+use Rattle.mailbox.proofs.Quiet.{quiet}
 use Rattle.mem_mailbox.specs.BoxConditions.{Counts, Ends, Fails, Stops, out_of_memory, stopped}
 use Rattle.mem_mailbox.specs.MemMailboxes.{seen_at}
 use Rattle.mem_mailbox.specs.Listings.{ShowsIn}
@@ -24,28 +23,8 @@ use Rattle.mem_mailbox.specs.declared.mem_store.MemStore.{MemStore}
 
 -- ---- nobody else acts
 
-nobody_else : (ws : List Waiting) → IsMerge ws [] ws
-nobody_else [] = none
-nobody_else (w ∷ ws) = left w ws [] ws (nobody_else ws)
-
-quiet : (of : Side) (b : Mailbox) → Arrives of every true b b
-quiet side.Far b = record {
-  comes = record {
-    messages = [];
-    next = b.store.next;
-    rise = omega arith;
-    foreign = All-nil _;
-    now = ap (λ (ms : List Message). record b { store = record b.store { messages = ms } }) (sym (append-nil b.store.messages));
-  };
-  nobody = λ _. refl;
-}
-quiet side.Near b = record {
-  comes = record { files = []; waiting = b.waiting; merged = nobody_else b.waiting; foreign = All-nil _; now = refl };
-  nobody = λ _. refl;
-}
-
 alone : (of : Side) {b b' : Mailbox} (does : Effect Mailbox) → does b b' → Follows (Arrives of every true) does b b'
-alone of {b} does h = record { mid = b; before = quiet of b; behind = h }
+alone of {b} does h = record { mid = b; before = quiet of every true b; behind = h }
 
 -- ---- exits with a fault
 

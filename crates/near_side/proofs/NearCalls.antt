@@ -17,29 +17,20 @@ use Rattle.near_box.specs.Mailboxes.{IsMailbox, near_of}
 use Rattle.near_box.specs.NearCalls.{Box, Ends, Goes, RunsOut, stops_of}
 use Rattle.near_box.proofs.RangeLemmas.{near_in_range}
 use Rattle.near_box.proofs.SurveyedLemmas.{surveyed_mailbox}
-use Rattle.mailbox.specs.Arrivals.{IsMerge, none, left, Arrives}
+use Rattle.mailbox.specs.Arrivals.{Arrives}
 use Rattle.mailbox.specs.declared.fault.BoxFault.{BoxFault}
 use Rattle.mailbox.specs.declared.fault.BoxFault.TheVariants as fault
 use Rattle.mailbox.specs.Calls.{Call, DoesSome, Halts, HasCause, LeavesBy, Never, Seen}
 use Rattle.mailbox.specs.Operations.{Admits, Answers, Appends, IsFull, NoRoom}
+use Rattle.mailbox.proofs.Quiet.{quiet}
 use Rattle.near_side.specs.declared.near_side.NearSide.{NearSide}
 use Rattle.near_side.specs.NearFaults.{told, told_by}
 use Rattle.near_side.specs.NearSides.{every, is_broken_in, seen_at, seen_of}
 
 -- ---- nobody else acts
 
-nobody_else : (ws : List Waiting) → IsMerge ws [] ws
-nobody_else [] = none
-nobody_else (w ∷ ws) = left w ws [] ws (nobody_else ws)
-
-quiet : (b : Mailbox) → Arrives side.Near every true b b
-quiet b = record {
-  comes = record { files = []; waiting = b.waiting; merged = nobody_else b.waiting; foreign = All-nil _; now = refl };
-  nobody = λ _. refl;
-}
-
 pub alone : {b b' : Mailbox} (does : Effect Mailbox) → does b b' → Follows (Arrives side.Near every true) does b b'
-alone {b} does h = record { mid = b; before = quiet b; behind = h }
+alone {b} does h = record { mid = b; before = quiet side.Near every true b; behind = h }
 
 -- ---- an open mailbox
 

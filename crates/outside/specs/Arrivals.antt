@@ -1,11 +1,10 @@
 -- What others may do while a run is at work: people file mail, and other programs deliver it.
-use Rattle.std.specs.Prelude.{◌≡◌, ◌++◌, ℕ, Bool, true, List, All, map}
+use Rattle.std.specs.Prelude.{◌≡◌, ◌++◌, ℕ, Bool, true, List, All, IsPermutation, map}
 use Rattle.mailcore.specs.declared.mailbox.Message.{Message}
 use Rattle.mailcore.specs.Content.{mark_of}
 use Rattle.mailcore.specs.Rise.{Rise}
 use Rattle.mailcore.specs.Stores.{Waiting}
 use Rattle.visitors.specs.Visitors.{IsForeign}
-use Rattle.mailbox.specs.Arrivals.{IsMerge}
 use Rattle.outside.specs.Devices.{Device}
 
 -- Others add far messages, under UIDs of at least the next one, and near files, which wait for their UIDs. None of them bears a
@@ -16,7 +15,7 @@ pub record Arrives (ours : List ℕ → Bool) (alone : Bool) (d d' : Device) : T
   pub files : List Waiting
   pub waiting : List Waiting
   pub rise : Rise d.far.next (map (λ m. m.uid) messages) next
-  pub merged : IsMerge d.near.waiting files waiting
+  pub gathered : IsPermutation (d.near.waiting ++ files) waiting
   pub far_foreign : All (λ m. IsForeign ours (mark_of m.bytes)) messages
   pub near_foreign : All (λ f. IsForeign ours (mark_of f.bytes)) files
   pub now : d' ≡ record d {

@@ -12,16 +12,12 @@ use Rattle.mailcore.specs.Stores.{Waiting}
 use Rattle.mailcore.specs.Mailboxes.{Mailbox}
 use Rattle.mailbox.specs.Arrivals as box
 use Rattle.visitors.specs.Visitors.{IsForeign}
-use Rattle.mailbox.specs.Arrivals.{IsMerge, none, left}
+use Rattle.mailbox.proofs.Quiet.{none_come}
 use Rattle.outside.specs.Arrivals.{Arrives}
 use Rattle.outside.specs.Devices.{Device}
 use Rattle.pair.specs.Parts.{IsLess, both, put}
 
 -- ---- nobody else acts
-
-nobody_else : (ws : List Waiting) → IsMerge ws [] ws
-nobody_else [] = none
-nobody_else (w ∷ ws) = left w ws [] ws (nobody_else ws)
 
 same_far : (d : Device) → d ≡ record d { far = record d.far { messages = d.far.messages ++ [] } }
 same_far d = ap (λ (ms : List Message). record d { far = record d.far { messages = ms } }) (sym (append-nil d.far.messages))
@@ -33,27 +29,10 @@ quiet ours alone d = record {
   files = [];
   waiting = d.near.waiting;
   rise = omega arith;
-  merged = nobody_else d.near.waiting;
+  gathered = none_come d.near.waiting;
   far_foreign = All-nil _;
   near_foreign = All-nil _;
   now = same_far d;
-  nobody = λ _. refl;
-}
-
--- nobody acts on a mailbox
-pub box_quiet : (side : Side) (ours : List ℕ → Bool) (alone : Bool) (b : Mailbox) → box.Arrives side ours alone b b
-box_quiet sides.Far ours alone b = record {
-  comes = record {
-    messages = [];
-    next = b.store.next;
-    rise = omega arith;
-    foreign = All-nil _;
-    now = ap (λ (ms : List Message). record b { store = record b.store { messages = ms } }) (sym (append-nil b.store.messages));
-  };
-  nobody = λ _. refl;
-}
-box_quiet sides.Near ours alone b = record {
-  comes = record { files = []; waiting = b.waiting; merged = nobody_else b.waiting; foreign = All-nil _; now = refl };
   nobody = λ _. refl;
 }
 
@@ -93,7 +72,7 @@ module _ (ours ours' : List ℕ → Bool) (alone alone' : Bool) (less : IsLess o
     files = [];
     waiting = d.near.waiting;
     rise = a.comes.rise;
-    merged = nobody_else d.near.waiting;
+    gathered = none_come d.near.waiting;
     far_foreign = All-weaker _ _ (λ m. is_foreign ours ours' less (mark_of m.bytes)) a.comes.messages a.comes.foreign;
     near_foreign = All-nil _;
     now = ap (λ (x : Mailbox). put sides.Far x d) a.comes.now;
@@ -105,7 +84,7 @@ module _ (ours ours' : List ℕ → Bool) (alone alone' : Bool) (less : IsLess o
     files = a.comes.files;
     waiting = a.comes.waiting;
     rise = omega arith;
-    merged = a.comes.merged;
+    gathered = a.comes.gathered;
     far_foreign = All-nil _;
     near_foreign = All-weaker _ _ (λ f. is_foreign ours ours' less (mark_of f.bytes)) a.comes.files a.comes.foreign;
     now = ap (λ (x : Mailbox). put sides.Near x d) a.comes.now ∙ same_far (put sides.Near (record b { waiting = a.comes.waiting }) d);

@@ -21,6 +21,7 @@ use Rattle.outside.specs.Calls.{Call, FromShelf, LeavesBy, Writes}
 use Rattle.outside.specs.Devices.{Device}
 use Rattle.outside.specs.GoingOn.{GoesOn}
 use Rattle.outside.specs.Opened as opened
+use Rattle.mailbox.proofs.Quiet.{quiet as box_quiet}
 use Rattle.outside.proofs.GoingOn.{stays}
 use Rattle.pair.specs.PartCalls.{LeavesSome, Part, PartChanges}
 use Rattle.pair.specs.Stops.{Standing, StopsSo}
@@ -31,7 +32,7 @@ use Rattle.pair.specs.declared.pair.Pair.{Pair}
 use Rattle.pair.specs.Pairs.{Failed, device_of, opened_of}
 use Rattle.pair.specs.Parts.{both, device_with, opened_with}
 use Rattle.pair.specs.Tallies.{Counts, Tallied, ended, no_copies, seen_with}
-use Rattle.pair.proofs.Arriving.{alone_right, arrives_at, box_quiet, less_right, quiet}
+use Rattle.pair.proofs.Arriving.{alone_right, arrives_at, less_right, quiet}
 use Rattle.pair.proofs.GoingOn.{LeadsOn, goes_by, is_at}
 use Rattle.pair.proofs.Ending.{done_call, failed_call, tallied, tally}
 

@@ -27,7 +27,8 @@ use Rattle.outside.specs.Devices.{Device}
 use Rattle.pair.specs.Copies.{with_two}
 use Rattle.pair.specs.Faults.{told}
 use Rattle.pair.specs.Parts.{IsLess}
-use Rattle.pair.proofs.Arriving.{box_quiet, is_foreign}
+use Rattle.mailbox.proofs.Quiet.{quiet as box_quiet}
+use Rattle.pair.proofs.Arriving.{is_foreign}
 
 -- ---- others act on both
 

@@ -65,8 +65,8 @@ grows_numbered alone w s count d d' far_is near_is g =
       rise = rises_on w.near.next g.uids n.store.next first (n.store.next + length n.waiting) g.rise (omega arith);
       arrived = g.arrived;
       named = g.named ++ first;
-      merged = rw (append_assoc g.named first (drop count n.waiting), take-append-drop count n.waiting) g.merged;
+      gathered = rw (append_assoc g.named first (drop count n.waiting), take-append-drop count n.waiting) g.gathered;
       each = rw (length-append {A = ℕ} g.uids (run_from n.store.next first), length-append {A = Waiting} g.named first, run_length n.store.next first, g.each) refl;
       near = rw (under_append g.uids (run_from n.store.next first) g.named first g.each, ← under_run n.store.next first) (ap (λ (l : List Message). l ++ numbered n.store.next first) g.near ∙ append_assoc w.near.messages (numbered_under g.uids g.named) (numbered n.store.next first));
-      nobody = g.nobody;
+      nobody = λ e. ((g.nobody e).0, rw (append_assoc g.named first (drop count n.waiting), take-append-drop count n.waiting) (g.nobody e).1);
     })

@@ -35,7 +35,6 @@ use Rattle.underway.specs.Moments.{Midway, PlannedAt, Stands, boxes_at, with_log
 use Rattle.underway.specs.Endings.{AlikeAt, DoneAt, EndedAt, EndedUnder, IsDone}
 use Rattle.underway.proofs.Arrived.{alike_filed}
 use Rattle.underway.proofs.Foreign.{two}
-use Rattle.underway.proofs.Merges.{merge_alone}
 use Rattle.underway.proofs.Moves.{midway_filed}
 use Rattle.underway.proofs.NextSteps.{fit_few, fit_past, none_left, results_length}
 
@@ -141,7 +140,7 @@ ended_done ours alone w options d e = let x = e.1 in record { state = x.state; p
 pub admitted_is : (w now : World) → Grows true w now → now.waiting ≡ [] → (uids : List ℕ) × AreAdmission w uids now.near.next × (now ≡ admitted_under uids now.near.next w)
 admitted_is w now g none =
     let nobody = g.nobody refl in
-    let all : g.named ++ now.waiting ≡ w.waiting = merge_alone w.waiting g.arrived (g.named ++ now.waiting) g.merged nobody.1 in
+    let all = nobody.1 in
     let named : g.named ≡ w.waiting = sym (Rattle.std.proofs.Common.append-nil g.named) ∙ ap (λ (fs : List Waiting). g.named ++ fs) (sym none) ∙ all in
     let v : now.near.validity ≡ w.near.validity = g.validity NearSide in
     let messages : now.near.messages ≡ w.near.messages ++ numbered_under g.uids w.waiting = g.near ∙ ap (λ (fs : List Waiting). w.near.messages ++ numbered_under g.uids fs) named in (

@@ -2,11 +2,13 @@
 use Rattle.std.proofs.Common.{◌≡◌, ◌<◌, ◌+◌, ℕ, Bool, true, false, List, [], ◌∷◌, ◌++◌, map, refl, sym, ◌∙◌, ap, subst, arith, append-nil, append_assoc}
 use Rattle.std.proofs.lemmas.Bool.{both_ways}
 use Rattle.std.proofs.lemmas.List.Elements.{All-append, All-cons, All-nil}
+use Rattle.std.specs.Prelude.{IsPermutation}
+use Rattle.std.proofs.lemmas.List.Sorted.{IsPermutation-append_left, IsPermutation-append_right, IsPermutation-trans}
 use Rattle.std.proofs.lemmas.List.Quantifiers.{all_pairs_push}
 use Rattle.mailcore.specs.declared.mailbox.Message.{Message}
 use Rattle.mailcore.specs.declared.side.Side.TheVariants.{Far, Near as NearSide}
 use Rattle.mailcore.specs.Rise.{Rise}
-use Rattle.mailcore.specs.Stores.{IsStore}
+use Rattle.mailcore.specs.Stores.{IsStore, Waiting}
 use Rattle.mailcore.proofs.RiseLemmas.{rise-ends}
 use Rattle.rules.specs.declared.state.SyncState.{SyncState}
 use Rattle.rules.specs.World.{World, store}
@@ -16,7 +18,6 @@ use Rattle.outside.specs.Arrivals.{Arrives}
 use Rattle.outside.specs.Devices.{Device}
 use Rattle.underway.specs.Openings.{Opening, Grows, IsIdle, Since, Unplanned, world_at}
 use Rattle.underway.proofs.Foreign.{two}
-use Rattle.underway.proofs.Merges.{merge_more, merge_behind}
 
 -- messages that rise behind a store's
 store_more : (validity next bound : ℕ) (xs ys : List Message) → IsStore (record { validity = validity; next = next; messages = xs }) → Rise next (map (λ m. m.uid) ys) bound → IsStore (record { validity = validity; next = bound; messages = xs ++ ys })
@@ -28,13 +29,19 @@ store_more validity next bound xs (y ∷ ys) s r =
     } in
     subst (λ (l : List Message). IsStore (record { validity = validity; next = bound; messages = l })) (append_assoc xs (y ∷ []) ys) (store_more validity (y.uid + 1) bound (xs ++ y ∷ []) ys one r.1)
 
+-- files come behind those that have come, some of which have their UIDs
+gathered_more : (ws arrived named waiting files now : List Waiting) → IsPermutation (ws ++ arrived) (named ++ waiting) → IsPermutation (waiting ++ files) now → IsPermutation (ws ++ (arrived ++ files)) (named ++ now)
+gathered_more ws arrived named waiting files now m k =
+    subst (λ (l : List Waiting). IsPermutation l (named ++ now)) (append_assoc ws arrived files)
+    (IsPermutation-trans ((ws ++ arrived) ++ files) ((named ++ waiting) ++ files) (named ++ now) (IsPermutation-append_left files (ws ++ arrived) (named ++ waiting) m)
+    (subst (λ (l : List Waiting). IsPermutation l (named ++ now)) (sym (append_assoc named waiting files)) (IsPermutation-append_right named (waiting ++ files) now k)))
+
 module _ (ours : List ℕ → Bool) where
   pub grows_arrives : (alone : Bool) (w : World) (s : SyncState) (d m : Device) → Grows alone w (world_at d s) → Arrives ours alone d m → Grows alone w (world_at m s)
   grows_arrives true w s d m g a = subst (λ (x : Device). Grows true w (world_at x s)) (sym (a.nobody refl)) g
   grows_arrives false w s d m g a =
       let now : Device = record d { far = record d.far { next = a.next; messages = d.far.messages ++ a.messages }; near = record d.near { waiting = a.waiting } } in
       let low = rise-ends d.far.next (map (λ (x : Message). x.uid) a.messages) a.next a.rise in
-      let merge = merge_more w.waiting g.arrived (g.named ++ d.near.waiting) a.files (g.named ++ a.waiting) g.merged (merge_behind g.named d.near.waiting a.files a.waiting a.merged) in
       let v = g.validity in
       subst (λ (x : Device). Grows false w (world_at x s)) (sym a.now) (record {
         in_order = record { far = store_more d.far.validity d.far.next a.next d.far.messages a.messages g.in_order.far a.rise; near = g.in_order.near; pairs = g.in_order.pairs };
@@ -45,9 +52,9 @@ module _ (ours : List ℕ → Bool) where
         far = ap (λ (l : List Message). l ++ a.messages) g.far ∙ append_assoc w.far.messages g.far_added a.messages;
         uids = g.uids;
         rise = g.rise;
-        arrived = merge.0;
+        arrived = g.arrived ++ a.files;
         named = g.named;
-        merged = merge.1;
+        gathered = gathered_more w.waiting g.arrived g.named d.near.waiting a.files a.waiting g.gathered a.gathered;
         each = g.each;
         near = g.near;
         nobody = λ e. absurd (both_ways false refl e);

@@ -1,4 +1,3 @@
-pub mod Merges
 pub mod NextSteps
 pub mod FlagFacts
 pub mod Flagged

@@ -1,5 +1,5 @@
 -- What a run begins with, and what becomes of it before there is a plan.
-use Rattle.std.specs.Prelude.{◌≡◌, ◌≤◌, ℕ, Bool, true, List, [], ◌++◌, length}
+use Rattle.std.specs.Prelude.{◌≡◌, ◌≤◌, ℕ, Bool, true, List, [], ◌++◌, IsPermutation, length}
 use Rattle.mailcore.specs.declared.side.Side.{Side}
 use Rattle.mailcore.specs.declared.mailbox.Message.{Message}
 use Rattle.mailcore.specs.Rise.{Rise}
@@ -11,7 +11,6 @@ use Rattle.rules.specs.World.{World, IsInOrder, NamesBelow, store}
 use Rattle.book.specs.declared.book.Pending.{Pending}
 use Rattle.book.specs.declared.book.Pending.TheVariants.{Missing, Useless, Planned}
 use Rattle.book.specs.Books.{Holds}
-use Rattle.mailbox.specs.Arrivals.{IsMerge}
 use Rattle.outside.specs.Devices.{Device}
 
 -- the world that a run is made on, the options of its plan, and those of the call
@@ -25,7 +24,7 @@ abbrev pub world_at : Device → SyncState → World
 world_at d state = record { far = d.far; near = d.near.store; waiting = d.near.waiting; state = state }
 
 -- A world since: others have added messages to it, and some of its waiting files, of which others have added more, are messages under
--- rising UIDs. Where nobody adds any, the far mailbox is as it was.
+-- rising UIDs. Where nobody adds any, the far mailbox is as it was, and those are the first of its waiting files.
 pub record Grows (alone : Bool) (w now : World) : Type 0 where
   pub in_order : IsInOrder now
   pub state : now.state ≡ w.state
@@ -37,10 +36,10 @@ pub record Grows (alone : Bool) (w now : World) : Type 0 where
   pub rise : Rise w.near.next uids now.near.next
   pub arrived : List Waiting
   pub named : List Waiting
-  pub merged : IsMerge w.waiting arrived (named ++ now.waiting)
+  pub gathered : IsPermutation (w.waiting ++ arrived) (named ++ now.waiting)
   pub each : length uids ≡ length named
   pub near : now.near.messages ≡ w.near.messages ++ numbered_under uids named
-  pub nobody : alone ≡ true → (now.far ≡ w.far) × (arrived ≡ [])
+  pub nobody : alone ≡ true → (now.far ≡ w.far) × (named ++ now.waiting ≡ w.waiting)
 
 -- there is no plan of the run behind this state: no journal, or one without a plan or of a run that was made
 abbrev pub IsIdle : Pending → Type 0
