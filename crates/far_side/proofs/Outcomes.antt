@@ -15,6 +15,7 @@ use Rattle.imap_session.specs.Servers.{Server, with_selected}
 use Rattle.exchange_laws.specs.Ends.{MayHave}
 use Rattle.imap_client.specs.Appending as appending
 use Rattle.imap_client.specs.Boxes.{Becomes}
+use Rattle.mailbox.proofs.Admitted.{admits_all}
 use Rattle.mailbox.specs.Operations.{Tells, Admits, Answers, Appends, NoRoom, Turns}
 use Rattle.mailbox.specs.declared.fault.BoxFault.{BoxFault}
 use Rattle.mailbox.specs.declared.fault.BoxFault.TheVariants as boxes
@@ -51,11 +52,12 @@ rests honest does seen whole done = record {
 }
 
 -- nothing waits, so that nothing is admitted
-pub none_admitted : (s : Store) → Admits (settled s) (settled s)
+pub none_admitted : (s : Store) → Admits true (settled s) (settled s)
 none_admitted s =
     let none : s.next + 0 ≡ s.next = omega arith in
-    sym (ap (λ (n : ℕ). settled (record s { next = n; messages = s.messages ++ [] })) none
-    ∙ ap (λ (ms : List Message). settled (record s { messages = ms })) (append-nil s.messages))
+    admits_all true (settled s) (settled s)
+    (sym (ap (λ (n : ℕ). settled (record s { next = n; messages = s.messages ++ [] })) none
+    ∙ ap (λ (ms : List Message). settled (record s { messages = ms })) (append-nil s.messages)))
 
 -- ---- by its answer, or by what its fault leaves
 

@@ -14,6 +14,7 @@ use Rattle.mailbox.specs.declared.fault.BoxFault.TheVariants as boxes
 use Rattle.mailbox.specs.Arrivals.{Arrives}
 use Rattle.mailbox.specs.Calls.{Call, Never}
 use Rattle.mailbox.specs.Operations as ops
+use Rattle.mailbox.proofs.Listed.{lists_all}
 use Rattle.far_side.specs.declared.far_side.FarSide.{FarSide}
 use Rattle.far_side.specs.Chosen.{KeepsMailboxes, ListsAll, TellsValidity, box_at}
 use Rattle.far_side.specs.FarFaults.{told_by}
@@ -51,8 +52,8 @@ module _ {L : Type 0} {links : link.Ghosts L} (old new : FarSide L links) (same 
       read_did name (server_at old) (server_at new) (TellsValidity name) (RefusesAll old.stage old.account.user.items old.account.password.items name) KeepsMailboxes ops.TellsValidity (λ fault _. Unfit old fault)
       (λ validity t. t) (λ k. k) (λ refused. unfit refused) r (outcome h))
 
-  pub lists : (from : ℕ) (r : Result Listing FarFault) → OnOk r (new.far.is_selected ≡ true) → Ends (state_of old.far.session) (state_of new.far.session) r
-      → (honest_of new → Outcome (ListsAll name) Unrefused KeepsMailboxes r (server_at old) (server_at new)) → Says Never (ops.Answers (ops.Lists Far from)) new.account.mailbox.items r
-  lists from r selected ends outcome =
-      says Never (ops.Answers (ops.Lists Far from)) r selected ends
-      (λ h. read_did name (server_at old) (server_at new) (ListsAll name) Unrefused KeepsMailboxes (ops.Lists Far from) Never (λ listing t. t) (λ k. k) (λ refused. absurd refused) r (outcome h))
+  pub lists : (known from : ℕ) (r : Result Listing FarFault) → OnOk r (new.far.is_selected ≡ true) → Ends (state_of old.far.session) (state_of new.far.session) r
+      → (honest_of new → Outcome (ListsAll name) Unrefused KeepsMailboxes r (server_at old) (server_at new)) → Says Never (ops.Answers (ops.Lists Far true known from)) new.account.mailbox.items r
+  lists known from r selected ends outcome =
+      says Never (ops.Answers (ops.Lists Far true known from)) r selected ends
+      (λ h. read_did name (server_at old) (server_at new) (ListsAll name) Unrefused KeepsMailboxes (ops.Lists Far true known from) Never (λ listing t. (t.0, lists_all known listing _ t.1)) (λ k. k) (λ refused. absurd refused) r (outcome h))

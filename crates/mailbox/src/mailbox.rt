@@ -16,8 +16,7 @@ pub trait Mailbox {
     ghost use Rattle.device.specs.Calls.{Nothing};
     ghost use Rattle.mailcore.specs.declared.side.Side.{Side};
     ghost use Rattle.mailcore.specs.Operations.{flags_added, flags_removed};
-    ghost use Rattle.mailcore.specs.Mailboxes.{AdmitsSome};
-    ghost use Rattle.mailbox.specs.Operations.{removed, Admits, Answers, Appends, AppendsPart, Finds, HasNumbers, IsCopyText, Lists, Loads, NoRoom, TellsValidity, Turns};
+    ghost use Rattle.mailbox.specs.Operations.{removed, Admits, AdmitsPart, Answers, Appends, AppendsPart, Finds, HasNumbers, IsCopyText, Lists, Loads, NoRoom, TellsValidity, Turns};
     ghost use Rattle.mailbox.specs.declared.fault.BoxFault.{BoxFault};
     ghost use Rattle.mailbox.specs.Arrivals.{Arrives};
     ghost use Rattle.mailbox.specs.Calls.{Call, IsPlain, Never, Seen};
@@ -67,8 +66,8 @@ pub trait Mailbox {
         ensures was_honest { honest self.new → honest self.old }
         ensures open { is_open self.new ≡ true }
         ensures numbers { IfOk result HasNumbers }
-        ensures call { Call (honest self.new) (ended self.old self.new) (Arrives side ours alone) Never (Answers (Lists side from)) Nothing
-            (seen self.old) (seen self.new) result };
+        ensures call { Call (honest self.new) (ended self.old self.new) (Arrives side ours alone) Never
+            (Answers (Lists side alone (seen self.old).stored.store.next from)) Nothing (seen self.old) (seen self.new) result };
 
     /// The least UID of at least `from` whose message has the mark.
     fn find_mark(&mut self, mark: Tuid, from: u32) -> Result<Option<Uid>, BoxFault>
@@ -130,14 +129,14 @@ pub trait Mailbox {
         ensures call { Call {T = Unit {0}} (honest self.new) (ended self.old self.new) (Arrives side ours alone) Never
             (λ _. Turns (removed side uid)) Nothing (seen self.old) (seen self.new) result };
 
-    /// Gives what waits its UIDs. At a server nothing waits.
+    /// Gives what waits its UIDs, as far as it was read: what others deliver behind that waits for the next time. At a server nothing waits.
     fn admit(&mut self) -> Result<(), BoxFault>
         requires whole { (seen self.old).is_broken ≡ false }
         requires open { is_open self.old ≡ true }
         ensures was_honest { honest self.new → honest self.old }
         ensures open { is_open self.new ≡ true }
         ensures call { Call {T = Unit {0}} (honest self.new) (ended self.old self.new) (Arrives side ours alone)
-            (NoRoom side (λ b. length b.waiting)) (λ _. Admits) AdmitsSome (seen self.old) (seen self.new) result };
+            (NoRoom side (λ b. length b.waiting)) (λ _. Admits alone) (AdmitsPart alone) (seen self.old) (seen self.new) result };
 
     /// Makes what was changed since the mailbox was opened outlive a loss of power, where that is not the other end's affair. Nothing is
     /// done where it is closed.

@@ -14,6 +14,7 @@ use Rattle.mailbox.specs.declared.fault.BoxFault.{BoxFault}
 use Rattle.mailbox.specs.declared.fault.BoxFault.TheVariants as fault
 use Rattle.mailbox.specs.Calls.{Call, Halts, LeavesBy}
 use Rattle.mailbox.specs.Operations.{Appends, IsFull, Lists, NoRoom, is_full}
+use Rattle.mailbox.proofs.Listed.{lists_all}
 use Rattle.mailbox.proofs.Quiet.{quiet}
 use Rattle.mem_mailbox.specs.BoxConditions.{Counts, Ends, Fails, Stops, out_of_memory, stopped}
 use Rattle.mem_mailbox.specs.MemMailboxes.{seen_at}
@@ -115,9 +116,9 @@ added_next side.Near s s' files uid flags bytes next now = record { uid = uid; g
 
 -- ---- what is listed, and what waits
 
-pub lists : (of : Side) (from : ℕ) (b : Mailbox) (listing : Listing) → ShowsIn of from b.store listing → Lists of from listing b
-lists side.Far from b listing h = record { validity = h.validity; next = h.next; items = h.items }
-lists side.Near from b listing h = record { validity = h.validity; next = h.next; items = h.items }
+pub lists : (of : Side) (known from : ℕ) (b : Mailbox) (listing : Listing) → ShowsIn of from b.store listing → Lists of true known from listing b
+lists side.Far known from b listing h = lists_all known listing b.store (record { validity = h.validity; next = h.next; items = h.items })
+lists side.Near known from b listing h = record { validity = h.validity; next = h.next; items = h.items }
 
 pub numbered_waiting : (next : ℕ) (files : List Waiting) → map waiting_of (numbered next files) ≡ files
 numbered_waiting next [] = refl

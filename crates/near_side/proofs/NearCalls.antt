@@ -21,7 +21,8 @@ use Rattle.mailbox.specs.Arrivals.{Arrives}
 use Rattle.mailbox.specs.declared.fault.BoxFault.{BoxFault}
 use Rattle.mailbox.specs.declared.fault.BoxFault.TheVariants as fault
 use Rattle.mailbox.specs.Calls.{Call, DoesSome, Halts, HasCause, LeavesBy, Never, Seen}
-use Rattle.mailbox.specs.Operations.{Admits, Answers, Appends, IsFull, NoRoom}
+use Rattle.mailbox.specs.Operations.{Admits, AdmitsPart, Answers, Appends, IsFull, NoRoom}
+use Rattle.mailbox.proofs.Admitted.{admits_all, admits_some}
 use Rattle.mailbox.proofs.Quiet.{quiet}
 use Rattle.near_side.specs.declared.near_side.NearSide.{NearSide}
 use Rattle.near_side.specs.NearFaults.{told, told_by}
@@ -172,12 +173,27 @@ module _ {F : Type 0} {folders : folder.Ghosts F} (s : NearSide F folders) (new 
       → Call {T = Unit {0}} honest ⊥ (Arrives side.Near every true) Never (λ _ b b'. b' ≡ change b) Nothing (seen_of s) now (told_by answer)
   turns change answer ends did = calls false Never (λ _ b b'. b' ≡ change b) Nothing answer ends (λ h. turned false Never Nothing change answer ends (did h) (λ is no. absurd (cc)))
 
+  -- all that waits was read
+  some_admitted : Leaves (DoesSome {T = Unit {0}} (λ _ b b'. b' ≡ all_admitted b)) AdmitsSome n n' → Leaves (DoesSome {T = Unit {0}} (λ _. Admits true)) (AdmitsPart true) n n'
+  some_admitted (inl same) = inl same
+  some_admitted (inr (inl all)) = inr (inl (record { answer = tt; done = admits_all true n n' all.done }))
+  some_admitted (inr (inr some)) = inr (inr (admits_some true n n' some))
+
+  admitted : {because : BoxFault → Mailbox → Type 0} (answer : Result (Unit {0}) NearFault) → Left because (λ _ b b'. b' ≡ all_admitted b) AdmitsSome answer n n' → Left because (λ _. Admits true) (AdmitsPart true) answer n n'
+  admitted (Ok x) did = admits_all true n n' did
+  admitted (Err near.Stopped) did = some_admitted did
+  admitted (Err near.NoMemory) did = some_admitted did
+  admitted (Err near.UidsExhausted) did = did
+  admitted (Err near.Absent) did = did
+  admitted (Err near.TwoWithOneUid) did = did
+  admitted (Err near.BadMeta) did = did
+
   -- it gives all that waits its UIDs
   pub admits : (answer : Result (Unit {0}) NearFault) → Ends true (box_of s.near) (box_of new) answer → (honest → TurnsMailbox all_admitted AdmitsSome s.near new answer)
       → (honest → IsErrOf answer near.UidsExhausted → IsFull (length n.waiting) n)
-      → Call {T = Unit {0}} honest ⊥ (Arrives side.Near every true) (NoRoom side.Near (λ b. length b.waiting)) (λ _. Admits) AdmitsSome (seen_of s) now (told_by answer)
-  admits answer ends did full = calls true (NoRoom side.Near (λ b. length b.waiting)) (λ _. Admits) AdmitsSome answer ends
-      (λ h. turned true (NoRoom side.Near (λ b. length b.waiting)) AdmitsSome all_admitted answer ends (did h) (λ is _. (refl, full h is)))
+      → Call {T = Unit {0}} honest ⊥ (Arrives side.Near every true) (NoRoom side.Near (λ b. length b.waiting)) (λ _. Admits true) (AdmitsPart true) (seen_of s) now (told_by answer)
+  admits answer ends did full = calls true (NoRoom side.Near (λ b. length b.waiting)) (λ _. Admits true) (AdmitsPart true) answer ends
+      (λ h. admitted answer (turned true (NoRoom side.Near (λ b. length b.waiting)) AdmitsSome all_admitted answer ends (did h) (λ is _. (refl, full h is))))
 
   -- it adds a message
   appends : (bytes : List ℕ) (flags : ℕ) → n' ≡ delivered bytes flags n → Appends side.Near bytes flags (Some n.store.next) n n'

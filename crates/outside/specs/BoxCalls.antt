@@ -1,5 +1,5 @@
 -- What the calls of the boxes do to both mailboxes, and what they tell.
-use Rattle.std.specs.Prelude.{◌≡◌, ◌<◌, ◌≤◌, ℕ, true, false, List, [], ◌∷◌, ◌++◌, Option, None, Some}
+use Rattle.std.specs.Prelude.{◌≡◌, ◌<◌, ◌≤◌, ℕ, Bool, true, false, List, [], ◌∷◌, ◌++◌, Option, None, Some}
 use Rattle.device.specs.Calls.{Effect}
 use Rattle.mailcore.specs.declared.side.Side.{Side}
 use Rattle.mailcore.specs.declared.side.Side.TheVariants.{Far, Near}
@@ -7,21 +7,22 @@ use Rattle.mailcore.specs.declared.side.Direction.{Direction}
 use Rattle.mailcore.specs.declared.mailbox.Message.{Message}
 use Rattle.mailcore.specs.declared.listing.Listing.{Listing}
 use Rattle.mailcore.specs.Content.{fit}
-use Rattle.mailcore.specs.Operations.{Shows, ShowsAbove, bytes_of}
+use Rattle.mailcore.specs.Operations.{ShowsAbove, bytes_of}
 use Rattle.mailcore.specs.Sides.{source, target}
 use Rattle.mailcore.specs.Stores.{Store}
-use Rattle.mailcore.specs.Mailboxes.{all_admitted, AdmitsSome}
+use Rattle.mailcore.specs.Mailboxes.{Mailbox}
 use Rattle.rules.specs.Copies.{copy_of}
 use Rattle.outside.specs.declared.outside.Carried.{Carried}
 use Rattle.outside.specs.declared.outside.Carried.TheVariants.{Absent, Unfit, Made}
+use Rattle.mailbox.specs.Operations as ops
 use Rattle.mailbox.specs.Operations.{Tells}
 use Rattle.outside.specs.Devices.{Device, box, on_box}
 
 -- ---- listings
 
--- what the far mailbox lists
-abbrev pub ListsFar : Listing → Device → Type 0
-ListsFar listing d = Shows Far d.far listing
+-- what the far mailbox lists, by the next UID that was known before
+abbrev pub ListsFar : (alone : Bool) → (known : ℕ) → Listing → Device → Type 0
+ListsFar alone known listing d = ops.ListsFar alone known listing d.far
 
 -- what the near mailbox lists, where fitness is asked of messages above a UID alone
 abbrev pub ListsNear : (from : ℕ) → Listing → Device → Type 0
@@ -33,15 +34,19 @@ ListsNear from listing d = ShowsAbove Near from d.near.store listing
 abbrev pub Turns : Side → (Store → Store) → Effect Device
 Turns side change d d' = d' ≡ on_box side change d
 
--- all waiting files have the UIDs from next on
-abbrev pub Admits : Effect Device
-Admits d d' = d' ≡ record d { near = all_admitted d.near }
-
--- the UIDs of all are set aside, and some of the files have theirs
-pub record AdmitsPart (d d' : Device) : Type 0 where
+-- the near mailbox changes so
+pub record OnNear (does : Effect Mailbox) (d d' : Device) : Type 0 where
   pub far : d'.far ≡ d.far
   pub files : d'.files ≡ d.files
-  pub near : AdmitsSome d.near d'.near
+  pub near : does d.near d'.near
+
+-- the waiting files that were read have the UIDs from next on
+abbrev pub Admits : (alone : Bool) → Effect Device
+Admits alone = OnNear (ops.Admits alone)
+
+-- the UIDs of all of these are set aside, and some of them have theirs
+abbrev pub AdmitsPart : (alone : Bool) → Effect Device
+AdmitsPart alone = OnNear (ops.AdmitsPart alone)
 
 -- ---- copies
 

@@ -138,12 +138,12 @@ pub trait Outside {
         ensures call { Reads (honest self.new) (Arrives ours alone) (λ validity d. validity ≡ (box d side).validity) (seen self.old)
             (seen self.new) result };
 
-    /// Gives the waiting near files their UIDs.
+    /// Gives the waiting near files that were read their UIDs. Those that came later wait for the next plan.
     fn admit(&mut self) -> Result<(), OutsideFault>
         requires is_open { IsOpen Side.Near (opened self.old) }
         ensures was_honest { honest self.new → honest self.old }
         ensures opened { opened self.new ≡ opened self.old }
-        ensures call { Changes {T = Unit {0}} (honest self.new) (Arrives ours alone) (λ _. Admits) AdmitsPart (seen self.old)
+        ensures call { Changes {T = Unit {0}} (honest self.new) (Arrives ours alone) (λ _. Admits alone) (AdmitsPart alone) (seen self.old)
             (seen self.new) result };
 
     /// What the far mailbox lists.
@@ -152,7 +152,8 @@ pub trait Outside {
         ensures was_honest { honest self.new → honest self.old }
         ensures opened { opened self.new ≡ opened self.old }
         ensures numbers { IfOk result HasNumbers }
-        ensures call { Reads (honest self.new) (Arrives ours alone) ListsFar (seen self.old) (seen self.new) result };
+        ensures call { Reads (honest self.new) (Arrives ours alone) (ListsFar alone (seen self.old).device.far.next) (seen self.old)
+            (seen self.new) result };
 
     /// What the near mailbox lists. Messages up to this UID are said to be fit, and are not read.
     fn list_near(&mut self, from: u32) -> Result<Listing, OutsideFault>

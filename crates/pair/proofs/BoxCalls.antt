@@ -9,14 +9,15 @@ use Rattle.mailcore.specs.declared.listing.Listing.{Listing}
 use Rattle.mailcore.specs.declared.side.Side.{Side}
 use Rattle.mailcore.specs.declared.side.Side.TheVariants.{Far, Near}
 use Rattle.mailcore.specs.Operations.{marked_from}
-use Rattle.mailcore.specs.Stores.{Store}
-use Rattle.mailcore.specs.Mailboxes.{Mailbox, AdmitsSome}
+use Rattle.mailcore.specs.Stores.{Store, Waiting}
+use Rattle.mailcore.specs.Mailboxes.{Mailbox}
 use Rattle.mailbox.specs.declared.fault.BoxFault.{BoxFault}
 use Rattle.mailbox.specs.declared.fault.BoxFault.TheVariants as boxes
 use Rattle.mailbox.specs.Arrivals as box
 use Rattle.mailbox.specs.Calls as calls
 use Rattle.mailbox.specs.Calls.{HasCause, Never, Seen}
 use Rattle.mailbox.specs.Operations as ops
+use Rattle.mailbox.proofs.Listed.{lists_weaker}
 use Rattle.mailbox.specs.Operations.{Answers, NoRoom}
 use Rattle.outside.specs.declared.fault.OutsideFault.{OutsideFault}
 use Rattle.outside.specs.Arrivals.{Arrives}
@@ -109,11 +110,11 @@ module _ (d : Device) where
   abbrev pub finding : (side : Side) → (mark : List ℕ) → (from : ℕ) → Move side d (Option ℕ)
   finding side mark from = reading side d Never (ops.Finds mark from) (λ found e. found ≡ marked_from mark from (devices.box e side)) (λ found b h. h ∙ sym (ap (λ (s : Store). marked_from mark from s) (box_at side b)))
 
-  abbrev pub listing_far : (from : ℕ) → Move Far d Listing
-  listing_far from = reading Far d Never (ops.Lists Far from) ListsFar (λ listing b h. h)
+  abbrev pub listing_far : (alone alone' : Bool) → (alone' ≡ true → alone ≡ true) → (known from : ℕ) → Move Far d Listing
+  listing_far alone alone' lone known from = reading Far d Never (ops.Lists Far alone known from) (ListsFar alone' known) (λ listing b h. lists_weaker alone alone' known listing b.store lone h)
 
   abbrev pub listing_near : (from : ℕ) → Move Near d Listing
-  listing_near from = reading Near d Never (ops.Lists Near from) (ListsNear from) (λ listing b h. h)
+  listing_near from = reading Near d Never (ops.Lists Near true 0 from) (ListsNear from) (λ listing b h. h)
 
   pub turned : (side : Side) (change : Store → Store) (b b' : Mailbox) → ops.Turns change b b' → Turns side change (put side b d) (put side b' d)
   turned Far change b b' h = ap (λ (x : Mailbox). put Far x d) h
@@ -122,9 +123,13 @@ module _ (d : Device) where
   abbrev pub turning : (side : Side) → (change : Store → Store) → Move side d (Unit {0})
   turning side change = changing side d Never (λ _. ops.Turns change) Nothing (λ _. Turns side change) Nothing (λ _. turned side change) (λ b b' h. absurd h)
 
-  abbrev pub admitting : Move Near d (Unit {0})
-  admitting = changing Near d (NoRoom Near (λ b. length b.waiting)) (λ _. ops.Admits) AdmitsSome (λ _. Admits) AdmitsPart
-      (λ _ b b' h. ap (λ (x : Mailbox). put Near x d) h) (λ b b' h. record { far = refl; files = refl; near = h })
+  pub reading_weaker : (alone alone' : Bool) (read left : List Waiting) (b : Mailbox) → (alone' ≡ true → alone ≡ true) → ops.IsReading alone read left b → ops.IsReading alone' read left b
+  reading_weaker alone alone' read left b lone r = record { parts = r.parts; all = λ e. r.all (lone e) }
+
+  abbrev pub admitting : (alone alone' : Bool) → (alone' ≡ true → alone ≡ true) → Move Near d (Unit {0})
+  admitting alone alone' lone = changing Near d (NoRoom Near (λ b. length b.waiting)) (λ _. ops.Admits alone) (ops.AdmitsPart alone) (λ _. Admits alone') (AdmitsPart alone')
+      (λ _ b b' h. record { far = refl; files = refl; near = record { read = h.read; left = h.left; reading = reading_weaker alone alone' h.read h.left b lone h.reading; now = h.now } })
+      (λ b b' h. record { far = refl; files = refl; near = record { read = h.read; left = h.left; reading = reading_weaker alone alone' h.read h.left b lone h.reading; count = h.count; now = h.now } })
 
 -- ---- what is told
 

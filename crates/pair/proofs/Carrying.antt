@@ -41,7 +41,7 @@ module _ (a b ours : List ℕ → Bool) (a1 b1 alone : Bool) (la : IsLess a ours
     files = y.comes.files;
     waiting = y.comes.waiting;
     rise = x.comes.rise;
-    merged = y.comes.merged;
+    gathered = y.comes.gathered;
     far_foreign = All-weaker _ _ (λ k. is_foreign a ours la (mark_of k.bytes)) x.comes.messages x.comes.foreign;
     near_foreign = All-weaker _ _ (λ k. is_foreign b ours lb (mark_of k.bytes)) y.comes.files y.comes.foreign;
     now = ap (λ (z : Mailbox). with_two Pull z n' d) x.comes.now ∙ ap (λ (z : Mailbox). with_two Pull (record m { store = record m.store { next = x.comes.next; messages = m.store.messages ++ x.comes.messages } }) z d) y.comes.now;
@@ -53,7 +53,7 @@ module _ (a b ours : List ℕ → Bool) (a1 b1 alone : Bool) (la : IsLess a ours
     files = x.comes.files;
     waiting = x.comes.waiting;
     rise = y.comes.rise;
-    merged = x.comes.merged;
+    gathered = x.comes.gathered;
     far_foreign = All-weaker _ _ (λ k. is_foreign b ours lb (mark_of k.bytes)) y.comes.messages y.comes.foreign;
     near_foreign = All-weaker _ _ (λ k. is_foreign a ours la (mark_of k.bytes)) x.comes.files x.comes.foreign;
     now = ap (λ (z : Mailbox). with_two Push z n' d) x.comes.now ∙ ap (λ (z : Mailbox). with_two Push (record m { waiting = x.comes.waiting }) z d) y.comes.now;

@@ -272,7 +272,7 @@ impl<F: Mailbox + Drop, N: Mailbox + Drop, S: Shelf + Drop> Outside for Pair<F, 
         requires is_open { IsOpen Side.Near (opened_of self.old) }
         ensures was_honest { honest_of self.new → honest_of self.old }
         ensures opened { opened_of self.new ≡ opened_of self.old }
-        ensures call { BoxChange Admits AdmitsPart self.old self.new result }
+        ensures call { BoxChange (Admits (F.alone && N.alone)) (AdmitsPart (F.alone && N.alone)) self.old self.new result }
         ensures why { IfErr result (ByBox Side.Near (NoRoom Side.Near (λ b. length b.waiting)) self.old self.new) }
         ensures tallied { Tallied no_copies result self.old.tally self.new.tally }
     {
@@ -288,7 +288,7 @@ impl<F: Mailbox + Drop, N: Mailbox + Drop, S: Shelf + Drop> Outside for Pair<F, 
         ensures was_honest { honest_of self.new → honest_of self.old }
         ensures opened { opened_of self.new ≡ opened_of self.old }
         ensures numbers { IfOk result HasNumbers }
-        ensures call { BoxRead ListsFar self.old self.new result }
+        ensures call { BoxRead (ListsFar (F.alone && N.alone) (seen_of self.old).device.far.next) self.old self.new result }
         ensures why { IfErr result (ByBox Side.Far Never self.old self.new) }
         ensures tallied { Tallied no_copies result self.old.tally self.new.tally }
     {

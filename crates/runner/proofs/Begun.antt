@@ -1,16 +1,19 @@
 -- Admission, two listings and the writing of the plan.
-use Rattle.std.proofs.Common.{◌≡◌, ◌⊎◌, inl, inr, ℕ, Bool, true, false, List, Option, Some, None, refl, ap, subst}
+use Rattle.std.proofs.Common.{◌≡◌, ◌⊎◌, inl, inr, ℕ, Bool, true, false, List, ◌++◌, length, Option, Some, None, refl, ◌∙◌, ap, subst}
 use Rattle.std.proofs.lemmas.Bool.{both_ways}
 use Rattle.mailcore.specs.declared.side.Side.TheVariants.{Far, Near as NearSide}
 use Rattle.mailcore.specs.declared.listing.Listing.{Listing}
-use Rattle.mailcore.specs.Operations.{Shows, ShowsAbove}
+use Rattle.mailcore.specs.Operations.{ShowsAbove}
+use Rattle.mailcore.specs.Mailboxes.{Mailbox}
+use Rattle.mailcore.specs.Stores.{Waiting}
 use Rattle.rules.specs.declared.plan.Plan.{Plan}
 use Rattle.book.specs.declared.book.Pending.TheVariants.{Missing, Useless}
 use Rattle.book.specs.Books.{Holds, Turns as TurnsJournal, TurnsHalf}
 use Rattle.book.specs.BookLogs.{begun}
 use Rattle.outside.specs.Arrivals.{Arrives}
 use Rattle.outside.specs.BookCalls.{OfBook}
-use Rattle.outside.specs.BoxCalls.{Admits, AdmitsPart}
+use Rattle.mailbox.proofs.Listed.{lists_since, told_most}
+use Rattle.outside.specs.BoxCalls.{Admits, AdmitsPart, ListsFar}
 use Rattle.outside.specs.Devices.{Device}
 use Rattle.outside.specs.Opened.{Opened, turned}
 use Rattle.underway.specs.Conditions.{Underway}
@@ -43,48 +46,52 @@ module _ (ours : List ℕ → Bool) (alone : Bool) (opening : Opening) where
 
   -- ---- admission
 
-  pub admitted_all : (opened : Option Opened) (d m d' : Device) → Arrives ours alone d m → IsClear alone opening opened false d → Admits m d' → IsClear alone opening opened true d'
-  admitted_all opened d m d' a c is =
+  pub admitted_all : (opened : Option Opened) (d m d' : Device) → Arrives ours alone d m → IsClear alone opening opened false d → Admits alone m d' → IsClear alone opening opened true d'
+  admitted_all opened d m d' a c t =
       let k = clear_arrives opened false d m a c in
-      let far : d'.far ≡ m.far = rw is refl in
-      let near = ap (λ (x : Device). x.near) is in
-      record {
-        state = k.state;
-        files = rw is k.files;
-        chosen = k.chosen;
-        below = k.below;
-        grows = grows_numbered alone opening.world opening.world.state _ m d' far near k.grows;
-        admitted = λ t e. rw is (drop_whole m.near.waiting);
-      }
-
-  pub admitted_part : (opened : Option Opened) (d m d' : Device) → Arrives ours alone d m → IsClear alone opening opened false d → AdmitsPart m d' → IsClear alone opening opened false d'
-  admitted_part opened d m d' a c t =
-      let k = clear_arrives opened false d m a c in
+      let n = t.near in
       record {
         state = k.state;
         files = rw t.files k.files;
         chosen = k.chosen;
         below = k.below;
-        grows = grows_numbered alone opening.world opening.world.state t.near.count m d' t.far t.near.now k.grows;
+        grows = grows_numbered alone opening.world opening.world.state (length n.read) n.read n.left m d' n.reading t.far n.now k.grows;
+        admitted = λ is e. ap (λ (b : Mailbox). b.waiting) n.now ∙ ap (λ (fs : List Waiting). fs ++ n.left) (drop_whole n.read) ∙ (n.reading.all e).1;
+      }
+
+  pub admitted_part : (opened : Option Opened) (d m d' : Device) → Arrives ours alone d m → IsClear alone opening opened false d → AdmitsPart alone m d' → IsClear alone opening opened false d'
+  admitted_part opened d m d' a c t =
+      let k = clear_arrives opened false d m a c in
+      let n = t.near in
+      record {
+        state = k.state;
+        files = rw t.files k.files;
+        chosen = k.chosen;
+        below = k.below;
+        grows = grows_numbered alone opening.world opening.world.state n.count n.read n.left m d' n.reading t.far n.now k.grows;
         admitted = λ e. absurd (both_ways false refl e);
       }
 
   -- ---- the listings
 
-  pub far_listed : (opened : Option Opened) (far : Listing) (d m d' : Device) → Arrives ours alone d m → IsClear alone opening opened true d → d' ≡ m → Shows Far m.far far → FarListed alone opening opened far d'
-  far_listed opened far d m d' a c is l = rw is (record { clear = clear_arrives opened true d m a c; shows = l })
+  pub far_listed : (opened : Option Opened) (far : Listing) (d m d' : Device) → Arrives ours alone d m → IsClear alone opening opened true d → d' ≡ m → ListsFar alone d.far.next far m → FarListed alone opening opened far d'
+  far_listed opened far d m d' a c is l =
+      let g = c.grows in
+      rw is (record { clear = clear_arrives opened true d m a c; lists = lists_since alone d.far.next opening.world.far.next far m.far g.far_next l })
 
   pub near_listed : (opened : Option Opened) (far near : Listing) (from : ℕ) (d m d' : Device) → from ≡ opening.world.state.max_pushed → Arrives ours alone d m → FarListed alone opening opened far d → d' ≡ m → ShowsAbove NearSide from m.near.store near → BothListed ours alone opening opened far near d'
   near_listed opened far near from d m d' pushed a f is l =
       let c = clear_arrives opened true d m a f.clear in
       let s = opening.world.state in
-      let grows = listed_grows alone opening.world s d m f.clear.grows c.grows in
+      let told = f.lists.next in
+      let grows = listed_grows alone opening.world s far d m f.clear.grows c.grows told in
+      let most = told_most alone opening.world.far.next far d.far told in
       let since : Since alone opening (λ w. AreShown w.state.max_pushed w far near × Listed ours alone w m) = record {
-        world = listed_world s d m;
+        world = listed_world s far.next d m;
         grows = grows;
         admitted = λ e. c.admitted refl e;
-        below = names_below alone opening.world (listed_world s d m) grows c.below;
-        holds = (record { far_is = f.shows; near_is = subst (λ (x : ℕ). ShowsAbove NearSide x m.near.store near) pushed l }, listed_here ours alone opening.world s d m grows (λ e. c.admitted refl e) a c.files);
+        below = names_below alone opening.world (listed_world s far.next d m) grows c.below;
+        holds = (record { far_is = f.lists.shows; near_is = subst (λ (x : ℕ). ShowsAbove NearSide x m.near.store near) pushed l }, listed_here ours alone opening.world s far.next d m grows most (λ e. c.admitted refl e) a c.files);
       } in
       rw is (record { clear = c; since = since })
 

@@ -3,6 +3,8 @@ use Rattle.std.proofs.Common.{◌≡◌, ℕ, zero, suc, Bool, not, ◌==◌, Li
 use Rattle.mailcore.specs.declared.side.Side.{Side}
 use Rattle.mailcore.specs.declared.side.Side.TheVariants.{Far, Near}
 use Rattle.mailcore.specs.declared.listing.Listing.{Listing}
+use Rattle.mailcore.specs.Mailboxes.{Mailbox}
+use Rattle.mailcore.specs.Stores.{Store}
 use Rattle.rules.specs.declared.state.SyncState.{SyncState}
 use Rattle.book.specs.declared.book.Pending.{Pending}
 use Rattle.book.specs.declared.book.Pending.TheVariants.{Missing, Useless, Planned}
@@ -108,10 +110,10 @@ module _ (ours : List ℕ → Bool) (alone : Bool) where
       validities_next d m d' k.validities (record { far = rw t.far refl; near = rw t.near refl })
 
   -- waiting files are admitted
-  pub admitted_validities : (d m d' : Device) → Arrives ours alone d m → Admits m d' → KeepsValidities d d'
+  pub admitted_validities : (d m d' : Device) → Arrives ours alone d m → Admits alone m d' → KeepsValidities d d'
   admitted_validities d m d' a t =
       let k = kept_arrives d m a in
-      validities_next d m d' k.validities (record { far = ap (λ (x : Device). x.far.validity) t; near = ap (λ (x : Device). x.near.store.validity) t })
+      validities_next d m d' k.validities (record { far = ap (λ (s : Store). s.validity) t.far; near = ap (λ (b : Mailbox). b.store.validity) t.near.now })
 
 pub validities_joined : {T : Type 0} (h0 h1 : Type 0) (a b c : Device) (r : Result T RunFault) → (h1 → h0) → (h0 → KeepsValidities a b) → OnOk r (h1 → KeepsValidities b c) → OnOk r (h1 → KeepsValidities a c)
 validities_joined h0 h1 a b c (Ok x) f p q = λ h. validities_next a b c (p (f h)) (q h)

@@ -7,6 +7,7 @@ use Rattle.rules.specs.declared.plan.Plan.{Plan}
 use Rattle.rules.specs.World.{World, NamesBelow}
 use Rattle.book.specs.Books.{Holds, IsPlanned as HasPlanned}
 use Rattle.book.specs.declared.book.Pending.TheVariants.{Missing}
+use Rattle.outside.specs.BoxCalls.{ListsFar}
 use Rattle.outside.specs.Devices.{Device}
 use Rattle.outside.specs.Opened.{IsHeld, Opened, state_of}
 use Rattle.underway.specs.Conditions.{IsPending, Underway}
@@ -61,7 +62,7 @@ pub record IsClear (alone : Bool) (opening : Opening) (opened : Option Opened) (
 -- the far mailbox was listed; others may have added since
 pub record FarListed (alone : Bool) (opening : Opening) (opened : Option Opened) (far : Listing) (d : Device) : Type 0 where
   pub clear : IsClear alone opening opened true d
-  pub shows : Shows Far d.far far
+  pub lists : ListsFar alone opening.world.far.next far d
 
 -- both listings are those of this world, but that near messages up to this UID are said to be fit
 pub record AreShown (from : ℕ) (w : World) (far near : Listing) : Type 0 where

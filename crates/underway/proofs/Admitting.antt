@@ -1,15 +1,18 @@
 -- Waiting files that get their UIDs.
-use Rattle.std.proofs.Common.{◌≡◌, ◌≤◌, ◌+◌, ℕ, Bool, List, [], ◌∷◌, ◌++◌, length, take, drop, refl, ◌∙◌, ap, subst, arith, append_assoc, length-append}
+use Rattle.std.proofs.Common.{◌≡◌, ◌≤◌, ◌+◌, ℕ, Bool, List, [], ◌∷◌, ◌++◌, length, take, drop, refl, sym, ◌∙◌, ap, subst, arith, append-nil, append_assoc, length-append}
+use Rattle.std.specs.Prelude.{IsPermutation}
 use Rattle.std.proofs.lemmas.List.{take-append-drop}
+use Rattle.std.proofs.lemmas.List.Sorted.{IsPermutation-append_right, IsPermutation-sym, IsPermutation-trans}
 use Rattle.mailcore.specs.declared.mailbox.Message.{Message}
 use Rattle.mailcore.specs.declared.side.Side.TheVariants.{Far, Near}
 use Rattle.mailcore.specs.Rise.{Rise}
 use Rattle.mailcore.specs.Stores.{Waiting, numbered}
 use Rattle.mailcore.proofs.OperationLemmas.{is_store-numbered}
-use Rattle.mailcore.specs.Mailboxes.{Mailbox, some_admitted}
+use Rattle.mailcore.specs.Mailboxes.{Mailbox}
 use Rattle.rules.specs.declared.state.SyncState.{SyncState}
 use Rattle.rules.specs.Admission.{numbered_under}
 use Rattle.rules.specs.World.{World, store}
+use Rattle.mailbox.specs.Operations.{IsReading, read_admitted}
 use Rattle.outside.specs.Devices.{Device}
 use Rattle.underway.specs.Openings.{Grows, world_at}
 use Rattle.underway.proofs.Foreign.{two}
@@ -45,28 +48,43 @@ pub drop_whole : (fs : List Waiting) → drop (length fs) fs ≡ []
 drop_whole [] = refl
 drop_whole (f ∷ fs) = drop_whole fs
 
--- the first of them have theirs
-pub grows_numbered : (alone : Bool) (w : World) (s : SyncState) (count : ℕ) (d d' : Device) → d'.far ≡ d.far → d'.near ≡ some_admitted count d.near → Grows alone w (world_at d s) → Grows alone w (world_at d' s)
-grows_numbered alone w s count d d' far_is near_is g =
+-- those that were read, and those that were not, in whichever order they wait
+read_gathered : (ws arrived named waiting read left : List Waiting) → IsPermutation (ws ++ arrived) (named ++ waiting) → IsPermutation (read ++ left) waiting → IsPermutation (ws ++ arrived) (named ++ (read ++ left))
+read_gathered ws arrived named waiting read left m k =
+    IsPermutation-trans (ws ++ arrived) (named ++ waiting) (named ++ (read ++ left)) m (IsPermutation-append_right named waiting (read ++ left) (IsPermutation-sym (read ++ left) waiting k))
+
+-- the first of them are named, the others wait
+first_named : (count : ℕ) (named read left : List Waiting) → named ++ (read ++ left) ≡ (named ++ take count read) ++ (drop count read ++ left)
+first_named count named read left =
+    ap (λ (fs : List Waiting). named ++ (fs ++ left)) (sym (take-append-drop count read))
+    ∙ ap (λ (fs : List Waiting). named ++ fs) (append_assoc (take count read) (drop count read) left)
+    ∙ sym (append_assoc named (take count read) (drop count read ++ left))
+
+-- the first of what was read has its UIDs
+pub grows_numbered : (alone : Bool) (w : World) (s : SyncState) (count : ℕ) (read left : List Waiting) (d d' : Device) → IsReading alone read left d.near → d'.far ≡ d.far → d'.near ≡ read_admitted count read left d.near → Grows alone w (world_at d s) → Grows alone w (world_at d' s)
+grows_numbered alone w s count read left d d' reading far_is near_is g =
     let n : Mailbox = d.near in
-    let first : List Waiting = take count n.waiting in
-    let few = take_few count n.waiting in
-    let now : World = record { far = d.far; near = (some_admitted count n).store; waiting = drop count n.waiting; state = s } in
+    let first : List Waiting = take count read in
+    let few = take_few count read in
+    let now : World = record { far = d.far; near = (read_admitted count read left n).store; waiting = drop count read ++ left; state = s } in
     let v = g.validity in
     let there : now ≡ world_at d' s = rw (far_is, near_is) refl in
     subst (λ (x : World). Grows alone w x) there (record {
-      in_order = record { far = g.in_order.far; near = is_store-numbered n.store first (n.store.next + length n.waiting) (omega arith) g.in_order.near; pairs = g.in_order.pairs };
+      in_order = record { far = g.in_order.far; near = is_store-numbered n.store first (n.store.next + length read) (omega arith) g.in_order.near; pairs = g.in_order.pairs };
       state = g.state;
       validity = two (λ side. (store now side).validity ≡ (store w side).validity) (v Far) (v Near);
       far_next = g.far_next;
       far_added = g.far_added;
       far = g.far;
       uids = g.uids ++ run_from n.store.next first;
-      rise = rises_on w.near.next g.uids n.store.next first (n.store.next + length n.waiting) g.rise (omega arith);
+      rise = rises_on w.near.next g.uids n.store.next first (n.store.next + length read) g.rise (omega arith);
       arrived = g.arrived;
       named = g.named ++ first;
-      gathered = rw (append_assoc g.named first (drop count n.waiting), take-append-drop count n.waiting) g.gathered;
+      gathered = subst (λ (fs : List Waiting). IsPermutation (w.waiting ++ g.arrived) fs) (first_named count g.named read left) (read_gathered w.waiting g.arrived g.named n.waiting read left g.gathered reading.parts);
       each = rw (length-append {A = ℕ} g.uids (run_from n.store.next first), length-append {A = Waiting} g.named first, run_length n.store.next first, g.each) refl;
       near = rw (under_append g.uids (run_from n.store.next first) g.named first g.each, ← under_run n.store.next first) (ap (λ (l : List Message). l ++ numbered n.store.next first) g.near ∙ append_assoc w.near.messages (numbered_under g.uids g.named) (numbered n.store.next first));
-      nobody = λ e. ((g.nobody e).0, rw (append_assoc g.named first (drop count n.waiting), take-append-drop count n.waiting) (g.nobody e).1);
+      nobody = λ e.
+          let all = reading.all e in
+          let both : read ++ left ≡ n.waiting = ap (λ (fs : List Waiting). read ++ fs) all.1 ∙ append-nil read ∙ all.0 in
+          ((g.nobody e).0, sym (first_named count g.named read left) ∙ ap (λ (fs : List Waiting). g.named ++ fs) both ∙ (g.nobody e).1);
     })

@@ -1,6 +1,7 @@
 -- The world that two listings show, and the plan that is made of it.
 use Rattle.std.proofs.Common.{◌≡◌, ◌≤◌, ◌<◌, ℕ, Bool, true, false, List, [], ◌∷◌, ◌++◌, map, refl, sym, ◌∙◌, ap, subst, arith}
 use Rattle.std.proofs.lemmas.List.Elements.{All-weaker}
+use Rattle.mailcore.specs.declared.listing.Listing.{Listing}
 use Rattle.mailcore.specs.declared.mailbox.Message.{Message}
 use Rattle.mailcore.specs.declared.side.Side.TheVariants.{Far, Near}
 use Rattle.mailcore.proofs.RiseLemmas.{rise-ends}
@@ -18,6 +19,8 @@ use Rattle.step_laws.specs.Steps.{Boxes, Fit, boxes_of, own}
 use Rattle.step_laws.specs.OwnLaws.{is_own}
 use Rattle.step_laws.proofs.Fold.{after-none, given-none}
 use Rattle.step_laws.proofs.OwnPlan.{opening_own}
+use Rattle.mailbox.specs.Operations.{TellsNext}
+use Rattle.mailbox.proofs.Listed.{told_alone, told_least, told_store}
 use Rattle.outside.specs.Arrivals.{Arrives}
 use Rattle.outside.specs.Devices.{Device, box}
 use Rattle.underway.specs.Openings.{Grows, world_at}
@@ -26,19 +29,19 @@ use Rattle.underway.specs.Plans.{IsPlanned}
 use Rattle.underway.proofs.Foreign.{two, own_arrived}
 use Rattle.underway.proofs.Moves.{same_boxes}
 
--- the world of a far listing on one device, and of a near one later
-abbrev pub listed_world : (s : SyncState) (d m : Device) → World
-listed_world s d m = record { far = d.far; near = m.near.store; waiting = m.near.waiting; state = s }
+-- the world of a far listing on one device, under the next UID that it told, and of a near one later
+abbrev pub listed_world : (s : SyncState) (next : ℕ) (d m : Device) → World
+listed_world s next d m = record { far = record d.far { next = next }; near = m.near.store; waiting = m.near.waiting; state = s }
 
-pub listed_grows : (alone : Bool) (w : World) (s : SyncState) (d m : Device) → Grows alone w (world_at d s) → Grows alone w (world_at m s) → Grows alone w (listed_world s d m)
-listed_grows alone w s d m g h =
+pub listed_grows : (alone : Bool) (w : World) (s : SyncState) (far : Listing) (d m : Device) → Grows alone w (world_at d s) → Grows alone w (world_at m s) → TellsNext alone w.far.next far d.far → Grows alone w (listed_world s far.next d m)
+listed_grows alone w s far d m g h told =
     let v = g.validity in
     let n = h.validity in
     record {
-      in_order = record { far = g.in_order.far; near = h.in_order.near; pairs = h.in_order.pairs };
+      in_order = record { far = told_store alone w.far.next far d.far told g.in_order.far; near = h.in_order.near; pairs = h.in_order.pairs };
       state = h.state;
-      validity = two (λ side. (store (listed_world s d m) side).validity ≡ (store w side).validity) (v Far) (n Near);
-      far_next = g.far_next;
+      validity = two (λ side. (store (listed_world s far.next d m) side).validity ≡ (store w side).validity) (v Far) (n Near);
+      far_next = told_least alone w.far.next far d.far g.far_next told;
       far_added = g.far_added;
       far = g.far;
       uids = h.uids;
@@ -48,7 +51,7 @@ listed_grows alone w s d m g h =
       gathered = h.gathered;
       each = h.each;
       near = h.near;
-      nobody = λ e. ((g.nobody e).0, (h.nobody e).1);
+      nobody = λ e. (ap (λ (n : ℕ). record d.far { next = n }) (told_alone alone w.far.next far d.far told e) ∙ (g.nobody e).0, (h.nobody e).1);
     }
 
 -- what the state names was given
@@ -80,16 +83,16 @@ module _ (ours : List ℕ → Bool) (alone : Bool) where
       })
 
   -- it is shown by the far listing on d, and the near one on m, before which others added
-  pub listed_here : (w : World) (s : SyncState) (d m : Device) → Grows alone w (listed_world s d m) → (alone ≡ true → m.near.waiting ≡ []) → Arrives ours alone d m → Holds m.files s Missing → Listed ours alone (listed_world s d m) m
-  listed_here w s d m g admitted a files =
-      let here : World = listed_world s d m in
+  pub listed_here : (w : World) (s : SyncState) (next : ℕ) (d m : Device) → Grows alone w (listed_world s next d m) → next ≤ d.far.next → (alone ≡ true → m.near.waiting ≡ []) → Arrives ours alone d m → Holds m.files s Missing → Listed ours alone (listed_world s next d m) m
+  listed_here w s next d m g most admitted a files =
+      let here : World = listed_world s next d m in
       let low = rise-ends d.far.next (map (λ (x : Message). x.uid) a.messages) a.next a.rise in
       let far_is : m.far ≡ record d.far { next = a.next; messages = d.far.messages ++ a.messages } = ap (λ (x : Device). x.far) a.now in
       record {
         files = files;
         validity = two (λ side. (box m side).validity ≡ (store here side).validity) (rw far_is refl) refl;
-        next = two (λ side. (store here side).next ≤ (box m side).next) (rw far_is low) (omega arith);
-        boxes = λ marks mine. rw far_is (own_arrived ours here marks d.far.messages m.near.store.messages a.messages d.far.next a.next mine (omega arith) a.rise a.far_foreign ∙ opening_own here marks g.in_order);
+        next = two (λ side. (store here side).next ≤ (box m side).next) (rw far_is (omega (arith, low, most))) (omega arith);
+        boxes = λ marks mine. rw far_is (own_arrived ours here marks d.far.messages m.near.store.messages a.messages d.far.next a.next mine most a.rise a.far_foreign ∙ opening_own here marks g.in_order);
         nobody = λ e. (let same : m.far ≡ d.far = ap (λ (x : Device). x.far) (a.nobody e) in rw same refl, admitted e);
       }
 

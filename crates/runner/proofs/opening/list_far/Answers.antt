@@ -22,4 +22,4 @@ pub returns-in-Ok-clause-validities : goal.returns-in-Ok-clause-validities
 returns-in-Ok-clause-validities g c = λ honest. let w = c.in-Ok.ensures.call in let acts = w.acts in let e = acts.effect honest in read_validities g.O.Outside.ours g.O.Outside.alone _ e.mid _ e.before e.behind.0
 
 pub returns-in-Ok-clause-validity : goal.returns-in-Ok-clause-validity
-returns-in-Ok-clause-validity g c = λ honest. let w = c.in-Ok.ensures.call in let acts = w.acts in let e = acts.effect honest in let l = e.behind.1 in rw e.behind.0 l.validity
+returns-in-Ok-clause-validity g c = λ honest. let w = c.in-Ok.ensures.call in let acts = w.acts in let e = acts.effect honest in let l = e.behind.1 in rw e.behind.0 l.shows.validity

@@ -1,7 +1,9 @@
 use Rattle.std.proofs.Common.{◌∙◌, ap, length, arith}
 use Rattle.std.proofs.lemmas.List.{length-map}
 use Rattle.std.proofs.lemmas.Result.{err_from_is_err_and}
+use Rattle.std.specs.Prelude.{true}
 use Rattle.mailbox.specs.Operations.{NoRoom, is_full}
+use Rattle.mailbox.proofs.Admitted.{admits_all}
 use Rattle.mem_mailbox.specs.Views.{near_of, waiting_of}
 use Rattle.mem_mailbox.proofs.MemCalls.{ends, fails, full, lacks}
 use Rattle.mem_mailbox.proofs.mem_mailbox.MemMailboxMailbox.admit.Goals as goal
@@ -30,4 +32,4 @@ returns-clause-call g c =
     let m = c.args.self.now in
     let b = near_of m.store m.waiting.items in
     ends _ (NoRoom g.K.Kind.of (λ n. length n.waiting)) _ _ b m.condition tt (near_of c.admit.new.store c.admit.new.waiting.items) c.begin.new.self c.end.new.self c.end.result
-    c.requires.whole c.in_ok-stops.ensures.same c.in-Ok.ensures.ok c.end.ensures.ends
+    c.requires.whole c.in_ok-stops.ensures.same (admits_all true b _ c.in-Ok.ensures.ok) c.end.ensures.ends

@@ -1,6 +1,8 @@
 use Rattle.std.proofs.Common.{◌∙◌, sym, inl, refl}
+use Rattle.std.specs.Prelude.{◌&&◌}
 use Rattle.pair.specs.BookParts.{kept_of}
 use Rattle.pair.specs.Pairs.{device_of}
+use Rattle.pair.proofs.Arriving.{alone_right}
 use Rattle.pair.proofs.BoxCalls.{admitting, near_ends}
 use Rattle.pair.proofs.Ending.{stuck}
 use Rattle.pair.proofs.Opening.{near_open, near_stays}
@@ -21,7 +23,7 @@ returns g c =
     let b = c.admit-answer in
     let e = c.end_at in
     let whole = sym c.is_broken.ensures ∙ c.if-is_broken.false in
-    let ends = near_ends p (admitting (device_of p)) b.new.self e.new.self b.result e.result whole e.ensures.same e.ensures.now (rw p.near_is at b.ensures.call) in
+    let ends = near_ends p (admitting (device_of p) g.N.Mailbox.alone (g.F.Mailbox.alone && g.N.Mailbox.alone) (alone_right g.F.Mailbox.alone g.N.Mailbox.alone)) b.new.self e.new.self b.result e.result whole e.ensures.same e.ensures.now (rw p.near_is at b.ensures.call) in
     record {
       was_honest = λ h. (h.0, b.ensures.was_honest h.1, h.2);
       opened = near_stays (g.F.Mailbox.is_open p.far) _ _ (kept_of p.book) c.requires.is_open b.ensures.open;
