@@ -5,3 +5,5 @@ pub mod InOrder
 pub mod Found
 pub mod Runs
 pub mod Beginnings
+pub mod CalledNext
+pub mod Others

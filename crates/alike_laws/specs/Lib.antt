@@ -1,3 +1,4 @@
 pub mod Worlds
 pub mod Runs
 pub mod Beginnings
+pub mod Others

@@ -3,6 +3,7 @@
 #![tactic(auto)]
 
 ghost use Rattle.alike_laws.specs.Beginnings as beginning;
+ghost use Rattle.alike_laws.specs.Others as other;
 ghost use Rattle.alike_laws.specs.Runs as run;
 ghost use Rattle.alike_laws.specs.Worlds as world;
 
@@ -31,6 +32,13 @@ pub fn underway_has_one_plan()
 pub fn done_begins_the_next_run()
     ensures unplanned { run.DoneIsUnplanned }
     ensures opening { run.DoneIsOpening }
+{}
+
+/// A message that others added while a run was at work is left to the next one: it stands in no entry and above the highest UID taken over,
+/// so the next plan copies it, where it is fit, its direction copies new messages, and it is not to be expunged.
+pub fn others_are_left_to_the_next_run()
+    ensures left { other.OthersAreLeft }
+    ensures copied { other.OthersAreCopiedNext }
 {}
 
 /// Where a device holds a world that a run may begin with, and no journal, that run is underway: it has no plan yet.

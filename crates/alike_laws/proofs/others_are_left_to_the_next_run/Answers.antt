@@ -1,0 +1,8 @@
+use Rattle.alike_laws.proofs.Others.{others_copied_next, others_left}
+use Rattle.alike_laws.proofs.others_are_left_to_the_next_run.Goals as goal
+
+pub returns-clause-left : goal.returns-clause-left
+returns-clause-left c = others_left
+
+pub returns-clause-copied : goal.returns-clause-copied
+returns-clause-copied c = others_copied_next
