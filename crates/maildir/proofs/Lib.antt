@@ -1,9 +1,11 @@
 pub mod CutLemmas
 pub mod FileLemmas
+pub mod GainLemmas
 pub mod IndexLemmas
 pub mod LetterLemmas
 pub mod MetaLemmas
 pub mod NameLemmas
 pub mod NumberLemmas
+pub mod PermutedLemmas
 pub mod PlaceLemmas
 pub mod ToldLemmas

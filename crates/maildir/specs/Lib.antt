@@ -2,6 +2,7 @@ pub mod Cut
 pub mod DiskFolders
 pub mod FlaggedNames
 pub mod Folders
+pub mod Gains
 pub mod IndexedFiles
 pub mod Letters
 pub mod MemFiles

@@ -17,6 +17,10 @@ empty = record { is_there = true; files = []; copy = None; meta = None }
 abbrev pub with_file : File → Stored → Stored
 with_file file s = record s { files = without file.place file.name s.files ++ file ∷ [] }
 
+-- the file stands there behind the others
+abbrev pub with_arrival : File → Stored → Stored
+with_arrival file s = record s { files = s.files ++ file ∷ [] }
+
 -- `cur`, `new` and `tmp` are not there
 abbrev pub hidden : Stored → Stored
 hidden s = record s { is_there = false }

@@ -1,13 +1,18 @@
 //! Laws of this crate's definitions, each shown by a function that does nothing.
 
-ghost use Rattle.std.specs.Prelude.{◌≡◌, ◌<◌, ◌^◌, ◌==◌, ℕ, IsTrue, List, find, None, Some};
+ghost use Rattle.std.specs.Prelude.{◌≡◌, ◌<◌, ◌^◌, ◌==◌, ℕ, IsTrue, List, false, find, None, Some, true};
+ghost use Rattle.std.specs.List.{list_any};
 ghost use Rattle.mailcore.specs.FlagNames.{letter, all_flags};
 ghost use Rattle.mailcore.specs.FlagSet.{FLAGS};
+ghost use Rattle.maildir.specs.declared.folder.FileName.{FileName};
 ghost use Rattle.maildir.specs.declared.meta.Meta.{Meta};
+ghost use Rattle.maildir.specs.Folders.{AreApart, Stored, is_at, placed, removed_file, renamed_file, with_copy, with_meta};
+ghost use Rattle.maildir.specs.Gains.{Gains};
 ghost use Rattle.maildir.specs.Letters.{flags_in, has_letter, letters_with};
 ghost use Rattle.maildir.specs.Metas.{MetaText, meta_of};
-ghost use Rattle.maildir.specs.Names.{NameParts, NameText, name_of, is_letter, are_letters, uid_in};
+ghost use Rattle.maildir.specs.Names.{NameParts, NameText, name_of, is_letter, is_waiting, are_letters, uid_in};
 ghost use Rattle.maildir.specs.FlaggedNames.{flags_by_name, flagged, letters_in};
+ghost use Rattle.visitors.specs.Visitors.{Visitors};
 
 /// A name is read from exactly the bytes that are its spelling, and so each text spells one name at most.
 pub fn names_by_their_spelling()
@@ -37,4 +42,23 @@ pub fn names_by_their_flags()
     ensures parts { (text : List ℕ) (name : NameParts) (flags : ℕ) → name_of text ≡ Some name
         → name_of (flagged name flags) ≡ Some (record name { letters = Some (letters_with (letters_in name) flags) }) }
     ensures uid { (text : List ℕ) (name : NameParts) (flags : ℕ) → name_of text ≡ Some name → uid_in (flagged name flags) ≡ uid_in text }
+{}
+
+/// What others add before a call of the folder, they could as well have added behind it: what the call does is not touched by that. A
+/// file that is renamed or removed was there before, and a name that a file gets is not that of one that waits for its UID.
+pub fn others_could_come_behind()
+    ensures renamed { (v : Visitors) (s m : Stored) (from to : FileName) → list_any (is_at from.place from.name) s.files ≡ true
+        → is_waiting to.name ≡ false → Gains v s m → Gains v (renamed_file from to s) (renamed_file from to m) }
+    ensures placed { (v : Visitors) (s m : Stored) (to : FileName) → is_waiting to.name ≡ false → Gains v s m → Gains v (placed to s) (placed to m) }
+    ensures removed { (v : Visitors) (s m : Stored) (file : FileName) → list_any (is_at file.place file.name) s.files ≡ true
+        → Gains v s m → Gains v (removed_file file s) (removed_file file m) }
+    ensures meta { (v : Visitors) (s m : Stored) (text : List ℕ) → Gains v s m → Gains v (with_meta text s) (with_meta text m) }
+    ensures copy { (v : Visitors) (s m : Stored) (bytes : List ℕ) → Gains v s m → Gains v (with_copy bytes s) (with_copy bytes m) }
+{}
+
+/// Others may add nothing, and what they add in turn they could have added at once. Files stay apart.
+pub fn others_add_in_turn()
+    ensures nothing { (v : Visitors) (s : Stored) → Gains v s s }
+    ensures more { (v : Visitors) (s m n : Stored) → Gains v s m → Gains v m n → Gains v s n }
+    ensures apart { (v : Visitors) (s m : Stored) → Gains v s m → AreApart s.files → AreApart m.files }
 {}

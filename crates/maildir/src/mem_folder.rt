@@ -1,10 +1,11 @@
 //! A folder in memory, whose calls stop where a schedule says so.
 
-ghost use Rattle.std.specs.Prelude.{◌≡◌, ◌<◌, ◌^◌, true, map, IfOk, OnOk, OnErr, None, false, is_some};
+ghost use Rattle.std.specs.Prelude.{◌≡◌, ◌↔◌, ◌<◌, ◌^◌, true, map, IfOk, IsErrOf, OnOk, OnErr, None, false, is_some};
+ghost use Rattle.std.specs.List.{list_any};
 ghost use Rattle.std.specs.Option.{option_map};
 ghost use Rattle.maildir.specs.Folders.{name_of_file, is_there, renamed, bytes_of, text_of};
 
-use crate::folder::{File, FileName, Folder, Location, Origin, Source};
+use crate::folder::{File, FileName, Folder, Location, Origin, Place, Source};
 use crate::mem_files::MemFiles;
 use device::DeviceFault;
 use device::schedule::{Moment, Scheduled, Stop};
@@ -44,8 +45,12 @@ pub struct MemFolder {
 }
 
 impl MemFolder {
-    ghost use Rattle.maildir.specs.Folders.{with_meta};
-    ghost use Rattle.maildir.specs.MemFolders.{empty, hidden, seen_of, stored_in, with_file};
+    ghost use Rattle.mailcore.specs.Content.{mark_of};
+    ghost use Rattle.visitors.specs.Visitors.{IsForeign, Visitors};
+    ghost use Rattle.maildir.specs.Folders.{is_at, with_meta};
+    ghost use Rattle.maildir.specs.Gains.{Gains};
+    ghost use Rattle.maildir.specs.MemFolders.{empty, hidden, seen_of, stored_in, with_arrival, with_file};
+    ghost use Rattle.maildir.specs.Names.{is_waiting};
 
     /// A folder that is there, without a file and without a meta file, whose calls stop as the schedule says.
     pub fn new(alloc: Global, schedule: Vec<Stop<FolderCall>>) -> Self
@@ -68,10 +73,44 @@ impl MemFolder {
     pub fn put(&mut self, file: File) -> Result<(), AllocError>
         ensures ok { OnOk result (seen_of self.new ≡ record (seen_of self.old) { stored = with_file file (stored_in self.old) }) }
         ensures err { OnErr result (seen_of self.new ≡ seen_of self.old) }
+        ensures synced { self.new.is_synced ≡ self.old.is_synced }
     {
         let key = self.files.make_room(file.name.as_slice())?;
         self.files.put(key, file);
         Ok(())
+    }
+
+    /// Adds a file to `cur`, as another program does. It is no call of the folder: none of the stops meets it.
+    ///
+    /// `Stopped`: the name is that of a file in `cur`. Beside a fault nothing has changed, and the folder goes on.
+    pub fn arrive(&mut self, name: Octets, bytes: Octets) -> Result<(), DeviceFault>
+        ensures ok { OnOk result (seen_of self.new
+            ≡ record (seen_of self.old) { stored = with_arrival (record { place = Place.Cur; name = name; bytes = bytes }) (stored_in self.old) }) }
+        ensures err { OnErr result (seen_of self.new ≡ seen_of self.old) }
+        ensures taken { IsErrOf result DeviceFault.Stopped ↔ (list_any (is_at Place.Cur name) (stored_in self.old).files ≡ true) }
+        ensures synced { self.new.is_synced ≡ self.old.is_synced }
+        ensures gains { (visitors : Visitors) → visitors.alone ≡ false → is_waiting name ≡ true → IsForeign visitors.ours (mark_of bytes)
+            → Gains visitors (stored_in self.old) (stored_in self.new) }
+    {
+        let file = File {
+            place: Place::Cur,
+            name,
+            bytes,
+        };
+        if self.has_file(&file) {
+            return Err(DeviceFault::Stopped);
+        }
+        Ok(self.put(file)?)
+    }
+
+    // Whether a file stands at the place and under the name of this one.
+    fn has_file(&self, file: &File) -> bool
+        ensures { result ≡ list_any (is_at file.now.place file.now.name) (stored_in self.now).files }
+    {
+        self.files.has(Location {
+            place: file.place,
+            name: file.name.as_slice(),
+        })
     }
 
     /// Puts a meta file there.

@@ -11,7 +11,8 @@ use Rattle.near_box.specs.declared.near_fault.NearFault.{NearFault}
 use Rattle.near_box.specs.Mailboxes.{messages_in, by_uid, meta_in, first_meta, near_of, IsMailbox}
 use Rattle.near_box.specs.NearEffects.{Does}
 use Rattle.near_box.proofs.PutLemmas.{All-sorted, All-from_sorted}
-use Rattle.near_box.proofs.SortingLemmas.{pairs_permuted, sorted_permutes, sorted_rises_by}
+use Rattle.maildir.proofs.PermutedLemmas.{pairs_permuted}
+use Rattle.near_box.proofs.SortingLemmas.{sorted_permutes, sorted_rises_by}
 
 ordered : (a b : Message) → (a.uid ≡ b.uid → ⊥) → (ltb a.uid b.uid ≡ true) ⊎ (ltb b.uid a.uid ≡ true)
 ordered a b other = elim (cases_order a.uid b.uid) [

@@ -19,7 +19,7 @@ use Rattle.maildir.specs.Names.{uid_in}
 use Rattle.maildir.specs.FlaggedNames.{flags_by_name}
 use Rattle.near_box.specs.SurveyParts.{named_entry}
 use Rattle.near_box.specs.Surveys.{entry_of}
-use Rattle.near_box.proofs.SurveyLemmas.{picked_in_any_order}
+use Rattle.maildir.proofs.PermutedLemmas.{picked_in_any_order}
 
 -- ---- keys of elements
 

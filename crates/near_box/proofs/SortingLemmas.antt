@@ -1,16 +1,14 @@
 -- Lists in an order.
-use Rattle.std.proofs.Common.{◌≡◌, ℕ, zero, suc, ◌<◌, ◌⊎◌, inl, inr, Bool, true, false, cond, ltb, eqb, List, [], ◌∷◌, length, get_or, map, filter, All, refl, sym, ap, subst, ◌∙◌, eq-eqb, ⊎_elim, arith}
-use Rattle.std.specs.Prelude.{AllPairs, Contains, swap}
+use Rattle.std.proofs.Common.{◌≡◌, ℕ, zero, suc, ◌⊎◌, inl, inr, Bool, true, false, cond, ltb, List, [], ◌∷◌, get_or, map, filter, All, refl, sym, ap, subst, ◌∙◌, ⊎_elim, arith}
+use Rattle.std.specs.Prelude.{AllPairs, Contains}
 use Rattle.std.specs.List.Sorted.{IsPermutation}
 use Rattle.std.specs.Cmp.{IsStrictWeakOrder}
 use Rattle.std.proofs.lemmas.Bool.{true≢false}
-use Rattle.std.proofs.lemmas.Bool.{eqb-true}
-use Rattle.std.proofs.lemmas.List.Edits.{swapped_from_swap, length-swap}
 use Rattle.std.proofs.lemmas.Map.Made.{Contains-tail}
-use Rattle.std.proofs.lemmas.Bool.Decides.{nat_tests}
 use Rattle.std.proofs.lemmas.List.Elements.{All-nil, All-cons, All-head, All-tail, All-filter, All-weaker, All-contains_itself}
 use Rattle.std.proofs.lemmas.List.Kept.{AllPairs-cons}
-use Rattle.std.proofs.lemmas.List.Sorted.{IsPermutation-refl, IsPermutation-cons, IsPermutation-middle, IsPermutation-trans, IsPermutation-sym, IsPermutation-keeps, All-permutation, Contains-permutation}
+use Rattle.std.proofs.lemmas.List.Sorted.{IsPermutation-refl, IsPermutation-cons, IsPermutation-middle, IsPermutation-trans, IsPermutation-sym, All-permutation, Contains-permutation}
+use Rattle.maildir.proofs.PermutedLemmas.{pairs_permuted}
 use Rattle.near_box.specs.Sorting.{put, sorted}
 
 -- ---- a map that keeps the keys
@@ -177,52 +175,6 @@ sorted_rises_by lt order (x ∷ xs) ordered =
     (sorted_rises_by lt order xs (pairs_tail (AreOrdered lt) x xs ordered))
 
 -- ---- the same elements in order
-
--- where an element stood before two changed places
-from_place : (i j k : ℕ) → ℕ
-from_place i j k = cond (eqb k i) j (cond (eqb k j) i k)
-
-from_place_within : (i j k n : ℕ) → i < n → j < n → k < n → from_place i j k < n
-unfolding from_place
-from_place_within i j k n below_i below_j below_k = grind (arith, nat_tests)
-
-from_place_apart : (i j k m : ℕ) → (k ≡ m → ⊥) → from_place i j k ≡ from_place i j m → ⊥
-unfolding from_place
-from_place_apart i j k m apart same = grind (arith, nat_tests)
-
-swapped_at : {A : Type 0} (xs : List A) (i j k : ℕ) (d : A) → i < length xs → j < length xs → get_or (swap xs i j) k d ≡ get_or xs (from_place i j k) d
-unfolding from_place
-swapped_at xs i j k d below_i below_j = by_tests (eqb k i) refl (eqb k j) refl
-  where
-    by_tests : (a : Bool) → eqb k i ≡ a → (b : Bool) → eqb k j ≡ b → get_or (swap xs i j) k d ≡ get_or xs (cond a j (cond b i k)) d
-    by_tests true e b f = ap (λ (n : ℕ). get_or (swap xs i j) n d) (eqb-true k i e) ∙ (swapped_from_swap xs (swap xs i j) i j d below_i below_j refl).0
-    by_tests false e true f = ap (λ (n : ℕ). get_or (swap xs i j) n d) (eqb-true k j f) ∙ (swapped_from_swap xs (swap xs i j) i j d below_i below_j refl).1
-    by_tests false e false f =
-        (swapped_from_swap xs (swap xs i j) i j d below_i below_j refl).2 k
-        (λ same. true≢false (sym (eq-eqb k i same) ∙ e)) (λ same. true≢false (sym (eq-eqb k j same) ∙ f))
-
-any_two : {A : Type 0} (R : A → A → Type 0) → ((a b : A) → R a b → R b a) → (xs : List A) → AllPairs R xs → (i j : ℕ) (d : A)
-    → i < length xs → j < length xs → (i ≡ j → ⊥) → R (get_or xs i d) (get_or xs j d)
-any_two R turn xs pairs i j d below_i below_j apart = by_test (ltb i j) refl
-  where
-    by_test : (b : Bool) → ltb i j ≡ b → R (get_or xs i d) (get_or xs j d)
-    by_test true e = pairs i j d (grind (arith, nat_tests)) below_j
-    by_test false e = turn (get_or xs j d) (get_or xs i d) (pairs j i d (grind (arith, nat_tests)) below_i)
-
-pairs_swapped : {A : Type 0} (R : A → A → Type 0) → ((a b : A) → R a b → R b a) → (xs : List A) (i j : ℕ) → i < length xs → j < length xs
-    → AllPairs R xs → AllPairs R (swap xs i j)
-pairs_swapped R turn xs i j below_i below_j pairs = λ k m d less below.
-    let size = length-swap xs i j in
-    rw (swapped_at xs i j k d below_i below_j, swapped_at xs i j m d below_i below_j)
-    (any_two R turn xs pairs (from_place i j k) (from_place i j m) d
-    (from_place_within i j k (length xs) below_i below_j (omega arith))
-    (from_place_within i j m (length xs) below_i below_j (omega arith))
-    (from_place_apart i j k m (λ same. omega arith)))
-
--- a relation of any two elements is kept by another order
-pub pairs_permuted : {A : Type 0} (R : A → A → Type 0) → ((a b : A) → R a b → R b a) → (xs ys : List A) → IsPermutation xs ys → AllPairs R xs → AllPairs R ys
-pairs_permuted R turn xs ys same pairs =
-    IsPermutation-keeps xs (AllPairs R) pairs (λ l i j below_i below_j before. pairs_swapped R turn l i j below_i below_j before) ys same
 
 -- the first elements of two rising lists with the same elements
 same_first : {A : Type 0} (lt : A → A → Bool) → IsStrictWeakOrder lt → (x : A) (xs : List A) (y : A) (ys : List A)

@@ -27,8 +27,8 @@ use Rattle.near_box.specs.SurveyParts.{named_entry, waits, file_cmp, is_before}
 use Rattle.near_box.specs.Surveys.{entry_of, Surveys}
 use Rattle.near_box.proofs.OpenLemmas.{same_uids, entries_apart, messages_apart, entries_of_names, apart_rise, rising_apart}
 use Rattle.near_box.proofs.OrderLemmas.{names_total, names_in_order}
-use Rattle.near_box.proofs.SortingLemmas.{pairs_permuted, sorted_permuted, sorted_permutes}
-use Rattle.near_box.proofs.SurveyLemmas.{passing_in_any_order}
+use Rattle.maildir.proofs.PermutedLemmas.{pairs_permuted, passing_in_any_order}
+use Rattle.near_box.proofs.SortingLemmas.{sorted_permuted, sorted_permutes}
 use Rattle.mailcore.specs.declared.mailbox.Message.{Message}
 use Rattle.near_box.specs.KnownMarks.{AreKnown}
 

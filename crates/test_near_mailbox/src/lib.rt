@@ -49,6 +49,7 @@
 //!
 //! | Line | Answer |
 //! |---|---|
+//! | `arrive NAME "BYTES"` | a file comes to `cur` of a folder in memory, as another program adds it: `ok`, or the fault |
 //! | `sync` | the names in the folder are synced |
 //! | `reopen` | the folder is opened again after a stop |
 //! | `show` | the files in the folder, the calls that were made of it since the mailbox was opened, and how many calls have stopped so far; of a folder on a disk also where it stopped since it was opened (`, at PATH: WHY`) and which files were left out (`; left out: PATH`) |

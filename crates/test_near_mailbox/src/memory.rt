@@ -1,5 +1,6 @@
 //! Folders in memory.
 
+use crate::operation::tell_done;
 use crate::seat::Seat;
 use crate::stop::read_stop;
 use crate::trial::try_stops;
@@ -7,9 +8,11 @@ use device::schedule::Stop;
 use mailcore::octets::Octets;
 use maildir::folder::{File, Place};
 use maildir::mem_folder::{FolderCall, MemFolder};
+use near_box::NearFault;
 use std::alloc::{AllocError, Global};
 use test_scripts::failure::Failure;
 use test_scripts::script::Script;
+use test_scripts::told::Told;
 use test_scripts::words::Words;
 
 /// A folder in memory, and what further ones are made of: each has the same files, and a stop of its own.
@@ -49,6 +52,10 @@ impl Memory {
         match word {
             "put" | "hide" if self.seat.is_empty() => Ok(self.keep(word, line)?),
             "try" => try_stops(rt, self, line, &mut script.told),
+            "arrive" => {
+                self.make(rt.alloc())?;
+                self.arrive(rt.alloc(), line, &mut script.told)
+            }
             _ => {
                 self.make(rt.alloc())?;
                 self.seat.play(rt, word, line, script)
@@ -64,6 +71,28 @@ impl Memory {
             self.lines.extend_from_slice(line.rest())?;
         }
         Ok(self.lines.push(b'\n')?)
+    }
+
+    /// `NAME "BYTES"`: a file comes to `cur`.
+    fn arrive(
+        &mut self,
+        alloc: Global,
+        line: &mut Words<'_>,
+        told: &mut Told,
+    ) -> Result<(), Failure> {
+        let name = Octets::from_vec(Vec::from_slice(alloc, line.word().as_bytes())?);
+        let bytes = Octets::from_vec(line.bytes(alloc)?);
+        let Some(folder) = self.seat.close() else {
+            return Err(Failure::Script);
+        };
+        let answer = folder.inner_mut().arrive(name, bytes);
+        told.begin();
+        let fault = tell_done(told, answer.map_err(NearFault::from));
+        told.end();
+        if fault == Some(NearFault::NoMemory) {
+            return Err(Failure::NoMemory);
+        }
+        Ok(())
     }
 
     /// Makes the folder, if it is not there yet.

@@ -31,6 +31,11 @@ impl<F: Folder> NotedFolder<F> {
         &self.folder
     }
 
+    /// The same, to change it as others do: no call of it is noted.
+    pub fn inner_mut(&mut self) -> &mut F {
+        &mut self.folder
+    }
+
     /// The calls so far.
     pub fn calls(&self) -> &[FolderCall] {
         &self.calls
