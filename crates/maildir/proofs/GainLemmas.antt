@@ -42,7 +42,7 @@ map_stays {X} f (x ∷ xs) h =
 
 -- ---- a file that has another name
 
-not_at : (at : FileName) (file : File) → name_of_file file ≢ at → is_at at.place at.name file ≡ false
+pub not_at : (at : FileName) (file : File) → name_of_file file ≢ at → is_at at.place at.name file ≡ false
 not_at at file other = by_test (is_at at.place at.name file) refl
   where
     by_test : (b : Bool) → is_at at.place at.name file ≡ b → b ≡ false

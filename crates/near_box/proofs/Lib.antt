@@ -1,9 +1,11 @@
 pub mod AdmissionLemmas
 pub mod AdmitLemmas
 pub mod AppendLemmas
+pub mod ArrivedLemmas
 pub mod CallLemmas
 pub mod ExpungeLemmas
 pub mod FlagChangeLemmas
+pub mod GainedLemmas
 pub mod KeptLemmas
 pub mod KeptMailboxes
 pub mod KnownMarkLemmas

@@ -109,7 +109,7 @@ same_place New Cur e = cc
 same_place Cur New e = cc
 same_place Cur Cur e = refl
 
-one_or_other : (a b : FileName) → is_before b a ≡ false → (a ≡ b → ⊥) → is_before a b ≡ true
+pub one_or_other : (a b : FileName) → is_before b a ≡ false → (a ≡ b → ⊥) → is_before a b ≡ true
 one_or_other a b not_back other = by_cmp (file_cmp a b) refl
   where
     equal_then : (o p : Ordering) → ordering_then o p ≡ Equal → (o ≡ Equal) × (p ≡ Equal)

@@ -1,10 +1,15 @@
 //! Laws of this crate's definitions, each shown by a function that does nothing.
 
-ghost use Rattle.std.specs.Prelude.{ℕ, ◌<◌, ◌^◌};
+ghost use Rattle.std.specs.Prelude.{◌≡◌, ℕ, ◌<◌, ◌^◌};
+ghost use Rattle.mailbox.specs.Arrivals.{Arrives};
 ghost use Rattle.mailcore.specs.Ranges.{AreFlagSets, IsInRange};
 ghost use Rattle.mailcore.specs.Stores.{IsStore};
 ghost use Rattle.maildir.specs.Folders.{Stored};
+ghost use Rattle.maildir.specs.Gains.{Gains};
 ghost use Rattle.near_box.specs.Mailboxes.{IsMailbox, near_of};
+ghost use Rattle.visitors.specs.Visitors.{Visitors};
+
+use mailcore::side::Side;
 
 /// The mailbox of a folder that holds one is a mailbox: its UIDs rise and are below the next one, its numbers are in their
 /// ranges (no UID, next UID or validity is 0), and flags are sets of the six, those of waiting files too.
@@ -12,4 +17,13 @@ pub fn near_mailboxes_are_mailboxes()
     ensures store { (fresh : ℕ) (s : Stored) → IsMailbox fresh s → IsStore (near_of fresh s).store }
     ensures ranges { (fresh : ℕ) (s : Stored) → 0 < fresh → fresh < 2 ^ 32 → IsMailbox fresh s → IsInRange (near_of fresh s).store }
     ensures waiting { (fresh : ℕ) (s : Stored) → AreFlagSets (near_of fresh s).waiting }
+{}
+
+/// What others add to the folder of a mailbox arrives in the mailbox: its messages, its UIDVALIDITY and its next UID stay as they are,
+/// the files wait among those that waited, and it is a mailbox still.
+pub fn folders_gain_what_arrives()
+    ensures arrives { (v : Visitors) (fresh : ℕ) (s s' : Stored) → IsMailbox fresh s → Gains v s s'
+        → Arrives Side.Near v.ours v.alone (near_of fresh s) (near_of fresh s') }
+    ensures store { (v : Visitors) (fresh : ℕ) (s s' : Stored) → IsMailbox fresh s → Gains v s s' → (near_of fresh s').store ≡ (near_of fresh s).store }
+    ensures mailbox { (v : Visitors) (fresh : ℕ) (s s' : Stored) → IsMailbox fresh s → Gains v s s' → IsMailbox fresh s' }
 {}

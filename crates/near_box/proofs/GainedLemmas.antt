@@ -1,0 +1,64 @@
+-- What others add to a folder leaves the messages of its mailbox as they are.
+use Rattle.std.proofs.Common.{◌≡◌, ℕ, ◌<◌, true, ltb, lt-ltb, List, [], ◌∷◌, ◌++◌, get_or, All, Option, None, Some, refl, sym, ap, subst, ◌∙◌, append-nil}
+use Rattle.std.specs.Prelude.{AllPairs}
+use Rattle.std.specs.List.{cons_option, filter_map}
+use Rattle.std.specs.List.Sorted.{IsPermutation}
+use Rattle.std.specs.Option.{option_map}
+use Rattle.std.proofs.lemmas.List.Elements.{All-head, All-tail, All-weaker, filter_map-append}
+use Rattle.std.proofs.lemmas.List.Sorted.{IsPermutation-sym, IsPermutation-trans, IsStrictWeakOrder-by_number}
+use Rattle.mailcore.specs.declared.mailbox.Message.{Message}
+use Rattle.mailcore.specs.Stores.{IsStore, Store}
+use Rattle.visitors.specs.Visitors.{Visitors}
+use Rattle.maildir.specs.declared.folder.File.{File}
+use Rattle.maildir.specs.declared.meta.Meta.{Meta}
+use Rattle.maildir.specs.FlaggedNames.{flags_by_name}
+use Rattle.maildir.specs.Folders.{Stored}
+use Rattle.maildir.specs.Gains.{Gains, IsArrival}
+use Rattle.maildir.specs.Names.{is_waiting, uid_in}
+use Rattle.maildir.proofs.GainLemmas.{apart_gained}
+use Rattle.maildir.proofs.PermutedLemmas.{picked_in_any_order}
+use Rattle.near_box.specs.Mailboxes.{IsMailbox, by_uid, message_of, messages_in, meta_at, meta_in, near_of, store_of}
+use Rattle.near_box.proofs.MailboxLemmas.{mailbox_store, store_mailbox}
+use Rattle.near_box.proofs.NewNameLemmas.{waiting_has_no_uid}
+use Rattle.near_box.proofs.SortingLemmas.{sorted_permuted, sorted_permutes}
+
+none_picked : {X Y : Type 0} (h : X → Option Y) (xs : List X) → All (λ x. h x ≡ None) xs → filter_map h xs ≡ []
+none_picked h [] none = refl
+none_picked {X} {Y} h (x ∷ xs) none =
+    ap (λ (o : Option Y). cons_option o (filter_map h xs)) (All-head (λ x. h x ≡ None) x xs none)
+    ∙ none_picked h xs (All-tail (λ x. h x ≡ None) x xs none)
+
+-- a file that waits is no message
+waits_unread : (file : File) → is_waiting file.name ≡ true → message_of file ≡ None
+waits_unread file waits =
+    ap (option_map (λ uid. let m : Message = record { uid = uid; flags = flags_by_name file.name; bytes = file.bytes } in m)) (waiting_has_no_uid file.name waits)
+
+module _ (v : Visitors) (fresh : ℕ) (s s' : Stored) (is : IsMailbox fresh s) (gains : Gains v s s') where
+  same_messages : IsPermutation (messages_in s.files) (messages_in s'.files)
+  same_messages =
+      let none : filter_map message_of gains.more ≡ [] = none_picked message_of gains.more
+      (All-weaker (IsArrival v.ours s.files) (λ y. message_of y ≡ None) (λ y a. waits_unread y a.waits) gains.more gains.arrivals) in
+      subst (λ (l : List Message). IsPermutation l (messages_in s'.files))
+      (filter_map-append message_of s.files gains.more ∙ ap (λ (l : List Message). messages_in s.files ++ l) none ∙ append-nil (messages_in s.files))
+      (picked_in_any_order message_of (s.files ++ gains.more) s'.files gains.files)
+
+  same_order : by_uid (messages_in s'.files) ≡ by_uid (messages_in s.files)
+  same_order =
+      let messages : List Message = by_uid (messages_in s.files) in
+      let rising : AllPairs (λ a b. ltb a.uid b.uid ≡ true) messages =
+      λ i j d less below. lt-ltb (get_or messages i d).uid (get_or messages j d).uid ((mailbox_store fresh s is).rising i j d less below) in
+      sorted_permuted (λ (a b : Message). ltb a.uid b.uid) (IsStrictWeakOrder-by_number (λ (m : Message). m.uid)) (messages_in s'.files) messages
+      (IsPermutation-trans (messages_in s'.files) (messages_in s.files) messages (IsPermutation-sym (messages_in s.files) (messages_in s'.files) same_messages)
+      (sorted_permutes (λ (a b : Message). ltb a.uid b.uid) (messages_in s.files)))
+      rising
+
+  pub store_gained : (near_of fresh s').store ≡ (near_of fresh s).store
+  store_gained =
+      let meta : meta_at fresh s' ≡ meta_at fresh s = ap (λ (text : Option (List ℕ)). meta_at fresh (record s { meta = text })) gains.meta in
+      ap (λ (m : Meta). store_of m s'.files) meta
+      ∙ ap (λ (l : List Message). let x : Store = record { validity = (meta_at fresh s).validity; next = (meta_at fresh s).next; messages = l } in x) same_order
+
+  pub mailbox_gained : IsMailbox fresh s'
+  mailbox_gained =
+      store_mailbox fresh s' is.meta.meta (gains.is_there ∙ is.is_there) (apart_gained v s s' gains is.apart) (ap (meta_in fresh) gains.meta ∙ is.meta.is)
+      (subst IsStore (sym store_gained) (mailbox_store fresh s is))
