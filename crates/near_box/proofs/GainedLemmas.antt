@@ -1,5 +1,5 @@
 -- What others add to a folder leaves the messages of its mailbox as they are.
-use Rattle.std.proofs.Common.{◌≡◌, ℕ, ◌<◌, true, ltb, lt-ltb, List, [], ◌∷◌, ◌++◌, get_or, All, Option, None, Some, refl, sym, ap, subst, ◌∙◌, append-nil}
+use Rattle.std.proofs.Common.{◌≡◌, ℕ, true, ltb, lt-ltb, List, [], ◌∷◌, ◌++◌, get_or, All, Option, None, refl, sym, ap, subst, ◌∙◌, append-nil}
 use Rattle.std.specs.Prelude.{AllPairs}
 use Rattle.std.specs.List.{cons_option, filter_map}
 use Rattle.std.specs.List.Sorted.{IsPermutation}
@@ -14,7 +14,7 @@ use Rattle.maildir.specs.declared.meta.Meta.{Meta}
 use Rattle.maildir.specs.FlaggedNames.{flags_by_name}
 use Rattle.maildir.specs.Folders.{Stored}
 use Rattle.maildir.specs.Gains.{Gains, IsArrival}
-use Rattle.maildir.specs.Names.{is_waiting, uid_in}
+use Rattle.maildir.specs.Names.{is_waiting}
 use Rattle.maildir.proofs.GainLemmas.{apart_gained}
 use Rattle.maildir.proofs.PermutedLemmas.{picked_in_any_order}
 use Rattle.near_box.specs.Mailboxes.{IsMailbox, by_uid, message_of, messages_in, meta_at, meta_in, near_of, store_of}
