@@ -1,5 +1,6 @@
 pub mod LineLemmas
 pub mod NameLemmas
+pub mod GroupLemmas
 pub mod OutlineLemmas
 pub mod ReadingLemmas
 pub mod ViewLemmas

@@ -76,7 +76,7 @@ passed_map : {A B : Type 0} (f : A → B) (p : B → Bool) (xs : List A) → pre
 passed_map f p [] = refl
 passed_map f p (x ∷ xs) = ap (λ (n : ℕ). cond (p (f x)) (1 + n) 0) (passed_map f p xs)
 
-place_map : {A B : Type 0} (f : A → B) (p : B → Bool) (xs : List A) → position (λ x. p (f x)) xs ≡ position p (map f xs)
+pub place_map : {A B : Type 0} (f : A → B) (p : B → Bool) (xs : List A) → position (λ x. p (f x)) xs ≡ position p (map f xs)
 place_map f p xs =
     ap (λ (n : ℕ). cond (nat_lt n (length xs)) (Some n) None) (passed_map f (λ y. not (p y)) xs)
     ∙ ap (λ (l : ℕ). cond (nat_lt (prefix_len (λ y. not (p y)) (map f xs)) l) (Some (prefix_len (λ y. not (p y)) (map f xs))) None) (sym (length-map xs f))

@@ -1,5 +1,5 @@
 -- A reading and the sections of the lines that it has read.
-use Rattle.std.proofs.Common.{◌≡◌, ◌∙◌, ℕ, Bool, true, false, List, [], ◌∷◌, ◌+◌, drop, map, take, refl, ap, sym, subst}
+use Rattle.std.proofs.Common.{◌≡◌, ◌∙◌, ℕ, Bool, true, false, List, [], ◌∷◌, ◌++◌, ◌+◌, append-nil, drop, map, take, refl, ap, sym, subst}
 use Rattle.std.specs.Prelude.{Option, Some, None, fold, IsSome, is_none, not, ◌&&◌, ◌||◌, if◌then◌else◌}
 use Rattle.std.proofs.lemmas.List.Sums.{fold-append}
 use Rattle.config_words.specs.Places.{is_section}
@@ -12,9 +12,9 @@ use Rattle.config.specs.declared.reading.Reading.{Reading}
 use Rattle.config.specs.Meant.{IsDrawn, IsMeant, Knows}
 use Rattle.config.specs.Standing.{lines_of}
 use Rattle.config.proofs.OutlineLemmas.{all_taken, one_left, one_taken}
-use Rattle.config.specs.Configurations.{Means, channel_value, group_name, imap_value, maildir_value, Parts, ended, ended_if, meaning_of, no_parts, parted, parted_words}
-use Rattle.config.specs.Views.{View, view, ended_view}
-use Rattle.config.proofs.ViewLemmas.{at_drawn, drawn_end}
+use Rattle.config.specs.Configurations.{Means, Parts, channel_names, ended, ended_if, meaning_of, no_parts, parted, parted_words, placed}
+use Rattle.config.specs.Views.{Shows, View, view, ended_view}
+use Rattle.config.proofs.ViewLemmas.{at_drawn, drawn_end, none_open}
 
 -- ---- lines
 
@@ -33,16 +33,16 @@ knows_also p q reading same knows = subst (λ (x : Parts). Knows x reading) (sym
 
 -- ---- sections that end
 
-not_open : (p : Parts) → is_section (ended p).current.kind ≡ true → ⊥
+pub not_open : (p : Parts) → is_section (ended p).current.kind ≡ false
 not_open p = by (is_section p.current.kind) refl
   where
-    by : (b : Bool) → is_section p.current.kind ≡ b → is_section (ended_if b p).current.kind ≡ true → ⊥
-    by false is within = cc
-    by true is within = cc
+    by : (b : Bool) → is_section p.current.kind ≡ b → is_section (ended_if b p).current.kind ≡ false
+    by false is = is
+    by true is = refl
 
 pub ended_meant : (p : Parts) (old : Draft) (new : Reading) → IsDrawn p old → view new.draft ≡ ended_view (is_section (place_of old.section)) (view old)
     → IsMeant (ended p) new
-ended_meant p old new is shows = record { draft = drawn_end p old new.draft is shows; begun = λ within. absurd (not_open p within) }
+ended_meant p old new is shows = record { draft = drawn_end p old new.draft is shows; begun = λ within. let both : false ≡ true = sym (not_open p) ∙ within in cc }
 
 -- where no section has begun, none is open
 pub outside_so : (p : Parts) (old : Reading) → IsMeant p old → old.begun ≡ None → is_section (place_of old.draft.section) ≡ false
@@ -57,15 +57,16 @@ kept_so whole true lacks first is passes none = refl
 kept_so false false lacks first is passes none = cc
 kept_so true false lacks first is passes none = let some : is_none first ≡ true = ap (λ (f : Option ConfigFault). is_none f) none in cc
 
-pub drawn_same : (p : Parts) (old new : Draft) → IsDrawn p old → view new ≡ view old → IsDrawn p new
-drawn_same p old new is same = record { view = same ∙ is.view; first = is.first }
-
-pub means_so : (p : Parts) (d : Draft) (config : Config) → IsDrawn p d → config ≡ d.config → Means (meaning_of p) config
-means_so p d config is same = record {
-  imap_stores = ap (λ (c : Config). map imap_value c.imap_stores.items) same ∙ ap (λ (v : View). v.imap_stores) is.view;
-  maildir_stores = ap (λ (c : Config). map maildir_value c.maildir_stores.items) same ∙ ap (λ (v : View). v.maildir_stores) is.view;
-  channels = ap (λ (c : Config). map channel_value c.channels.items) same ∙ ap (λ (v : View). v.channels) is.view;
-  groups = ap (λ (c : Config). map group_name c.groups.items) same ∙ ap (λ (v : View). v.groups) is.view;
+-- outside sections the channels that are named are those that have ended
+pub means_so : (p : Parts) (d : Draft) (config : Config) → IsDrawn p d → is_section p.current.kind ≡ false → Shows (view d) config → Means (meaning_of p) config
+means_so p d config is closed shows = record {
+  imap_stores = shows.imap_stores ∙ ap (λ (v : View). v.imap_stores) is.view;
+  maildir_stores = shows.maildir_stores ∙ ap (λ (v : View). v.maildir_stores) is.view;
+  channels = shows.channels ∙ ap (λ (v : View). v.channels) is.view;
+  groups = shows.groups
+      ∙ (ap (λ (v : View). map (placed v.named) v.groups) is.view
+      ∙ ap (λ (names : List (List ℕ)). map (placed names) (meaning_of p).groups)
+      (ap (λ (l : List (List ℕ)). channel_names (meaning_of p) ++ l) (none_open p.current.kind p.current.name closed) ∙ append-nil (channel_names (meaning_of p))));
 }
 
 -- ---- the lines of a text, as far as they are read
@@ -102,14 +103,8 @@ all_parted text taken rest reading so none =
     (sym (ap (λ (l : List (List ℕ)). fold parted no_parts l) (all_taken all taken (so.left ∙ none)))) so.known
 
 -- behind a line of words, which may have begun a section
-pub words_known : (q : Parts) (mid begun new : Reading) → (mid.first ≡ None → IsDrawn q mid.draft) → begun.draft ≡ mid.draft → begun.first ≡ mid.first
-    → (is_section (place_of begun.draft.section) ≡ true → IsSome begun.begun) → view new.draft ≡ view begun.draft → new.first ≡ begun.first
-    → new.begun ≡ begun.begun → Knows q new
-words_known q mid begun new known draft first begins shows same still = λ none.
-    let drawn = known (sym first ∙ (sym same ∙ none)) in
-    record {
-      draft = drawn_same q mid.draft new.draft drawn (shows ∙ ap (λ (d : Draft). view d) draft);
-      begun = λ within.
-          subst (λ (o : Option ℕ). IsSome o) (sym still)
-          (begins (ap (λ (d : Draft). is_section (place_of d.section)) draft ∙ (ap is_section (at_drawn q mid.draft drawn) ∙ within)));
-    }
+pub words_known : (q : Parts) (mid new : Reading) → (mid.first ≡ None → IsDrawn q mid.draft) → new.draft ≡ mid.draft → new.first ≡ mid.first
+    → (is_section (place_of new.draft.section) ≡ true → IsSome new.begun) → Knows q new
+words_known q mid new known draft first begins = λ none.
+    let drawn : IsDrawn q new.draft = subst (λ (d : Draft). IsDrawn q d) (sym draft) (known (sym first ∙ none)) in
+    record { draft = drawn; begun = λ within. begins (ap is_section (at_drawn q new.draft drawn) ∙ within) }

@@ -1,6 +1,6 @@
 -- What lines make of the sections of a text is what each of them changes of a draft.
 use Rattle.std.proofs.Common.{◌≡◌, ◌∙◌, ℕ, Bool, true, false, List, [], ◌∷◌, ◌++◌, append_assoc, map, refl, ap, sym, subst}
-use Rattle.std.specs.Prelude.{Option, Some, None, Result, Ok, Err, OnOk, fold, flat_map, unwrap_or, option_and_then, option_to_list, codes, if◌then◌else◌}
+use Rattle.std.specs.Prelude.{Option, Some, None, IsSome, Result, Ok, Err, OnOk, fold, flat_map, unwrap_or, option_and_then, option_to_list, codes, if◌then◌else◌}
 use Rattle.std.specs.Str.{str_eq_ignore_ascii_case}
 use Rattle.std.specs.Option.{option_or}
 use Rattle.std.proofs.lemmas.List.{append-nil, map-append}
@@ -20,9 +20,9 @@ use Rattle.config.specs.declared.section.Section.TheVariants as sections
 use Rattle.config.specs.Drafts.{IsMet, place_of}
 use Rattle.config.specs.Meant.{IsDrawn}
 use Rattle.config.specs.Standing.{Standing}
-use Rattle.config.specs.Configurations.{Meaning, Part, Parts, add_at, begin_at, ended, ended_if, imap_names, line_said, maildir_names, meaning_of, no_meaning, parted_words, said_at, with_section}
-use Rattle.config.specs.Sections.{ImapMeaning, far_in, near_in, host_in, imap_store_of, later, patterns_in, place_among, port_in, store_at, the, title_in, user_in, group_of, GroupMeaning, pass_in, path_in, inbox_in, cells_in, create_in, expunge_in}
-use Rattle.config.specs.Views.{AtStart, AtImapStore, AtMaildirStore, AtChannel, AtGroup, AtBetween, ChannelView, MaildirView, MannerView, Sketch, View, sketch, view, begun_view, channel_said, ended_view, imap_with, maildir_said, maildir_with, manner_said, manner_with, part_sketch, put_view, view_from, view_of, view_said, view_with}
+use Rattle.config.specs.Configurations.{Meaning, Part, Parts, add_at, begin_at, ended, ended_if, channel_names, imap_names, line_said, maildir_names, meaning_of, no_meaning, parted_words, said_at, with_section}
+use Rattle.config.specs.Sections.{ChannelMeaning, ImapMeaning, IsTitled, channel_of, channels_in, far_in, near_in, host_in, imap_store_of, later, patterns_in, place_among, port_in, store_at, the, title_in, user_in, pass_in, path_in, inbox_in, cells_in, create_in, expunge_in}
+use Rattle.config.specs.Views.{AtStart, AtImapStore, AtMaildirStore, AtChannel, AtGroup, AtBetween, ChannelView, MaildirView, MannerView, Sketch, View, sketch, view, begun_view, channel_said, ended_view, imap_with, open_names, maildir_said, maildir_with, manner_said, manner_with, part_sketch, view_from, view_of, view_said, view_with}
 
 -- ---- one line more
 
@@ -73,10 +73,9 @@ read_view (Ok done) misplaced section begins s line old mid new opens same met p
 read_view (Err fault) misplaced section begins s line old mid new opens same met placed known = tt
 
 pub read_titled : (r : Result (Unit {0}) FaultKind) (misplaced : Option FaultKind) (section begins : Option Place) (s line : Option Said)
-    → (misplaced ≡ None → section ≡ begins) → s ≡ line → OnOk r (misplaced ≡ None) → OnOk r (section ≡ None → option_and_then title_in s ≡ None)
-    → OnOk r (begins ≡ None → option_and_then title_in line ≡ None)
+    → (misplaced ≡ None → section ≡ begins) → s ≡ line → OnOk r (misplaced ≡ None) → OnOk r (IsTitled section s) → OnOk r (IsTitled begins line)
 read_titled (Ok done) misplaced section begins s line opens same placed known =
-    λ none. sym (ap (λ (w : Option Said). option_and_then title_in w) same) ∙ known (opens placed ∙ none)
+    subst (λ (w : Option Said). IsTitled begins w) same (subst (λ (p : Option Place). IsTitled p s) (opens placed) known)
 read_titled (Err fault) misplaced section begins s line opens same placed known = tt
 
 -- ---- one line more of a section, or before any
@@ -100,146 +99,155 @@ part kind name says = record { kind = kind; name = name; says = says }
 abbrev parts : List Said → List Part → Part → Parts
 parts before ends current = record { before = before; ended = ends; current = current }
 
-abbrev shown : Meaning → Sketch → List ℕ → MannerView → View
-shown m section name before = record {
+abbrev shown : Meaning → Sketch → List ℕ → MannerView → List (List ℕ) → View
+shown m section name before names = record {
   section = section;
   name = name;
   before = before;
   imap_stores = m.imap_stores;
   maildir_stores = m.maildir_stores;
   channels = m.channels;
-  groups = map (λ g. g.name) m.groups;
+  groups = m.groups;
+  named = names;
 }
 
-at_start : (m : Meaning) (s : Said) (name : List ℕ) (before : MannerView) → title_in s ≡ None
-    → view_with s (shown m AtStart name before) ≡ shown m AtStart name (manner_with s before)
-at_start m (SectionIs n) name before none = cc
-at_start m (GroupIs n cs) name before none = cc
-at_start m _ name before none = refl
+at_start : (m : Meaning) (s : Said) (name : List ℕ) (before : MannerView) (names : List (List ℕ)) → title_in s ≡ None
+    → view_with s (shown m AtStart name before names) ≡ shown m AtStart name (manner_with s before) names
+at_start m (SectionIs n) name before names none = cc
+at_start m (GroupIs n cs) name before names none = cc
+at_start m _ name before names none = refl
 
-at_imap : (m : Meaning) (s : Said) (i : ImapMeaning) (name : List ℕ) (before : MannerView) → title_in s ≡ None
-    → view_with s (shown m (AtImapStore i) name before) ≡ shown m (AtImapStore (imap_with s i)) name before
-at_imap m (SectionIs n) i name before none = cc
-at_imap m (GroupIs n cs) i name before none = cc
-at_imap m _ i name before none = refl
+at_between : (m : Meaning) (s : Said) (name : List ℕ) (before : MannerView) (names : List (List ℕ)) → title_in s ≡ None
+    → view_with s (shown m AtBetween name before names) ≡ shown m AtBetween name before names
+at_between m (SectionIs n) name before names none = cc
+at_between m (GroupIs n cs) name before names none = cc
+at_between m _ name before names none = refl
 
-at_maildir : (m : Meaning) (s : Said) (i : MaildirView) (name : List ℕ) (before : MannerView) → title_in s ≡ None
-    → view_with s (shown m (AtMaildirStore i) name before) ≡ shown m (AtMaildirStore (maildir_with s i)) name before
-at_maildir m (SectionIs n) i name before none = cc
-at_maildir m (GroupIs n cs) i name before none = cc
-at_maildir m _ i name before none = refl
+at_imap : (m : Meaning) (s : Said) (i : ImapMeaning) (name : List ℕ) (before : MannerView) (names : List (List ℕ)) → title_in s ≡ None
+    → view_with s (shown m (AtImapStore i) name before names) ≡ shown m (AtImapStore (imap_with s i)) name before names
+at_imap m (SectionIs n) i name before names none = cc
+at_imap m (GroupIs n cs) i name before names none = cc
+at_imap m _ i name before names none = refl
 
-at_other : (m : Meaning) (s : Said) (name : List ℕ) (before : MannerView) → title_in s ≡ None
-    → (view_with s (shown m AtGroup name before) ≡ shown m AtGroup name before) × (view_with s (shown m AtBetween name before) ≡ shown m AtBetween name before)
-at_other m (SectionIs n) name before none = cc
-at_other m (GroupIs n cs) name before none = cc
-at_other m _ name before none = (refl, refl)
+at_maildir : (m : Meaning) (s : Said) (i : MaildirView) (name : List ℕ) (before : MannerView) (names : List (List ℕ)) → title_in s ≡ None
+    → view_with s (shown m (AtMaildirStore i) name before names) ≡ shown m (AtMaildirStore (maildir_with s i)) name before names
+at_maildir m (SectionIs n) i name before names none = cc
+at_maildir m (GroupIs n cs) i name before names none = cc
+at_maildir m _ i name before names none = refl
+
+-- channels to which none are added
+alone : (m : Meaning) (channels : List (List ℕ)) (name : List ℕ) (before : MannerView) (names : List (List ℕ))
+    → shown m (AtGroup channels) name before names ≡ shown m (AtGroup (channels ++ [])) name before names
+alone m channels name before names = ap (λ (l : List (List ℕ)). shown m (AtGroup l) name before names) (sym (append-nil channels))
+
+at_group : (m : Meaning) (s : Said) (channels : List (List ℕ)) (name : List ℕ) (before : MannerView) (names : List (List ℕ)) → title_in s ≡ None
+    → view_with s (shown m (AtGroup channels) name before names) ≡ shown m (AtGroup (channels ++ channels_in s)) name before names
+at_group m (SectionIs n) channels name before names none = cc
+at_group m (GroupIs n cs) channels name before names none = cc
+at_group m (ChannelsAre cs) channels name before names none = refl
+at_group m _ channels name before names none = alone m channels name before names
 
 -- patterns to which none are added
-unchanged : (m : Meaning) (c : ChannelView) (name : List ℕ) (before : MannerView)
-    → shown m (AtChannel c) name before ≡ shown m (AtChannel (record c { patterns = c.patterns ++ [] })) name before
-unchanged m c name before = ap (λ (l : List (List ℕ)). shown m (AtChannel (record c { patterns = l })) name before) (sym (append-nil c.patterns))
+unchanged : (m : Meaning) (c : ChannelView) (name : List ℕ) (before : MannerView) (names : List (List ℕ))
+    → shown m (AtChannel c) name before names ≡ shown m (AtChannel (record c { patterns = c.patterns ++ [] })) name before names
+unchanged m c name before names =
+    ap (λ (l : List (List ℕ)). shown m (AtChannel (record c { patterns = l })) name before names) (sym (append-nil c.patterns))
 
-at_channel : (m : Meaning) (s : Said) (says : List Said) (name : List ℕ) (before : MannerView) → title_in s ≡ None
-    → view_with s (shown m (AtChannel (channel_said (imap_names m) (maildir_names m) says)) name before)
-    ≡ shown m (AtChannel (channel_grown (imap_names m) (maildir_names m) s says)) name before
-at_channel m (SectionIs n) says name before none = cc
-at_channel m (GroupIs n cs) says name before none = cc
-at_channel m (FarIs store box) says name before none =
-    unchanged m (record (channel_said (imap_names m) (maildir_names m) says) { far = place_among (imap_names m) store; far_box = box }) name before
-at_channel m (NearIs store box) says name before none =
-    unchanged m (record (channel_said (imap_names m) (maildir_names m) says) { near = place_among (maildir_names m) store; near_box = box }) name before
-at_channel m (ChannelsAre cs) says name before none = unchanged m (channel_said (imap_names m) (maildir_names m) says) name before
-at_channel m _ says name before none = refl
+at_channel : (m : Meaning) (s : Said) (says : List Said) (name : List ℕ) (before : MannerView) (names : List (List ℕ)) → title_in s ≡ None
+    → view_with s (shown m (AtChannel (channel_said (imap_names m) (maildir_names m) says)) name before names)
+    ≡ shown m (AtChannel (channel_grown (imap_names m) (maildir_names m) s says)) name before names
+at_channel m (SectionIs n) says name before names none = cc
+at_channel m (GroupIs n cs) says name before names none = cc
+at_channel m (FarIs store box) says name before names none =
+    unchanged m (record (channel_said (imap_names m) (maildir_names m) says) { far = place_among (imap_names m) store; far_box = box }) name before names
+at_channel m (NearIs store box) says name before names none =
+    unchanged m (record (channel_said (imap_names m) (maildir_names m) says) { near = place_among (maildir_names m) store; near_box = box }) name before names
+at_channel m (ChannelsAre cs) says name before names none = unchanged m (channel_said (imap_names m) (maildir_names m) says) name before names
+at_channel m _ says name before names none = refl
 
 add_view : (m : Meaning) (s : Said) (before : List Said) (ends : List Part) (kind : Place) (name : List ℕ) (says : List Said) → title_in s ≡ None
     → view_with s (view_from m (parts before ends (part kind name says))) ≡ view_from m (add_at kind (s ∷ []) (parts before ends (part kind name says)))
 add_view m s before ends Start name says none =
-    at_start m s name (manner_said before) none ∙ ap (λ (b : MannerView). shown m AtStart name b) (sym (manner_more before s))
-add_view m s before ends Between name says none = (at_other m s name (manner_said before) none).1
+    at_start m s name (manner_said before) (channel_names m ++ []) none
+    ∙ ap (λ (b : MannerView). shown m AtStart name b (channel_names m ++ [])) (sym (manner_more before s))
+add_view m s before ends Between name says none = at_between m s name (manner_said before) (channel_names m ++ []) none
 add_view m s before ends ImapStore name says none =
-    at_imap m s (imap_store_of [] says) name (manner_said before) none
-    ∙ ap (λ (i : ImapMeaning). shown m (AtImapStore i) name (manner_said before)) (sym (imap_more says s))
+    at_imap m s (imap_store_of [] says) name (manner_said before) (channel_names m ++ []) none
+    ∙ ap (λ (i : ImapMeaning). shown m (AtImapStore i) name (manner_said before) (channel_names m ++ [])) (sym (imap_more says s))
 add_view m s before ends MaildirStore name says none =
-    at_maildir m s (maildir_said says) name (manner_said before) none
-    ∙ ap (λ (i : MaildirView). shown m (AtMaildirStore i) name (manner_said before)) (sym (maildir_more says s))
+    at_maildir m s (maildir_said says) name (manner_said before) (channel_names m ++ []) none
+    ∙ ap (λ (i : MaildirView). shown m (AtMaildirStore i) name (manner_said before) (channel_names m ++ [])) (sym (maildir_more says s))
 add_view m s before ends Channel name says none =
-    at_channel m s says name (manner_said before) none
-    ∙ ap (λ (c : ChannelView). shown m (AtChannel c) name (manner_said before)) (sym (channel_more (imap_names m) (maildir_names m) says s))
-add_view m s before ends Group name says none = (at_other m s name (manner_said before) none).0
+    at_channel m s says name (manner_said before) (channel_names m ++ name ∷ []) none
+    ∙ ap (λ (c : ChannelView). shown m (AtChannel c) name (manner_said before) (channel_names m ++ name ∷ []))
+    (sym (channel_more (imap_names m) (maildir_names m) says s))
+add_view m s before ends Group name says none =
+    at_group m s (flat_map channels_in says) name (manner_said before) (channel_names m ++ []) none
+    ∙ ap (λ (l : List (List ℕ)). shown m (AtGroup l) name (manner_said before) (channel_names m ++ [])) (sym (flat_more channels_in says s))
 
--- the first line of a section
-begin_view : (m : Meaning) (kind : Place) (p : Parts) → begun_view (Some kind) (view_from m p) ≡ view_from m (begin_at kind None p)
-begin_view m Start p = refl
-begin_view m Between p = refl
-begin_view m ImapStore p = refl
-begin_view m MaildirStore p = refl
-begin_view m Channel p = refl
-begin_view m Group p = refl
+-- ---- the first line of a section
 
-title_view : (m : Meaning) (kind : Place) (name : List ℕ) (s : Said) (p : Parts) → title_in s ≡ Some name
-    → view_with s (view_from m (begin_at kind None p)) ≡ view_from m (begin_at kind (Some s) p)
-title_view m kind name (SectionIs n) p is = by kind
+pub none_open : (kind : Place) (name : List ℕ) → is_section kind ≡ false → open_names kind name ≡ []
+none_open Start name closed = refl
+none_open Between name closed = refl
+none_open ImapStore name closed = refl
+none_open MaildirStore name closed = refl
+none_open Channel name closed = cc
+none_open Group name closed = refl
+
+-- a section of this name begins where none is open, which is a channel or is not
+begun_other : (m : Meaning) (section : Sketch) (name : List ℕ) (before : MannerView) (still : List (List ℕ)) → still ≡ []
+    → shown m section name before (channel_names m ++ still) ≡ shown m section name before (channel_names m ++ [])
+begun_other m section name before still none = ap (λ (l : List (List ℕ)). shown m section name before (channel_names m ++ l)) none
+
+begun_channel : (m : Meaning) (section : Sketch) (name : List ℕ) (before : MannerView) (still : List (List ℕ)) → still ≡ []
+    → shown m section name before ((channel_names m ++ still) ++ name ∷ []) ≡ shown m section name before (channel_names m ++ name ∷ [])
+begun_channel m section name before still none =
+    ap (λ (l : List (List ℕ)). shown m section name before ((channel_names m ++ l) ++ name ∷ [])) none
+    ∙ ap (λ (l : List (List ℕ)). shown m section name before (l ++ name ∷ [])) (append-nil (channel_names m))
+
+first_view : (m : Meaning) (kind : Place) (s : Said) (p : Parts) → is_section kind ≡ true → is_section p.current.kind ≡ false → IsSome (title_in s)
+    → view_with s (begun_view (Some kind) (view_from m p)) ≡ view_from m (begin_at kind (Some s) p)
+first_view m kind (SectionIs n) p section closed some = by kind section
   where
-    by : (k : Place) → view_with (SectionIs n) (view_from m (begin_at k None p)) ≡ view_from m (begin_at k (Some (SectionIs n)) p)
-    by Start = refl
-    by Between = refl
-    by ImapStore = refl
-    by MaildirStore = refl
-    by Channel = refl
-    by Group = refl
-title_view m kind name (GroupIs n cs) p is = by kind
+    still : List (List ℕ)
+    still = open_names p.current.kind p.current.name
+
+    none : still ≡ []
+    none = none_open p.current.kind p.current.name closed
+
+    by : (k : Place) → is_section k ≡ true → view_with (SectionIs n) (begun_view (Some k) (view_from m p)) ≡ view_from m (begin_at k (Some (SectionIs n)) p)
+    by Start section = cc
+    by Between section = cc
+    by ImapStore section = begun_other m (AtImapStore (imap_store_of [] [])) n (manner_said p.before) still none
+    by MaildirStore section = begun_other m (AtMaildirStore (maildir_said [])) n (manner_said p.before) still none
+    by Channel section = begun_channel m (AtChannel (channel_said [] [] [])) n (manner_said p.before) still none
+    by Group section = begun_other m (AtGroup []) n (manner_said p.before) still none
+first_view m kind (GroupIs n cs) p section closed some = by kind section
   where
-    by : (k : Place) → view_with (GroupIs n cs) (view_from m (begin_at k None p)) ≡ view_from m (begin_at k (Some (GroupIs n cs)) p)
-    by Start = refl
-    by Between = refl
-    by ImapStore = refl
-    by MaildirStore = refl
-    by Channel = refl
-    by Group = refl
-title_view m kind name _ p is = cc
+    still : List (List ℕ)
+    still = open_names p.current.kind p.current.name
 
-untitled_view : (m : Meaning) (kind : Place) (s : Said) (p : Parts) → is_section kind ≡ true → title_in s ≡ None
-    → view_with s (view_from m (begin_at kind None p)) ≡ view_from m (begin_at kind (Some s) p)
-untitled_view m kind s p section none =
-    add_view m s p.before p.ended kind [] [] none ∙ (same kind section ∙ named (title_in s) none)
-  where
-    same : (k : Place) → is_section k ≡ true
-        → view_from m (add_at k (s ∷ []) (parts p.before p.ended (part k [] []))) ≡ view_from m (parts p.before p.ended (part k [] (s ∷ [])))
-    same Start section = cc
-    same Between section = cc
-    same ImapStore section = refl
-    same MaildirStore section = refl
-    same Channel section = refl
-    same Group section = refl
+    none : still ≡ []
+    none = none_open p.current.kind p.current.name closed
 
-    named : (t : Option (List ℕ)) → t ≡ None
-        → view_from m (parts p.before p.ended (part kind [] (s ∷ []))) ≡ view_from m (parts p.before p.ended (part kind (unwrap_or t []) (s ∷ [])))
-    named t is = ap (λ (o : Option (List ℕ)). view_from m (parts p.before p.ended (part kind (unwrap_or o []) (s ∷ [])))) (sym is)
-
-first_view : (m : Meaning) (kind : Place) (s : Said) (p : Parts) → is_section kind ≡ true
-    → view_with s (view_from m (begin_at kind None p)) ≡ view_from m (begin_at kind (Some s) p)
-first_view m kind s p section = by (title_in s) refl
-  where
-    by : (t : Option (List ℕ)) → title_in s ≡ t → view_with s (view_from m (begin_at kind None p)) ≡ view_from m (begin_at kind (Some s) p)
-    by None is = untitled_view m kind s p section is
-    by (Some name) is = title_view m kind name s p is
-
-nothing_added : (kind : Place) (p : Parts) → add_at kind [] p ≡ p
-nothing_added Start p = ap (λ (l : List Said). parts l p.ended p.current) (append-nil p.before)
-nothing_added Between p = refl
-nothing_added ImapStore p = ap (λ (l : List Said). parts p.before p.ended (part p.current.kind p.current.name l)) (append-nil p.current.says)
-nothing_added MaildirStore p = ap (λ (l : List Said). parts p.before p.ended (part p.current.kind p.current.name l)) (append-nil p.current.says)
-nothing_added Channel p = ap (λ (l : List Said). parts p.before p.ended (part p.current.kind p.current.name l)) (append-nil p.current.says)
-nothing_added Group p = ap (λ (l : List Said). parts p.before p.ended (part p.current.kind p.current.name l)) (append-nil p.current.says)
+    by : (k : Place) → is_section k ≡ true → view_with (GroupIs n cs) (begun_view (Some k) (view_from m p)) ≡ view_from m (begin_at k (Some (GroupIs n cs)) p)
+    by Start section = cc
+    by Between section = cc
+    by ImapStore section = begun_other m (AtImapStore (imap_store_of [] [])) n (manner_said p.before) still none
+    by MaildirStore section = begun_other m (AtMaildirStore (maildir_said [])) n (manner_said p.before) still none
+    by Channel section = begun_channel m (AtChannel (channel_said [] [] [])) n (manner_said p.before) still none
+    by Group section =
+        begun_other m (AtGroup cs) n (manner_said p.before) still none ∙ alone m cs n (manner_said p.before) (channel_names m ++ [])
+first_view m kind _ p section closed some = cc
 
 said_view : (m : Meaning) (begins : Option Place) (s : Option Said) (p : Parts) → ((kind : Place) → begins ≡ Some kind → is_section kind ≡ true)
-    → (begins ≡ None → option_and_then title_in s ≡ None) → view_said s (begun_view begins (view_from m p)) ≡ view_from m (said_at begins s p)
-said_view m None None p sections titles = ap (λ (q : Parts). view_from m q) (sym (nothing_added p.current.kind p))
-said_view m None (Some s) p sections titles = add_view m s p.before p.ended p.current.kind p.current.name p.current.says (titles refl)
-said_view m (Some kind) None p sections titles = begin_view m kind p
-said_view m (Some kind) (Some s) p sections titles =
-    ap (λ (v : View). view_with s v) (begin_view m kind p) ∙ first_view m kind s p (sections kind refl)
+    → ((kind : Place) → begins ≡ Some kind → is_section p.current.kind ≡ false) → IsTitled begins s
+    → view_said s (begun_view begins (view_from m p)) ≡ view_from m (said_at begins s p)
+said_view m None None p sections closed titled = absurd titled
+said_view m None (Some s) p sections closed titled = add_view m s p.before p.ended p.current.kind p.current.name p.current.says titled
+said_view m (Some kind) None p sections closed titled = absurd titled
+said_view m (Some kind) (Some s) p sections closed titled = first_view m kind s p (sections kind refl) (closed kind refl) titled
 
 -- ---- what stays
 
@@ -300,12 +308,19 @@ opened_section at word kind = by (is_section at)
     by true is = cc
     by false is = named_section word kind is
 
+opened_outside : (at : Place) (word : List ℕ) (kind : Place) → opened at word ≡ Some kind → is_section at ≡ false
+opened_outside at word kind = by (is_section at)
+  where
+    by : (b : Bool) → (if b then None else section_named word) ≡ Some kind → b ≡ false
+    by true is = cc
+    by false is = refl
+
 abbrev place_in : Sketch → Place
 place_in AtStart = Start
 place_in (AtImapStore m) = ImapStore
 place_in (AtMaildirStore m) = MaildirStore
 place_in (AtChannel c) = Channel
-place_in AtGroup = Group
+place_in (AtGroup channels) = Group
 place_in AtBetween = Between
 
 place_sketched : (section : Section) → place_of section ≡ place_in (sketch section)
@@ -314,7 +329,7 @@ place_sketched sections.Between = refl
 place_sketched (sections.ImapStore draft) = refl
 place_sketched (sections.MaildirStore draft) = refl
 place_sketched (sections.Channel draft) = refl
-place_sketched sections.Group = refl
+place_sketched (sections.Group draft) = refl
 
 place_parted : (a b : List (List ℕ)) (kind : Place) (says : List Said) → place_in (part_sketch a b kind says) ≡ kind
 place_parted a b Start says = refl
@@ -333,7 +348,7 @@ at_drawn p d is =
 
 pub drawn_words : (p : Parts) (words : List ℕ × List ℕ) (old new : Draft) → IsDrawn p old
     → view new ≡ view_said (line_said (place_of old.section) words) (begun_view (opened (place_of old.section) words.0) (view old))
-    → (opened (place_of old.section) words.0 ≡ None → option_and_then title_in (line_said (place_of old.section) words) ≡ None)
+    → IsTitled (opened (place_of old.section) words.0) (line_said (place_of old.section) words)
     → IsDrawn (parted_words (Some words) p) new
 drawn_words p words old new is shows titles =
     let at = p.current.kind in
@@ -341,13 +356,14 @@ drawn_words p words old new is shows titles =
     let s = line_said at words in
     let same : place_of old.section ≡ at = at_drawn p old is in
     let sections : (kind : Place) → begins ≡ Some kind → is_section kind ≡ true = opened_section at words.0 in
-    let untitled = subst (λ (k : Place). opened k words.0 ≡ None → option_and_then title_in (line_said k words) ≡ None) same titles in
+    let closed : (kind : Place) → begins ≡ Some kind → is_section at ≡ false = opened_outside at words.0 in
+    let titled = subst (λ (k : Place). IsTitled (opened k words.0) (line_said k words)) same titles in
     let here : view new ≡ view_said s (begun_view begins (view old)) =
     subst (λ (k : Place). view new ≡ view_said (line_said k words) (begun_view (opened k words.0) (view old))) same shows in
     record {
       view = here
           ∙ (ap (λ (v : View). view_said s (begun_view begins v)) is.view
-          ∙ (said_view (meaning_of p) begins s p sections untitled
+          ∙ (said_view (meaning_of p) begins s p sections closed titled
           ∙ ap (λ (m : Meaning). view_from m (said_at begins s p)) (sym (said_meaning begins s p is.first))));
       first = said_first begins s p sections is.first;
     }
@@ -356,12 +372,12 @@ behind : (before : List Said) (ends : List Part) (s : Part)
     → view_of (ended_if true (parts before ends s)) ≡ view_from (with_section before (meaning_of (parts before ends s)) s) (ended_if true (parts before ends s))
 behind before ends s = ap (λ (m : Meaning). view_from m (ended_if true (parts before ends s))) (fold-append (with_section before) no_meaning ends (s ∷ []))
 
--- a group more
-more_groups : (p : Parts) → put_view AtGroup p.current.name (record (view_of p) { section = AtBetween; name = [] })
-    ≡ view_from (record (meaning_of p) { groups = (meaning_of p).groups ++ group_of p.current.name p.current.says ∷ [] }) (ended_if true p)
-more_groups p =
-    ap (λ (names : List (List ℕ)). record (view_of p) { section = AtBetween; name = []; groups = names })
-    (sym (map-append (λ (g : GroupMeaning). g.name) (meaning_of p).groups (group_of p.current.name p.current.says ∷ [])))
+-- a channel more
+more_names : (m : Meaning) (names : List (List ℕ)) (c : ChannelMeaning) → names ≡ channel_names m ++ c.name ∷ []
+    → names ≡ channel_names (record m { channels = m.channels ++ c ∷ [] }) ++ []
+more_names m names c is =
+    is ∙ (sym (map-append (λ (x : ChannelMeaning). x.name) m.channels (c ∷ []))
+    ∙ sym (append-nil (map (λ (x : ChannelMeaning). x.name) (m.channels ++ c ∷ []))))
 
 -- the section that has ended
 end_view : (before : List Said) (ends : List Part) (kind : Place) (name : List ℕ) (says : List Said)
@@ -370,9 +386,13 @@ end_view before ends Start name says = refl
 end_view before ends Between name says = refl
 end_view before ends ImapStore name says = sym (behind before ends (part ImapStore name says))
 end_view before ends MaildirStore name says = sym (behind before ends (part MaildirStore name says))
-end_view before ends Channel name says = sym (behind before ends (part Channel name says))
-end_view before ends Group name says =
-    more_groups (parts before ends (part Group name says)) ∙ sym (behind before ends (part Group name says))
+end_view before ends Channel name says =
+    let m = meaning_of (parts before ends (part Channel name says)) in
+    let c = channel_of (imap_names m) (maildir_names m) before name says in
+    ap (λ (names : List (List ℕ)). record (view_from (record m { channels = m.channels ++ c ∷ [] }) (ended_if true (parts before ends (part Channel name says)))) { named = names })
+    (more_names m (channel_names m ++ name ∷ []) c refl)
+    ∙ sym (behind before ends (part Channel name says))
+end_view before ends Group name says = sym (behind before ends (part Group name says))
 
 pub drawn_end : (p : Parts) (old new : Draft) → IsDrawn p old → view new ≡ ended_view (is_section (place_of old.section)) (view old) → IsDrawn (ended p) new
 drawn_end p old new is shows = record {

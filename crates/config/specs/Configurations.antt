@@ -11,7 +11,7 @@ use Rattle.config_words.specs.Keywords.{keyword_named, meant_at}
 use Rattle.config_words.specs.Meanings.{Said, said}
 use Rattle.config_words.specs.Places.{is_section, opened}
 use Rattle.config_words.specs.Words.{arguments_of, is_blank, words_of}
-use Rattle.config.specs.Sections.{ChannelMeaning, GroupMeaning, ImapMeaning, MaildirMeaning, channel_of, group_of, imap_store_of, maildir_store_of, title_in}
+use Rattle.config.specs.Sections.{ChannelMeaning, GroupMeaning, ImapMeaning, MaildirMeaning, channel_of, group_of, imap_store_of, maildir_store_of, place_among, title_in}
 use Rattle.config.specs.Standing.{lines_of}
 
 -- ---- the sections of a text
@@ -86,6 +86,9 @@ imap_names m = map (λ store. store.name) m.imap_stores
 abbrev pub maildir_names : Meaning → List (List ℕ)
 maildir_names m = map (λ store. store.name) m.maildir_stores
 
+abbrev pub channel_names : Meaning → List (List ℕ)
+channel_names m = map (λ channel. channel.name) m.channels
+
 -- a section adds what it says, which for a channel names stores above
 abbrev pub added_at : Place → List Said → Meaning → Part → Meaning
 added_at place.ImapStore before m s = record m { imap_stores = m.imap_stores ++ imap_store_of s.name s.says ∷ [] }
@@ -129,12 +132,20 @@ channel_value c = record {
   expunge = c.expunge;
 }
 
-abbrev pub group_name : Group → List ℕ
-group_name g = string_bytes g.name
+-- a group by the places of its channels among all channels, from 0; none for a name that no channel has
+pub record GroupPlaces : Type 0 where
+  pub name : List ℕ
+  pub channels : List (Option ℕ)
 
--- a configuration has just these stores, channels and groups; of the channels of a group nothing is said
+abbrev pub placed : List (List ℕ) → GroupMeaning → GroupPlaces
+placed names g = record { name = g.name; channels = map (place_among names) g.channels }
+
+abbrev pub group_value : Group → GroupPlaces
+group_value g = record { name = string_bytes g.name; channels = map Some g.channels.items }
+
+-- a configuration has just these stores, channels and groups, and each group just its channels
 pub record Means (m : Meaning) (config : Config) : Type 0 where
   pub imap_stores : map imap_value config.imap_stores.items ≡ m.imap_stores
   pub maildir_stores : map maildir_value config.maildir_stores.items ≡ m.maildir_stores
   pub channels : map channel_value config.channels.items ≡ m.channels
-  pub groups : map group_name config.groups.items ≡ map (λ g. g.name) m.groups
+  pub groups : map group_value config.groups.items ≡ map (placed (channel_names m)) m.groups

@@ -17,7 +17,7 @@ place_of Between = place.Between
 place_of (ImapStore draft) = place.ImapStore
 place_of (MaildirStore draft) = place.MaildirStore
 place_of (Channel draft) = place.Channel
-place_of Group = place.Group
+place_of (Group draft) = place.Group
 
 abbrev pub standing_of : Draft → Standing
 standing_of d = record {

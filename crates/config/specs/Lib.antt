@@ -7,6 +7,7 @@ pub mod Standing
 pub mod Drafts
 pub mod Outlines
 pub mod Sections
+pub mod Named
 pub mod Configurations
 pub mod Views
 pub mod Meant

@@ -1,10 +1,11 @@
 -- What the lines of a section make of it (docs/FORMATS.md, "Configuration").
-use Rattle.std.specs.Prelude.{ℕ, true, false, List, [], ◌∷◌, fold, flat_map, position, bytes_eq, Option, Some, None, unwrap_or, option_and_then, codes}
+use Rattle.std.specs.Prelude.{ℕ, ◌≡◌, true, false, List, [], ◌∷◌, fold, flat_map, position, bytes_eq, Option, Some, None, IsSome, unwrap_or, option_and_then, codes}
 use Rattle.std.specs.Option.{option_or}
 use Rattle.rules.specs.declared.options.Cells.{Cells}
 use Rattle.rules.specs.declared.options.Sides.{Sides}
 use Rattle.config.specs.declared.config.Boxes.{Boxes}
 use Rattle.config.specs.declared.config.Boxes.TheVariants.{Pair, Matching}
+use Rattle.config_words.specs.declared.keyword.Place.{Place}
 use Rattle.config_words.specs.Meanings.{Said, SectionIs, GroupIs, HostIs, PortIs, UserIs, PassIs, PathIs, InboxIs, FarIs, NearIs, PatternsAre, SyncIs, CreateIs, ExpungeIs, ChannelsAre}
 
 -- ---- what one line says of each thing
@@ -14,6 +15,12 @@ abbrev pub title_in : Said → Option (List ℕ)
 title_in (SectionIs name) = Some name
 title_in (GroupIs name channels) = Some name
 title_in _ = None
+
+-- a line says something, and the name of the section that begins exactly where one does
+abbrev pub IsTitled : (begins : Option Place) → Option Said → Type 0
+IsTitled None (Some s) = title_in s ≡ None
+IsTitled (Some kind) (Some s) = IsSome (title_in s)
+IsTitled _ None = ⊥
 
 abbrev pub host_in : Said → Option (List ℕ)
 host_in (HostIs host) = Some host

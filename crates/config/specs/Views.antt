@@ -6,6 +6,7 @@ use Rattle.rules.specs.declared.options.Sides.{Sides}
 use Rattle.config.specs.declared.config.ImapStore as store
 use Rattle.config.specs.declared.config.MaildirStore as folder
 use Rattle.config.specs.declared.config.Channel as chan
+use Rattle.config.specs.declared.config.Config.{Config}
 use Rattle.config.specs.declared.draft.Draft.{Draft}
 use Rattle.config.specs.declared.section.ImapDraft.{ImapDraft}
 use Rattle.config.specs.declared.section.MaildirDraft.{MaildirDraft}
@@ -16,8 +17,9 @@ use Rattle.config.specs.declared.section.Section.TheVariants.{Start, Between, Im
 use Rattle.config_words.specs.declared.keyword.Place.{Place}
 use Rattle.config_words.specs.declared.keyword.Place.TheVariants as place
 use Rattle.config_words.specs.Meanings.{Said, SectionIs, GroupIs, FarIs, NearIs, ChannelsAre}
-use Rattle.config.specs.Configurations.{Meaning, Parts, channel_value, group_name, imap_names, imap_value, maildir_names, maildir_value, meaning_of}
-use Rattle.config.specs.Sections.{ChannelMeaning, ImapMeaning, MaildirMeaning, boxes_of, cells_in, create_in, everything, expunge_in, far_in, host_in, imap_store_of, inbox_in, near_in, neither, pass_in, path_in, patterns_in, place_among, port_in, store_at, the, user_in}
+use Rattle.config.specs.Named.{group_named, member_name}
+use Rattle.config.specs.Configurations.{Meaning, Parts, channel_names, channel_value, group_value, imap_names, imap_value, maildir_names, maildir_value, meaning_of, placed}
+use Rattle.config.specs.Sections.{ChannelMeaning, GroupMeaning, ImapMeaning, MaildirMeaning, boxes_of, cells_in, channels_in, create_in, everything, expunge_in, far_in, host_in, imap_store_of, inbox_in, near_in, neither, pass_in, path_in, patterns_in, place_among, port_in, store_at, the, user_in}
 
 -- ---- IMAP stores, without their names
 
@@ -105,9 +107,6 @@ channel_said imap_stores maildir_stores says = record {
   manner = manner_said says;
 }
 
-abbrev pub sides_chosen : (own before : Option Sides) → Sides
-sides_chosen own before = unwrap_or (option_or own before) neither
-
 -- the channel that a section comes to
 abbrev pub channel_ended : List ℕ → MannerView → ChannelView → ChannelMeaning
 channel_ended name before c = record {
@@ -144,7 +143,7 @@ pub data Sketch : Type 0 where
   AtImapStore : ImapMeaning → Sketch
   AtMaildirStore : MaildirView → Sketch
   AtChannel : ChannelView → Sketch
-  AtGroup : Sketch
+  AtGroup : List (List ℕ) → Sketch
   AtBetween : Sketch
 
 abbrev pub sketch : Section → Sketch
@@ -152,7 +151,7 @@ sketch Start = AtStart
 sketch (ImapStore draft) = AtImapStore (imap_view draft)
 sketch (MaildirStore draft) = AtMaildirStore (maildir_view draft)
 sketch (Channel draft) = AtChannel (channel_view draft)
-sketch Group = AtGroup
+sketch (Group draft) = AtGroup (map member_name draft.members.items)
 sketch Between = AtBetween
 
 abbrev pub sketch_with : Said → Sketch → Sketch
@@ -160,7 +159,7 @@ sketch_with s AtStart = AtStart
 sketch_with s (AtImapStore m) = AtImapStore (imap_with s m)
 sketch_with s (AtMaildirStore m) = AtMaildirStore (maildir_with s m)
 sketch_with s (AtChannel c) = AtChannel (channel_with s c)
-sketch_with s AtGroup = AtGroup
+sketch_with s (AtGroup channels) = AtGroup channels
 sketch_with s AtBetween = AtBetween
 
 abbrev pub with_far : Option ℕ → Option (List ℕ) → Sketch → Sketch
@@ -171,16 +170,21 @@ abbrev pub with_near : Option ℕ → Option (List ℕ) → Sketch → Sketch
 with_near store box (AtChannel c) = AtChannel (record c { near = store; near_box = box })
 with_near store box other = other
 
+-- channels that a line adds to a group
+abbrev pub with_members : List (List ℕ) → Sketch → Sketch
+with_members names (AtGroup channels) = AtGroup (channels ++ names)
+with_members names other = other
+
 -- the section that has just begun at a place
 abbrev pub sketch_at : Place → Sketch
 sketch_at place.Start = AtStart
 sketch_at place.ImapStore = AtImapStore (imap_store_of [] [])
 sketch_at place.MaildirStore = AtMaildirStore (maildir_said [])
 sketch_at place.Channel = AtChannel (channel_said [] [] [])
-sketch_at place.Group = AtGroup
+sketch_at place.Group = AtGroup []
 sketch_at place.Between = AtBetween
 
--- ---- a draft, but for the channels of its groups
+-- ---- a draft
 
 pub record View : Type 0 where
   pub section : Sketch
@@ -189,7 +193,8 @@ pub record View : Type 0 where
   pub imap_stores : List ImapMeaning
   pub maildir_stores : List MaildirMeaning
   pub channels : List ChannelMeaning
-  pub groups : List (List ℕ)
+  pub groups : List GroupMeaning
+  pub named : List (List ℕ)
 
 abbrev pub view : Draft → View
 view d = record {
@@ -199,11 +204,12 @@ view d = record {
   imap_stores = map imap_value d.config.imap_stores.items;
   maildir_stores = map maildir_value d.config.maildir_stores.items;
   channels = map channel_value d.config.channels.items;
-  groups = map group_name d.config.groups.items;
+  groups = map group_named d.groups.items;
+  named = map string_bytes d.channels.items;
 }
 
 abbrev pub first_view : View
-first_view = record { section = AtStart; name = []; before = manner_said []; imap_stores = []; maildir_stores = []; channels = []; groups = [] }
+first_view = record { section = AtStart; name = []; before = manner_said []; imap_stores = []; maildir_stores = []; channels = []; groups = []; named = [] }
 
 -- before any section, a line is for all channels
 abbrev pub before_with : Said → Sketch → MannerView → MannerView
@@ -219,10 +225,18 @@ imap_place v store = place_among (map (λ s. s.name) v.imap_stores) store
 abbrev pub maildir_place : View → List ℕ → Option ℕ
 maildir_place v store = place_among (map (λ s. s.name) v.maildir_stores) store
 
+-- the names of the channels, with that of the one that is open
+abbrev pub named_with : Sketch → List ℕ → List (List ℕ) → List (List ℕ)
+named_with (AtChannel c) name names = names ++ name ∷ []
+named_with _ name names = names
+
+abbrev pub titled_view : List ℕ → View → View
+titled_view name v = record v { name = name; named = named_with v.section name v.named }
+
 abbrev pub view_with : Said → View → View
-view_with (SectionIs name) v = record v { name = name }
-view_with (GroupIs name channels) v = record v { name = name }
-view_with (ChannelsAre channels) v = v
+view_with (SectionIs name) v = titled_view name v
+view_with (GroupIs name channels) v = titled_view name (record v { section = with_members channels v.section })
+view_with (ChannelsAre channels) v = record v { section = with_members channels v.section }
 view_with (FarIs store box) v = record v { section = with_far (imap_place v store) box v.section }
 view_with (NearIs store box) v = record v { section = with_near (maildir_place v store) box v.section }
 view_with s v = set_in_section s v
@@ -242,7 +256,7 @@ put_view AtStart name v = v
 put_view (AtImapStore m) name v = record v { imap_stores = v.imap_stores ++ record m { name = name } ∷ [] }
 put_view (AtMaildirStore m) name v = record v { maildir_stores = v.maildir_stores ++ maildir_ended name m ∷ [] }
 put_view (AtChannel c) name v = record v { channels = v.channels ++ channel_ended name v.before c ∷ [] }
-put_view AtGroup name v = record v { groups = v.groups ++ name ∷ [] }
+put_view (AtGroup channels) name v = record v { groups = v.groups ++ record { name = name; channels = channels } ∷ [] }
 put_view AtBetween name v = v
 
 -- a section ends, if one is open
@@ -257,8 +271,13 @@ part_sketch imap_stores maildir_stores place.Start says = AtStart
 part_sketch imap_stores maildir_stores place.ImapStore says = AtImapStore (imap_store_of [] says)
 part_sketch imap_stores maildir_stores place.MaildirStore says = AtMaildirStore (maildir_said says)
 part_sketch imap_stores maildir_stores place.Channel says = AtChannel (channel_said imap_stores maildir_stores says)
-part_sketch imap_stores maildir_stores place.Group says = AtGroup
+part_sketch imap_stores maildir_stores place.Group says = AtGroup (flat_map channels_in says)
 part_sketch imap_stores maildir_stores place.Between says = AtBetween
+
+-- the name of the channel that is open
+abbrev pub open_names : Place → List ℕ → List (List ℕ)
+open_names place.Channel name = name ∷ []
+open_names _ name = []
 
 abbrev pub view_from : Meaning → Parts → View
 view_from m p = record {
@@ -268,8 +287,16 @@ view_from m p = record {
   imap_stores = m.imap_stores;
   maildir_stores = m.maildir_stores;
   channels = m.channels;
-  groups = map (λ g. g.name) m.groups;
+  groups = m.groups;
+  named = channel_names m ++ open_names p.current.kind p.current.name;
 }
 
 abbrev pub view_of : Parts → View
 view_of p = view_from (meaning_of p) p
+
+-- a configuration has what the sections that have ended say, and its groups have their channels by their places
+pub record Shows (v : View) (config : Config) : Type 0 where
+  pub imap_stores : map imap_value config.imap_stores.items ≡ v.imap_stores
+  pub maildir_stores : map maildir_value config.maildir_stores.items ≡ v.maildir_stores
+  pub channels : map channel_value config.channels.items ≡ v.channels
+  pub groups : map group_value config.groups.items ≡ map (placed v.named) v.groups

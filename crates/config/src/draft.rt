@@ -1,21 +1,25 @@
 //! A configuration while it is read: what its lines say, whatever their numbers.
 
-ghost use Rattle.std.specs.Prelude.{◌≡◌, IfOk, IfSome, IsTrue, OnOk, None, false, true, option_and_then, string_bytes};
+ghost use Rattle.std.specs.Prelude.{◌≡◌, ℕ, List, IfOk, IfSome, IsTrue, OnOk, None, false, true, map, string_bytes};
 ghost use Rattle.config.specs.Drafts.{IsMet, IsMisplaced, IsTaken, given, standing_of};
 ghost use Rattle.config.specs.Configurations.{line_said};
-ghost use Rattle.config.specs.Sections.{title_in};
-ghost use Rattle.config.specs.Views.{begun_view, ended_view, first_view, imap_place, maildir_place, put_view, set_in_section, sketch, view, view_said, view_with};
+ghost use Rattle.config.specs.Lines.{IsUpTo};
+ghost use Rattle.config.specs.Outlines.{Tells};
+ghost use Rattle.config.specs.Readings.{HasLines, IsLine, NamesLines, SectionLines};
+ghost use Rattle.config.specs.Sections.{IsTitled};
+ghost use Rattle.config.specs.Views.{Shows, begun_view, ended_view, first_view, titled_view, imap_place, maildir_place, put_view, set_in_section, sketch, view, view_said, view_with};
 ghost use Rattle.config_words.specs.Keywords.{section_of};
-ghost use Rattle.config_words.specs.Meanings.{FarIs, NearIs, said, said_of};
+ghost use Rattle.config_words.specs.Meanings.{ChannelsAre, FarIs, NearIs, said, said_of};
 ghost use Rattle.config_words.specs.Words.{Split, arguments_of};
 ghost use Rattle.config_words.specs.Places.{closed, is_section, opened};
 ghost use Rattle.config_words.specs.Settings.{name_said};
 ghost use Rattle.config.specs.Standing.{before_all, begins_again, begun, is_again, named, standing_at};
 
-use crate::config::{Config, Group};
+use crate::config::Config;
+use crate::group::{NamedGroup, place_groups};
 use crate::names::claim;
 use crate::section::{Manner, Section};
-use config_words::fault::FaultKind;
+use config_words::fault::{ConfigFault, FaultKind};
 use config_words::keyword::{Keyword, Place};
 use config_words::setting::{BoxPlace, Setting};
 use config_words::words::{Arguments, is_plain};
@@ -27,8 +31,10 @@ use std::mem;
 #[derive(Drop)]
 pub(crate) struct Draft {
     alloc: Global,
-    /// The sections that have ended.
+    /// The sections that have ended, but for groups.
     config: Config,
+    /// The groups that have ended.
+    groups: Vec<NamedGroup>,
     /// What was said before any section.
     defaults: Manner,
     section: Section,
@@ -44,8 +50,6 @@ pub(crate) struct Draft {
     names: Vec<String>,
     /// Those of channels.
     channels: Vec<String>,
-    /// The channels that the last line adds to the group.
-    members: Vec<String>,
 }
 
 impl Draft {
@@ -57,6 +61,7 @@ impl Draft {
         Draft {
             alloc,
             config: Config::new(alloc),
+            groups: Vec::new(alloc),
             defaults: Manner::new(),
             section: Section::Start,
             name: String::new(alloc),
@@ -65,15 +70,26 @@ impl Draft {
             maildir_names: Vec::new(alloc),
             names: Vec::new(alloc),
             channels: Vec::new(alloc),
-            members: Vec::new(alloc),
         }
     }
 
-    /// The sections that have ended.
-    pub fn into_config(self) -> Config
-        ensures { result ≡ self.config }
+    /// The configuration: the sections that have ended. A line that names no channel is faulty: `first` becomes the first
+    /// faulty line of all.
+    pub fn into_config(self, first: &mut Option<ConfigFault>) -> Result<Config, AllocError>
+        ensures lines { (last : ℕ) → HasLines last self.groups.items → IfSome first.old (IsUpTo last) → OnOk result (IfSome first.new (IsUpTo last)) }
+        ensures again { (again : List ℕ) → Tells again first.old → OnOk result (Tells again first.new) }
+        ensures none { OnOk result (first.new ≡ None → first.old ≡ None) }
+        ensures shows { IfOk result (λ config. first.new ≡ None → Shows (view self) config) }
     {
-        self.config
+        let Draft {
+            alloc,
+            mut config,
+            groups,
+            channels,
+            ..
+        } = self;
+        config.groups = place_groups(alloc, &channels, groups, first)?;
+        Ok(config)
     }
 
     /// Whether a section is open.
@@ -89,22 +105,24 @@ impl Draft {
         required.iter().all(|keyword| self.seen.contains(keyword))
     }
 
-    /// Reads a line of words. The fault is the one with the lowest number, but for keywords that the section lacks.
-    pub fn read(&mut self, keyword: &[u8], arguments: &[u8]) -> Result<(), FaultKind>
+    /// Reads the line of words of this number. The fault is the one with the lowest number, but for keywords that the
+    /// section lacks.
+    pub fn read(&mut self, line: usize, keyword: &[u8], arguments: &[u8]) -> Result<(), FaultKind>
         ensures standing { let section = opened (standing_of self.old).at keyword.now in
             IsTaken (begins_again section arguments.now (standing_of self.old)) (begun section arguments.now (standing_of self.old))
             (standing_of self.new) result }
         ensures view { let at = (standing_of self.old).at in
             OnOk result (view self.new ≡ view_said (line_said at (keyword.now, arguments.now)) (begun_view (opened at keyword.now) (view self.old))) }
         ensures titled { let at = (standing_of self.old).at in
-            OnOk result (opened at keyword.now ≡ None → option_and_then title_in (line_said at (keyword.now, arguments.now)) ≡ None) }
+            OnOk result (IsTitled (opened at keyword.now) (line_said at (keyword.now, arguments.now))) }
+        ensures lines { (last : ℕ) → IsLine last line → NamesLines last self.old → NamesLines last self.new }
     {
         let Some(keyword) = Keyword::read(keyword) else {
             return Err(FaultKind::UnknownKeyword);
         };
         let keyword = keyword.at(self.section.place());
         let misplaced = self.meet(keyword)?;
-        self.read_arguments(keyword, misplaced, arguments)
+        self.read_arguments(keyword, misplaced, line, arguments)
     }
 
     /// Reads what stands behind a keyword, which may be misplaced.
@@ -112,6 +130,7 @@ impl Draft {
         &mut self,
         keyword: Keyword,
         misplaced: Option<FaultKind>,
+        line: usize,
         arguments: &[u8],
     ) -> Result<(), FaultKind>
         requires { IfSome misplaced IsMisplaced }
@@ -119,7 +138,8 @@ impl Draft {
             IsTaken (is_again name (standing_of self.old)) (named name (standing_of self.old)) (standing_of self.new) result }
         ensures placed { OnOk result (misplaced ≡ None) }
         ensures view { OnOk result (view self.new ≡ view_said (said keyword (arguments_of arguments.now).list) (view self.old)) }
-        ensures titled { OnOk result (section_of keyword ≡ None → option_and_then title_in (said keyword (arguments_of arguments.now).list) ≡ None) }
+        ensures titled { OnOk result (IsTitled (section_of keyword) (said keyword (arguments_of arguments.now).list)) }
+        ensures lines { (last : ℕ) → IsLine last line → NamesLines last self.old → NamesLines last self.new }
     {
         let is_plain = is_plain(arguments);
         let arguments = Arguments::read(self.alloc, arguments)?;
@@ -132,7 +152,7 @@ impl Draft {
         }
         match misplaced {
             Some(fault) => Err(fault),
-            None => self.set(setting),
+            None => self.set(line, setting),
         }
     }
 
@@ -141,6 +161,7 @@ impl Draft {
         ensures standing { IfOk result (λ misplaced.
             IsMet (is_section (standing_of self.old).at) (section_of keyword) (standing_of self.old) (standing_of self.new) misplaced) }
         ensures view { IfOk result (λ misplaced. misplaced ≡ None → view self.new ≡ begun_view (section_of keyword) (view self.old)) }
+        ensures lines { (last : ℕ) → NamesLines last self.old → NamesLines last self.new }
     {
         if !keyword.fits(self.section.place()) {
             return Ok(Some(FaultKind::OutsideSection));
@@ -159,28 +180,27 @@ impl Draft {
     fn open(&mut self, place: Place)
         ensures standing { standing_of self.new ≡ standing_at place (standing_of self.old) }
         ensures view { view self.new ≡ begun_view (Some place) (view self.old) }
+        ensures lines { (last : ℕ) → NamesLines last self.old → NamesLines last self.new }
     {
         self.section = Section::new(self.alloc, place);
         self.name = String::new(self.alloc);
         self.seen = Vec::new(self.alloc);
     }
 
-    /// Takes what a line says.
-    fn set(&mut self, setting: Setting) -> Result<(), FaultKind>
+    /// Takes what the line of this number says.
+    fn set(&mut self, line: usize, setting: Setting) -> Result<(), FaultKind>
         ensures standing { IsTaken (is_again (name_said setting) (standing_of self.old)) (named (name_said setting) (standing_of self.old))
             (standing_of self.new) result }
         ensures view { OnOk result (view self.new ≡ view_with (said_of setting) (view self.old)) }
+        ensures lines { (last : ℕ) → IsLine last line → NamesLines last self.old → NamesLines last self.new }
     {
         match setting {
             Setting::Section(name) => self.set_name(name),
             Setting::Group(name, channels) => {
-                self.members = channels;
+                self.add_members(line, channels)?;
                 self.set_name(name)
             }
-            Setting::Channels(channels) => {
-                self.members = channels;
-                Ok(())
-            }
+            Setting::Channels(channels) => Ok(self.add_members(line, channels)?),
             Setting::Far(place) => self.set_far(place),
             Setting::Near(place) => self.set_near(place),
             Setting::Sync(None) => Err(FaultKind::CellTwice),
@@ -191,13 +211,26 @@ impl Draft {
     fn set_in_section(&mut self, setting: Setting) -> Result<(), AllocError>
         ensures standing { standing_of self.new ≡ standing_of self.old }
         ensures view { OnOk result (view self.new ≡ set_in_section (said_of setting) (view self.old)) }
+        ensures lines { (last : ℕ) → NamesLines last self.old → NamesLines last self.new }
     {
         match &mut self.section {
             Section::Start => self.defaults.set(setting),
             Section::ImapStore(draft) => draft.set(setting),
             Section::MaildirStore(draft) => draft.set(setting),
             Section::Channel(draft) => draft.set(setting)?,
-            Section::Between | Section::Group => {}
+            Section::Between | Section::Group(_) => {}
+        }
+        Ok(())
+    }
+
+    /// Adds channels to the group that is open.
+    fn add_members(&mut self, line: usize, names: Vec<String>) -> Result<(), AllocError>
+        ensures standing { standing_of self.new ≡ standing_of self.old }
+        ensures view { OnOk result (view self.new ≡ view_with (ChannelsAre (map string_bytes names.items)) (view self.old)) }
+        ensures lines { (last : ℕ) → IsLine last line → NamesLines last self.old → NamesLines last self.new }
+    {
+        if let Section::Group(draft) = &mut self.section {
+            draft.add(line, names)?;
         }
         Ok(())
     }
@@ -206,7 +239,8 @@ impl Draft {
     fn set_name(&mut self, name: String) -> Result<(), FaultKind>
         ensures standing { IsTaken (is_again (Some (string_bytes name)) (standing_of self.old))
             (named (Some (string_bytes name)) (standing_of self.old)) (standing_of self.new) result }
-        ensures view { OnOk result (view self.new ≡ record (view self.old) { name = string_bytes name }) }
+        ensures view { OnOk result (view self.new ≡ titled_view (string_bytes name) (view self.old)) }
+        ensures lines { (last : ℕ) → NamesLines last self.old → NamesLines last self.new }
     {
         self.name = name.clone()?;
         match self.section.place() {
@@ -244,6 +278,7 @@ impl Draft {
     fn set_far(&mut self, place: BoxPlace) -> Result<(), FaultKind>
         ensures standing { IsTaken false (standing_of self.old) (standing_of self.new) result }
         ensures view { OnOk result (view self.new ≡ view_with (FarIs (string_bytes place.store) place.mailbox) (view self.old)) }
+        ensures lines { (last : ℕ) → NamesLines last self.old → NamesLines last self.new }
     {
         let store = self.imap_store(&place.store);
         if let Section::Channel(draft) = &mut self.section {
@@ -260,6 +295,7 @@ impl Draft {
     fn set_near(&mut self, place: BoxPlace) -> Result<(), FaultKind>
         ensures standing { IsTaken false (standing_of self.old) (standing_of self.new) result }
         ensures view { OnOk result (view self.new ≡ view_with (NearIs (string_bytes place.store) place.mailbox) (view self.old)) }
+        ensures lines { (last : ℕ) → NamesLines last self.old → NamesLines last self.new }
     {
         let store = self.maildir_store(&place.store);
         if let Section::Channel(draft) = &mut self.section {
@@ -277,6 +313,7 @@ impl Draft {
         ensures standing { standing_of self.new ≡ standing_at (closed (standing_of self.old).at) (standing_of self.old) }
         ensures view { IfOk result (λ kept. IsTrue kept → view self.new ≡ ended_view (is_section (standing_of self.old).at) (view self.old)) }
         ensures kept { IfOk result (λ kept. is_section (standing_of self.old).at ≡ false → kept ≡ true) }
+        ensures lines { (last : ℕ) → NamesLines last self.old → NamesLines last self.new }
     {
         if !self.is_in_section() {
             return Ok(true);
@@ -290,6 +327,8 @@ impl Draft {
     fn put(&mut self, section: Section, name: String) -> Result<bool, AllocError>
         ensures standing { standing_of self.new ≡ standing_of self.old }
         ensures view { IfOk result (λ kept. IsTrue kept → view self.new ≡ put_view (sketch section) (string_bytes name) (view self.old)) }
+        ensures lines { (last : ℕ) → SectionLines last section → HasLines last self.old.groups.items → HasLines last self.new.groups.items }
+        ensures section { self.new.section ≡ self.old.section }
     {
         match section {
             Section::ImapStore(draft) => match draft.finish(name) {
@@ -304,44 +343,12 @@ impl Draft {
                 Some(channel) => self.config.channels.push(channel)?,
                 None => return Ok(false),
             },
-            Section::Group => self.config.groups.push(Group {
+            Section::Group(draft) => self.groups.push(NamedGroup {
                 name,
-                channels: Vec::new(self.alloc),
+                members: draft.members,
             })?,
             Section::Start | Section::Between => {}
         }
         Ok(true)
     }
-
-    /// The channels that the last line adds to the group that is open, which are given away.
-    pub fn take_members(&mut self) -> Vec<String>
-        ensures standing { standing_of self.new ≡ standing_of self.old }
-        ensures view { view self.new ≡ view self.old }
-    {
-        mem::replace(&mut self.members, Vec::new(self.alloc))
-    }
-
-    /// The place that the group has, or will have, that is open.
-    pub fn group(&self) -> usize {
-        self.config.groups.len()
-    }
-
-    /// Adds a channel to a group, and tells whether there is one of this name.
-    pub fn add_member(&mut self, group: usize, name: &str) -> Result<bool, AllocError>
-        ensures standing { standing_of self.new ≡ standing_of self.old }
-        ensures view { view self.new ≡ view self.old }
-    {
-        let Some(channel) = place_of(&self.channels, name) else {
-            return Ok(false);
-        };
-        if let Some(group) = self.config.groups.get_mut(group) {
-            group.channels.push(channel)?;
-        }
-        Ok(true)
-    }
-}
-
-/// The place of a name among others.
-fn place_of(names: &[String], name: &str) -> Option<usize> {
-    names.iter().position(|other| other.as_str() == name)
 }

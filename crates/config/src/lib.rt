@@ -3,6 +3,8 @@
 
 pub mod config;
 mod draft;
+mod first;
+mod group;
 mod line;
 mod names;
 pub mod read;

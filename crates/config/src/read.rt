@@ -16,7 +16,8 @@ use std::alloc::Global;
 /// faults of that line the one with the lowest number. `NoMemory` comes in place of any answer where memory ran out.
 ///
 /// A line that begins a section under a name that is taken is never passed over: it is told as `DefinedTwice`, unless a
-/// fault that comes before it is told. A configuration has just the stores and the channels that the lines say.
+/// fault that comes before it is told. A configuration has just the stores, the channels and the
+/// groups that the lines say, and each group just its channels.
 pub fn read_config(alloc: Global, text: &[u8]) -> Result<Config, ConfigFault>
     ensures lines { IfErr result (IsUpTo (line_count text.now)) }
     ensures again { MatchResult result (λ config. lines_again text.now ≡ [])

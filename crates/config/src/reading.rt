@@ -13,21 +13,11 @@ ghost use Rattle.config.specs.Standing.{Outline, no_lines, outlined, standing_at
 
 use crate::config::Config;
 use crate::draft::Draft;
+use crate::first::first_of;
 use crate::line::Line;
 use config_words::fault::{ConfigFault, FaultKind};
 use config_words::words::LineKind;
 use std::alloc::{AllocError, Global};
-
-/// A channel that a line adds to a group.
-#[derive(Drop)]
-pub(crate) struct Member {
-    /// The place of the group.
-    pub group: usize,
-    /// The name of the channel.
-    pub name: String,
-    /// The number of the line.
-    pub line: usize,
-}
 
 /// What is known of the lines so far.
 #[derive(Drop)]
@@ -38,8 +28,6 @@ pub(crate) struct Reading {
     pub begun: Option<usize>,
     /// The first faulty line.
     pub first: Option<ConfigFault>,
-    /// What they add to groups, which may name channels of later lines.
-    pub members: Vec<Member>,
 }
 
 impl Reading {
@@ -53,7 +41,6 @@ impl Reading {
             draft: Draft::new(alloc),
             begun: None,
             first: None,
-            members: Vec::new(alloc),
         }
     }
 
@@ -89,7 +76,7 @@ impl Reading {
     {
         self.take_words(number, keyword, arguments)?;
         self.begin(number);
-        self.add_members(number)
+        Ok(())
     }
 
     /// Notes that a section begins at this line, if one does.
@@ -118,7 +105,7 @@ impl Reading {
             OnOk result (IsBehindWords o (keyword.now, arguments.now) number self.new) }
         ensures meant { (p : Parts) → Knows p self.old → OnOk result (self.new.first ≡ None → IsDrawn (parted_words (Some (keyword.now, arguments.now)) p) self.new.draft) }
     {
-        match self.draft.read(keyword, arguments) {
+        match self.draft.read(number, keyword, arguments) {
             Ok(()) => Ok(()),
             Err(kind) => match kind {
                 FaultKind::NoMemory => Err(AllocError),
@@ -137,23 +124,6 @@ impl Reading {
         ensures draft { self.new.draft ≡ self.old.draft }
     {
         self.first = Some(first_of(self.first, ConfigFault { line, kind }));
-    }
-
-    /// Keeps what a line adds to the group that is open.
-    fn add_members(&mut self, line: usize) -> Result<(), AllocError>
-        requires counted { 0 < line }
-        requires read { IsRead line self.old }
-        ensures read { OnOk result (IsRead line self.new) }
-        ensures first { self.new.first ≡ self.old.first }
-        ensures standing { standing_of self.new.draft ≡ standing_of self.old.draft }
-        ensures view { view self.new.draft ≡ view self.old.draft }
-        ensures begun { self.new.begun ≡ self.old.begun }
-    {
-        let group = self.draft.group();
-        for name in self.draft.take_members() {
-            self.members.push(Member { group, name, line })?;
-        }
-        Ok(())
     }
 
     /// Ends the section that is open, if one is: at an empty line, and at the end of the text.
@@ -189,56 +159,11 @@ impl Reading {
         ensures means { (p : Parts) → Knows p self → IfOk result (λ told. IfOk told (Means (meaning_of (ended p)))) }
     {
         self.end_section()?;
-        let Reading {
-            mut draft,
-            first,
-            members,
-            begun: _,
-        } = self;
-        match place_members(&mut draft, &members, first)? {
+        let mut first = self.first;
+        let config = self.draft.into_config(&mut first)?;
+        match first {
             Some(fault) => Ok(Err(fault)),
-            None => Ok(Ok(draft.into_config())),
+            None => Ok(Ok(config)),
         }
-    }
-}
-
-/// Adds channels to groups. It gives the first faulty line, which may be one that names no channel.
-fn place_members(
-    draft: &mut Draft,
-    members: &[Member],
-    first: Option<ConfigFault>,
-) -> Result<Option<ConfigFault>, AllocError>
-    ensures lines { (last : ℕ) → All (λ m. IsLine last m.line) members.now → IfSome first (IsUpTo last)
-        → IfOk result (λ f. IfSome f (IsUpTo last)) }
-    ensures again { (again : List ℕ) → Tells again first → IfOk result (Tells again) }
-    ensures none { IfOk result (λ f. f ≡ None → first ≡ None) }
-    ensures view { OnOk result (view draft.new ≡ view draft.old) }
-{
-    let mut first = first;
-    for member in members {
-        if !draft.add_member(member.group, &member.name)? {
-            first = Some(unknown_first(first, member.line));
-        }
-    }
-    Ok(first)
-}
-
-/// The first fault where a line names no channel.
-fn unknown_first(first: Option<ConfigFault>, line: usize) -> ConfigFault
-    ensures lines { (last : ℕ) → IfSome first (IsUpTo last) → IsLine last line → IsUpTo last result }
-    ensures again { (again : List ℕ) → Tells again first → Tells again (Some result) }
-{
-    let kind = FaultKind::UnknownName;
-    first_of(first, ConfigFault { line, kind })
-}
-
-/// Which of two faults is told: that of the lower line, and on one line the one with the lower number.
-fn first_of(first: Option<ConfigFault>, fault: ConfigFault) -> ConfigFault
-    ensures lines { (last : ℕ) → IfSome first (IsUpTo last) → IsUpTo last fault → IsUpTo last result }
-    ensures earlier { result ≡ earlier first fault }
-{
-    match first {
-        Some(first) if first.precedes(fault) => first,
-        _ => fault,
     }
 }

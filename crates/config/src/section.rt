@@ -1,8 +1,9 @@
 //! Sections of a configuration while they are read.
 
-ghost use Rattle.std.specs.Prelude.{◌≡◌, [], IsTrue, IfOk, MatchOption, OnOk, codes, option_map, string_bytes, unwrap_or};
+ghost use Rattle.std.specs.Prelude.{◌≡◌, ℕ, [], IsTrue, IfOk, MatchOption, OnOk, codes, option_map, string_bytes, unwrap_or};
 ghost use Rattle.config.specs.Configurations.{channel_value, imap_value, maildir_value};
 ghost use Rattle.config.specs.Drafts.{place_of};
+ghost use Rattle.config.specs.Readings.{SectionLines};
 ghost use Rattle.config.specs.Sections.{boxes_of, imap_store_of};
 ghost use Rattle.config.specs.Views.{channel_ended, channel_said, channel_view, channel_with, imap_view, imap_with, maildir_ended, maildir_said, maildir_view};
 ghost use Rattle.config.specs.Views.{maildir_with, manner_said, manner_view, manner_with, sketch, sketch_at, IsStoreOf, IsMaildirOf, IsChannelOf};
@@ -10,6 +11,7 @@ ghost use Rattle.config_words.specs.Meanings.{said_of};
 ghost use Rattle.config_words.specs.Settings.{name_said};
 
 use crate::config::{Boxes, Channel, ImapStore, MaildirStore};
+use crate::group::GroupDraft;
 use box_patterns::patterns::Patterns;
 use config_words::keyword::Place;
 use config_words::setting::Setting;
@@ -30,7 +32,7 @@ pub(crate) enum Section {
     ImapStore(ImapDraft),
     MaildirStore(MaildirDraft),
     Channel(ChannelDraft),
-    Group,
+    Group(GroupDraft),
 }
 
 impl Section {
@@ -38,6 +40,7 @@ impl Section {
     pub fn new(alloc: Global, place: Place) -> Self
         ensures place { place_of result ≡ place }
         ensures sketch { sketch result ≡ sketch_at place }
+        ensures lines { (last : ℕ) → SectionLines last result }
     {
         match place {
             Place::Start => Section::Start,
@@ -45,7 +48,7 @@ impl Section {
             Place::ImapStore => Section::ImapStore(ImapDraft::new()),
             Place::MaildirStore => Section::MaildirStore(MaildirDraft::new()),
             Place::Channel => Section::Channel(ChannelDraft::new(alloc)),
-            Place::Group => Section::Group,
+            Place::Group => Section::Group(GroupDraft::new(alloc)),
         }
     }
 
@@ -59,7 +62,7 @@ impl Section {
             Section::ImapStore(_) => Place::ImapStore,
             Section::MaildirStore(_) => Place::MaildirStore,
             Section::Channel(_) => Place::Channel,
-            Section::Group => Place::Group,
+            Section::Group(_) => Place::Group,
         }
     }
 

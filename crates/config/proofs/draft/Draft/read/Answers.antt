@@ -65,3 +65,9 @@ returns-clause-titled c =
     c.in_ok-misplaced.ensures.standing none ∙ opens in
     read_titled c.read_arguments.result c.in_ok-misplaced.misplaced (section_of meant) (opened at word) (said meant (arguments_of text).list)
     (line_said at (word, text)) begins same c.read_arguments.ensures.placed c.read_arguments.ensures.titled
+
+pub returns-in_err-misplaced-clause-lines : goal.returns-in_err-misplaced-clause-lines
+returns-in_err-misplaced-clause-lines c = λ last line are. c.meet.ensures.lines last are
+
+pub returns-clause-lines : goal.returns-clause-lines
+returns-clause-lines c = λ last line are. c.read_arguments.ensures.lines last line (c.meet.ensures.lines last are)

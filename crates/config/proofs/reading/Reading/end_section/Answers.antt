@@ -1,6 +1,7 @@
-use Rattle.std.proofs.Common.{◌≡◌, ◌∙◌, ap, sym}
-use Rattle.std.specs.Prelude.{None}
+use Rattle.std.proofs.Common.{◌≡◌, ◌∙◌, ℕ, ap, subst, sym}
+use Rattle.std.specs.Prelude.{Option, IfSome, None}
 use Rattle.config.specs.declared.reading.Reading.{Reading}
+use Rattle.config.specs.Readings.{IsLine, IsRead}
 use Rattle.config.specs.Views.{view}
 use Rattle.config.proofs.PartedLemmas.{ended_meant, kept_so, outside_so, some_first}
 use Rattle.config.proofs.reading.Reading.end_section.Goals as goal
@@ -9,7 +10,7 @@ use Rattle.config.proofs.reading.Reading.end_section.Goals.{then-lacks, else-lac
 pub returns-in_default-clause-meant : goal.returns-in_default-clause-meant
 returns-in_default-clause-meant c = λ p knows none.
     let meant = knows none in
-    ended_meant p c.args.self.now.draft (record { draft = c.end_section.new.self; begun = c.args.self.now.begun; first = c.args.self.now.first; members = c.args.self.now.members })
+    ended_meant p c.args.self.now.draft (record { draft = c.end_section.new.self; begun = c.args.self.now.begun; first = c.args.self.now.first })
     meant.draft (c.in_ok-is_kept.ensures.view (c.in_ok-is_kept.ensures.kept (outside_so p c.args.self.now meant c.in_default.is)))
 
 pub returns-after-lacks-clause-meant : goal.returns-after-lacks-clause-meant
@@ -20,3 +21,18 @@ returns-after-lacks-clause-meant c = elim c.if-lacks.branch [
       let kept = kept_so c.is_whole-is_whole.result c.in_ok-is_kept.is_kept c.lacks.result c.args.self.now.first c.lacks.ensures w.if-lacks.false before in
       ended_meant p c.args.self.now.draft _ (knows before).draft (ap (λ (r : Reading). view r.draft) w.self-is ∙ c.in_ok-is_kept.ensures.view kept)
 ]
+
+pub returns-in_default-clause-read : goal.returns-in_default-clause-read
+returns-in_default-clause-read c = λ last is.
+    record { begun = is.begun; first = is.first; members = c.end_section.ensures.lines last is.members }
+
+pub returns-after-lacks-clause-read : goal.returns-after-lacks-clause-read
+returns-after-lacks-clause-read c = λ last is.
+    let line : IsLine last c.in-Some.line = subst (λ (o : Option ℕ). IfSome o (IsLine last)) c.in-Some.is is.begun in
+    let mid : Reading = record { draft = c.end_section.new.self; begun = c.args.self.now.begun; first = c.args.self.now.first } in
+    let before : IsRead last mid = record { begun = is.begun; first = is.first; members = c.end_section.ensures.lines last is.members } in
+    let here : IsRead last c.if-lacks.self = elim c.if-lacks.branch [
+      | then-lacks w ↦ subst (λ (r : Reading). IsRead last r) (sym w.self-is) (w.note.ensures.read last before line)
+      | else-lacks w ↦ subst (λ (r : Reading). IsRead last r) (sym w.self-is) before
+    ] in
+    record { begun = tt; first = here.first; members = here.members }

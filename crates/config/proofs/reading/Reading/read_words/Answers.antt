@@ -1,13 +1,9 @@
 use Rattle.std.specs.Prelude.{Some}
 use Rattle.config.specs.Configurations.{parted_words}
-use Rattle.config.specs.Meant.{Knows}
-use Rattle.config.proofs.ReadingLemmas.{on_ok}
 use Rattle.config.proofs.PartedLemmas.{words_known}
 use Rattle.config.proofs.reading.Reading.read_words.Goals as goal
 
 pub returns-clause-meant : goal.returns-clause-meant
 returns-clause-meant c = λ p knows.
-    let q = parted_words (Some (c.args.keyword.now, c.args.arguments.now)) p in
-    on_ok c.add_members.result (Knows q c.add_members.new.self)
-    (words_known q c.take_words.new.self c.begin.new.self c.add_members.new.self (c.in_ok-take_words.ensures.meant p knows) c.begin.ensures.draft
-    c.begin.ensures.first c.begin.ensures.begun c.add_members.ensures.view c.add_members.ensures.first c.add_members.ensures.begun)
+    words_known (parted_words (Some (c.args.keyword.now, c.args.arguments.now)) p) c.take_words.new.self c.begin.new.self
+    (c.in_ok-take_words.ensures.meant p knows) c.begin.ensures.draft c.begin.ensures.first c.begin.ensures.begun

@@ -8,7 +8,7 @@ use Rattle.config.proofs.reading.Reading.take_words.Goals as goal
 
 pub returns-in_default : goal.returns-in_default
 returns-in_default c = record {
-  read = c.note.ensures.read c.args.number (record { begun = c.requires.read.begun; first = c.requires.read.first; members = c.requires.read.members })
+  read = c.note.ensures.read c.args.number (record { begun = c.requires.read.begun; first = c.requires.read.first; members = c.in-Err.ensures.lines c.args.number (c.requires.counted, omega arith) c.requires.read.members })
       (c.requires.counted, omega arith);
   outlined = λ o is.
       noted o (c.args.keyword.now, c.args.arguments.now) c.args.number c.in-Err.kind c.args.self.now c.note.new.self (standing_of c.read.new.self) is
@@ -19,3 +19,10 @@ returns-in_default c = record {
 pub returns-in-Ok-clause-meant : goal.returns-in-Ok-clause-meant
 returns-in-Ok-clause-meant c = λ p knows none.
     drawn_words p (c.args.keyword.now, c.args.arguments.now) c.args.self.now.draft c.read.new.self (knows none).draft c.in-Ok.ensures.view c.in-Ok.ensures.titled
+
+pub returns-in-Ok-clause-read : goal.returns-in-Ok-clause-read
+returns-in-Ok-clause-read c = record {
+  begun = c.requires.read.begun;
+  first = c.requires.read.first;
+  members = c.in-Ok.ensures.lines c.args.number (c.requires.counted, omega arith) c.requires.read.members;
+}

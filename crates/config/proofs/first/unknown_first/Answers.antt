@@ -4,7 +4,7 @@ use Rattle.config_words.specs.declared.fault.ConfigFault.{ConfigFault}
 use Rattle.config_words.specs.declared.fault.FaultKind.TheVariants.{UnknownName}
 use Rattle.config.specs.Outlines.{Tells}
 use Rattle.config.proofs.OutlineLemmas.{tells_other}
-use Rattle.config.proofs.reading.unknown_first.Goals as goal
+use Rattle.config.proofs.first.unknown_first.Goals as goal
 
 pub returns-clause-again : goal.returns-clause-again
 returns-clause-again c = λ again told.
