@@ -9,7 +9,8 @@ use Rattle.config.specs.declared.config.Config.{Config}
 use Rattle.config.specs.declared.draft.Draft.{Draft}
 use Rattle.config.specs.Drafts.{place_of}
 use Rattle.config.specs.declared.reading.Reading.{Reading}
-use Rattle.config.specs.Meant.{IsDrawn, IsMeant, Knows}
+use Rattle.config.specs.Accepted.{AcceptsAll, IsWhole}
+use Rattle.config.specs.Meant.{IsDrawn, IsMeant, Knows, TookLine}
 use Rattle.config.specs.Standing.{lines_of}
 use Rattle.config.proofs.OutlineLemmas.{all_taken, one_left, one_taken}
 use Rattle.config.specs.Configurations.{Means, Parts, channel_names, ended, ended_if, meaning_of, no_parts, parted, parted_words, placed}
@@ -74,25 +75,34 @@ means_so p d config is closed shows = record {
 pub record IsParted (text : List ℕ) (taken : ℕ) (rest : List ℕ) (reading : Reading) : Type 0 where
   pub known : Knows (fold parted no_parts (take taken (lines_of text))) reading
   pub left : drop taken (lines_of text) ≡ lines_of rest
+  pub whole : reading.first ≡ None → AcceptsAll (fold parted no_parts (take taken (lines_of text))) (drop taken (lines_of text)) → IsWhole text
 
 pub first_parted : (text rest : List ℕ) (taken : ℕ) (reading : Reading) → taken ≡ 0 → rest ≡ text → IsMeant no_parts reading → IsParted text taken rest reading
 first_parted text rest taken reading none whole is =
     subst (λ (r : List ℕ). IsParted text taken r reading) (sym whole)
-    (subst (λ (n : ℕ). IsParted text n text reading) (sym none) (record { known = λ first. is; left = refl }))
+    (subst (λ (n : ℕ). IsParted text n text reading) (sym none) (record { known = λ first. is; left = refl; whole = λ first all. all }))
 
 pub more_parted : (text : List ℕ) (taken grown : ℕ) (line rest behind : List ℕ) (old new : Reading) → IsParted text taken rest old
-    → grown ≡ taken + 1 → lines_of rest ≡ line ∷ lines_of behind → ((p : Parts) → Knows p old → Knows (parted p line) new) → IsParted text grown behind new
-more_parted text taken grown line rest behind old new so is_grown next read =
+    → grown ≡ taken + 1 → lines_of rest ≡ line ∷ lines_of behind → ((p : Parts) → Knows p old → Knows (parted p line) new)
+    → ((p : Parts) → Knows p old → TookLine p line old new) → IsParted text grown behind new
+more_parted text taken grown line rest behind old new so is_grown next read took =
     let all = lines_of text in
+    let before = fold parted no_parts (take taken all) in
     let here : drop taken all ≡ line ∷ lines_of behind = so.left ∙ next in
-    let more : fold parted no_parts (take (taken + 1) all) ≡ parted (fold parted no_parts (take taken all)) line =
+    let left : drop (taken + 1) all ≡ lines_of behind = one_left all taken line (lines_of behind) here in
+    let more : fold parted no_parts (take (taken + 1) all) ≡ parted before line =
     ap (λ (l : List (List ℕ)). fold parted no_parts l) (one_taken all taken line (lines_of behind) here)
     ∙ fold-append parted no_parts (take taken all) (line ∷ []) in
     subst (λ (n : ℕ). IsParted text n behind new) (sym is_grown)
     (record {
-      known = knows_also (fold parted no_parts (take (taken + 1) all)) (parted (fold parted no_parts (take taken all)) line) new more
-          (read (fold parted no_parts (take taken all)) so.known);
-      left = one_left all taken line (lines_of behind) here;
+      known = knows_also (fold parted no_parts (take (taken + 1) all)) (parted before line) new more (read before so.known);
+      left = left;
+      whole = λ none rest_taken.
+          let here_taken = took before so.known none in
+          let rest_there : AcceptsAll (parted before line) (lines_of behind) =
+          subst (λ (p : Parts). AcceptsAll p (lines_of behind)) more
+          (subst (λ (l : List (List ℕ)). AcceptsAll (fold parted no_parts (take (taken + 1) all)) l) left rest_taken) in
+          so.whole here_taken.0 (subst (λ (l : List (List ℕ)). AcceptsAll before l) (sym here) (here_taken.1, rest_there));
     })
 
 pub all_parted : (text : List ℕ) (taken : ℕ) (rest : List ℕ) (reading : Reading) → IsParted text taken rest reading → lines_of rest ≡ []
@@ -101,6 +111,13 @@ all_parted text taken rest reading so none =
     let all = lines_of text in
     knows_also (fold parted no_parts all) (fold parted no_parts (take taken all)) reading
     (sym (ap (λ (l : List (List ℕ)). fold parted no_parts l) (all_taken all taken (so.left ∙ none)))) so.known
+
+-- where none of them was faulty all are taken
+pub all_accepted : (text : List ℕ) (taken : ℕ) (rest : List ℕ) (reading : Reading) → IsParted text taken rest reading → lines_of rest ≡ []
+    → reading.first ≡ None → IsWhole text
+all_accepted text taken rest reading so none first =
+    so.whole first
+    (subst (λ (l : List (List ℕ)). AcceptsAll (fold parted no_parts (take taken (lines_of text))) l) (sym (so.left ∙ none)) tt)
 
 -- behind a line of words, which may have begun a section
 pub words_known : (q : Parts) (mid new : Reading) → (mid.first ≡ None → IsDrawn q mid.draft) → new.draft ≡ mid.draft → new.first ≡ mid.first

@@ -153,3 +153,7 @@ pub unless_memory : (again : List ℕ) (told : Result Config ConfigFault) → Ma
     → MatchResult told (λ config. again ≡ []) (λ fault. (fault.kind ≡ NoMemory → ⊥) → IsToldOf again fault)
 unless_memory again (Ok config) known = known
 unless_memory again (Err fault) known = λ memory. known
+
+pub on_told : {P Q : Type 0} (told : Result Config ConfigFault) → (P → Q) → OnOk told P → OnOk told Q
+on_told (Ok config) so p = so p
+on_told (Err fault) so p = tt

@@ -10,10 +10,11 @@ use Rattle.config_words.specs.declared.keyword.Place.TheVariants.{Start, Between
 use Rattle.config_words.specs.Meanings.{Said, SectionIs, GroupIs, FarIs, NearIs, ChannelsAre}
 use Rattle.config_words.specs.declared.fault.FaultKind.{FaultKind}
 use Rattle.config_words.specs.declared.keyword.Keyword.{Keyword}
-use Rattle.config_words.specs.Keywords.{keyword_named, meant_at}
+use Rattle.config_words.specs.Keywords.{fits_at, keyword_named, meant_at}
 use Rattle.config_words.specs.Meanings.{said}
 use Rattle.config_words.specs.Places.{is_section, opened, section_named}
-use Rattle.config_words.specs.Words.{arguments_of}
+use Rattle.config_words.specs.Words.{arguments_of, is_plain}
+use Rattle.config.specs.Accepted.{IsAccepted, IsClear, fits_named}
 use Rattle.config.specs.declared.draft.Draft.{Draft}
 use Rattle.config.specs.declared.section.Section.{Section}
 use Rattle.config.specs.declared.section.Section.TheVariants as sections
@@ -77,6 +78,18 @@ pub read_titled : (r : Result (Unit {0}) FaultKind) (misplaced : Option FaultKin
 read_titled (Ok done) misplaced section begins s line opens same placed known =
     subst (λ (w : Option Said). IsTitled begins w) same (subst (λ (p : Option Place). IsTitled p s) (opens placed) known)
 read_titled (Err fault) misplaced section begins s line opens same placed known = tt
+
+pub read_accepted : (r : Result (Unit {0}) FaultKind) (misplaced : Option FaultKind) (at : Place) (read meant : Keyword) (word text : List ℕ)
+    → Some read ≡ keyword_named word → meant ≡ meant_at at read → (misplaced ≡ None → fits_at at meant ≡ true) → OnOk r (misplaced ≡ None)
+    → OnOk r (IsClear (said meant (arguments_of text).list)) → OnOk r (is_plain text ≡ true) → OnOk r ((arguments_of text).quoted ≡ false)
+    → OnOk r (IsAccepted at (word, text))
+read_accepted (Ok done) misplaced at read meant word text named is fits placed clear plain closed = record {
+  fits = sym (ap (λ (k : Option Keyword). fits_named at k) named) ∙ (sym (ap (λ (k : Keyword). fits_at at k) is) ∙ fits placed);
+  plain = plain;
+  closed = closed;
+  says = subst (λ (s : Option Said). IsClear s) (line_at at read meant word text named is) clear;
+}
+read_accepted (Err fault) misplaced at read meant word text named is fits placed clear plain closed = tt
 
 -- ---- one line more of a section, or before any
 

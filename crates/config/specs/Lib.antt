@@ -9,5 +9,6 @@ pub mod Outlines
 pub mod Sections
 pub mod Named
 pub mod Configurations
+pub mod Accepted
 pub mod Views
 pub mod Meant

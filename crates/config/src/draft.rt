@@ -1,6 +1,7 @@
 //! A configuration while it is read: what its lines say, whatever their numbers.
 
 ghost use Rattle.std.specs.Prelude.{◌≡◌, ℕ, List, IfOk, IfSome, IsTrue, OnOk, None, false, true, map, string_bytes};
+ghost use Rattle.config.specs.Accepted.{IsAccepted, IsClear};
 ghost use Rattle.config.specs.Drafts.{IsMet, IsMisplaced, IsTaken, given, standing_of};
 ghost use Rattle.config.specs.Configurations.{line_said};
 ghost use Rattle.config.specs.Lines.{IsUpTo};
@@ -8,9 +9,9 @@ ghost use Rattle.config.specs.Outlines.{Tells};
 ghost use Rattle.config.specs.Readings.{HasLines, IsLine, NamesLines, SectionLines};
 ghost use Rattle.config.specs.Sections.{IsTitled};
 ghost use Rattle.config.specs.Views.{Shows, begun_view, ended_view, first_view, titled_view, imap_place, maildir_place, put_view, set_in_section, sketch, view, view_said, view_with};
-ghost use Rattle.config_words.specs.Keywords.{section_of};
+ghost use Rattle.config_words.specs.Keywords.{fits_at, section_of};
 ghost use Rattle.config_words.specs.Meanings.{ChannelsAre, FarIs, NearIs, said, said_of};
-ghost use Rattle.config_words.specs.Words.{Split, arguments_of};
+ghost use Rattle.config_words.specs.Words.{Split, arguments_of, is_plain};
 ghost use Rattle.config_words.specs.Places.{closed, is_section, opened};
 ghost use Rattle.config_words.specs.Settings.{name_said};
 ghost use Rattle.config.specs.Standing.{before_all, begins_again, begun, is_again, named, standing_at};
@@ -115,6 +116,7 @@ impl Draft {
             OnOk result (view self.new ≡ view_said (line_said at (keyword.now, arguments.now)) (begun_view (opened at keyword.now) (view self.old))) }
         ensures titled { let at = (standing_of self.old).at in
             OnOk result (IsTitled (opened at keyword.now) (line_said at (keyword.now, arguments.now))) }
+        ensures accepted { OnOk result (IsAccepted (standing_of self.old).at (keyword.now, arguments.now)) }
         ensures lines { (last : ℕ) → IsLine last line → NamesLines last self.old → NamesLines last self.new }
     {
         let Some(keyword) = Keyword::read(keyword) else {
@@ -139,6 +141,9 @@ impl Draft {
         ensures placed { OnOk result (misplaced ≡ None) }
         ensures view { OnOk result (view self.new ≡ view_said (said keyword (arguments_of arguments.now).list) (view self.old)) }
         ensures titled { OnOk result (IsTitled (section_of keyword) (said keyword (arguments_of arguments.now).list)) }
+        ensures clear { OnOk result (IsClear (said keyword (arguments_of arguments.now).list)) }
+        ensures plain { OnOk result (is_plain arguments.now ≡ true) }
+        ensures closed { OnOk result ((arguments_of arguments.now).quoted ≡ false) }
         ensures lines { (last : ℕ) → IsLine last line → NamesLines last self.old → NamesLines last self.new }
     {
         let is_plain = is_plain(arguments);
@@ -161,6 +166,7 @@ impl Draft {
         ensures standing { IfOk result (λ misplaced.
             IsMet (is_section (standing_of self.old).at) (section_of keyword) (standing_of self.old) (standing_of self.new) misplaced) }
         ensures view { IfOk result (λ misplaced. misplaced ≡ None → view self.new ≡ begun_view (section_of keyword) (view self.old)) }
+        ensures fits { IfOk result (λ misplaced. misplaced ≡ None → fits_at (standing_of self.old).at keyword ≡ true) }
         ensures lines { (last : ℕ) → NamesLines last self.old → NamesLines last self.new }
     {
         if !keyword.fits(self.section.place()) {
@@ -192,6 +198,7 @@ impl Draft {
         ensures standing { IsTaken (is_again (name_said setting) (standing_of self.old)) (named (name_said setting) (standing_of self.old))
             (standing_of self.new) result }
         ensures view { OnOk result (view self.new ≡ view_with (said_of setting) (view self.old)) }
+        ensures clear { OnOk result (IsClear (Some (said_of setting))) }
         ensures lines { (last : ℕ) → IsLine last line → NamesLines last self.old → NamesLines last self.new }
     {
         match setting {

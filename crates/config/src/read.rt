@@ -1,6 +1,7 @@
 //! How a configuration is read from its text (docs/FORMATS.md, "Configuration").
 
-ghost use Rattle.std.specs.Prelude.{◌≡◌, ◌≢◌, [], IfErr, IfOk, MatchResult};
+ghost use Rattle.std.specs.Prelude.{◌≡◌, ◌≢◌, [], IfErr, IfOk, MatchResult, OnOk};
+ghost use Rattle.config.specs.Accepted.{IsWhole};
 ghost use Rattle.config.specs.Configurations.{Means, text_meaning};
 ghost use Rattle.config.specs.Lines.{IsUpTo, line_count};
 ghost use Rattle.config.specs.Outlines.{IsToldOf};
@@ -16,13 +17,14 @@ use std::alloc::Global;
 /// faults of that line the one with the lowest number. `NoMemory` comes in place of any answer where memory ran out.
 ///
 /// A line that begins a section under a name that is taken is never passed over: it is told as `DefinedTwice`, unless a
-/// fault that comes before it is told. A configuration has just the stores, the channels and the
-/// groups that the lines say, and each group just its channels.
+/// fault that comes before it is told. A configuration has just the stores, the channels and the groups that the lines say,
+/// and each group just its channels; and no line is passed over but empty ones and comments.
 pub fn read_config(alloc: Global, text: &[u8]) -> Result<Config, ConfigFault>
     ensures lines { IfErr result (IsUpTo (line_count text.now)) }
     ensures again { MatchResult result (λ config. lines_again text.now ≡ [])
         (λ fault. fault.kind ≢ FaultKind.NoMemory → IsToldOf (lines_again text.now) fault) }
     ensures means { IfOk result (Means (text_meaning text.now)) }
+    ensures whole { OnOk result (IsWhole text.now) }
 {
     let mut reading = Reading::new(alloc);
     let mut lines = Lines::new(text);

@@ -4,7 +4,7 @@ ghost use Rattle.std.specs.Prelude.{◌≡◌, ◌<◌, ◌+◌, ℕ, List, [], 
 ghost use Rattle.config.specs.Lines.{IsUpTo};
 ghost use Rattle.config.specs.Configurations.{Means, Parts, ended, meaning_of, no_parts, parted, parted_words};
 ghost use Rattle.config.specs.Drafts.{standing_of};
-ghost use Rattle.config.specs.Meant.{IsDrawn, IsMeant, Knows};
+ghost use Rattle.config.specs.Meant.{Draws, IsMeant, Knows, Took, TookLine};
 ghost use Rattle.config.specs.Views.{view};
 ghost use Rattle.config.specs.Outlines.{IsBehindWords, IsOutlined, IsToldOf, Tells, earlier};
 ghost use Rattle.config_words.specs.Places.{closed, is_section};
@@ -52,6 +52,7 @@ impl Reading {
         ensures outlined { (o : Outline) → IsOutlined o self.old → line.entry.number ≡ o.count + 1 →
             OnOk result (IsOutlined (outlined o line.entry.text.now) self.new) }
         ensures meant { (p : Parts) → Knows p self.old → OnOk result (Knows (parted p line.entry.text.now) self.new) }
+        ensures took { (p : Parts) → Knows p self.old → OnOk result (TookLine p line.entry.text.now self.old self.new) }
     {
         match LineKind::of(line.text) {
             LineKind::Empty => self.end_section(),
@@ -73,6 +74,7 @@ impl Reading {
         ensures outlined { (o : Outline) → IsOutlined o self.old →
             OnOk result (IsBehindWords o (keyword.now, arguments.now) number self.new) }
         ensures meant { (p : Parts) → Knows p self.old → OnOk result (Knows (parted_words (Some (keyword.now, arguments.now)) p) self.new) }
+        ensures took { OnOk result (Took (standing_of self.old.draft).at (keyword.now, arguments.now) self.old self.new) }
     {
         self.take_words(number, keyword, arguments)?;
         self.begin(number);
@@ -103,7 +105,8 @@ impl Reading {
         ensures read { OnOk result (IsRead number self.new) }
         ensures outlined { (o : Outline) → IsOutlined o self.old →
             OnOk result (IsBehindWords o (keyword.now, arguments.now) number self.new) }
-        ensures meant { (p : Parts) → Knows p self.old → OnOk result (self.new.first ≡ None → IsDrawn (parted_words (Some (keyword.now, arguments.now)) p) self.new.draft) }
+        ensures meant { (p : Parts) → Knows p self.old → OnOk result (Draws (parted_words (Some (keyword.now, arguments.now)) p) self.new) }
+        ensures took { OnOk result (Took (standing_of self.old.draft).at (keyword.now, arguments.now) self.old self.new) }
     {
         match self.draft.read(number, keyword, arguments) {
             Ok(()) => Ok(()),
@@ -132,6 +135,7 @@ impl Reading {
         ensures told { (again : List ℕ) → Tells again self.old.first → Tells again self.new.first }
         ensures standing { standing_of self.new.draft ≡ standing_at (closed (standing_of self.old.draft).at) (standing_of self.old.draft) }
         ensures meant { (p : Parts) → Knows p self.old → OnOk result (Knows (ended p) self.new) }
+        ensures none { self.new.first ≡ None → self.old.first ≡ None }
     {
         let is_whole = self.draft.is_whole();
         let is_kept = self.draft.end_section()?;
@@ -157,6 +161,7 @@ impl Reading {
         ensures again { (again : List ℕ) → Tells again self.first →
             IfOk result (λ told. MatchResult told (λ config. again ≡ []) (IsToldOf again)) }
         ensures means { (p : Parts) → Knows p self → IfOk result (λ told. IfOk told (Means (meaning_of (ended p)))) }
+        ensures none { IfOk result (λ told. OnOk told (self.first ≡ None)) }
     {
         self.end_section()?;
         let mut first = self.first;

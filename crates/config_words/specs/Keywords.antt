@@ -1,5 +1,5 @@
 -- The keywords that words name, and those that begin sections.
-use Rattle.std.specs.Prelude.{ℕ, Bool, ◌||◌, List, Option, Some, None, codes, if◌then◌else◌}
+use Rattle.std.specs.Prelude.{ℕ, Bool, true, false, ◌||◌, List, Option, Some, None, is_some, codes, if◌then◌else◌}
 use Rattle.std.specs.Str.{str_eq_ignore_ascii_case}
 use Rattle.config_words.specs.declared.keyword.Keyword.{Keyword}
 use Rattle.config_words.specs.declared.keyword.Keyword.TheVariants.{ImapStore, MaildirStore, Channel, Group, Host, Port, User, Pass, Path, Inbox, SubFolders, Far, Near, Patterns, Sync, Create, Expunge, SyncState, Channels}
@@ -32,6 +32,35 @@ section_of Channels = None
 -- the section that it begins at a place: none within another one
 abbrev pub opened_by : Place → Keyword → Option Place
 opened_by place keyword = if is_section place then None else section_of keyword
+
+-- ---- where keywords may stand
+
+-- those that also stand before any section, for all channels
+abbrev pub is_default : Keyword → Bool
+is_default Sync = true
+is_default Create = true
+is_default Expunge = true
+is_default SyncState = true
+is_default _ = false
+
+abbrev pub fits_at : Place → Keyword → Bool
+fits_at place.Start k = is_some (section_of k) || is_default k
+fits_at place.Between k = is_some (section_of k)
+fits_at place.ImapStore Host = true
+fits_at place.ImapStore Port = true
+fits_at place.ImapStore User = true
+fits_at place.ImapStore Pass = true
+fits_at place.ImapStore _ = false
+fits_at place.MaildirStore Path = true
+fits_at place.MaildirStore Inbox = true
+fits_at place.MaildirStore SubFolders = true
+fits_at place.MaildirStore _ = false
+fits_at place.Channel Far = true
+fits_at place.Channel Near = true
+fits_at place.Channel Patterns = true
+fits_at place.Channel k = is_default k
+fits_at place.Group Channels = true
+fits_at place.Group _ = false
 
 -- ---- words, which compare without case
 

@@ -1,7 +1,7 @@
 //! The keywords of a configuration, and where each may stand.
 
 ghost use Rattle.std.specs.Prelude.{◌≡◌, false, not, IfNone, IsSome, option_and_then};
-ghost use Rattle.config_words.specs.Keywords.{keyword_named, manner_keyword, meant_at, opened_by, section_keyword, section_of, setting_keyword};
+ghost use Rattle.config_words.specs.Keywords.{fits_at, is_default, keyword_named, manner_keyword, meant_at, opened_by, section_keyword, section_of, setting_keyword};
 ghost use Rattle.config_words.specs.Places.{is_section, section_named};
 
 /// What the first word of a line is.
@@ -154,7 +154,8 @@ impl Keyword {
 
     /// Whether it may stand at this place.
     pub fn fits(self, place: Place) -> bool
-        ensures { IsSome (section_of self) → result ≡ not (is_section place) }
+        ensures section { IsSome (section_of self) → result ≡ not (is_section place) }
+        ensures fits { result ≡ fits_at place self }
     {
         match place {
             Place::Start => self.section().is_some() || self.is_default(),
@@ -175,7 +176,8 @@ impl Keyword {
 
     /// Whether it may also stand before any section, for all channels.
     fn is_default(self) -> bool
-        ensures { IsSome (section_of self) → result ≡ false }
+        ensures section { IsSome (section_of self) → result ≡ false }
+        ensures default { result ≡ is_default self }
     {
         matches!(
             self,

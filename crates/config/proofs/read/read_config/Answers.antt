@@ -4,8 +4,8 @@ use Rattle.config.specs.Readings.{IsRead}
 use Rattle.config.specs.Standing.{lines_again, lines_of}
 use Rattle.std.specs.Prelude.{fold}
 use Rattle.config.specs.Configurations.{no_parts, parted}
-use Rattle.config.proofs.PartedLemmas.{all_parted, first_parted, more_parted}
-use Rattle.config.proofs.ReadingLemmas.{all_so_far, first_so_far, more_so_far, unless_memory}
+use Rattle.config.proofs.PartedLemmas.{all_accepted, all_parted, first_parted, more_parted}
+use Rattle.config.proofs.ReadingLemmas.{all_so_far, first_so_far, more_so_far, on_told, unless_memory}
 use Rattle.config.proofs.read.read_config.Goals as goal
 
 pub loop-line-init : goal.loop-line-init
@@ -26,7 +26,7 @@ loop-line-preserved c = (
       c.take.new.self.rest.now c.loop-line.reading c.read.new.self c.loop-line.invariant.2 c.in-Some.ensures.number.1 c.in-Some.ensures.number.0
       c.in-Some.ensures.line c.in-Ok.ensures.outlined,
   more_parted c.args.text.now c.loop-line.lines.taken c.take.new.self.taken c.in-Some.line.text.now c.loop-line.lines.rest.now c.take.new.self.rest.now
-      c.loop-line.reading c.read.new.self c.loop-line.invariant.3 c.in-Some.ensures.number.1 c.in-Some.ensures.line c.in-Ok.ensures.meant,
+      c.loop-line.reading c.read.new.self c.loop-line.invariant.3 c.in-Some.ensures.number.1 c.in-Some.ensures.line c.in-Ok.ensures.meant c.in-Ok.ensures.took,
 )
 
 pub returns-in-Ok-finish-clause-again : goal.returns-in-Ok-finish-clause-again
@@ -39,3 +39,8 @@ pub returns-in-Ok-finish-clause-means : goal.returns-in-Ok-finish-clause-means
 returns-in-Ok-finish-clause-means c =
     c.in-Ok-finish.ensures.means (fold parted no_parts (lines_of c.args.text.now))
     (all_parted c.args.text.now c.loop-line.lines.taken c.loop-line.lines.rest.now c.loop-line.reading c.loop-line.invariant.3 c.in_default.ensures.all)
+
+pub returns-in-Ok-finish-clause-whole : goal.returns-in-Ok-finish-clause-whole
+returns-in-Ok-finish-clause-whole c =
+    on_told c.in-Ok-finish.told (all_accepted c.args.text.now c.loop-line.lines.taken c.loop-line.lines.rest.now c.loop-line.reading c.loop-line.invariant.3 c.in_default.ensures.all)
+    c.in-Ok-finish.ensures.none

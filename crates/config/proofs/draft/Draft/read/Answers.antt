@@ -11,7 +11,7 @@ use Rattle.config_words.specs.Meanings.{said}
 use Rattle.config_words.specs.Places.{opened}
 use Rattle.config_words.specs.Words.{arguments_of}
 use Rattle.config.specs.Views.{view}
-use Rattle.config.proofs.ViewLemmas.{begins_so, line_at, read_titled, read_view}
+use Rattle.config.proofs.ViewLemmas.{begins_so, line_at, read_accepted, read_titled, read_view}
 use Rattle.config.proofs.draft.Draft.read.Goals as goal
 
 pub read_arguments-requires : goal.read_arguments-requires
@@ -71,3 +71,11 @@ returns-in_err-misplaced-clause-lines c = λ last line are. c.meet.ensures.lines
 
 pub returns-clause-lines : goal.returns-clause-lines
 returns-clause-lines c = λ last line are. c.read_arguments.ensures.lines last line (c.meet.ensures.lines last are)
+
+pub returns-clause-accepted : goal.returns-clause-accepted
+returns-clause-accepted c =
+    let at = place_of c.args.self.now.section in
+    let read = c.in-Some.keyword in
+    read_accepted c.read_arguments.result c.in_ok-misplaced.misplaced at read c.at-keyword.result c.args.keyword.now c.args.arguments.now c.in-Some.ensures.named
+    (c.at-keyword.ensures.meant ∙ ap (λ (p : Place). meant_at p read) c.place.ensures) c.in_ok-misplaced.ensures.fits c.read_arguments.ensures.placed
+    c.read_arguments.ensures.clear c.read_arguments.ensures.plain c.read_arguments.ensures.closed

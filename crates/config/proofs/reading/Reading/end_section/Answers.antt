@@ -36,3 +36,9 @@ returns-after-lacks-clause-read c = λ last is.
       | else-lacks w ↦ subst (λ (r : Reading). IsRead last r) (sym w.self-is) before
     ] in
     record { begun = tt; first = here.first; members = here.members }
+
+pub returns-after-lacks-clause-none : goal.returns-after-lacks-clause-none
+returns-after-lacks-clause-none c = elim c.if-lacks.branch [
+  | then-lacks w ↦ λ none. absurd (some_first w.note.ensures.first (sym (ap (λ (r : Reading). r.first) w.self-is) ∙ none))
+  | else-lacks w ↦ λ none. sym (ap (λ (r : Reading). r.first) w.self-is) ∙ none
+]

@@ -14,6 +14,7 @@ returns-in_default c = record {
       noted o (c.args.keyword.now, c.args.arguments.now) c.args.number c.in-Err.kind c.args.self.now c.note.new.self (standing_of c.read.new.self) is
       c.in-Err.ensures.standing c.in_default.not-NoMemory (ap (λ (d : Draft). standing_of d) c.note.ensures.draft) c.note.ensures.first;
   meant = λ p knows none. absurd (some_first c.note.ensures.first none);
+  took = λ none. absurd (some_first c.note.ensures.first none);
 }
 
 pub returns-in-Ok-clause-meant : goal.returns-in-Ok-clause-meant
@@ -26,3 +27,6 @@ returns-in-Ok-clause-read c = record {
   first = c.requires.read.first;
   members = c.in-Ok.ensures.lines c.args.number (c.requires.counted, omega arith) c.requires.read.members;
 }
+
+pub returns-in-Ok-clause-took : goal.returns-in-Ok-clause-took
+returns-in-Ok-clause-took c = λ none. (none, c.in-Ok.ensures.accepted)

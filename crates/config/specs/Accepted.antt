@@ -1,0 +1,46 @@
+-- Which lines of a text a configuration takes: every one, or the text is refused.
+use Rattle.std.specs.Prelude.{ℕ, ◌≡◌, Bool, true, false, List, [], ◌∷◌, Option, Some, None}
+use Rattle.config_words.specs.declared.keyword.Keyword.{Keyword}
+use Rattle.config_words.specs.declared.keyword.Place.{Place}
+use Rattle.config_words.specs.Keywords.{fits_at, keyword_named, meant_at}
+use Rattle.config_words.specs.Meanings.{Said, SyncIs}
+use Rattle.config_words.specs.Words.{arguments_of, is_blank, is_plain, words_of}
+use Rattle.config.specs.Configurations.{Parts, line_said, no_parts, parted}
+use Rattle.config.specs.Standing.{lines_of}
+
+-- whether a word is a keyword that may stand at a place
+abbrev pub fits_named : Place → Option Keyword → Bool
+fits_named at None = false
+fits_named at (Some k) = fits_at at (meant_at at k)
+
+-- something is said, and no cell of Sync twice
+abbrev pub IsClear : Option Said → Type 0
+IsClear None = ⊥
+IsClear (Some (SyncIs None)) = ⊥
+IsClear (Some _) = Unit {0}
+
+-- a line of words is taken at a place: its keyword may stand there, the text behind it is plain with its quotes closed, and the
+-- keyword takes these arguments
+pub record IsAccepted (at : Place) (words : List ℕ × List ℕ) : Type 0 where
+  pub fits : fits_named at (keyword_named words.0) ≡ true
+  pub plain : is_plain words.1 ≡ true
+  pub closed : (arguments_of words.1).quoted ≡ false
+  pub says : IsClear (line_said at words)
+
+-- so is a comment
+abbrev pub AcceptsWords : Place → Option (List ℕ × List ℕ) → Type 0
+AcceptsWords at None = Unit {0}
+AcceptsWords at (Some words) = IsAccepted at words
+
+-- and an empty line
+abbrev pub AcceptsLine : Place → List ℕ → Type 0
+AcceptsLine at line = is_blank line ≡ false → AcceptsWords at (words_of line)
+
+-- each of these lines is taken, where it stands behind those before it
+abbrev pub AcceptsAll : Parts → List (List ℕ) → Type 0
+AcceptsAll p [] = Unit {0}
+AcceptsAll p (line ∷ lines) = AcceptsLine p.current.kind line × AcceptsAll (parted p line) lines
+
+-- each line of a text
+abbrev pub IsWhole : List ℕ → Type 0
+IsWhole text = AcceptsAll no_parts (lines_of text)
