@@ -304,13 +304,16 @@ GoesUntil-request noted config request cells places status true old new w p h = 
 
 -- nothing was refused before
 pub GoesAsFar-told : {L : Type 0} (noted : L → Asked → L) (config : Config) (request : Request) (cells : Option Cells) (places : List ℕ) (status : ℕ)
-    (write_failed : Bool) (old first last new : L) → line_cells request.sync_words.items ≡ Ok cells → places ≡ chosen_among config request.chosen
+    (write_failed : Bool) (told_before told : Option (List ℕ)) (old first last new : L) → line_cells request.sync_words.items ≡ Ok cells
+    → places ≡ chosen_among config request.chosen
     → first ≡ old → new ≡ last → GoesUntil noted write_failed (IsLineAsked config (ways_of request cells) places) status first last
-    → GoesAsFar noted config request status old new
-GoesAsFar-told noted config request cells places status write_failed old first last new w p e f h =
-    inr (
-      write_failed,
-      GoesUntil-request noted config request cells places status write_failed old new w p
-          (subst (λ l. GoesUntil noted write_failed (IsLineAsked config (ways_of request cells) places) status l new) e
-          (subst (λ l. GoesUntil noted write_failed (IsLineAsked config (ways_of request cells) places) status first l) (sym f) h)),
-    )
+    → GoesAsFar noted config request status told_before told old new
+GoesAsFar-told noted config request cells places status write_failed told_before told old first last new w p e f h =
+    by write_failed
+    (GoesUntil-request noted config request cells places status write_failed old new w p
+    (subst (λ l. GoesUntil noted write_failed (IsLineAsked config (ways_of request cells) places) status l new) e
+    (subst (λ l. GoesUntil noted write_failed (IsLineAsked config (ways_of request cells) places) status first l) (sym f) h)))
+  where
+    by : (failed : Bool) → GoesUntil noted failed (IsRequestAsked config request) status old new → GoesAsFar noted config request status told_before told old new
+    by false goes = inr (inl goes)
+    by true goes = inr (inr (goes.0, inr goes.1))

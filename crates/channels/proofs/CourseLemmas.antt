@@ -75,16 +75,6 @@ was_done true verdict h e = absurd (subst IsClean (sym e ∙ h) tt)
 
 -- ---- of a record
 
-pub Follows-asked : {L : Type 0} (noted : L → Asked → L) (old new : L) (is_due : Bool) (question : Outcome → Asked) (outcome : Outcome)
-    → is_due ≡ true → new ≡ noted old (question outcome) → Follows noted old new outcome (asking_if is_due question outcome)
-Follows-asked noted old new is_due question outcome d h =
-    subst (λ b. Follows noted old new outcome (asking_if b question outcome)) (sym d) (record { grown = h; ended = refl })
-
-pub Follows-unasked : {L : Type 0} (noted : L → Asked → L) (old new : L) (is_due : Bool) (question : Outcome → Asked)
-    → is_due ≡ false → new ≡ old → Follows noted old new Done (asking_if is_due question Done)
-Follows-unasked noted old new is_due question d h =
-    subst (λ b. Follows noted old new Done (asking_if b question Done)) (sym d) (record { grown = h; ended = refl })
-
 pub fold_behind : {L : Type 0} (noted : L → Asked → L) (old middle new : L) (first next : List Asked)
     → middle ≡ fold noted old first → new ≡ fold noted middle next → new ≡ fold noted old (first ++ next)
 fold_behind noted old middle new first next h k = k ∙ ap (λ l. fold noted l next) h ∙ sym (fold-append noted old first next)
@@ -202,10 +192,6 @@ Makes-same noted place absent outcome old middle new e h = subst (λ l. Makes no
 pub Goes-same : {L : Type 0} (noted : L → Asked → L) (old middle new : L) (is_such : List Asked → Type 0)
     → new ≡ middle → Goes noted old middle is_such → Goes noted old new is_such
 Goes-same noted old middle new is_such e h = subst (λ l. Goes noted old l is_such) (sym e) h
-
-pub Goes-from : {L : Type 0} (noted : L → Asked → L) (old middle new : L) (is_such : List Asked → Type 0)
-    → middle ≡ old → Goes noted middle new is_such → Goes noted old new is_such
-Goes-from noted old middle new is_such e h = subst (λ l. Goes noted l new is_such) e h
 
 -- all of it was asked, and then a write failed
 pub Begun-all : {L : Type 0} (noted : L → Asked → L) (old middle new : L) (is_such : Verdict → List Asked → Type 0) (verdict : Verdict)

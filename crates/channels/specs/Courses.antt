@@ -1,5 +1,5 @@
 -- What is asked of the stores, whatever they answer.
-use Rattle.std.specs.Prelude.{◌≡◌, ◌<◌, ℕ, Bool, true, false, is_some, ◌||◌, ◌⊎◌, List, [], ◌∷◌, ◌++◌, Option, None, Some, Result, Ok, Err, if◌then◌else◌}
+use Rattle.std.specs.Prelude.{◌≡◌, ℕ, Bool, true, false, is_some, ◌||◌, ◌⊎◌, List, [], ◌∷◌, ◌++◌, Option, None, Some, Result, Ok, Err, if◌then◌else◌}
 use Rattle.std.specs.List.{fold}
 use Rattle.mailcore.specs.declared.side.Side.TheVariants.{Far, Near}
 use Rattle.rules.specs.declared.options.Cells.{Cells}
@@ -19,6 +19,7 @@ use Rattle.channels.specs.declared.verdict.Verdict.TheVariants.{Clean, Faulty, O
 use Rattle.channels.specs.Asks.{Ways, run_attempts, ways_of}
 use Rattle.channels.specs.Founds.{absent_in}
 use Rattle.channels.specs.Outcomes.{IsToldOf}
+use Rattle.channels.specs.Refusals.{IsToldUndone, IsUndone}
 use Rattle.channels.specs.Verdicts.{both, status_of}
 
 -- ---- of a mailbox
@@ -229,6 +230,13 @@ abbrev pub GoesUntil : {L : Type 0} → (L → Asked → L) → (write_failed : 
 GoesUntil noted false is_such status old new = GoesToEnd noted is_such status old new
 GoesUntil noted true is_such status old new = (status ≡ 1) × Goes noted old new (Begun is_such)
 
--- nothing, where the line is refused before; or what it names
-abbrev pub GoesAsFar : {L : Type 0} → (L → Asked → L) → Config → Request → (status : ℕ) → (old new : L) → Type 0
-GoesAsFar noted config request status old new = ((0 < status) × (new ≡ old)) ⊎ ((write_failed : Bool) × GoesUntil noted write_failed (IsRequestAsked config request) status old new)
+-- a write failed: nothing was asked where nothing is done of the line, and else a beginning
+abbrev pub GoesUnwritten : {L : Type 0} → (L → Asked → L) → Config → Request → (old new : L) → Type 0
+GoesUnwritten noted config request old new = (IsUndone config request × (new ≡ old)) ⊎ Goes noted old new (Begun (IsRequestAsked config request))
+
+-- nothing was asked, and why is told on standard error; or all that the line names was asked; or, at status 1, a write failed
+abbrev pub GoesAsFar : {L : Type 0} → (L → Asked → L) → Config → Request → (status : ℕ) → (told_before told : Option (List ℕ)) → (old new : L) → Type 0
+GoesAsFar noted config request status told_before told old new =
+    (IsToldUndone config request status told_before told × (new ≡ old))
+    ⊎ (GoesToEnd noted (IsRequestAsked config request) status old new
+    ⊎ ((status ≡ 1) × GoesUnwritten noted config request old new))

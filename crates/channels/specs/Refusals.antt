@@ -1,5 +1,6 @@
 -- What is refused before anything is opened.
-use Rattle.std.specs.Prelude.{◌≡◌, ℕ, ◌⊎◌, IsSome, IsErr, List, Result, Ok, Err}
+use Rattle.std.specs.Prelude.{◌≡◌, ℕ, ◌⊎◌, IsSome, IsErr, List, [], ◌∷◌, ◌++◌, Option, None, Some, Result, Ok, Err, codes}
+use Rattle.std.specs.Io.KnownBytes.{Appends}
 use Rattle.config.specs.declared.config.Config.{Config}
 use Rattle.request.specs.declared.request.Request.{Request}
 use Rattle.request.specs.Cells.{line_cells}
@@ -25,3 +26,30 @@ abbrev pub status_of : Refusal → ℕ
 status_of (Unknown name) = 2
 status_of SyncWords = 2
 status_of NoMemory = 1
+
+-- why nothing of a line is done: the first of its names that stands for nothing; where each stands for something, the words of
+-- Sync, or want of memory
+abbrev pub IsReason : Config → Request → Refusal → Type 0
+IsReason config request (Unknown name) = unknown_among config request.chosen ≡ Some name.now
+IsReason config request SyncWords = (unknown_among config request.chosen ≡ None) × IsErr (line_cells request.sync_words.items)
+IsReason config request NoMemory = unknown_among config request.chosen ≡ None
+
+abbrev pub refusal_text : Refusal → List ℕ
+refusal_text (Unknown name) = codes "unknown " ++ name.now
+refusal_text SyncWords = codes "sync words"
+refusal_text NoMemory = codes "no memory"
+
+abbrev pub refusal_line : Refusal → List ℕ
+refusal_line refusal = codes "mbsync: " ++ refusal_text refusal ++ 10 ∷ []
+
+-- nothing is done, for this reason
+pub record IsUndone (config : Config) (request : Request) : Type 0 where
+  pub refusal : Refusal
+  pub reason : IsReason config request refusal
+
+-- nothing is done, and its reason is told, on a line of its own, and by the status
+pub record IsToldUndone (config : Config) (request : Request) (status : ℕ) (old new : Option (List ℕ)) : Type 0 where
+  pub refusal : Refusal
+  pub reason : IsReason config request refusal
+  pub line : Appends old new (refusal_line refusal)
+  pub tells : status ≡ status_of refusal

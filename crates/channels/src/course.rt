@@ -3,7 +3,7 @@
 ghost use Rattle.std.specs.Prelude.{◌≡◌, IfErr, IfOk, IfSome, IsErr, Ok};
 ghost use Rattle.choosing.specs.Chosen.{chosen_among, unknown_among};
 ghost use Rattle.request.specs.Cells.{line_cells};
-ghost use Rattle.channels.specs.Refusals.{IsRefused, IsUnknown, status_of};
+ghost use Rattle.channels.specs.Refusals.{IsReason, IsRefused, IsUnknown, status_of};
 
 use choosing::chosen::{chosen_places, unknown_name};
 use config::config::Config;
@@ -11,7 +11,7 @@ use request::cells::{CellsFault, cells};
 use request::request::Request;
 use rules::options::Cells;
 use std::alloc::{AllocError, Global};
-use thiserror::Error;
+use std::fmt;
 
 /// The channels that a command line names, and what it says of their runs.
 #[derive(Drop)]
@@ -23,17 +23,29 @@ pub(crate) struct Course {
 }
 
 /// Why nothing of a command line is done, as it is told.
-#[derive(Clone, Copy, Debug, PartialEq, Eq, Error)]
+#[derive(Clone, Copy, Debug, PartialEq, Eq)]
 pub(crate) enum Refusal<'a> {
     /// This name is neither a channel nor a group.
-    #[error("unknown {0}")]
     Unknown(&'a str),
     /// The words of Sync are refused.
-    #[error("sync words")]
     SyncWords,
     /// A growth was refused.
-    #[error("no memory")]
     NoMemory,
+}
+
+impl fmt::Display for Refusal<'_> {
+    ghost use Rattle.std.specs.Prelude.{Some};
+    ghost use Rattle.channels.specs.Refusals.{refusal_text};
+
+    ghost output = { λ refusal. Some (refusal_text refusal) };
+
+    fn fmt<W: fmt::Write>(&self, f: &mut fmt::Formatter<W>) -> fmt::Result {
+        match *self {
+            Refusal::Unknown(name) => write!(f, "unknown {name}"),
+            Refusal::SyncWords => f.write_str("sync words"),
+            Refusal::NoMemory => f.write_str("no memory"),
+        }
+    }
 }
 
 impl Refusal<'_> {
@@ -59,6 +71,7 @@ pub(crate) fn course_of<'a>(
     ensures unknown { IfSome (unknown_among config.now request.now.chosen) (IsUnknown result) }
     ensures refused { IsRefused config.now request.now → IsErr result }
     ensures usage { IfErr result (λ refusal. status_of refusal ≡ 2 → IsRefused config.now request.now) }
+    ensures reason { IfErr result (IsReason config.now request.now) }
 {
     if let Some(name) = unknown_name(config, &request.chosen) {
         return Err(Refusal::Unknown(name));

@@ -51,7 +51,8 @@ pub fn run_config<S: Stores, R: Rng, O: Write, E: Write>(
     ensures clean { result ≡ 0 → HasNotices (E.contents err.old) (E.contents err.new) }
     ensures whole { result ≡ 0 → Extends (O.contents out.old) (O.contents out.new) }
     ensures asks { result ≡ 0 → GoesAll S.noted config.now request.now (S.asked stores.old) (S.asked stores.new) }
-    ensures asked { GoesAsFar S.noted config.now request.now result (S.asked stores.old) (S.asked stores.new) }
+    ensures asked { GoesAsFar S.noted config.now request.now result (E.contents err.old) (E.contents err.new)
+        (S.asked stores.old) (S.asked stores.new) }
     ensures usage { result ≡ 2 → IsRefused config.now request.now }
     ensures refused { IsRefused config.now request.now → (0 < result) × (stores.new ≡ stores.old) × (rng.new ≡ rng.old) × (out.new ≡ out.old) }
 {
