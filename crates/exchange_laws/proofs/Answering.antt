@@ -14,7 +14,7 @@ use Rattle.imap_replies.specs.declared.reply.Reply.TheVariants.{Fetch, Expunge, 
 use Rattle.imap_session.specs.Mailboxes.{FarMailbox, mailbox_at, same_name}
 use Rattle.imap_session.specs.NamedMessages.{goes}
 use Rattle.imap_session.specs.Servers.{Condition, NotAuthenticated, Authenticated, Selected, LoggedOut, Server, is_logged_in, is_before_login, selected, news, told}
-use Rattle.imap_session.specs.Answering.{Answer, Gives, only, listed}
+use Rattle.imap_session.specs.Answering.{Answer, Gives, listed}
 use Rattle.imap_session.specs.SessionCommands.{lets_in, logs_in, enables}
 use Rattle.imap_session.specs.MailboxCommands.{lists, makes, creates_at, creates, closes, opening, selects_at, selects, is_name, next_validity}
 use Rattle.imap_session.specs.AppendCommand.{grown, AppendsAt, AppendsIf}

@@ -9,3 +9,4 @@ pub mod ReadsOn
 pub mod Ended
 pub mod Asked
 pub mod Greeted
+pub mod Telling

@@ -1,6 +1,7 @@
 -- What is needed of what others do.
-use Rattle.std.proofs.Common.{◌≡◌, ℕ, List, refl, sym, ◌∙◌, ap, subst}
-use Rattle.imap_session.specs.Servers.{Server, is_over, Quiet, news, told}
+use Rattle.std.proofs.Common.{◌≡◌, ℕ, true, false, List, [], Option, None, Some, if◌then◌else◌, refl, sym, ◌∙◌, ap, subst}
+use Rattle.imap_session.specs.Mailboxes.{FarMailbox}
+use Rattle.imap_session.specs.Servers.{Server, is_over, Quiet, selected, exists_of, news, told}
 use Rattle.imap_session.specs.Portions.{goes_in}
 use Rattle.imap_session.specs.Unread.{Kept, Holds}
 use Rattle.imap_session.specs.Serving.{End}
@@ -17,8 +18,13 @@ quiet_left s t h = ap (λ (v : Server). is_over v.condition) h
 pub told_left : (s : Server) → is_over (told s).condition ≡ is_over s.condition
 told_left s = refl
 
+exists_untagged : (m : Option FarMailbox) → AreUntagged (exists_of m)
+exists_untagged None = tt
+exists_untagged (Some m) = (refl, tt)
+
 pub news_untagged : (s : Server) → AreUntagged (news s)
-news_untagged s = tt
+news_untagged s =
+    elim s.has_news as (λ b. AreUntagged (if b then exists_of (selected s) else [])) [ true ↦ exists_untagged (selected s) | false ↦ tt ]
 
 -- what the server has read stays
 pub read_stays : (front : List ℕ) (old new : End) → Stays old new → HasRead front old → HasRead front new

@@ -18,12 +18,12 @@ use Rattle.imap_session.specs.Answering.{done_with}
 use Rattle.imap_session.specs.AppendCommand.{grown, AppendsUnder, NoneLeft, AppendsAt, AppendsIf}
 use Rattle.imap_session.specs.Heard.{AreReplies, LeavesOut, WithoutUid}
 use Rattle.imap_session.specs.Steps.{Step}
-use Rattle.exchange_laws.specs.Ends.{MayHave, DidCommand}
+use Rattle.exchange_laws.specs.Ends.{MayHave}
 use Rattle.imap_link.specs.declared.fault.FarFault.{FarFault}
 use Rattle.imap_link.specs.declared.fault.FarFault.TheVariants as faults
 use Rattle.imap_link.specs.UsedReplies.{answer_alone, is_used}
 use Rattle.imap_link.specs.Outcomes.{Outcome}
-use Rattle.imap_link.specs.Exchanges.{Replied}
+use Rattle.imap_link.specs.Exchanges.{Performs, Replied}
 use Rattle.imap_answers.specs.declared.given.Given.{Given}
 use Rattle.imap_client.specs.Tags.{tag_text}
 use Rattle.imap_client.specs.Exchanged.{command_at, Exchanged}
@@ -33,7 +33,7 @@ use Rattle.imap_answers.specs.Given.{given_more, given_in, uid_told}
 use Rattle.imap_client.specs.Boxes.{selected_name, is_next, IsSelected}
 use Rattle.imap_client.specs.Appending.{AddsUnder, AddsSome, Adds, IsTold, NoUidLeft, next_known}
 use Rattle.imap_answers.proofs.Unread.{given_in_read}
-use Rattle.imap_client.proofs.Answered.{final_last, did_step, said_of}
+use Rattle.imap_client.proofs.Answered.{final_last, said_of}
 use Rattle.imap_client.proofs.Changed.{with_store, selected_changed, there_of}
 
 -- ---- the mailbox that is selected
@@ -116,10 +116,10 @@ module _ (n : ℕ) (name : List ℕ) (flags : ℕ) (message : List ℕ) (old : S
         | inr a ↦ (let both = added_status s.said new statuses.Bad a s.status_is in cc)
       ]
 
-  may_so : (new : Server) → MayHave (DidCommand this) old new → MayHave (AddsSome m flags message) old new
+  may_so : (new : Server) → MayHave (Performs this) old new → MayHave (AddsSome m flags message) old new
   may_so new (inl q) = inl q
   may_so new (inr d) =
-      elim (by_step d.said new (did_step this old d.said new d.did)) [
+      elim (by_step d.said new d.step) [
         | inl l ↦ inl l.gives.1
         | inr a ↦ inr (record { uid = a.uid; under = under_of d.said new a })
       ]

@@ -11,15 +11,15 @@ use Rattle.imap_replies.specs.declared.reply.Reply.TheVariants.{Continue, Tagged
 use Rattle.imap_session.specs.Servers.{Server}
 use Rattle.imap_session.specs.Steps.{Step}
 use Rattle.imap_session.specs.Heard.{AreReplies, LeavesOut, WithoutUid}
-use Rattle.exchange_laws.specs.Ends.{Did, DidCommand, MayHave}
-use Rattle.exchange_laws.proofs.Answering.{did_answer, leaves_answer}
+use Rattle.exchange_laws.specs.Ends.{MayHave}
+use Rattle.exchange_laws.proofs.Answering.{step_answer, leaves_answer}
 use Rattle.imap_link.specs.declared.fault.FarFault.{FarFault}
 use Rattle.imap_link.specs.declared.fault.FarFault.TheVariants as faults
 use Rattle.imap_link.specs.declared.front.Kind.TheVariants.{Mine, Stray}
 use Rattle.imap_link.specs.ReplyKinds.{kind_of, IsAwaited}
 use Rattle.imap_link.specs.UsedReplies.{uses_of, is_used}
 use Rattle.imap_link.specs.Outcomes.{Outcome, Never}
-use Rattle.imap_link.specs.Exchanges.{Replied}
+use Rattle.imap_link.specs.Exchanges.{Performs, Replied}
 use Rattle.imap_link.proofs.KindLemmas.{awaited_stays, tagged_awaited}
 use Rattle.imap_link.proofs.Astray.{ends_apart, closed_of}
 use Rattle.imap_link.proofs.Passing.{untagged_used, tagged_used, used_last}
@@ -70,12 +70,6 @@ leaves_final (h ∷ i ∷ hs) (s ∷ t ∷ ss) l = leaves_final (i ∷ hs) (t �
 
 -- ---- what was done
 
-pub did_step : (c : Command) (old : Server) (said : List Reply) (new : Server) → Did c [] old said new → Step old c said new
-did_step c old said new d =
-    subst (λ (s : Server). Step s c said new) d.quiet
-    (subst (λ (s : Server). Step d.before c said s) (sym d.later)
-    (subst (λ (rs : List Reply). Step d.before c rs d.after) (sym d.replies_are) d.step))
-
 pub record Said (c : Command) (status : Status) (bytes : List ℕ) (old new : Server) : Type 0 where
   pub said : List Reply
   pub step : Step old c said new
@@ -86,7 +80,7 @@ pub said_of : (c : Command) (status : Status) (bytes : List ℕ) (old new : Serv
 said_of c status bytes old new r =
     let uses = uses_of c.request in
     let said = r.did.said in
-    let answer = leaves_answer c.tag r.replies said r.did.left_out (did_answer c old said new r.did.did) in
+    let answer = leaves_answer c.tag r.replies said r.did.left_out (step_answer old c.tag c.request said new r.did.step) in
     let closed = closed_of c.tag r.replies answer in
     let mine : IsAwaited (kind_of c.tag r.text.last) = subst IsAwaited (sym r.text.is) tt in
     let same = ends_apart r.text.last closed.last (awaited_stays c.tag r.text.last mine) (awaited_stays c.tag closed.last (tagged_awaited c.tag closed.last closed.is))
@@ -94,7 +88,7 @@ said_of c status bytes old new r =
     (subst (λ (l : List Reply). AreReplies l bytes) (ap (filter (is_used uses)) closed.all ∙ used_last uses closed.passed closed.last (tagged_used uses closed.last c.tag closed.is)) r.spelled) (append-nil bytes) in
     record {
       said = said;
-      step = did_step c old said new r.did.did;
+      step = r.did.step;
       heard = record { replies = r.replies; spelled = r.spelled; left_out = r.did.left_out };
       status_is = sym (leaves_final r.replies said r.did.left_out) ∙ ap final_status closed.all ∙ final_last closed.passed closed.last ∙ ap status_of (sym same.1) ∙ kind_status c.tag r.text.last status r.text.is;
     }
@@ -111,9 +105,9 @@ module _ (c : Command) (old : Server) (xs : List Reply) (last : Reply) (after : 
       let s = said_of c status bytes old new r in
       sym (final_last xs last) ∙ ap final_status (sym (sure.each s.said new s.step).0) ∙ s.status_is
 
-  pub after_so : (new : Server) → MayHave (DidCommand c) old new → MayHave (λ (s t : Server). t ≡ after) old new
+  pub after_so : (new : Server) → MayHave (Performs c) old new → MayHave (λ (s t : Server). t ≡ after) old new
   after_so new (inl q) = inl q
-  after_so new (inr d) = inr (sure.each d.said new (did_step c old d.said new d.did)).1
+  after_so new (inr d) = inr (sure.each d.said new d.step).1
 
   pub heard_so : (status : Status) (bytes : List ℕ) (new : Server) → Replied c status bytes old new → HeardOf (uses_of c.request) (xs ++ last ∷ []) bytes × (new ≡ after)
   heard_so status bytes new r =

@@ -4,13 +4,12 @@ use Rattle.imap_commands.specs.declared.command.Command.{Command}
 use Rattle.imap_replies.specs.declared.word.Status.{Status}
 use Rattle.imap_replies.specs.declared.word.Status.TheVariants as statuses
 use Rattle.imap_session.specs.Servers.{Server}
-use Rattle.exchange_laws.specs.Ends.{DidCommand}
 use Rattle.imap_link.specs.declared.fault.FarFault.{FarFault}
 use Rattle.imap_link.specs.declared.fault.FarFault.TheVariants as faults
 use Rattle.imap_link.specs.declared.wire.Answered.{Answered}
 use Rattle.imap_link.specs.Faults.{IsHearing}
 use Rattle.imap_link.specs.Outcomes.{Outcome, Never}
-use Rattle.imap_link.specs.Exchanges.{Replied}
+use Rattle.imap_link.specs.Exchanges.{Performs, Replied}
 use Rattle.imap_client.specs.Exchanged.{Exchanged}
 use Rattle.imap_client.specs.States.{State, SendStops, SentSo, Judged, Asked, AskedSo}
 
@@ -27,7 +26,7 @@ sent_err T tag old new faults.NoRev2 h e s = absurd h
 sent_err T tag old new faults.ReadOnly h e s = absurd h
 sent_err T tag old new faults.NoMemory h e s = e
 
-pub exchanged_err : (c : Command) (does : Answered → Server → Server → Type 0) (f : FarFault) (heard : List ℕ) (old new : Server) → Outcome {T = Answered} does Never (DidCommand c) (Err f) old new
+pub exchanged_err : (c : Command) (does : Answered → Server → Server → Type 0) (f : FarFault) (heard : List ℕ) (old new : Server) → Outcome {T = Answered} does Never (Performs c) (Err f) old new
     → Exchanged c (Err f) heard old new
 exchanged_err c does faults.Stopped heard old new h = h
 exchanged_err c does faults.Refused heard old new h = absurd h

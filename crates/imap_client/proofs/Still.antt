@@ -14,7 +14,7 @@ keeps_is (Dropping fault last) h = cc
 
 empty_held : (s : Server) → Holds false (Whole []) [] []
 empty_held s =
-    let old : Server = record s { condition = NotAuthenticated } in
+    let old : Server = record s { condition = NotAuthenticated; has_news = false } in
     let new : End = record { server = old; kept = Whole [] } in
     new_end_is_empty old new (record { quiet = refl; kept = refl })
 

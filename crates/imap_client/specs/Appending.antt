@@ -17,10 +17,11 @@ use Rattle.imap_session.specs.Mailboxes.{FarMailbox}
 use Rattle.imap_session.specs.AppendCommand.{MayGive}
 use Rattle.imap_session.specs.Portions.{goes_in}
 use Rattle.imap_session.specs.Servers.{Server, Quiet}
-use Rattle.imap_session.specs.Lines.{Line}
-use Rattle.exchange_laws.specs.Ends.{ends_of, IsAt, IsText, AsksAtEnd, DidCommand, is_logout}
+use Rattle.imap_session.specs.Lines.{Line, told_server}
+use Rattle.exchange_laws.specs.Ends.{ends_of, IsAt, IsText, AsksAtEnd, is_logout}
 use Rattle.imap_link.specs.declared.fault.FarFault.{FarFault}
 use Rattle.imap_link.specs.UsedReplies.{answer_alone, uses_of}
+use Rattle.imap_link.specs.Exchanges.{Performs}
 use Rattle.imap_link.specs.Outcomes.{Outcome, Never}
 use Rattle.imap_client.specs.declared.addition.Addition.{Addition}
 use Rattle.imap_client.specs.Boxes.{Becomes}
@@ -98,5 +99,5 @@ pub record IsFront (tag front : List ℕ) : Type 0 where
 
 -- the server waits for the rest, and nothing is on the way; or the command was done or not
 abbrev pub WaitsOr : {T : Type 0} → Command → (front : List ℕ) → Result T FarFault → (old new : Line) (heard : List ℕ) → Type 0
-WaitsOr c front (Ok _) old new heard = Quiet old.end.server new.end.server × IsAt front (ends_of new heard)
-WaitsOr c front (Err fault) old new heard = Outcome {T = Unit {0}} (λ _. Never) Never (DidCommand c) (Err fault) old.end.server new.end.server
+WaitsOr c front (Ok _) old new heard = Quiet (told_server old) (told_server new) × IsAt front (ends_of new heard)
+WaitsOr c front (Err fault) old new heard = Outcome {T = Unit {0}} (λ _. Never) Never (Performs c) (Err fault) (told_server old) (told_server new)

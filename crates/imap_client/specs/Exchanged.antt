@@ -5,11 +5,11 @@ use Rattle.imap_commands.specs.declared.command.Request.{Request}
 use Rattle.imap_replies.specs.declared.word.Status.{Status}
 use Rattle.imap_replies.specs.declared.word.Status.TheVariants as statuses
 use Rattle.imap_session.specs.Servers.{Server}
-use Rattle.exchange_laws.specs.Ends.{MayHave, DidCommand}
+use Rattle.exchange_laws.specs.Ends.{MayHave}
 use Rattle.imap_link.specs.declared.fault.FarFault.{FarFault}
 use Rattle.imap_link.specs.declared.fault.FarFault.TheVariants.{Stopped, Refused, Protocol, TooLong, NoRev2, ReadOnly, NoMemory}
 use Rattle.imap_link.specs.declared.wire.Answered.{Answered}
-use Rattle.imap_link.specs.Exchanges.{Replied}
+use Rattle.imap_link.specs.Exchanges.{Performs, Replied}
 use Rattle.imap_link.specs.Outcomes.{Outcome, Never}
 use Rattle.imap_client.specs.Tags.{tag_text}
 
@@ -24,16 +24,16 @@ pub record RepliedWith (c : Command) (status : Status) (old new : Server) : Type
 
 -- the answer to the command stands at the front of the buffer; or the call was stopped, with the command done or not
 abbrev pub AnsweredSo : Command → Result Answered FarFault → (heard : List ℕ) → (old new : Server) → Type 0
-AnsweredSo c result heard old new = Outcome (λ a. Replied c a.status (take a.len heard)) Never (DidCommand c) result old new
+AnsweredSo c result heard old new = Outcome (λ a. Replied c a.status (take a.len heard)) Never (Performs c) result old new
 
 -- The answer of this length stands at the front of the buffer; or the server said NO, or BAD; or the call was stopped,
 -- with the command done or not.
 abbrev pub Exchanged : Command → Result ℕ FarFault → (heard : List ℕ) → (old new : Server) → Type 0
 Exchanged c (Ok len) heard old new = Replied c statuses.Ok (take len heard) old new
-Exchanged c (Err Stopped) heard old new = MayHave (DidCommand c) old new
+Exchanged c (Err Stopped) heard old new = MayHave (Performs c) old new
 Exchanged c (Err Refused) heard old new = RepliedWith c statuses.No old new
 Exchanged c (Err Protocol) heard old new = RepliedWith c statuses.Bad old new
 Exchanged c (Err TooLong) heard old new = ⊥
 Exchanged c (Err NoRev2) heard old new = ⊥
 Exchanged c (Err ReadOnly) heard old new = ⊥
-Exchanged c (Err NoMemory) heard old new = MayHave (DidCommand c) old new
+Exchanged c (Err NoMemory) heard old new = MayHave (Performs c) old new

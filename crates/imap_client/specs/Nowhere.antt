@@ -1,5 +1,5 @@
 -- A link of which nothing is known.
-use Rattle.std.specs.Prelude.{[]}
+use Rattle.std.specs.Prelude.{false, []}
 use Rattle.imap_session.specs.Servers.{LoggedOut}
 use Rattle.imap_session.specs.Unread.{Whole}
 use Rattle.imap_session.specs.Lines.{Line}
@@ -8,7 +8,7 @@ use Rattle.imap_session.specs.Lines.{Line}
 abbrev pub no_line : Line
 no_line = record {
   end = record {
-    server = record { user = []; password = []; mailboxes = []; condition = LoggedOut };
+    server = record { user = []; password = []; mailboxes = []; condition = LoggedOut; has_news = false };
     kept = Whole [];
   };
   unseen = [];

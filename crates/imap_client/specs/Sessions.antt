@@ -1,6 +1,6 @@
 -- A session as the clauses of its calls name it.
 use Rattle.imap_session.specs.Servers.{Server}
-use Rattle.imap_session.specs.Lines.{Line}
+use Rattle.imap_session.specs.Lines.{Line, told_server}
 use Rattle.imap_link.specs.declared.link.Link as link
 use Rattle.imap_client.specs.declared.session.Session.{Session}
 use Rattle.imap_client.specs.States.{State}
@@ -13,6 +13,6 @@ module _ {L : Type 0} {links : link.Ghosts L} where
   abbrev pub line_of : Session L links → Line
   line_of s = links.line s.wire.link
 
-  -- the server behind its link
+  -- the server behind its link, but for news that it has not told yet
   abbrev pub server_of : Session L links → Server
-  server_of s = (line_of s).end.server
+  server_of s = told_server (line_of s)

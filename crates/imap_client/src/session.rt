@@ -44,6 +44,7 @@ pub struct Session<L: Link> {
 }
 
 impl<L: Link> Session<L> {
+    ghost use Rattle.imap_session.specs.Lines.{told_server};
     ghost use Rattle.imap_client.specs.Sessions.{state_of, line_of, server_of};
 
     /// A session over the link, of which no connection was made. Each call answers `Stopped`, until `reconnect`.
@@ -72,10 +73,10 @@ impl<L: Link> Session<L> {
     /// else than `* OK`. `TooLong`, `NoMemory`.
     pub fn open(alloc: Global, link: L) -> Result<Session<L>, (FarFault, L)>
         ensures ok { IfOk result (λ s. (L.honest s.wire.link → L.honest link) × Opened (L.stops link) (state_of s)) }
-        ensures server { IfOk result (λ s. L.honest s.wire.link → Restarts (L.line link).end.server (server_of s)) }
+        ensures server { IfOk result (λ s. L.honest s.wire.link → Restarts (told_server (L.line link)) (server_of s)) }
         ensures err { IfErr result (λ e. (L.honest e.1 → L.honest link) × IsHearing e.0 × (L.stops link ≤ L.stops e.1)) }
         ensures left { IfErr result (λ e. L.honest e.1 → Outcome (λ (_ : Unit {0}). Restarts) Never Restarts (Err e.0)
-            (L.line link).end.server (L.line e.1).end.server) }
+            (told_server (L.line link)) (told_server (L.line e.1))) }
     {
         let mut session = Session::closed(alloc, link);
         match session.reconnect() {

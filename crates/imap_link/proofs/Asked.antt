@@ -3,11 +3,11 @@ use Rattle.std.proofs.Common.{◌≡◌, inl, inr, ℕ, List, [], ◌++◌, refl
 use Rattle.imap_commands.specs.declared.command.Command.{Command}
 use Rattle.imap_replies.specs.declared.word.Status.{Status}
 use Rattle.imap_replies.specs.declared.reply.Reply.{Reply}
-use Rattle.imap_session.specs.Servers.{Quiet}
+use Rattle.imap_session.specs.Servers.{Quiet, told}
 use Rattle.imap_session.specs.Answering.{go}
 use Rattle.imap_session.specs.Serving.{FeedsSome}
-use Rattle.imap_session.specs.Lines.{Line, Sends}
-use Rattle.exchange_laws.specs.Ends.{ends_of, IsIdle, IsText, AskedOr, AsksAtEnd, MayHave, DidCommand}
+use Rattle.imap_session.specs.Lines.{Line, told_server, Sends}
+use Rattle.exchange_laws.specs.Ends.{ends_of, IsIdle, IsText, AskedOr, AsksAtEnd, MayHave}
 use Rattle.exchange_laws.proofs.Others.{quiet-trans, quiet_left, read_stays}
 use Rattle.exchange_laws.proofs.Sent.{half_front}
 use Rattle.exchange_laws.proofs.Asked.{asked}
@@ -20,13 +20,14 @@ use Rattle.imap_link.specs.declared.uses.Uses.{Uses}
 use Rattle.imap_link.specs.Faults.{IsStop}
 use Rattle.imap_link.specs.ReplyKinds.{kind_of, IsAwaited}
 use Rattle.imap_link.specs.Buffers.{Expects, Came, GoesOn, IsTold, length_of}
-use Rattle.imap_link.specs.Exchanges.{Waits, AsksOr, AsksFor}
+use Rattle.imap_link.specs.Exchanges.{Performs, Waits, AsksOr, AsksFor}
 use Rattle.imap_link.proofs.KindLemmas.{awaited_stays, mine_tagged, tagged_awaited, go_or_tagged}
 use Rattle.imap_link.proofs.Astray.{ends_apart}
+use Rattle.imap_link.proofs.Performed.{may_perform}
 use Rattle.imap_link.proofs.Finished.{some_end}
 use Rattle.imap_link.proofs.Passing.{text_of}
 
-stop_asks : (c : Command) (front : List ℕ) (y : FarFault) (old new : Line) (heard : List ℕ) → IsStop y → MayHave (DidCommand c) old.end.server new.end.server → AsksOr c front (Err y) old new heard
+stop_asks : (c : Command) (front : List ℕ) (y : FarFault) (old new : Line) (heard : List ℕ) → IsStop y → MayHave (Performs c) (told_server old) (told_server new) → AsksOr c front (Err y) old new heard
 stop_asks c front Stopped old new heard s h = h
 stop_asks c front NoMemory old new heard s h = h
 stop_asks c front Refused old new heard s h = absurd s
@@ -60,7 +61,7 @@ module _ (c : Command) (tag front rest : List ℕ) (n : ℕ) (text : IsText c (f
           | inr w ↦
               let same = ends_apart a.last go (awaited_stays tag a.last (go_stays tag a.last a.is)) (awaited_stays tag go tt) a.passed [] a.text (ends_of mid heard).coming (drop len now ++ new.unseen) a.untagged tt a.spelled w.coming (sym a.goes.coming) in
               record {
-                quiet = quiet-trans old.end.server mid.end.server new.end.server w.quiet a.goes.stays.quiet;
+                quiet = ap told (quiet-trans old.end.server mid.end.server new.end.server w.quiet a.goes.stays.quiet);
                 at = record {
                   reads_on = quiet_left mid.end.server new.end.server a.goes.stays.quiet ∙ quiet_left old.end.server mid.end.server w.quiet ∙ idle.reads_on;
                   has_read = read_stays front mid.end new.end a.goes.stays w.has_read;
@@ -83,14 +84,15 @@ module _ (c : Command) (tag front rest : List ℕ) (n : ℕ) (text : IsText c (f
 pub unasked : (front : List ℕ) (y : FarFault) (old new : Line) (heard now : List ℕ) → IsStop y → FeedsSome old.end front new.end.server → AsksFor front (Err y) old heard new now
 unasked front y old new heard now stop s c rest n text some asking idle =
     stop_asks c front y old new now stop
-    (half_front c (front ++ rest) front rest old.end.server new.end.server text idle.reads_on refl (s.from [] [] idle.has_read.unread))
+    (may_perform c old.end.server new.end.server
+    (half_front c (front ++ rest) front rest old.end.server new.end.server text idle.reads_on refl (s.from [] [] idle.has_read.unread)))
 
 -- where it was sent, and waiting failed
 pub unanswered : (tag front : List ℕ) (y : FarFault) (old mid new : Line) (heard now : List ℕ) → Sends front old mid → Quiet mid.end.server new.end.server
     → (Expects tag (ends_of mid heard).coming → IsStop y) → AsksFor front (Err y) old heard new now
 unanswered tag front y old mid new heard now s q stop c rest n text some asking idle =
     stop_asks c front y old new now (stop (may_ask c tag front rest n text some asking old mid new heard idle s))
-    (inl (quiet-trans old.end.server mid.end.server new.end.server (quiet_so c tag front rest n text some asking old mid new heard idle s) q))
+    (inl (ap told (quiet-trans old.end.server mid.end.server new.end.server (quiet_so c tag front rest n text some asking old mid new heard idle s) q)))
 
 -- where it was sent
 pub answered_so : (uses : Uses) (tag front : List ℕ) (result : Result Told FarFault) (old mid new : Line) (heard now : List ℕ) → Sends front old mid → Quiet mid.end.server new.end.server

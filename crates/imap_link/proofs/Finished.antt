@@ -4,11 +4,11 @@ use Rattle.std.proofs.Common.{◌≡◌, inl, inr, ℕ, false, List, [], ◌∷�
 use Rattle.imap_commands.specs.declared.command.Command.{Command}
 use Rattle.imap_replies.specs.declared.word.Status.{Status}
 use Rattle.imap_replies.specs.declared.reply.Reply.{Reply}
-use Rattle.imap_session.specs.Servers.{Server, Quiet}
+use Rattle.imap_session.specs.Servers.{Server, Quiet, told}
 use Rattle.imap_session.specs.Serving.{FeedsSome}
 use Rattle.imap_session.specs.Heard.{tag_of, AreReplies}
-use Rattle.imap_session.specs.Lines.{Line, Sends}
-use Rattle.exchange_laws.specs.Ends.{Ends, ends_of, IsAt, IsIdle, Hears, SentOr, Done, MayHave, DidCommand, is_logout}
+use Rattle.imap_session.specs.Lines.{Line, told_server, Sends}
+use Rattle.exchange_laws.specs.Ends.{Ends, ends_of, IsAt, IsIdle, Hears, SentOr, Done, MayHave, is_logout}
 use Rattle.exchange_laws.proofs.Sent.{sent, half_sent}
 use Rattle.exchange_laws.proofs.Ended.{done_of, half_of}
 use Rattle.exchange_laws.proofs.Answering.{did_answer, leaves_answer}
@@ -18,14 +18,15 @@ use Rattle.imap_link.specs.declared.fault.FarFault.TheVariants.{Stopped, Refused
 use Rattle.imap_link.specs.declared.wire.Answered.{Answered}
 use Rattle.imap_link.specs.declared.front.Kind.TheVariants.{Go, Mine}
 use Rattle.imap_link.specs.declared.uses.Uses.{Uses}
-use Rattle.imap_link.specs.UsedReplies.{is_used}
+use Rattle.imap_link.specs.UsedReplies.{is_used, uses_of}
 use Rattle.imap_link.specs.Faults.{IsStop}
 use Rattle.imap_link.specs.ReplyKinds.{kind_of, IsAwaited}
 use Rattle.imap_link.specs.Outcomes.{Outcome, Never}
 use Rattle.imap_link.specs.Buffers.{EndsIn, IsAnswerText, IsGoText, Expects, Keeps, Came, GoesOn}
-use Rattle.imap_link.specs.Exchanges.{Replied, Completes, Exchanges}
+use Rattle.imap_link.specs.Exchanges.{Performs, Replied, Completes, Exchanges}
 use Rattle.imap_link.proofs.KindLemmas.{awaited_stays, tagged_awaited, go_or_tagged}
 use Rattle.imap_link.proofs.Astray.{ends_apart, answer_of, closed_of, expects_answer}
+use Rattle.imap_link.proofs.Performed.{may_perform, has_performed}
 use Rattle.imap_link.proofs.Passing.{front_of, text_of, came_hears, came_used}
 
 pub stop_outcome : {T : Type 0} (does : T → Server → Server → Type 0) (refuses effect : Server → Server → Type 0) (y : FarFault) (old new : Server) → IsStop y → MayHave effect old new
@@ -85,8 +86,8 @@ module _ (c : Command) (uses : Uses) (tag from rest : List ℕ) (w : Completes c
   pub may_expect : Expects tag (ends_of mid heard).coming
   may_expect = subst (λ (t : List ℕ). Expects t (ends_of mid heard).coming) w.tag_is (expects_of c (ends_of old heard) (ends_of mid heard) or)
 
-  pub may_have : (after : Server) → Quiet mid.end.server after → MayHave (DidCommand c) old.end.server after
-  may_have after q = half_of c (ends_of old heard) (ends_of mid heard) after or q
+  pub may_have : (after : Server) → Quiet mid.end.server after → MayHave (Performs c) (told_server old) (told after)
+  may_have after q = may_perform c old.end.server after (half_of c (ends_of old heard) (ends_of mid heard) after or q)
 
   -- the replies up to the tagged one came, and `kept` are those that the call reads
   module _ (kept now : List ℕ) (status : Status) (a : Came uses (λ r. kind_of tag r ≡ Mine status) kept (GoesOn (ends_of mid heard) (ends_of new now))) where
@@ -96,15 +97,18 @@ module _ (c : Command) (uses : Uses) (tag from rest : List ℕ) (w : Completes c
         (came_hears uses (λ r. kind_of tag r ≡ Mine status) kept (ends_of mid heard) (ends_of new now) a)
         (answer_of tag a.text status (text_of uses (λ r. kind_of tag r ≡ Mine status) kept (GoesOn (ends_of mid heard) (ends_of new now)) a))
 
-    pub replied : Replied c status kept old.end.server new.end.server
-    replied = record {
-      text = subst (λ (t : List ℕ). IsAnswerText t status kept) (sym w.tag_is) (front_of uses (λ r. kind_of tag r ≡ Mine status) kept (GoesOn (ends_of mid heard) (ends_of new now)) a);
-      replies = a.passed ++ a.last ∷ [];
-      spelled =
-          subst (λ (u : Uses). AreReplies (filter (is_used u) (a.passed ++ a.last ∷ [])) kept) (sym w.uses_is)
-          (came_used uses tag status kept (GoesOn (ends_of mid heard) (ends_of new now)) a);
-      did = done.did;
-    }
+    pub replied : Replied c status kept (told_server old) (told_server new)
+    replied =
+        let own = has_performed c old.end.server new.end.server (uses_of c.request) (a.passed ++ a.last ∷ []) done.did in
+        record {
+          text = subst (λ (t : List ℕ). IsAnswerText t status kept) (sym w.tag_is) (front_of uses (λ r. kind_of tag r ≡ Mine status) kept (GoesOn (ends_of mid heard) (ends_of new now)) a);
+          replies = own.replies;
+          spelled =
+              subst (λ (rs : List Reply). AreReplies rs kept) own.used
+              (subst (λ (u : Uses). AreReplies (filter (is_used u) (a.passed ++ a.last ∷ [])) kept) (sym w.uses_is)
+              (came_used uses tag status kept (GoesOn (ends_of mid heard) (ends_of new now)) a));
+          did = own.did;
+        }
 
     pub idle : is_logout c.request ≡ false → IsIdle (ends_of new now)
     idle l = done.idle l
@@ -117,11 +121,11 @@ module _ (c : Command) (uses : Uses) (tag from rest : List ℕ) (w : Completes c
 -- where the bytes were not sent
 pub unsent : (uses : Uses) (tag rest : List ℕ) (y : FarFault) (old new : Line) (heard now : List ℕ) → IsStop y → FeedsSome old.end rest new.end.server → Exchanges uses tag rest (Err y) old heard new now
 unsent uses tag rest y old new heard now stop s c from w at =
-    stop_outcome {T = Answered} (λ a. Replied c a.status (take a.len now)) Never (DidCommand c) y old.end.server new.end.server stop (half_sent c from rest old new.end.server heard w.text at s)
+    stop_outcome {T = Answered} (λ a. Replied c a.status (take a.len now)) Never (Performs c) y (told_server old) (told_server new) stop (may_perform c old.end.server new.end.server (half_sent c from rest old new.end.server heard w.text at s))
 
 -- where they were sent, and waiting failed
 pub unheard : (uses : Uses) (tag rest : List ℕ) (y : FarFault) (old mid new : Line) (heard now : List ℕ) → Sends rest old mid → Quiet mid.end.server new.end.server
     → (Expects tag (ends_of mid heard).coming → IsStop y) → Exchanges uses tag rest (Err y) old heard new now
 unheard uses tag rest y old mid new heard now s q stop c from w at =
-    stop_outcome {T = Answered} (λ a. Replied c a.status (take a.len now)) Never (DidCommand c) y old.end.server new.end.server
+    stop_outcome {T = Answered} (λ a. Replied c a.status (take a.len now)) Never (Performs c) y (told_server old) (told_server new)
     (stop (may_expect c uses tag from rest w old mid new heard at s)) (may_have c uses tag from rest w old mid new heard at s new.end.server q)

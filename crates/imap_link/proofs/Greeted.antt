@@ -4,9 +4,9 @@ use Rattle.imap_replies.specs.declared.word.NoticeKind.TheVariants as notices
 use Rattle.imap_replies.specs.declared.response.ResponseText.TheVariants.{Plain}
 use Rattle.imap_replies.specs.declared.reply.Reply.{Reply}
 use Rattle.imap_replies.specs.declared.reply.Reply.TheVariants.{Notice}
-use Rattle.imap_session.specs.Servers.{Server, Quiet}
+use Rattle.imap_session.specs.Servers.{Server, Quiet, told}
 use Rattle.imap_session.specs.Heard.{AreReplies}
-use Rattle.imap_session.specs.Lines.{Line, Starts}
+use Rattle.imap_session.specs.Lines.{Line, told_server, Starts}
 use Rattle.exchange_laws.specs.Ends.{ends_of, IsIdle}
 use Rattle.exchange_laws.proofs.Greeted.{greeted}
 use Rattle.imap_link.specs.declared.front.Kind.{Kind}
@@ -42,5 +42,5 @@ module _ (old mid : Line) (s : Starts old mid) where
       let h = hears_of (ends_of mid []) new heard len (b.reply ∷ []) k (one_reply tag kind heard len b) in
       (greeted old mid (ends_of new (drop len heard)) b.reply s h).idle
 
-  pub restarts : (new : Server) → Quiet mid.end.server new → Restarts old.end.server new
-  restarts new q = q ∙ s.end.quiet
+  pub restarts : (new : Server) → Quiet mid.end.server new → Restarts (told_server old) (told new)
+  restarts new q = ap told (q ∙ s.end.quiet)

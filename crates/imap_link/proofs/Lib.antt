@@ -7,6 +7,7 @@ pub mod Astray
 pub mod Faulty
 pub mod Kept
 pub mod Exits
+pub mod Performed
 pub mod Finished
 pub mod Asked
 pub mod Greeted

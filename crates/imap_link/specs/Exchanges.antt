@@ -4,10 +4,11 @@ use Rattle.imap_commands.specs.declared.command.Command.{Command}
 use Rattle.imap_replies.specs.declared.word.Status.{Status}
 use Rattle.imap_replies.specs.declared.reply.Reply.{Reply}
 use Rattle.imap_session.specs.Servers.{Server, NotAuthenticated, Quiet}
+use Rattle.imap_session.specs.Steps.{Step}
 use Rattle.imap_session.specs.Portions.{goes_in}
-use Rattle.imap_session.specs.Heard.{AreReplies}
-use Rattle.imap_session.specs.Lines.{Line}
-use Rattle.exchange_laws.specs.Ends.{ends_of, IsAt, IsIdle, IsText, DidSo, DidCommand, AsksAtEnd, MayHave, is_logout}
+use Rattle.imap_session.specs.Heard.{AreReplies, LeavesOut}
+use Rattle.imap_session.specs.Lines.{Line, told_server}
+use Rattle.exchange_laws.specs.Ends.{ends_of, IsAt, IsIdle, IsText, AsksAtEnd, MayHave, is_logout}
 use Rattle.imap_link.specs.declared.fault.FarFault.{FarFault}
 use Rattle.imap_link.specs.declared.fault.FarFault.TheVariants.{Stopped, Refused, Protocol, TooLong, NoRev2, ReadOnly, NoMemory}
 use Rattle.imap_link.specs.declared.wire.Answered.{Answered}
@@ -18,12 +19,25 @@ use Rattle.imap_link.specs.UsedReplies.{is_used, uses_of}
 use Rattle.imap_link.specs.Buffers.{IsAnswerText}
 use Rattle.imap_link.specs.Outcomes.{Outcome, Never}
 
+-- Each server here is one that has told its news, if it had any: calls pass over that.
+
+-- the server did the command, with some replies
+pub record Performs (c : Command) (old new : Server) : Type 0 where
+  pub said : List Reply
+  pub step : Step old c said new
+
+-- the server did the command, and said these replies, of which codes may have been left out
+pub record PerformsSo (c : Command) (heard : List Reply) (old new : Server) : Type 0 where
+  pub said : List Reply
+  pub step : Step old c said new
+  pub left_out : LeavesOut heard said
+
 -- The server did the command. These bytes are those of its replies that the call reads, of which the last has this status.
 pub record Replied (c : Command) (status : Status) (bytes : List ℕ) (old new : Server) : Type 0 where
   pub text : IsAnswerText c.tag status bytes
   pub replies : List Reply
   pub spelled : AreReplies (filter (is_used (uses_of c.request)) replies) bytes
-  pub did : DidSo c replies old new
+  pub did : PerformsSo c replies old new
 
 -- the bytes are what is missing of the command, behind what the server has read; its call reads these replies
 pub record Completes (c : Command) (uses : Uses) (tag from rest : List ℕ) : Type 0 where
@@ -36,7 +50,7 @@ pub record Completes (c : Command) (uses : Uses) (tag from rest : List ℕ) : Ty
 abbrev pub Exchanges : (uses : Uses) → (tag rest : List ℕ) → Result Answered FarFault → (old : Line) (old_heard : List ℕ) (new : Line) (new_heard : List ℕ) → Type 0
 Exchanges uses tag rest result old old_heard new new_heard =
     (c : Command) (from : List ℕ) → Completes c uses tag from rest → IsAt from (ends_of old old_heard)
-    → Outcome (λ a. Replied c a.status (take a.len new_heard)) Never (DidCommand c) result old.end.server new.end.server
+    → Outcome (λ a. Replied c a.status (take a.len new_heard)) Never (Performs c) result (told_server old) (told_server new)
 
 -- where it has an answer, nothing is on the way behind that
 abbrev pub StaysIdle : (uses : Uses) → (tag rest : List ℕ) → (n : ℕ) → (old : Line) (old_heard : List ℕ) (new : Line) (new_heard : List ℕ) → Type 0
@@ -47,19 +61,19 @@ StaysIdle uses tag rest n old old_heard new new_heard =
 
 -- the server waits for the literal, and nothing is on the way behind its `+`
 pub record Waits (front : List ℕ) (n : ℕ) (old new : Line) (new_heard : List ℕ) : Type 0 where
-  pub quiet : Quiet old.end.server new.end.server
+  pub quiet : Quiet (told_server old) (told_server new)
   pub at : IsAt front (ends_of new (drop n new_heard))
 
 abbrev pub AsksOr : (c : Command) (front : List ℕ) → Result Told FarFault → (old new : Line) (new_heard : List ℕ) → Type 0
 AsksOr c front (Ok (tells.Go n)) old new heard = Waits front n old new heard
 AsksOr c front (Ok (tells.Answer n status)) old new heard = ⊥
-AsksOr c front (Err Stopped) old new heard = MayHave (DidCommand c) old.end.server new.end.server
+AsksOr c front (Err Stopped) old new heard = MayHave (Performs c) (told_server old) (told_server new)
 AsksOr c front (Err Refused) old new heard = ⊥
 AsksOr c front (Err Protocol) old new heard = ⊥
 AsksOr c front (Err TooLong) old new heard = ⊥
 AsksOr c front (Err NoRev2) old new heard = ⊥
 AsksOr c front (Err ReadOnly) old new heard = ⊥
-AsksOr c front (Err NoMemory) old new heard = MayHave (DidCommand c) old.end.server new.end.server
+AsksOr c front (Err NoMemory) old new heard = MayHave (Performs c) (told_server old) (told_server new)
 
 -- the front of a command is sent, up to where its literal is asked for
 abbrev pub AsksFor : (front : List ℕ) → Result Told FarFault → (old : Line) (old_heard : List ℕ) (new : Line) (new_heard : List ℕ) → Type 0

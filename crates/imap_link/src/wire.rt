@@ -2,6 +2,7 @@
 
 ghost use Rattle.std.specs.Prelude.{◌≡◌, ◌<◌, ◌≤◌, ◌⊎◌, ◌++◌, ℕ, List, [], length, take, drop, max, IfOk, IfErr, OnOk, OnErr, IsErrOf};
 ghost use Rattle.imap_session.specs.Servers.{Quiet};
+ghost use Rattle.imap_session.specs.Lines.{told_server};
 ghost use Rattle.exchange_laws.specs.Ends.{ends_of, IsIdle};
 ghost use Rattle.imap_link.specs.Faults.{IsStop, IsHearing};
 ghost use Rattle.imap_link.specs.Buffers.{Reads, IsFaulty, Tells, SaysBye, Expects, Keeps, IsAnswerText, Came, GoesOn, IsTold, length_of, OneMore, IsBounded};
@@ -204,7 +205,7 @@ impl<L: Link> Wire<L> {
         ensures counts { L.stops self.old.link ≤ L.stops self.new.link }
         ensures steady { OnOk result (L.stops self.new.link ≡ L.stops self.old.link) }
         ensures outcome { L.honest self.new.link → Outcome (λ _. Restarts) Never Restarts result
-            (L.line self.old.link).end.server (L.line self.new.link).end.server }
+            (told_server (L.line self.old.link)) (told_server (L.line self.new.link)) }
         ensures idle { OnOk result (L.honest self.new.link → IsIdle (ends_of (L.line self.new.link) self.new.heard.items)) }
         ensures known { IfErr result IsHearing }
         ensures stopped { IsErrOf result FarFault.Stopped → (L.stops self.old.link < L.stops self.new.link) ⊎ SaysBye tag.now self.new.heard.items }

@@ -84,21 +84,21 @@ pub served_after : (r : Result (Unit {0}) AllocError) (raw : List Mailbox) (n : 
 served_after (Ok x) raw n m d store are is ok err more = served_set raw n m are (subst IsServed (sym ok) more)
 served_after (Err e) raw n m d store are is ok err more = served_set raw n m are (subst (λ (y : Mailbox). IsServed (far_of y)) (sym err) is)
 
-same_server : (s v : Server) (mailboxes : List FarMailbox) → v.user ≡ s.user → v.password ≡ s.password → v.mailboxes ≡ mailboxes → v.condition ≡ s.condition → v ≡ record s { mailboxes = mailboxes }
-same_server s v mailboxes a b c d = λ i. record { user = a i; password = b i; mailboxes = c i; condition = d i }
+same_server : (s v : Server) (mailboxes : List FarMailbox) → v.user ≡ s.user → v.password ≡ s.password → v.mailboxes ≡ mailboxes → v.condition ≡ s.condition → v.has_news ≡ s.has_news → v ≡ record s { mailboxes = mailboxes }
+same_server s v mailboxes a b c d e = λ i. record { user = a i; password = b i; mailboxes = c i; condition = d i; has_news = e i }
 
 pub view_set : (s v : Server) (raw : List Mailbox) (n : ℕ) (m d : Mailbox) (c : Store → Store) → all_of raw ≡ s.mailboxes
-    → v.user ≡ s.user → v.password ≡ s.password → v.condition ≡ s.condition → v.mailboxes ≡ all_of (slice_set raw n m) → n < length raw → d ≡ get_or raw n d
+    → v.user ≡ s.user → v.password ≡ s.password → v.condition ≡ s.condition → v.has_news ≡ s.has_news → v.mailboxes ≡ all_of (slice_set raw n m) → n < length raw → d ≡ get_or raw n d
     → far_of m ≡ record (far_of d) { store = c (store_of d) } → v ≡ record s { mailboxes = changed_there c n s.mailboxes }
-view_set s v raw n m d c all user password condition set h at is =
+view_set s v raw n m d c all user password condition news set h at is =
     let there : far_of m ≡ record (far_of (get_or raw n d)) { store = c (store_of (get_or raw n d)) } = is ∙ ap (λ (y : Mailbox). record (far_of y) { store = c (store_of y) }) at in
-    same_server s v _ user password (set ∙ all_of-set raw n m d c h there ∙ ap (changed_there c n) all) condition
+    same_server s v _ user password (set ∙ all_of-set raw n m d c h there ∙ ap (changed_there c n) all) condition news
 
 pub view_after : (r : Result (Unit {0}) AllocError) (s v : Server) (raw : List Mailbox) (n : ℕ) (m d : Mailbox) (c : Store → Store) → all_of raw ≡ s.mailboxes
-    → v.user ≡ s.user → v.password ≡ s.password → v.condition ≡ s.condition → v.mailboxes ≡ all_of (slice_set raw n m) → n < length raw → d ≡ get_or raw n d
+    → v.user ≡ s.user → v.password ≡ s.password → v.condition ≡ s.condition → v.has_news ≡ s.has_news → v.mailboxes ≡ all_of (slice_set raw n m) → n < length raw → d ≡ get_or raw n d
     → OnOk r (far_of m ≡ record (far_of d) { store = c (store_of d) }) → OnOk r (v ≡ record s { mailboxes = changed_there c n s.mailboxes })
-view_after (Ok x) s v raw n m d c all user password condition set h at is = view_set s v raw n m d c all user password condition set h at is
-view_after (Err e) s v raw n m d c all user password condition set h at is = tt
+view_after (Ok x) s v raw n m d c all user password condition news set h at is = view_set s v raw n m d c all user password condition news set h at is
+view_after (Err e) s v raw n m d c all user password condition news set h at is = tt
 
 pub append_ok : (r : Result (Unit {0}) AllocError) (s new : Server) (tag name at : List ℕ) (flags : ℕ) (message : List ℕ) (a c : List ℕ) → is_logged_in s.condition ≡ true → at ≡ name
     → OnOk r (AnsweredBy (AppendsAt (mailbox_at at s.mailboxes) s tag at flags message) a c new) → OnOk r (AnsweredBy (Appends s tag name flags message) a c new)

@@ -7,7 +7,7 @@ use Rattle.wire_reader.specs.Spelling.{crlf}
 use Rattle.wire_reader.specs.Answers.{FaultAt}
 use Rattle.imap_commands.specs.Commands.{Spelled}
 use Rattle.imap_replies.specs.declared.reply.Reply.{Reply}
-use Rattle.imap_session.specs.Servers.{Server, is_over}
+use Rattle.imap_session.specs.Servers.{Server, is_over, news, told}
 use Rattle.imap_session.specs.Portions.{LineFault, FaultIs, goes_in}
 use Rattle.imap_session.specs.Unread.{Kept, Dropping, Drops, Holds, last_three}
 use Rattle.imap_session.specs.Serving.{ends, fault_reply, FeedsFrom, Feeds}
@@ -16,10 +16,10 @@ use Rattle.imap_server.specs.declared.unread.Unread.{Unread}
 use Rattle.imap_server.specs.declared.unread.Unread.TheVariants as kinds
 use Rattle.imap_session.specs.Answering.{only}
 use Rattle.session_laws.specs.Short.{is_short}
-use Rattle.session_laws.proofs.ShortReplies.{fault_short}
+use Rattle.session_laws.proofs.ShortReplies.{short_append, news_short, fault_short}
 use Rattle.imap_server.specs.Dropping.{EndsAt, Passes, loses_octets}
 use Rattle.imap_server.specs.Unreads.{IsSound, IsNothing, fault_of, kept_of, end_of}
-use Rattle.imap_server.specs.Taking.{TookSome, ToPlace, ReadLine, dropped_answer}
+use Rattle.imap_server.specs.Taking.{telling, TookSome, ToPlace, ReadLine, dropped_answer}
 use Rattle.imap_server.specs.Writing.{Answered}
 use Rattle.imap_server.proofs.WritingLemmas.{wrote_none}
 use Rattle.imap_server.proofs.Decided.{fault_place}
@@ -28,8 +28,8 @@ use Rattle.imap_server.proofs.FaultyLines.{fault_there, fault_stays, dropped}
 use Rattle.imap_server.proofs.Feeding.{no_portion, one_portion}
 use Rattle.imap_server.proofs.LineFeeds.{unread_none, read_portion, told_to_fault}
 
-dropped_short : (s : Server) (fault : LineFault) (last : List ℕ) → list_all is_short (dropped_answer s fault last).replies ≡ true
-dropped_short s fault last = elim (loses_octets fault last) as (λ b. list_all is_short (if b then ends s else only s (fault_reply fault)).replies ≡ true) [ true ↦ refl | false ↦ and_from _ _ (fault_short fault) refl ]
+dropped_short : (s : Server) (fault : LineFault) (last : List ℕ) → list_all is_short (telling (dropped_answer fault last) s).replies ≡ true
+dropped_short s fault last = short_append (news s) (dropped_answer fault last (told s)).replies (news_short s) (elim (loses_octets fault last) as (λ b. list_all is_short (if b then ends (told s) else only (told s) (fault_reply fault)).replies ≡ true) [ true ↦ refl | false ↦ and_from _ _ (fault_short fault) refl ])
 
 -- ---- from the fault on, up to the place
 
@@ -74,11 +74,12 @@ module _ (old : Server) (text : List ℕ) (line : ToPlace text) (fault : LineFau
 
   -- it ends
   pub drops_all : (count : ℕ) (last before out : List ℕ) (new : Server) (after : Unread) → is_over old.condition ≡ false → Passes (0 ∷ 0 ∷ 0 ∷ []) (drop at text) (Some count) last → IsNothing after
-      → Answered (dropped_answer old fault last) before out new → ReadLine old text (goes_in line.front) before out new after
+      → Answered (telling (dropped_answer fault last) old) before out new → ReadLine old text (goes_in line.front) before out new after
   drops_all count last before out new after in_time passes nothing answered =
       let e = passes [] no_bytes in
-      let d = dropped fault at text e.front last e.x e.y is (all_passed count last e) e.tail e.return (goes_in line.front) old (told_to_fault old text line fault at is) in
-      read_portion old text line d.item (dropped_answer old fault last).replies new before out after (dropped_short old fault last) in_time d.reads d.in_time (d.does new answered.after_is) answered.wrote nothing
+      let d = dropped fault at text e.front last e.x e.y is (all_passed count last e) e.tail e.return (goes_in line.front) (told old) (told_to_fault old text line fault at is) in
+      read_portion old text line d.item (telling (dropped_answer fault last) old).replies new before out after (dropped_short old fault last) in_time d.reads d.in_time
+      (record { own = (dropped_answer fault last (told old)).replies; does = d.does new answered.after_is; replies_are = refl }) answered.wrote nothing
 
 -- ---- further bytes of it
 
@@ -111,27 +112,28 @@ feeds_dropped s fault last bytes new in_time passes = record { from = λ text to
         }
 
 pub feeds_dropped_end : (s new : Server) (fault : LineFault) (old last bytes before out : List ℕ) (count : ℕ) (after : Unread) → is_over s.condition ≡ false → Passes old bytes (Some count) last → IsNothing after
-    → Answered (dropped_answer s fault last) before out new → Feeds (record { server = s; kept = Dropping fault old }) (take count bytes) (dropped_answer s fault last).replies (end_of new after)
-feeds_dropped_end s new fault old last bytes before out count after in_time passes nothing answered = record { from = λ text told is. further text told (subst (λ (b : Bool). Holds b (Dropping fault old) text told) in_time is) }
+    → Answered (telling (dropped_answer fault last) s) before out new → Feeds (record { server = s; kept = Dropping fault old }) (take count bytes) (telling (dropped_answer fault last) s).replies (end_of new after)
+feeds_dropped_end s new fault old last bytes before out count after in_time passes nothing answered = record { from = λ text so_far is. further text so_far (subst (λ (b : Bool). Holds b (Dropping fault old) text so_far) in_time is) }
   where
-    further : (text : List ℕ) (told : List Reply) → Drops fault old text told
-        → FeedsFrom (record { server = s; kept = Dropping fault old }) text told (take count bytes) (dropped_answer s fault last).replies (end_of new after)
-    further text told d =
+    further : (text : List ℕ) (so_far : List Reply) → Drops fault old text so_far
+        → FeedsFrom (record { server = s; kept = Dropping fault old }) text so_far (take count bytes) (telling (dropped_answer fault last) s).replies (end_of new after)
+    further text so_far d =
         let at = d.at in
         let more = take count bytes in
         let w = (fault_there fault at text d.goes_on.is).within in
         let e = passes (drop at text) (record { no_end = d.goes_on.no_end; last_is = d.last_is }) in
         let rest : drop at (text ++ more) ≡ (drop at text ++ e.front) ++ 10 ∷ [] =
         drop-append-le at text more (omega (arith, w)) ∙ ap (λ (l : List ℕ). drop at text ++ l) e.parts ∙ sym (append_assoc (drop at text) e.front (10 ∷ [])) in
-        let told_is : told ≡ goes_in (take at (text ++ more)) = d.goes_on.said_is ∙ ap goes_in (sym (take-append-le at text more (omega (arith, w)))) in
-        let p = dropped fault at (text ++ more) (drop at text ++ e.front) last e.x e.y (fault_stays fault at text more d.goes_on.is) rest e.tail e.return told s told_is in
+        let told_is : so_far ≡ goes_in (take at (text ++ more)) = d.goes_on.said_is ∙ ap goes_in (sym (take-append-le at text more (omega (arith, w)))) in
+        let p = dropped fault at (text ++ more) (drop at text ++ e.front) last e.x e.y (fault_stays fault at text more d.goes_on.is) rest e.tail e.return so_far (told s) told_is in
         record {
-          replies = told ++ (dropped_answer s fault last).replies;
+          replies = so_far ++ (telling (dropped_answer fault last) s).replies;
           rest = [];
           rest_said = [];
-          runs = one_portion s new p.item (text ++ more) told (dropped_answer s fault last).replies p.reads (p.in_time ∙ sym in_time) (p.does new answered.after_is);
+          runs = one_portion s new p.item (text ++ more) so_far (telling (dropped_answer fault last) s).replies p.reads (p.in_time ∙ sym in_time)
+              (record { own = (dropped_answer fault last (told s)).replies; does = p.does new answered.after_is; replies_are = refl });
           unread_then = (unread_none new after nothing).1;
-          are = sym (append-nil (told ++ (dropped_answer s fault last).replies));
+          are = sym (append-nil (so_far ++ (telling (dropped_answer fault last) s).replies));
         }
 
 pub passes_from : (old rest text : List ℕ) (found : Option ℕ) (new : List ℕ) → old ≡ 0 ∷ 0 ∷ 0 ∷ [] → rest ≡ text → Passes old rest found new → Passes (0 ∷ 0 ∷ 0 ∷ []) text found new
@@ -160,15 +162,15 @@ passed_on s line new bytes out some in_time passes same =
     }
 
 pub passed_some : (s new : Server) (line passed : Line) (bytes before out : List ℕ) (count : ℕ) (after : Unread) → is_over s.condition ≡ false → (0 < count) × (count ≤ length bytes) → Passes line.last bytes (Some count) passed.last → passed.fault ≡ line.fault
-    → IsNothing after → Answered (dropped_answer s (fault_of passed.fault) passed.last) before out new → TookSome (end_of s (kinds.Dropped line)) bytes before out new after count
+    → IsNothing after → Answered (telling (dropped_answer (fault_of passed.fault) passed.last) s) before out new → TookSome (end_of s (kinds.Dropped line)) bytes before out new after count
 passed_some s new line passed bytes before out count after in_time counted passes same nothing answered =
-    let of_line : Answered (dropped_answer s (fault_of line.fault) passed.last) before out new =
-    subst (λ (f : LineFault). Answered (dropped_answer s f passed.last) before out new) (ap fault_of same) answered in
+    let of_line : Answered (telling (dropped_answer (fault_of line.fault) passed.last) s) before out new =
+    subst (λ (f : LineFault). Answered (telling (dropped_answer f passed.last) s) before out new) (ap fault_of same) answered in
     record {
       some = counted.0;
       within = counted.1;
       took = record {
-        said = (dropped_answer s (fault_of line.fault) passed.last).replies;
+        said = (telling (dropped_answer (fault_of line.fault) passed.last) s).replies;
         feeds = feeds_dropped_end s new (fault_of line.fault) line.last passed.last bytes before out count after in_time passes nothing of_line;
         wrote = of_line.wrote;
         short = dropped_short s (fault_of line.fault) passed.last;

@@ -85,7 +85,7 @@ module _ (fault : LineFault) (at : ℕ) (text w last : List ℕ) (x y : ℕ) (is
     pub item : Item
     pub reads : Reads item text said
     pub in_time : is_late item ≡ false
-    pub does : (new : Server) → new ≡ (dropped_answer s fault last).after → Does s item (dropped_answer s fault last).replies new
+    pub does : (new : Server) → new ≡ (dropped_answer fault last s).after → Does s item (dropped_answer fault last s).replies new
 
   pub dropped : (said : List Reply) (s : Server) → said ≡ goes_in (take at text) → Dropped said s
   dropped said s said_is =

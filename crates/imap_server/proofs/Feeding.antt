@@ -1,21 +1,23 @@
 -- How what was read makes a run of portions.
-use Rattle.std.proofs.Common.{◌≡◌, ℕ, ◌<◌, Bool, true, List, [], ◌∷◌, ◌++◌, length, refl, sym, ap, subst, ◌∙◌, append_assoc, append-nil}
+use Rattle.std.proofs.Common.{◌≡◌, ℕ, ◌<◌, Bool, true, false, if◌then◌else◌, List, [], ◌∷◌, ◌++◌, length, refl, sym, ap, subst, ◌∙◌, append_assoc, append-nil}
 use Rattle.imap_replies.specs.declared.reply.Reply.{Reply}
-use Rattle.imap_session.specs.Servers.{Server, is_over}
+use Rattle.imap_session.specs.Mailboxes.{FarMailbox}
+use Rattle.imap_session.specs.Servers.{Condition, NotAuthenticated, Authenticated, Selected, LoggedOut, Server, is_over, selected_in, selected, exists_of, news, told}
 use Rattle.imap_session.specs.Portions.{Item, Late, Reads}
 use Rattle.imap_session.specs.Unread.{Kept, Whole, Holds}
-use Rattle.imap_session.specs.Serving.{Does, is_late, Runs, End, IsUnread, FeedsFrom, Feeds, FeedsSome}
+use Rattle.imap_session.specs.Serving.{is_late, Runs, End, IsUnread, FeedsFrom, Feeds, FeedsSome}
+use Rattle.imap_server.specs.Taking.{Tells}
 
 -- ---- no portion, and one
 
 pub no_portion : (s : Server) (stream : List ℕ) → Runs s stream [] stream s
 no_portion s stream = record { portions = []; read = refl; served = (refl, refl) }
 
-pub one_portion : (old new : Server) (item : Item) (text : List ℕ) (said own : List Reply) → Reads item text said → is_late item ≡ is_over old.condition → Does old item own new → Runs old text (said ++ own) [] new
-one_portion old new item text said own reads late does = record {
+pub one_portion : (old new : Server) (item : Item) (text : List ℕ) (said own : List Reply) → Reads item text said → is_late item ≡ is_over old.condition → Tells old item own new → Runs old text (said ++ own) [] new
+one_portion old new item text said own reads late tells = record {
   portions = record { item = item; text = text; said = said } ∷ [];
   read = sym (append-nil (text ++ []) ∙ append-nil text);
-  served = (said ++ own, [], new, record { before = old; own = own; reads = reads; quiet = refl; at_end = late; does = does; replies_are = refl }, (refl, refl), sym (append-nil (said ++ own)));
+  served = (said ++ own, [], new, record { before = old; own = tells.own; reads = reads; quiet = refl; at_end = late; does = tells.does; replies_are = ap (λ (rs : List Reply). said ++ rs) tells.replies_are }, (refl, refl), sym (append-nil (said ++ own)));
 }
 
 -- the stream goes on
@@ -52,10 +54,24 @@ feeds_none old = record {
 
 -- ---- a connection that is over
 
-pub feeds_late : (old : End) (bytes : List ℕ) → is_over old.server.condition ≡ true → old.kept ≡ Whole [] → 0 < length bytes → Feeds old bytes [] old
+over_none : (ms : List FarMailbox) (c : Condition) → is_over c ≡ true → exists_of (selected_in ms c) ≡ []
+over_none ms NotAuthenticated e = cc
+over_none ms Authenticated e = cc
+over_none ms (Selected name) e = cc
+over_none ms LoggedOut e = refl
+
+over_news : (s : Server) → is_over s.condition ≡ true → news s ≡ []
+over_news s e =
+    elim s.has_news as (λ b. (if b then exists_of (selected s) else []) ≡ []) [ true ↦ over_none s.mailboxes s.condition e | false ↦ refl ]
+
+-- nothing is answered; news is let go
+abbrev pub late_end : End → End
+late_end old = record old { server = told old.server }
+
+pub feeds_late : (old : End) (bytes : List ℕ) → is_over old.server.condition ≡ true → old.kept ≡ Whole [] → 0 < length bytes → Feeds old bytes [] (late_end old)
 feeds_late old bytes over kept some = record { from = λ text told is. late text told (subst (λ (k : Kept). Holds (is_over old.server.condition) k text told) kept is) (subst (λ (b : Bool). Holds b old.kept [] []) (sym over) (subst (λ (k : Kept). Holds true k [] []) (sym kept) (refl, refl, refl))) }
   where
-    late : (text : List ℕ) (told : List Reply) → Holds (is_over old.server.condition) (Whole []) text told → IsUnread old [] [] → FeedsFrom old text told bytes [] old
+    late : (text : List ℕ) (told : List Reply) → Holds (is_over old.server.condition) (Whole []) text told → IsUnread old [] [] → FeedsFrom old text told bytes [] (late_end old)
     late text told is none =
         let h : Holds true (Whole []) text told = subst (λ (b : Bool). Holds b (Whole []) text told) over is in
         let same : text ++ bytes ≡ bytes = ap (λ (l : List ℕ). l ++ bytes) h.1 in
@@ -63,7 +79,9 @@ feeds_late old bytes over kept some = record { from = λ text told is. late text
           replies = [];
           rest = [];
           rest_said = [];
-          runs = subst (λ (l : List ℕ). Runs old.server l [] [] old.server) (sym same) (one_portion old.server old.server Late bytes [] [] (refl, some) (sym over) (refl, refl));
+          runs = subst (λ (l : List ℕ). Runs old.server l [] [] (late_end old).server) (sym same)
+              (one_portion old.server (late_end old).server Late bytes [] [] (refl, some) (sym over)
+              (record { own = []; does = (refl, refl); replies_are = sym (append-nil (news old.server) ∙ over_news old.server over) }));
           unread_then = none;
           are = append-nil told ∙ h.2;
         }

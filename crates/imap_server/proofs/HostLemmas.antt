@@ -1,5 +1,5 @@
 -- A server and its connection.
-use Rattle.std.proofs.Common.{◌≡◌, List, [], ◌∷◌, ◌++◌, ℕ, true, Option, Some, None, refl, sym, ap, subst, ◌∙◌, append_assoc}
+use Rattle.std.proofs.Common.{◌≡◌, List, [], ◌∷◌, ◌++◌, ℕ, Bool, true, Option, Some, None, refl, sym, ap, subst, ◌∙◌, append_assoc}
 use Rattle.std.specs.List.{list_all}
 use Rattle.std.specs.Option.{option_map}
 use Rattle.std.proofs.lemmas.Bool.{and_parts}
@@ -37,11 +37,11 @@ replies-append (r ∷ rs) qs x y h k = record {
   others = replies-append rs qs h.back y h.others k;
 }
 
-module _ (old : Host) (server : Server) (unread taken : Option Unread) (first : Unread) (host : record { server = server; connection = option_map kept_of unread } ≡ old) (value : taken ≡ unread) (there : taken ≡ Some first) where
+module _ (old : Host) (server : Server) (unread taken : Option Unread) (lost : Bool) (first : Unread) (host : record { server = server; connection = option_map kept_of unread; is_lost = lost } ≡ old) (value : taken ≡ unread) (there : taken ≡ Some first) where
   was : old.connection ≡ Some (kept_of first)
   was = ap (λ (h : Host). h.connection) (sym host) ∙ ap (option_map kept_of) (sym value ∙ there)
 
-  pub fed_by : (piece none out : List ℕ) (new : Server) (after : Unread) → none ≡ [] → Took (end_of server first) piece none out new after → Fed old piece out (record { server = new; connection = Some (kept_of after) })
+  pub fed_by : (piece none out : List ℕ) (new : Server) (after : Unread) → none ≡ [] → Took (end_of server first) piece none out new after → Fed old piece out (record { server = new; connection = Some (kept_of after); is_lost = lost })
   fed_by piece none out new after empty t = record {
     before = kept_of first;
     after = kept_of after;
@@ -50,13 +50,15 @@ module _ (old : Host) (server : Server) (unread taken : Option Unread) (first : 
     said = t.said;
     feeds = subst (λ (s : Server). Feeds (record { server = s; kept = kept_of first }) piece t.said (end_of new after)) (ap (λ (h : Host). h.server) host) t.feeds;
     spelled = subst (AreReplies t.said) (sym (t.wrote.appended.parts ∙ ap (λ (l : List ℕ). l ++ t.wrote.appended.text) empty)) (replies_there t.said t.wrote.appended.text t.wrote.appended.spelled t.short);
+    lost = ap (λ (h : Host). h.is_lost) host;
   }
 
-  pub lost_by : (piece : List ℕ) (new : Server) (left : Option Unread) → left ≡ None → FeedsSome (end_of server first) piece new → Lost old piece (record { server = new; connection = option_map kept_of left })
+  pub lost_by : (piece : List ℕ) (new : Server) (left : Option Unread) → left ≡ None → FeedsSome (end_of server first) piece new → Lost old piece (record { server = new; connection = option_map kept_of left; is_lost = true })
   lost_by piece new left closed some = record {
     before = kept_of first;
     was = was;
     closed = ap (option_map kept_of) closed;
+    lost = refl;
     some = subst (λ (s : Server). FeedsSome (record { server = s; kept = kept_of first }) piece new) (ap (λ (h : Host). h.server) host) some;
   }
 

@@ -17,10 +17,10 @@ use Rattle.imap_commands.specs.Commands.{Spelled}
 use Rattle.imap_commands.proofs.CommandParts.{command_part}
 use Rattle.imap_commands.proofs.CommandFeeds.{command_feed}
 use Rattle.imap_replies.specs.declared.reply.Reply.{Reply}
-use Rattle.imap_session.specs.Servers.{Server, is_over}
+use Rattle.imap_session.specs.Servers.{Server, is_over, told}
 use Rattle.imap_session.specs.Portions.{LineFault, FaultIs, Item, Asks, Ends, Reads, once, goes_in}
 use Rattle.imap_session.specs.Unread.{Kept, Whole, Holds}
-use Rattle.imap_session.specs.Serving.{Does, is_late, Runs, End, IsUnread, Feeds, FeedsSome}
+use Rattle.imap_session.specs.Serving.{is_late, Runs, End, IsUnread, Feeds, FeedsSome}
 use Rattle.session_laws.specs.Short.{is_short}
 use Rattle.session_laws.proofs.Joins.{feeds-join}
 use Rattle.session_laws.proofs.Opening.{nothing_opens}
@@ -29,7 +29,7 @@ use Rattle.imap_server.specs.declared.line.Line.{Line}
 use Rattle.imap_server.specs.declared.unread.Unread.{Unread}
 use Rattle.imap_server.specs.declared.unread.Unread.TheVariants as kinds
 use Rattle.imap_server.specs.Unreads.{Waits, IsSound, IsNothing, kept_of, end_of}
-use Rattle.imap_server.specs.Taking.{Took, TookSome, ToPlace, ReadLine, AnswersPlace}
+use Rattle.imap_server.specs.Taking.{Tells, Took, TookSome, ToPlace, ReadLine, AnswersPlace}
 use Rattle.imap_server.specs.Writing.{Wrote}
 use Rattle.imap_server.proofs.UpToPlaces.{found_place, no_place-take, no_place-append, goes_same, goes_last}
 use Rattle.imap_server.proofs.Decided.{state, fault_not_begun, one_fault, fault_place, whole_all, whole_is_all, limit_last}
@@ -145,8 +145,8 @@ module _ (old : Server) (text : List ℕ) (line : ToPlace text) where
 
   -- one portion was answered
   pub read_portion : (item : Item) (own : List Reply) (new : Server) (before out : List ℕ) (after : Unread) → list_all is_short own ≡ true → is_over old.condition ≡ false → Reads item text (goes_in line.front) → is_late item ≡ false
-      → Does old item own new → Wrote own before out → IsNothing after → ReadLine old text (goes_in line.front) before out new after
-  read_portion item own new before out after short in_time reads late does wrote nothing =
+      → Tells old item own new → Wrote own before out → IsNothing after → ReadLine old text (goes_in line.front) before out new after
+  read_portion item own new before out after short in_time reads late tells wrote nothing =
       let n = unread_none new after nothing in
       record {
         said = own;
@@ -156,7 +156,7 @@ module _ (old : Server) (text : List ℕ) (line : ToPlace text) where
         replies = goes_in line.front ++ own;
         rest = [];
         rest_said = [];
-        runs = one_portion old new item text (goes_in line.front) own reads (late ∙ sym in_time) does;
+        runs = one_portion old new item text (goes_in line.front) own reads (late ∙ sym in_time) tells;
         unread_then = n.1;
         are = sym (append-nil (goes_in line.front ++ own));
       }
@@ -301,16 +301,16 @@ placed s new line text bytes before out count after found_at in_time w is_some f
       };
     }
 
-pub late_took : (s : Server) (unread : Unread) (bytes out : List ℕ) → 0 < length bytes → IsSound s unread → is_over s.condition ≡ true → TookSome (end_of s unread) bytes out out s unread (length bytes)
+pub late_took : (s : Server) (unread : Unread) (bytes out : List ℕ) → 0 < length bytes → IsSound s unread → is_over s.condition ≡ true → TookSome (end_of s unread) bytes out out (told s) unread (length bytes)
 late_took s unread bytes out some sound over = record {
   some = some;
   within = omega arith;
   took = record {
     said = [];
-    feeds = subst (λ (l : List ℕ). Feeds (end_of s unread) l [] (end_of s unread)) (sym (take_all (length bytes) bytes (omega arith))) (feeds_late (end_of s unread) bytes over (sound.over over) some);
+    feeds = subst (λ (l : List ℕ). Feeds (end_of s unread) l [] (end_of (told s) unread)) (sym (take_all (length bytes) bytes (omega arith))) (feeds_late (end_of s unread) bytes over (sound.over over) some);
     wrote = wrote_none out;
     short = refl;
-    sound = sound;
+    sound = record { scanned = sound.scanned; over = sound.over };
   };
 }
 

@@ -1,10 +1,10 @@
 -- The place at which the mailbox of a name stands.
-use Rattle.std.proofs.Common.{◌≡◌, ◌<◌, ◌≤◌, inl, inr, ℕ, zero, suc, ◌+◌, Bool, true, false, not, cond, List, [], ◌∷◌, length, refl, sym, ◌∙◌, ap, subst, Option, Some, None, arith, get_or, ◌++◌}
+use Rattle.std.proofs.Common.{◌≡◌, ◌<◌, ◌≤◌, inl, inr, ℕ, zero, suc, ◌+◌, ◌^◌, Bool, true, false, not, cond, List, [], ◌∷◌, length, refl, sym, ◌∙◌, ap, subst, Option, Some, None, arith, get_or, ◌++◌}
 use Rattle.std.specs.Prelude.{nat_lt, slice_get}
 use Rattle.std.specs.List.{position, position_or_len}
 use Rattle.std.proofs.lemmas.List.{map-append}
 use Rattle.std.proofs.lemmas.List.Elements.{All-nil, All-cons, All-append}
-use Rattle.std.proofs.lemmas.Bool.{cases_Bool, ltb-true}
+use Rattle.std.proofs.lemmas.Bool.{cases_Bool, cases_lt, ltb-true}
 use Rattle.std.proofs.lemmas.Bool.Decides.{nat_tests}
 use Rattle.mailcore.specs.declared.mailbox.Mailbox.{Mailbox}
 use Rattle.imap_session.specs.Mailboxes.{FarMailbox, same_name, mailbox_at, changed}
@@ -86,3 +86,8 @@ served_push raw m are is =
 pub served_pushed : (b : Bool) (raw new : List Mailbox) (m : Mailbox) → new ≡ cond b (raw ++ m ∷ []) raw → AreServed (all_of raw) → IsServed (far_of m) → AreServed (all_of new)
 served_pushed true raw new m e are is = subst (λ (l : List Mailbox). AreServed (all_of l)) (sym e) (served_push raw m are is)
 served_pushed false raw new m e are is = subst (λ (l : List Mailbox). AreServed (all_of l)) (sym e) are
+
+-- no UID is left
+pub last_uid : (next : ℕ) → next < 2 ^ 32 → 0 < next → ((0 < next) × (next + 1 < 2 ^ 32) → ⊥) → next ≡ 4294967295
+last_uid next below some none =
+    elim (cases_lt (next + 1) (2 ^ 32)) [ inl less ↦ absurd (none (some, less)) | inr le ↦ omega (arith, below, le) ]

@@ -1,27 +1,36 @@
 -- What becomes of the bytes that come.
-use Rattle.std.specs.Prelude.{◌≡◌, ◌<◌, ◌≤◌, ℕ, true, false, List, [], ◌∷◌, ◌++◌, length, take, drop, Option, None, Some, if◌then◌else◌}
+use Rattle.std.specs.Prelude.{◌≡◌, ◌<◌, ◌≤◌, ℕ, Bool, true, false, List, [], ◌∷◌, ◌++◌, length, take, drop, Option, None, Some, if◌then◌else◌}
 use Rattle.std.specs.List.{list_all}
 use Rattle.wire_reader.specs.Scanning.{NoPlace}
 use Rattle.wire_reader.specs.Places.{Opens}
 use Rattle.imap_commands.specs.declared.command.Command.{Command}
 use Rattle.imap_commands.specs.Commands.{Spelled}
 use Rattle.imap_replies.specs.declared.reply.Reply.{Reply}
-use Rattle.imap_session.specs.Servers.{Server, is_over}
+use Rattle.imap_session.specs.Servers.{Server, is_over, news, told}
 use Rattle.imap_session.specs.Answering.{Answer, only}
-use Rattle.imap_session.specs.Portions.{LineFault, FaultIs, goes_in}
+use Rattle.imap_session.specs.Portions.{LineFault, FaultIs, Item, Asks, goes_in}
 use Rattle.imap_session.specs.Unread.{Kept}
 use Rattle.imap_session.specs.Heard.{AreReplies}
-use Rattle.imap_session.specs.Steps.{Step}
-use Rattle.imap_session.specs.Serving.{fault_reply, ends, Runs, End, IsUnread, Feeds, FeedsSome}
+use Rattle.imap_session.specs.Serving.{Does, fault_reply, ends, Runs, End, IsUnread, Feeds, FeedsSome}
 use Rattle.session_laws.specs.Short.{is_short}
 use Rattle.imap_server.specs.declared.unread.Unread.{Unread}
 use Rattle.imap_server.specs.Dropping.{loses_octets}
 use Rattle.imap_server.specs.Unreads.{IsSound, end_of}
 use Rattle.imap_server.specs.Writing.{Wrote}
 
--- a command was done, with short replies
-abbrev pub StepsShort : Server → Command → List Reply → Server → Type 0
-StepsShort old command replies new = Step old command replies new × (list_all is_short replies ≡ true)
+-- the news was told, and then what was read was done
+pub record Tells (old : Server) (item : Item) (replies : List Reply) (new : Server) : Type 0 where
+  pub own : List Reply
+  pub does : Does (told old) item own new
+  pub replies_are : replies ≡ news old ++ own
+
+-- so it was with a command, with short replies
+abbrev pub TellsShort : Server → Command → List Reply → Server → Type 0
+TellsShort old command replies new = Tells old (Asks command) replies new × (list_all is_short replies ≡ true)
+
+-- an answer of the server once it is told, behind the news
+abbrev pub telling : (Server → Answer) → Server → Answer
+telling answer s = record { replies = news s ++ (answer (told s)).replies; after = (answer (told s)).after }
 
 -- they were read, and what they complete was answered
 pub record Took (old : End) (bytes : List ℕ) (before out : List ℕ) (server : Server) (unread : Unread) : Type 0 where
@@ -65,8 +74,8 @@ abbrev pub AnswersPlace : Server → (text before out : List ℕ) → Server →
 AnswersPlace old text before out new unread = (is_over old.condition ≡ false) → (line : ToPlace text) → ReadLine old text (goes_in line.front) before out new unread
 
 -- the answer to a line with a fault that ends so
-abbrev pub dropped_answer : Server → LineFault → (last : List ℕ) → Answer
-dropped_answer s fault last = if loses_octets fault last then ends s else only s (fault_reply fault)
+abbrev pub dropped_answer : LineFault → (last : List ℕ) → Server → Answer
+dropped_answer fault last s = if loses_octets fault last then ends s else only s (fault_reply fault)
 
 -- so it is with a line whose fault stands before these bytes
 abbrev pub DropsLine : Server → LineFault → (rest before out : List ℕ) → Server → Unread → Type 0
@@ -75,10 +84,11 @@ DropsLine old fault rest before out new unread =
 
 -- ---- a server and its connection
 
--- the server, and what it keeps of its connection where there is one
+-- the server, what it keeps of its connection where there is one, and whether memory ran out since the last one began
 pub record Host : Type 0 where
   pub server : Server
   pub connection : Option Kept
+  pub is_lost : Bool
 
 -- a piece came over the connection, and this is the answer
 pub record Fed (old : Host) (piece out : List ℕ) (new : Host) : Type 0 where
@@ -89,12 +99,14 @@ pub record Fed (old : Host) (piece out : List ℕ) (new : Host) : Type 0 where
   pub said : List Reply
   pub feeds : Feeds (record { server = old.server; kept = before }) piece said (record { server = new.server; kept = after })
   pub spelled : AreReplies said out
+  pub lost : new.is_lost ≡ old.is_lost
 
--- a part of the piece was read, and the connection is no more
+-- memory ran out: a part of the piece was read, and the connection is no more
 pub record Lost (old : Host) (piece : List ℕ) (new : Host) : Type 0 where
   pub before : Kept
   pub was : old.connection ≡ Some before
   pub closed : new.connection ≡ None
+  pub lost : new.is_lost ≡ true
   pub some : FeedsSome (record { server = old.server; kept = before }) piece new.server
 
 -- What is kept of a connection is sound.

@@ -31,6 +31,7 @@ use wire_tokens::tag::Tag;
 impl Service {
     ghost use Rattle.std.specs.Prelude.{◌≡◌, ◌<◌, Some, length, slice_get, OnOk, OnErr};
     ghost use Rattle.mailcore.specs.Operations.{added};
+    ghost use Rattle.wire_strings.specs.Literals.{IsLiteral};
     ghost use Rattle.imap_session.specs.Mailboxes.{FarMailbox, mailbox_at};
     ghost use Rattle.imap_session.specs.AppendCommand.{Appends, AppendsAt};
     ghost use Rattle.imap_server.specs.Places.{IsPlace, changed_there};
@@ -83,7 +84,7 @@ impl Service {
                 let count = count_of(mailbox) + 1;
                 say_grown(&self.condition, name, count, out)?;
                 say_appended(tag, validity, uid, out)?;
-                self.add(place, uid, flags, message)
+                self.add(place, uid, flags, message.into_vec())
             }
             None => {
                 say_no(tag, b"uids", out)?;
@@ -93,16 +94,22 @@ impl Service {
     }
 
     /// Adds the message to the mailbox at this place, under its next UID.
-    fn add(&mut self, place: usize, uid: Uid, flags: Flags, message: Sent) -> Result<(), AllocError>
+    pub(crate) fn add(
+        &mut self,
+        place: usize,
+        uid: Uid,
+        flags: Flags,
+        message: Vec<u8>,
+    ) -> Result<(), AllocError>
         requires within { place < length self.old.mailboxes }
+        requires literal { IsLiteral message.items }
         requires next { (m : FarMailbox) → slice_get self.old.mailboxes place ≡ Some m → uid ≡ m.store.next }
-        ensures ok { OnOk result (self.new ≡ record self.old { mailboxes = changed_there (added uid flags message) place self.old.mailboxes }) }
+        ensures ok { OnOk result (self.new ≡ record self.old { mailboxes = changed_there (added uid flags message.items) place self.old.mailboxes }) }
         ensures err { OnErr result (self.new ≡ self.old) }
     {
         // They tell the prover that the values are in their ranges (docs/DECISIONS.md, "Forms").
         let _ = uid.get();
         let _ = flags.bits();
-        let _ = message.octets();
         add(&mut self.mailboxes[place], uid, flags, message)
     }
 }
@@ -134,9 +141,9 @@ fn say_appended(tag: Tag, validity: NonZero, uid: Uid, out: &mut Vec<u8>) -> Res
 }
 
 /// Adds the message behind the others, under the next UID.
-fn add(mailbox: &mut Mailbox, uid: Uid, flags: Flags, message: Sent) -> Result<(), AllocError>
+fn add(mailbox: &mut Mailbox, uid: Uid, flags: Flags, message: Vec<u8>) -> Result<(), AllocError>
     requires { uid ≡ mailbox.old.next }
-    ensures ok { OnOk result (far_of mailbox.new ≡ record (far_of mailbox.old) { store = added uid flags message (store_of mailbox.old) }) }
+    ensures ok { OnOk result (far_of mailbox.new ≡ record (far_of mailbox.old) { store = added uid flags message.items (store_of mailbox.old) }) }
     ensures err { OnErr result (mailbox.new ≡ mailbox.old) }
 {
     let next = mailbox.next;
@@ -144,7 +151,7 @@ fn add(mailbox: &mut Mailbox, uid: Uid, flags: Flags, message: Sent) -> Result<(
     let message = Message {
         uid,
         flags,
-        bytes: Octets::from_vec(message.into_vec()),
+        bytes: Octets::from_vec(message),
     };
     match mailbox.messages.push(message) {
         Ok(()) => Ok(()),

@@ -12,6 +12,7 @@ mod list_command;
 mod mailbox_commands;
 mod matching;
 mod message_commands;
+mod news;
 mod reading;
 pub mod served;
 pub mod server;

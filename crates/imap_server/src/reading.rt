@@ -21,7 +21,7 @@ impl Service {
     ghost use Rattle.imap_session.specs.Serving.{FeedsSome, ends};
     ghost use Rattle.imap_server.specs.declared.unread.Unread.TheVariants as kinds;
     ghost use Rattle.imap_server.specs.Unreads.{Waits, IsSound, IsNothing, end_of, fault_of};
-    ghost use Rattle.imap_server.specs.Taking.{StepsShort, Took, TookSome, AnswersPlace, DropsLine, dropped_answer};
+    ghost use Rattle.imap_server.specs.Taking.{TellsShort, telling, Took, TookSome, AnswersPlace, DropsLine, dropped_answer};
     ghost use Rattle.imap_server.specs.Writing.{Answered, AnsweredBy};
 
     /// Reads bytes of the connection, and answers what they complete.
@@ -60,6 +60,7 @@ impl Service {
         ensures err { OnErr result (self.new ≡ self.old) }
     {
         if self.is_over() {
+            self.set_news(false);
             return Ok((unread, bytes.len()));
         }
         match unread {
@@ -122,11 +123,12 @@ impl Service {
 
     /// Answers a command; nothing is unread behind it.
     fn answer_command(&mut self, command: Command, out: &mut Vec<u8>) -> Result<Unread, AllocError>
-        ensures ok { IfOk result (λ after. IsNothing after × AnsweredBy (StepsShort self.old command) out.old.items out.new.items self.new) }
+        ensures ok { IfOk result (λ after. IsNothing after × AnsweredBy (TellsShort self.old command) out.old.items out.new.items self.new) }
         ensures err { OnErr result (self.new ≡ self.old) }
     {
         let nothing = Unread::Line(Line::new(self.alloc));
-        self.answer(command, out)?;
+        self.say_news(out)?;
+        self.answer_told(command, out)?;
         Ok(nothing)
     }
 
@@ -171,23 +173,27 @@ impl Service {
 
     /// Answers a line with a fault, whose end was met.
     fn end_line(&mut self, dropped: Dropped, out: &mut Vec<u8>) -> Result<Unread, AllocError>
-        ensures ok { IfOk result (λ after. IsNothing after × Answered (dropped_answer self.old (fault_of dropped.fault) dropped.last)
+        ensures ok { IfOk result (λ after. IsNothing after × Answered (telling (dropped_answer (fault_of dropped.fault) dropped.last) self.old)
             out.old.items out.new.items self.new) }
         ensures err { OnErr result (self.new ≡ self.old) }
     {
         if dropped.loses_octets() {
             return self.end(out);
         }
+        self.say_news(out)?;
         say_fault(dropped.fault, out)?;
+        self.set_news(false);
         Ok(self.nothing())
     }
 
     /// Ends the connection, since what follows can't be read.
     fn end(&mut self, out: &mut Vec<u8>) -> Result<Unread, AllocError>
-        ensures ok { IfOk result (λ after. IsNothing after × Answered (ends self.old) out.old.items out.new.items self.new) }
+        ensures ok { IfOk result (λ after. IsNothing after × Answered (telling ends self.old) out.old.items out.new.items self.new) }
         ensures err { OnErr result (self.new ≡ self.old) }
     {
+        self.say_news(out)?;
         say_bye(b"too long", out)?;
+        self.set_news(false);
         self.enter(Condition::LoggedOut);
         Ok(self.nothing())
     }

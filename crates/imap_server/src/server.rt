@@ -6,7 +6,9 @@ use crate::condition::Condition;
 use crate::line::Line;
 use crate::service::Service;
 use crate::unread::Unread;
+use mailcore::flags::Flags;
 use mailcore::mailbox::Mailbox;
+use mailcore::uid::Uid;
 use std::alloc::{AllocError, Global};
 use std::marker::Model;
 use thiserror::Error;
@@ -17,7 +19,7 @@ pub enum ServerFault {
     /// Memory ran out, and the connection is closed. The mailboxes are those behind the commands that were answered before.
     #[error("no memory")]
     NoMemory,
-    /// There is no connection: none was made yet, or it was hung up, or memory ran out over it.
+    /// There is no connection: none was made yet, or it was hung up, or memory ran out. (`Server::arrive`: memory ran out.)
     #[error("closed")]
     Closed,
 }
@@ -28,6 +30,8 @@ pub struct Server {
     service: Service,
     // what is read and not answered yet, where there is a connection
     unread: Option<Unread>,
+    // memory ran out since the last connection began
+    is_lost: bool,
 }
 
 impl Model for Server {
@@ -37,17 +41,18 @@ impl Model for Server {
 
     ghost Value = { Host };
 
-    ghost view = { λ s. record { server = s.service; connection = option_map kept_of s.unread } };
+    ghost view = { λ s. record { server = s.service; connection = option_map kept_of s.unread; is_lost = s.is_lost } };
 
     ghost invariant = { λ s. IsServing s.service s.unread };
 }
 
 impl Server {
-    ghost use Rattle.std.specs.Prelude.{◌≡◌, None, Some, [], IfOk, IsErrOf};
+    ghost use Rattle.std.specs.Prelude.{◌≡◌, true, false, None, Some, [], IfOk, IsErrOf};
     ghost use Rattle.imap_session.specs.Servers.{NotAuthenticated, is_over};
     ghost use Rattle.imap_session.specs.Unread.{Whole};
     ghost use Rattle.imap_session.specs.Heard.{AreReplies};
     ghost use Rattle.imap_session.specs.Lines.{greeting};
+    ghost use Rattle.imap_session.specs.Arrivals.{Arrived};
     ghost use Rattle.imap_messages.specs.Boxes.{all_of, AreServed};
     ghost use Rattle.imap_server.specs.Taking.{Host, Fed, Lost};
     ghost use Rattle.imap_server.specs.Bounds.{IsBounded};
@@ -58,8 +63,9 @@ impl Server {
     pub fn new(alloc: Global, mailboxes: Vec<Mailbox>, user: Vec<u8>, password: Vec<u8>) -> Server
         requires { AreServed (all_of mailboxes.items) }
         ensures { result ≡ record {
-          server = record { user = user.items; password = password.items; mailboxes = all_of mailboxes.items; condition = NotAuthenticated };
+          server = record { user = user.items; password = password.items; mailboxes = all_of mailboxes.items; condition = NotAuthenticated; has_news = false };
           connection = None;
+          is_lost = false;
         } }
     {
         let service = Service {
@@ -68,19 +74,27 @@ impl Server {
             password,
             mailboxes,
             condition: Condition::NotAuthenticated,
+            has_news: false,
         };
         Server {
             service,
             unread: None,
+            is_lost: false,
         }
     }
 
     /// Begins a connection, and hangs up an earlier one. The answer is the greeting, `* OK ready` (RFC 9051, section 7.1.1).
     pub fn connect(&mut self) -> &'static [u8]
         ensures greeting { AreReplies greeting result.now }
-        ensures new { self.new ≡ record { server = record self.old.server { condition = NotAuthenticated }; connection = Some (Whole []) } }
+        ensures new { self.new ≡ record {
+          server = record self.old.server { condition = NotAuthenticated; has_news = false };
+          connection = Some (Whole []);
+          is_lost = false;
+        } }
     {
         self.service.enter(Condition::NotAuthenticated);
+        self.service.set_news(false);
+        self.is_lost = false;
         self.unread = Some(Unread::Line(Line::new(self.service.alloc)));
         b"* OK ready\r\n"
     }
@@ -110,6 +124,45 @@ impl Server {
             }
             Err(AllocError) => {
                 self.service.is_served();
+                self.is_lost = true;
+                Err(ServerFault::NoMemory)
+            }
+        }
+    }
+
+    /// Adds a message that comes from elsewhere to the mailbox of this name (as other programs add some), under its next UID,
+    /// and tells this UID. It is taken in any condition of the connection. Where the mailbox is selected, the replies to the next
+    /// command begin with `* n EXISTS`.
+    ///
+    /// None, with nothing changed: no mailbox has the name (names compare as in commands), or the message has a byte 0 or more
+    /// than 16777238 bytes, or no UID is left.
+    pub fn arrive(
+        &mut self,
+        name: &[u8],
+        flags: Flags,
+        message: &[u8],
+    ) -> Result<Option<Uid>, ServerFault>
+        ensures ok { IfOk result (λ uid. (self.old.is_lost ≡ false) × Arrived name.now flags message.now uid self.old.server self.new.server
+            × (self.new ≡ record self.old { server = self.new.server })) }
+        ensures no_memory { IsErrOf result ServerFault.NoMemory → (self.old.is_lost ≡ false)
+            × (self.new ≡ record self.old { connection = None; is_lost = true }) }
+        ensures closed { IsErrOf result ServerFault.Closed → (self.old.is_lost ≡ true) × (self.new ≡ self.old) }
+        // Its mailboxes keep to the limits.
+        ensures served { AreServed self.new.server.mailboxes }
+    {
+        if self.is_lost {
+            self.service.is_served();
+            return Err(ServerFault::Closed);
+        }
+        match self.service.arrive(name, flags, message) {
+            Ok(uid) => {
+                self.service.is_served();
+                Ok(uid)
+            }
+            Err(AllocError) => {
+                self.service.is_served();
+                self.hang_up();
+                self.is_lost = true;
                 Err(ServerFault::NoMemory)
             }
         }
@@ -117,7 +170,7 @@ impl Server {
 
     /// Ends the connection. What is unread is dropped; the mailboxes stay.
     pub fn hang_up(&mut self)
-        ensures { self.new ≡ record { server = self.old.server; connection = None } }
+        ensures { self.new ≡ record self.old { connection = None } }
     {
         self.unread = None;
     }

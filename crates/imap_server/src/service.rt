@@ -18,6 +18,8 @@ pub(crate) struct Service {
     pub(crate) password: Vec<u8>,
     pub(crate) mailboxes: Vec<Mailbox>,
     pub(crate) condition: Condition,
+    // messages have arrived in the mailbox that is selected, of which nothing was said yet
+    pub(crate) has_news: bool,
 }
 
 impl Model for Service {
@@ -27,7 +29,7 @@ impl Model for Service {
 
     ghost Value = { Server };
 
-    ghost view = { λ s. record { user = s.user.items; password = s.password.items; mailboxes = all_of s.mailboxes.items; condition = condition_of s.condition } };
+    ghost view = { λ s. record { user = s.user.items; password = s.password.items; mailboxes = all_of s.mailboxes.items; condition = condition_of s.condition; has_news = s.has_news } };
 
     ghost invariant = { λ s. AreServed (all_of s.mailboxes.items) };
 }
@@ -36,6 +38,7 @@ impl Service {
     ghost use Rattle.std.specs.Prelude.{◌≡◌, ◌<◌, None, Some, length, slice_get};
     ghost use Rattle.imap_session.specs.Mailboxes.{mailbox_at};
     ghost use Rattle.imap_session.specs.Servers.{is_before_login, is_logged_in, is_over, selected};
+    ghost use Rattle.imap_session.specs.Arrivals.{is_selected};
     ghost use Rattle.imap_messages.specs.Boxes.{far_of, AreServed, IsServed};
     ghost use Rattle.imap_server.specs.Services.{condition_of};
     ghost use Rattle.imap_server.specs.Places.{Place};
@@ -65,6 +68,16 @@ impl Service {
         }
     }
 
+    /// Whether the mailbox of this name is selected.
+    pub(crate) fn is_selected(&self, name: &[u8]) -> bool
+        ensures { result ≡ is_selected name.now self.now.condition }
+    {
+        match &self.condition {
+            Condition::Selected(at) => same_name(at.as_slice(), name),
+            _ => false,
+        }
+    }
+
     /// The mailbox at this place.
     pub(crate) fn mailbox(&self, place: usize) -> &Mailbox
         requires { place < length self.now.mailboxes }
@@ -79,6 +92,13 @@ impl Service {
         ensures { self.new ≡ record self.old { condition = condition_of condition } }
     {
         self.condition = condition;
+    }
+
+    /// Whether there is news to tell, from now on.
+    pub(crate) fn set_news(&mut self, has_news: bool)
+        ensures { self.new ≡ record self.old { has_news = has_news } }
+    {
+        self.has_news = has_news;
     }
 
     /// Whether nobody is logged in yet.

@@ -14,4 +14,5 @@ pub mod Unread
 pub mod Serving
 pub mod Heard
 pub mod Lines
+pub mod Arrivals
 pub mod SessionExamples

@@ -1,10 +1,10 @@
 -- A connection to an honest server.
-use Rattle.std.specs.Prelude.{◌≡◌, ℕ, List, [], ◌∷◌, ◌++◌, codes}
+use Rattle.std.specs.Prelude.{◌≡◌, ℕ, false, List, [], ◌∷◌, ◌++◌, codes}
 use Rattle.imap_replies.specs.declared.word.NoticeKind.TheVariants as notices
 use Rattle.imap_replies.specs.declared.response.ResponseText.TheVariants.{Plain}
 use Rattle.imap_replies.specs.declared.reply.Reply.{Reply}
 use Rattle.imap_replies.specs.declared.reply.Reply.TheVariants.{Notice}
-use Rattle.imap_session.specs.Servers.{Server, NotAuthenticated, Quiet}
+use Rattle.imap_session.specs.Servers.{Server, NotAuthenticated, Quiet, told}
 use Rattle.imap_session.specs.Unread.{Whole}
 use Rattle.imap_session.specs.Serving.{End, Feeds}
 use Rattle.imap_session.specs.Heard.{AreReplies, LeavesOut}
@@ -14,6 +14,10 @@ use Rattle.imap_session.specs.Heard.{AreReplies, LeavesOut}
 pub record Line : Type 0 where
   pub end : End
   pub unseen : List ℕ
+
+-- the server, but for news that it has not told yet
+abbrev pub told_server : Line → Server
+told_server line = told line.end.server
 
 -- A beginning of the bytes was read, and answered; the others are lost.
 pub record Sends (bytes : List ℕ) (old new : Line) : Type 0 where
@@ -42,9 +46,9 @@ pub record Receives (bytes : List ℕ) (old new : Line) : Type 0 where
 abbrev pub greeting : List Reply
 greeting = Notice notices.Ok (Plain (codes "ready")) ∷ []
 
--- the end of a new connection, before login
+-- the end of a new connection, before login; there is no news on it
 pub record IsNewEnd (old : Server) (new : End) : Type 0 where
-  pub quiet : Quiet (record old { condition = NotAuthenticated }) new.server
+  pub quiet : Quiet (record old { condition = NotAuthenticated; has_news = false }) new.server
   pub kept : new.kept ≡ Whole []
 
 -- a new connection; no byte of an earlier one is read at either end

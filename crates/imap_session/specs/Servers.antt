@@ -1,6 +1,7 @@
 -- A server, with its end of a connection (RFC 9051, section 3).
-use Rattle.std.specs.Prelude.{◌≡◌, ℕ, Bool, true, false, List, [], Option, None}
+use Rattle.std.specs.Prelude.{◌≡◌, ℕ, Bool, true, false, List, [], ◌∷◌, length, Option, None, Some, if◌then◌else◌}
 use Rattle.imap_replies.specs.declared.reply.Reply.{Reply}
+use Rattle.imap_replies.specs.declared.reply.Reply.TheVariants.{Exists}
 use Rattle.mailcore.specs.Stores.{Store}
 use Rattle.imap_session.specs.Mailboxes.{FarMailbox, mailbox_at, changed}
 
@@ -11,11 +12,13 @@ pub data Condition : Type 0 where
   Selected : List ℕ → Condition
   LoggedOut : Condition
 
+-- `has_news`: messages have arrived in the selected mailbox, of which nothing was said yet
 pub record Server : Type 0 where
   pub user : List ℕ
   pub password : List ℕ
   pub mailboxes : List FarMailbox
   pub condition : Condition
+  pub has_news : Bool
 
 abbrev pub is_before_login : Condition → Bool
 is_before_login NotAuthenticated = true
@@ -56,14 +59,19 @@ with_selected change s = record s { mailboxes = changed_in s.condition change s.
 
 -- ---- what others do to the mailboxes
 
--- Between two commands nobody else changes anything. (A message that others add would be a case here.)
+-- The same server: nobody did anything.
 abbrev pub Quiet : Server → Server → Type 0
 Quiet old new = new ≡ old
 
--- what is told of it before the replies to the next command
+-- `* n EXISTS` (RFC 9051, section 7.4.1), where a mailbox is there
+abbrev pub exists_of : Option FarMailbox → List Reply
+exists_of None = []
+exists_of (Some m) = Exists (length m.store.messages) ∷ []
+
+-- what is told of arrivals before the replies to the next command
 abbrev pub news : Server → List Reply
-news s = []
+news s = if s.has_news then exists_of (selected s) else []
 
 -- the server once it is told
 abbrev pub told : Server → Server
-told s = s
+told s = record s { has_news = false }

@@ -1,6 +1,6 @@
 -- An example: a session with a server that has one mailbox with one message, computed from the definitions. Each command
 -- is shown with the replies to it and the server behind it.
-use Rattle.std.specs.Prelude.{◌≡◌, ℕ, false, List, [], ◌∷◌, codes, None, Some, refl}
+use Rattle.std.specs.Prelude.{◌≡◌, ℕ, true, false, List, [], ◌∷◌, codes, None, Some, refl}
 use mathlib.Core.Logic.{inr}
 use Rattle.wire_tokens.specs.declared.uid_set.SetEnd.TheVariants.{Number, Greatest}
 use Rattle.wire_tokens.specs.declared.uid_set.SetItem.TheVariants.{One, Range}
@@ -17,7 +17,7 @@ use Rattle.imap_replies.specs.declared.word.NoticeKind.TheVariants as notices
 use Rattle.imap_replies.specs.declared.response.Code.TheVariants as codes_of
 use Rattle.imap_replies.specs.declared.response.ResponseText.TheVariants.{Plain}
 use Rattle.imap_replies.specs.declared.reply.Reply.TheVariants.{Notice, Capability, Enabled, Flags, Exists, Expunge, Fetch}
-use Rattle.imap_session.specs.Servers.{Condition, NotAuthenticated, Authenticated, Selected, LoggedOut, Server}
+use Rattle.imap_session.specs.Servers.{Condition, NotAuthenticated, Authenticated, Selected, LoggedOut, Server, news, told}
 use Rattle.imap_session.specs.Mailboxes.{FarMailbox}
 use Rattle.imap_session.specs.AppendCommand.{MayGive}
 use Rattle.imap_session.specs.Answering.{done, done_with, go, listed, note, bad, refused, refused_with, word_code}
@@ -35,7 +35,7 @@ abbrev inbox : (next : ℕ) → List Message → FarMailbox
 inbox = mailbox (codes "INBOX") 1
 
 abbrev with_mailboxes : List FarMailbox → Condition → Server
-with_mailboxes mailboxes c = record { user = codes "u"; password = codes "p"; mailboxes = mailboxes; condition = c }
+with_mailboxes mailboxes c = record { user = codes "u"; password = codes "p"; mailboxes = mailboxes; condition = c; has_news = false }
 
 abbrev with_inbox : FarMailbox → Condition → Server
 with_inbox m = with_mailboxes (m ∷ [])
@@ -167,3 +167,19 @@ enable = (refl, refl)
 enable_none : Step (with_inbox one Authenticated) (asked (codes "A1") (requests.Enable (codes "x" ∷ [])))
     (Enabled None ∷ done (codes "A1") ∷ []) (with_inbox one Authenticated)
 enable_none = (refl, refl)
+
+-- ---- a message arrived in the selected mailbox
+
+arrived : Server
+arrived = record (with_inbox two at_inbox) { has_news = true }
+
+arrival_told : news arrived ≡ Exists 2 ∷ []
+unfolding arrived
+arrival_told = refl
+
+told_once : news (told arrived) ≡ []
+unfolding arrived
+told_once = refl
+
+none_selected : news (record (with_inbox two Authenticated) { has_news = true }) ≡ []
+none_selected = refl

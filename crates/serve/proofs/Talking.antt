@@ -1,5 +1,5 @@
 -- Lemmas on bytes of a connection that come one after another.
-use Rattle.std.proofs.Common.{◌≡◌, ℕ, List, [], ◌++◌, Option, None, Some, refl, sym, ◌∙◌, ap, subst, append_assoc, unwrap_or, take, IsSome, Result, Ok, Err, OnOk, OnErr}
+use Rattle.std.proofs.Common.{◌≡◌, ℕ, false, List, [], ◌++◌, Option, None, Some, refl, sym, ◌∙◌, ap, subst, append_assoc, unwrap_or, take, IsSome, Result, Ok, Err, OnOk, OnErr}
 use Rattle.std.proofs.lemmas.Bool.{true≢false}
 use Rattle.std.specs.Io.KnownBytes.{Consumes, Appends, Keeps}
 use Rattle.std.proofs.KnownBytes.{Consumes-nil, Consumes-trans, Consumes-kept, Appends-nil, Appends-trans}
@@ -33,6 +33,7 @@ fed_none h kept is = record {
   said = [];
   feeds = feeds_none (record { server = h.server; kept = kept });
   spelled = refl;
+  lost = refl;
 }
 
 pub fed_join : (a b c : Host) (p q x y : List ℕ) → Fed a p x b → Fed b q y c → Fed a (p ++ q) (x ++ y) c
@@ -45,6 +46,7 @@ fed_join a b c p q x y f g = record {
   feeds = feeds-join (record { server = a.server; kept = f.before }) (record { server = b.server; kept = f.after }) (record { server = c.server; kept = g.after }) p q f.said g.said f.feeds
       (subst (λ (k : Kept). Feeds (record { server = b.server; kept = k }) q g.said (record { server = c.server; kept = g.after })) (same_kept g.before f.after (sym g.was ∙ f.is)) g.feeds);
   spelled = replies-append f.said g.said x y f.spelled g.spelled;
+  lost = g.lost ∙ f.lost;
 }
 
 -- ---- some of it was answered
@@ -117,8 +119,8 @@ is_there h p x old f = subst IsSome (sym f.is) refl
 
 -- ---- a whole connection
 
-at_rest : (h : Host) (kept : Kept) → h.connection ≡ Some kept → h ≡ record { server = h.server; connection = Some kept }
-at_rest h kept is = let of : Option Kept → Host = λ c. record { server = h.server; connection = c } in ap of is
+at_rest : (h : Host) (kept : Kept) → h.connection ≡ Some kept → h.is_lost ≡ false → h ≡ record { server = h.server; connection = Some kept; is_lost = false }
+at_rest h kept is lost = λ i. record { server = h.server; connection = is i; is_lost = lost i }
 
 pub serves : (h n : Host) (i j o p q : Option (List ℕ)) (hello : List ℕ) → h ≡ connected h.server → AreReplies greeting hello → Appends o p hello → Converses h i j p q n → IsEnd j n.server
     → Serves h.server i j o q n.server
@@ -128,8 +130,8 @@ serves h n i j o p q hello new greets greeted c end = record {
   out_greeted = p;
   greeted = greeted;
   kept = c.answers.fed.after;
-  converses = subst (λ (x : Host). Converses x i j p q (record { server = n.server; connection = Some c.answers.fed.after })) new
-      (subst (λ (x : Host). Converses h i j p q x) (at_rest n c.answers.fed.after c.answers.fed.is) c);
+  converses = subst (λ (x : Host). Converses x i j p q (record { server = n.server; connection = Some c.answers.fed.after; is_lost = false })) new
+      (subst (λ (x : Host). Converses h i j p q x) (at_rest n c.answers.fed.after c.answers.fed.is (c.answers.fed.lost ∙ ap (λ (x : Host). x.is_lost) new)) c);
   ended = end;
 }
 

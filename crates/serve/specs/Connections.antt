@@ -1,5 +1,5 @@
 -- A connection that is served, by what is read of a reader and written to a writer where these bytes are known.
-use Rattle.std.specs.Prelude.{◌≡◌, ◌⊎◌, ℕ, true, List, [], Option, Some}
+use Rattle.std.specs.Prelude.{◌≡◌, ◌⊎◌, ℕ, true, false, List, [], Option, Some}
 use Rattle.std.specs.Io.KnownBytes.{Consumes, Appends, IsAtEnd}
 use Rattle.imap_session.specs.Servers.{Server, NotAuthenticated, is_over}
 use Rattle.imap_session.specs.Unread.{Kept, Whole}
@@ -12,7 +12,7 @@ use Rattle.serve.specs.declared.stream.Turn.TheVariants.{GoesOn, Ends}
 
 -- a new connection to a server
 abbrev pub connected : Server → Host
-connected s = record { server = record s { condition = NotAuthenticated }; connection = Some (Whole []) }
+connected s = record { server = record s { condition = NotAuthenticated; has_news = false }; connection = Some (Whole []); is_lost = false }
 
 -- ---- bytes of a connection
 
@@ -63,5 +63,5 @@ pub record Serves (old : Server) (in_old in_new out_old out_new : Option (List �
   pub out_greeted : Option (List ℕ)
   pub greeted : Appends out_old out_greeted hello
   pub kept : Kept
-  pub converses : Converses (connected old) in_old in_new out_greeted out_new (record { server = new; connection = Some kept })
+  pub converses : Converses (connected old) in_old in_new out_greeted out_new (record { server = new; connection = Some kept; is_lost = false })
   pub ended : IsEnd in_new new

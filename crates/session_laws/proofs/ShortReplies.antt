@@ -30,7 +30,7 @@ use Rattle.imap_session.specs.Mailboxes.{FarMailbox, same_name, mailbox_at}
 use Rattle.imap_session.specs.NameOrder.{stands_before, put_in}
 use Rattle.imap_session.specs.Patterns.{matches}
 use Rattle.imap_session.specs.NamedMessages.{goes, named_in}
-use Rattle.imap_session.specs.Servers.{Condition, NotAuthenticated, Authenticated, Selected, LoggedOut, Server, is_logged_in, is_before_login, selected}
+use Rattle.imap_session.specs.Servers.{Condition, NotAuthenticated, Authenticated, Selected, LoggedOut, Server, is_logged_in, is_before_login, selected, exists_of, news}
 use Rattle.imap_session.specs.Answering.{Answer, Gives, done, listed}
 use Rattle.imap_session.specs.SessionCommands.{REV2, logs_in}
 use Rattle.imap_session.specs.MailboxCommands.{names_matched, makes, creates_at, closes, opening, selects_at, is_name_byte, is_name, next_validity}
@@ -223,6 +223,14 @@ module _ (s : Server) (tag : List ℕ) (named : AreNamed s.mailboxes) where
   step_short (requests.Fetch set what) rs new h = given _ s rs new h (fetches_short (selected s) set what)
   step_short (requests.Store set mode flags) rs new h = given _ s rs new h (stores_short (selected s) set mode flags)
   step_short (requests.Expunge set) rs new h = given _ s rs new h (expunges_short (selected s) set)
+
+pub news_short : (s : Server) → Short (news s)
+news_short s =
+    elim s.has_news as (λ b. Short (if b then exists_of (selected s) else [])) [ true ↦ exists_short (selected s) | false ↦ refl ]
+  where
+    exists_short : (m : Option FarMailbox) → Short (exists_of m)
+    exists_short None = refl
+    exists_short (Some m) = refl
 
 pub fault_short : (fault : LineFault) → is_short (fault_reply fault) ≡ true
 fault_short (Syntax None) = refl

@@ -23,6 +23,7 @@
 //! | `connect` | a connection begins: the greeting |
 //! | `pieces N` | from here on bytes are fed in pieces of N |
 //! | `hang up` | the connection ends |
+//! | `arrive NAME FLAGS N "BYTES"` | a message with so many times these bytes comes to the mailbox NAME from elsewhere: its UID, or `none`, or why not |
 //! | `together` | what is sent up to the line `end` is fed as one; there, the replies |
 //! | `loopback` | what is sent up to the line `end` goes over a loopback connection, which is written in full before it is served: what comes back, and how serving ended |
 //! | `stream`, `stream until read K`, `stream until write K` | the same over a reader and a writer in memory, whose K-th call fails |
@@ -43,6 +44,7 @@
 //! | `stops` | how many calls have stopped |
 #![tactic(auto)]
 
+mod arriving;
 mod calls;
 mod links;
 mod mailboxes;

@@ -28,7 +28,7 @@ pub fn push_line(
 }
 
 /// Adds the bytes between quotes so many times.
-fn push_times(
+pub fn push_times(
     alloc: Global,
     sent: &mut Vec<u8>,
     times: u32,

@@ -2,6 +2,7 @@
 
 ghost use Rattle.std.specs.Prelude.{◌<◌};
 
+use crate::arriving::arrive;
 use crate::mailboxes::{add_mailbox, add_message, make_server, tell_mailboxes};
 use crate::sent::{push_line, push_lines};
 use crate::serving::{serve_loopback, serve_memory};
@@ -48,6 +49,7 @@ impl Sessions {
             "connect" => tell_replies(&mut script.told, server.connect()),
             "mailboxes" => tell_mailboxes(&mut script.told, server),
             "hang" if line.word() == "up" => server.hang_up(),
+            "arrive" => return arrive(self.rt.alloc(), server, line, &mut script.told),
             _ => return self.send(word, line, script),
         }
         Ok(())

@@ -1,4 +1,5 @@
 use Rattle.std.proofs.Common.{ℕ, sym, ◌∙◌, subst, refl}
+use Rattle.imap_session.specs.Lines.{told_server}
 use Rattle.imap_client.specs.Calls.{each_one}
 use Rattle.imap_client.specs.States.{EndsSo}
 use Rattle.imap_client.proofs.Changed.{state_of_parts, goes_on, sweep_keeps}
@@ -8,7 +9,7 @@ use Rattle.imap_client.proofs.far_box.FarBox.expunge.Goals as goal
 
 pub returns-then-is_empty-clause-outcome : goal.returns-then-is_empty-clause-outcome
 returns-then-is_empty-clause-outcome g c honest m is =
-    rests c.args.uids.now (g.L.Link.line c.args.self.now.session.wire.link).end.server c.rest.result (none_rest c.args.uids.now (sym c.is_empty.ensures ∙ c.if-is_empty.true)) c.rest.ensures.err
+    rests c.args.uids.now (told_server (g.L.Link.line c.args.self.now.session.wire.link)) c.rest.result (none_rest c.args.uids.now (sym c.is_empty.ensures ∙ c.if-is_empty.true)) c.rest.ensures.err
 
 pub returns-then-is_empty-clause-ends : goal.returns-then-is_empty-clause-ends
 returns-then-is_empty-clause-ends g c =
@@ -35,7 +36,7 @@ invariant_of-self g c = record {
       let now = c.change.new.self in
       goes_on (Unit {0}) _ (sweep_keeps (each_one c.args.uids.now)) c.args.self.now.name.items c.args.self.now.validity c.args.self.now.next 1
       (state_of_parts was.is_ready was.tags (g.L.Link.stops was.wire.link) was.wire.heard.items) (state_of_parts now.is_ready now.tags (g.L.Link.stops now.wire.link) now.wire.heard.items)
-      (g.L.Link.line was.wire.link).end.server (g.L.Link.line now.wire.link).end.server c.change.result c.change.ensures.ends ready
+      (told_server (g.L.Link.line was.wire.link)) (told_server (g.L.Link.line now.wire.link)) c.change.result c.change.ensures.ends ready
       (λ before. c.args.self.now.selected is_selected before (c.change.ensures.was_honest honest))
       (λ m is. c.change.ensures.outcome honest m is _ refl);
   numbers = c.args.self.now.numbers;

@@ -1,4 +1,5 @@
 use Rattle.std.proofs.Common.{ℕ, Option}
+use Rattle.imap_session.specs.Lines.{told_server}
 use Rattle.imap_client.proofs.Changed.{state_of_parts}
 use Rattle.imap_client.proofs.Staying.{stays}
 use Rattle.imap_client.proofs.far_box.FarBox.find_mark.Goals as goal
@@ -11,7 +12,7 @@ invariant_of-self g c = record {
       let now = c.mark.new.self in
       stays c.args.self.now.name.items c.args.self.now.validity c.args.self.now.next
       (state_of_parts was.is_ready was.tags (g.L.Link.stops was.wire.link) was.wire.heard.items) (state_of_parts now.is_ready now.tags (g.L.Link.stops now.wire.link) now.wire.heard.items)
-      (g.L.Link.line was.wire.link).end.server (g.L.Link.line now.wire.link).end.server ready
+      (told_server (g.L.Link.line was.wire.link)) (told_server (g.L.Link.line now.wire.link)) ready
       (λ before. c.args.self.now.selected is_selected before (c.mark.ensures.was_honest honest))
       (λ m is. c.mark.ensures.remains honest m is) (Option ℕ) 1 c.mark.result c.mark.ensures.ends;
   numbers = c.args.self.now.numbers;

@@ -4,6 +4,7 @@ use Rattle.mailcore.specs.declared.listing.Item.{Item}
 use Rattle.mailcore.specs.declared.listing.Listing.{Listing}
 use Rattle.mailcore.specs.declared.side.Side.TheVariants.{Far}
 use Rattle.mailcore.specs.Listed.{item_of}
+use Rattle.imap_session.specs.Lines.{told_server}
 use Rattle.imap_link.specs.declared.fault.FarFault.{FarFault}
 use Rattle.imap_link.specs.Outcomes.{Outcome, Never}
 use Rattle.imap_answers.specs.Listings.{next_above, ListsFrom}
@@ -21,7 +22,7 @@ invariant_of-self g c = record {
       let now = c.items.new.self in
       stays c.args.self.now.name.items c.args.self.now.validity c.args.self.now.next
       (state_of_parts was.is_ready was.tags (g.L.Link.stops was.wire.link) was.wire.heard.items) (state_of_parts now.is_ready now.tags (g.L.Link.stops now.wire.link) now.wire.heard.items)
-      (g.L.Link.line was.wire.link).end.server (g.L.Link.line now.wire.link).end.server ready
+      (told_server (g.L.Link.line was.wire.link)) (told_server (g.L.Link.line now.wire.link)) ready
       (λ before. c.args.self.now.selected is_selected before (c.items.ensures.was_honest honest))
       (λ m is. c.items.ensures.remains honest m is) (List Item) 1 c.items.result c.items.ensures.ends;
   numbers = c.args.self.now.numbers;
@@ -32,15 +33,15 @@ returns-in_err-items-clause-outcome g c honest is_selected m is store range =
     let p = err_from_is_err_and c.from_residual.result c.from_residual.ensures.1 in
     let f = c.in_err-items.field-0.0 in
     let known = c.args.self.now.next in
-    let old = (g.L.Link.line c.args.self.now.session.wire.link).end.server in
-    let new = (g.L.Link.line c.items.new.self.wire.link).end.server in
+    let old = (told_server (g.L.Link.line c.args.self.now.session.wire.link)) in
+    let new = (told_server (g.L.Link.line c.items.new.self.wire.link)) in
     subst (λ (r : Result Listing FarFault). Outcome (Tells (ListsFrom known m.store)) Never Remains r old new) (sym (p.1 ∙ ap Err p.2))
     (outcome_err (List Item) Listing (Tells (λ items. items ≡ map (item_of Far) m.store.messages)) (Tells (ListsFrom known m.store)) Never Remains old new f (c.in_err-items.ensures.outcome honest m is store range))
 
 pub returns-clause-outcome : goal.returns-clause-outcome
 returns-clause-outcome g c honest is_selected m is store range =
     let box = c.args.self.now in
-    let old = (g.L.Link.line box.session.wire.link).end.server in
+    let old = (told_server (g.L.Link.line box.session.wire.link)) in
     let listing : Listing = record { validity = box.validity; next = c.next_above-next.result; items = c.in_ok-items.items } in
     let told = c.in_ok-items.ensures.outcome honest m is store range in (
       lists_so box.name.items box.validity box.next old m is (box.selected is_selected c.in_ok-items.ensures.ends.was_ready (c.items.ensures.was_honest honest)) listing refl (c.next_above-next.ensures.next ∙ ap (next_above box.next) c.as_slice.ensures.all) told.0,
@@ -50,7 +51,7 @@ returns-clause-outcome g c honest is_selected m is store range =
 pub returns-clause-shows : goal.returns-clause-shows
 returns-clause-shows g c honest is_selected m is store range e =
     let box = c.args.self.now in
-    let old = (g.L.Link.line box.session.wire.link).end.server in
+    let old = (told_server (g.L.Link.line box.session.wire.link)) in
     let listing : Listing = record { validity = box.validity; next = c.next_above-next.result; items = c.in_ok-items.items } in
     let told = c.in_ok-items.ensures.outcome honest m is store range in
     shows_so box.next m.store listing store e

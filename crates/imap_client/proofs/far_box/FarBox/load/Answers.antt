@@ -3,6 +3,7 @@ use Rattle.std.specs.Prelude.{Vec, if◌then◌else◌}
 use Rattle.std.specs.Global.{Global}
 use Rattle.std.proofs.lemmas.Result.{err_from_is_err_and}
 use Rattle.mailcore.specs.Operations.{bytes_of}
+use Rattle.imap_session.specs.Lines.{told_server}
 use Rattle.imap_link.specs.declared.fault.FarFault.{FarFault}
 use Rattle.imap_link.specs.Outcomes.{Outcome, Never}
 use Rattle.imap_answers.specs.Bodies.{text_of}
@@ -20,7 +21,7 @@ invariant_of-self g c = record {
       let now = c.body.new.self in
       stays c.args.self.now.name.items c.args.self.now.validity c.args.self.now.next
       (state_of_parts was.is_ready was.tags (g.L.Link.stops was.wire.link) was.wire.heard.items) (state_of_parts now.is_ready now.tags (g.L.Link.stops now.wire.link) now.wire.heard.items)
-      (g.L.Link.line was.wire.link).end.server (g.L.Link.line now.wire.link).end.server ready
+      (told_server (g.L.Link.line was.wire.link)) (told_server (g.L.Link.line now.wire.link)) ready
       (λ before. c.args.self.now.selected is_selected before (c.body.ensures.was_honest honest))
       (λ m is. c.body.ensures.remains honest m is) (Option (Vec ℕ Global)) 1 c.body.result c.body.ensures.ends;
   numbers = c.args.self.now.numbers;
@@ -34,7 +35,7 @@ invariant_of-self-in-Some g c = record {
       let now = c.body.new.self in
       stays c.args.self.now.name.items c.args.self.now.validity c.args.self.now.next
       (state_of_parts was.is_ready was.tags (g.L.Link.stops was.wire.link) was.wire.heard.items) (state_of_parts now.is_ready now.tags (g.L.Link.stops now.wire.link) now.wire.heard.items)
-      (g.L.Link.line was.wire.link).end.server (g.L.Link.line now.wire.link).end.server ready
+      (told_server (g.L.Link.line was.wire.link)) (told_server (g.L.Link.line now.wire.link)) ready
       (λ before. c.args.self.now.selected is_selected before (c.body.ensures.was_honest honest))
       (λ m is. c.body.ensures.remains honest m is) (Option (Vec ℕ Global)) 1 c.body.result c.body.ensures.ends;
   numbers = c.args.self.now.numbers;
@@ -48,7 +49,7 @@ invariant_of-self-in-None g c = record {
       let now = c.body.new.self in
       stays c.args.self.now.name.items c.args.self.now.validity c.args.self.now.next
       (state_of_parts was.is_ready was.tags (g.L.Link.stops was.wire.link) was.wire.heard.items) (state_of_parts now.is_ready now.tags (g.L.Link.stops now.wire.link) now.wire.heard.items)
-      (g.L.Link.line was.wire.link).end.server (g.L.Link.line now.wire.link).end.server ready
+      (told_server (g.L.Link.line was.wire.link)) (told_server (g.L.Link.line now.wire.link)) ready
       (λ before. c.args.self.now.selected is_selected before (c.body.ensures.was_honest honest))
       (λ m is. c.body.ensures.remains honest m is) (Option (Vec ℕ Global)) 1 c.body.result c.body.ensures.ends;
   numbers = c.args.self.now.numbers;
@@ -59,8 +60,8 @@ returns-in_err-found-clause-outcome g c honest m is store range =
     let p = err_from_is_err_and c.from_residual.result c.from_residual.ensures.1 in
     let f = c.in_err-found.field-0.0 in
     let bytes = c.args.self.now.body.items in
-    let old = (g.L.Link.line c.args.self.now.session.wire.link).end.server in
-    let new = (g.L.Link.line c.body.new.self.wire.link).end.server in
+    let old = (told_server (g.L.Link.line c.args.self.now.session.wire.link)) in
+    let new = (told_server (g.L.Link.line c.body.new.self.wire.link)) in
     let so = λ (is_there : Bool). (if is_there then Some bytes else None) ≡ bytes_of c.args.uid m.store in
     subst (λ (r : Result Bool FarFault). Outcome (Tells so) Never Remains r old new) (sym (p.1 ∙ ap Err p.2))
     (outcome_err (Option (Vec ℕ Global)) Bool (Tells (λ found. text_of found ≡ bytes_of c.args.uid m.store)) (Tells so) Never Remains old new f (c.in_err-found.ensures.outcome honest m is store range))

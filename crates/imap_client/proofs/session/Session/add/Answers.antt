@@ -3,6 +3,7 @@ use Rattle.std.proofs.lemmas.Result.{err_from_is_err_and}
 use Rattle.imap_replies.specs.declared.word.Status.TheVariants as statuses
 use Rattle.imap_session.specs.Mailboxes.{FarMailbox}
 use Rattle.imap_session.specs.Servers.{selected}
+use Rattle.imap_session.specs.Lines.{told_server}
 use Rattle.imap_link.specs.declared.fault.FarFault.{FarFault}
 use Rattle.imap_link.specs.Outcomes.{Outcome}
 use Rattle.imap_client.specs.Tags.{tag_text}
@@ -23,8 +24,8 @@ returns-in_err-len-clause-outcome g c honest sel m is =
     let f = c.in_err-len.field-0.0 in
     let a = c.args.addition.now in
     let n = c.args.self.now.tags + 1 in
-    let old = (g.L.Link.line c.args.self.now.wire.link).end.server in
-    let new = (g.L.Link.line c.ask_to_add.new.self.wire.link).end.server in
+    let old = (told_server (g.L.Link.line c.args.self.now.wire.link)) in
+    let new = (told_server (g.L.Link.line c.ask_to_add.new.self.wire.link)) in
     let heard = c.ask_to_add.new.self.wire.heard.items in
     subst (λ (r : Result (Option ℕ) FarFault). Outcome (Adds m a.flags a.bytes.now) (NoUidLeft m) (AddsSome m a.flags a.bytes.now) r old new) (sym (p.1 ∙ ap Err p.2))
     (outcome_err ℕ (Option ℕ) (λ len. AddedSo n a.name.now m a.flags a.bytes.now (take len heard)) (Adds m a.flags a.bytes.now) (NoUidLeft m) (AddsSome m a.flags a.bytes.now) old new f
@@ -44,8 +45,8 @@ returns-in_err-given-clause-outcome g c honest sel m is =
     let p = err_from_is_err_and c.from_residual-in_err-given.result c.from_residual-in_err-given.ensures.1 in
     let a = c.args.addition.now in
     let n = c.args.self.now.tags + 1 in
-    let old = (g.L.Link.line c.args.self.now.wire.link).end.server in
-    let new = (g.L.Link.line c.ask_to_add.new.self.wire.link).end.server in
+    let old = (told_server (g.L.Link.line c.args.self.now.wire.link)) in
+    let new = (told_server (g.L.Link.line c.ask_to_add.new.self.wire.link)) in
     let heard = c.ask_to_add.new.self.wire.heard.items in
     let done_so = add_exchanged n a.name.now a.flags a.bytes.now old m sel.0 is (Ok c.in_ok-len.len) heard new (c.in_ok-len.ensures.outcome honest) in
     subst (λ (r : Result (Option ℕ) FarFault). Outcome (Adds m a.flags a.bytes.now) (NoUidLeft m) (AddsSome m a.flags a.bytes.now) r old new) (sym (p.1 ∙ ap Err (p.2 ∙ c.in_err-given.ensures.err)))
@@ -65,8 +66,8 @@ pub returns-in_err-told-clause-outcome : goal.returns-in_err-told-clause-outcome
 returns-in_err-told-clause-outcome g c honest sel m is =
     let a = c.args.addition.now in
     let n = c.args.self.now.tags + 1 in
-    let old = (g.L.Link.line c.args.self.now.wire.link).end.server in
-    let new = (g.L.Link.line c.ask_to_add.new.self.wire.link).end.server in
+    let old = (told_server (g.L.Link.line c.args.self.now.wire.link)) in
+    let new = (told_server (g.L.Link.line c.ask_to_add.new.self.wire.link)) in
     let heard = c.ask_to_add.new.self.wire.heard.items in
     let done_so = add_exchanged n a.name.now a.flags a.bytes.now old m sel.0 is (Ok c.in_ok-len.len) heard new (c.in_ok-len.ensures.outcome honest) in
     let told = told_so n a.name.now m a.flags a.bytes.now (take c.in_ok-len.len heard) old new c.args.validity c.args.next sel is done_so c.in_ok-given.given c.in_ok-given.ensures.told in
@@ -76,11 +77,11 @@ pub returns-clause-outcome : goal.returns-clause-outcome
 returns-clause-outcome g c =
     let a = c.args.addition.now in
     let n = c.args.self.now.tags + 1 in
-    let old = (g.L.Link.line c.args.self.now.wire.link).end.server in
+    let old = (told_server (g.L.Link.line c.args.self.now.wire.link)) in
     let heard = c.ask_to_add.new.self.wire.heard.items in
-    subst (λ l. g.L.Link.honest l → IsSelected a.name.now c.args.validity c.args.next old → (m : FarMailbox) → selected old ≡ Some m → Adds m a.flags a.bytes.now c.in_ok-told.told old (g.L.Link.line l).end.server) (sym c.done.ensures.link)
+    subst (λ l. g.L.Link.honest l → IsSelected a.name.now c.args.validity c.args.next old → (m : FarMailbox) → selected old ≡ Some m → Adds m a.flags a.bytes.now c.in_ok-told.told old (told_server (g.L.Link.line l))) (sym c.done.ensures.link)
     (λ honest sel m is.
-    let new = (g.L.Link.line c.ask_to_add.new.self.wire.link).end.server in
+    let new = (told_server (g.L.Link.line c.ask_to_add.new.self.wire.link)) in
     let done_so = add_exchanged n a.name.now a.flags a.bytes.now old m sel.0 is (Ok c.in_ok-len.len) heard new (c.in_ok-len.ensures.outcome honest) in
     let told = told_so n a.name.now m a.flags a.bytes.now (take c.in_ok-len.len heard) old new c.args.validity c.args.next sel is done_so c.in_ok-given.given c.in_ok-given.ensures.told in
     adds_so n a.name.now m a.flags a.bytes.now (take c.in_ok-len.len heard) old new _ c.in_ok-told.told done_so told (sym c.uid_told.ensures ∙ c.in_ok-told.was))

@@ -1,5 +1,6 @@
 use Rattle.std.proofs.Common.{ℕ, ◌+◌, List, sym, ◌∙◌, ap, subst, take, drop, Result, Err}
 use Rattle.std.proofs.lemmas.Result.{err_from_is_err_and}
+use Rattle.imap_session.specs.Lines.{told_server}
 use Rattle.exchange_laws.specs.Ends.{ends_of}
 use Rattle.imap_link.specs.declared.fault.FarFault.{FarFault}
 use Rattle.imap_link.specs.declared.wire.Answered.{Answered}
@@ -28,8 +29,8 @@ pub returns-in_err-answered-clause-outcome : goal.returns-in_err-answered-clause
 returns-in_err-answered-clause-outcome g c honest =
     let p = err_from_is_err_and c.from_residual.result c.from_residual.ensures.1 in
     let command = command_at (c.args.self.now.tags + 1) (request_of c.args.call.now) in
-    let old = (g.L.Link.line c.args.self.now.wire.link).end.server in
-    let new = (g.L.Link.line c.ask_status.new.self.wire.link).end.server in
+    let old = (told_server (g.L.Link.line c.args.self.now.wire.link)) in
+    let new = (told_server (g.L.Link.line c.ask_status.new.self.wire.link)) in
     let heard = c.ask_status.new.self.wire.heard.items in
     subst (λ (r : Result ℕ FarFault). Exchanged command r heard old new) (sym (p.1 ∙ ap Err p.2))
     (exchanged_err command (λ a. Replied command a.status (take a.len heard)) c.in_err-answered.field-0.0 heard old new (c.in_err-answered.ensures.outcome honest))
@@ -65,11 +66,11 @@ returns-clause-asked g c =
 pub returns-clause-outcome : goal.returns-clause-outcome
 returns-clause-outcome g c =
     let command = command_at (c.args.self.now.tags + 1) (request_of c.args.call.now) in
-    let old = (g.L.Link.line c.args.self.now.wire.link).end.server in
-    subst (λ l. g.L.Link.honest l → Exchanged command c.judge.result c.judge.new.self.wire.heard.items old (g.L.Link.line l).end.server) (sym c.judge.ensures.link)
+    let old = (told_server (g.L.Link.line c.args.self.now.wire.link)) in
+    subst (λ l. g.L.Link.honest l → Exchanged command c.judge.result c.judge.new.self.wire.heard.items old (told_server (g.L.Link.line l))) (sym c.judge.ensures.link)
     (λ honest.
     exchanged_of command c.in_ok-answered.answered.status c.in_ok-answered.answered.len c.judge.new.self.is_ready c.judge.result c.ask_status.new.self.wire.heard.items c.judge.new.self.wire.heard.items old
-    (g.L.Link.line c.ask_status.new.self.wire.link).end.server c.judge.ensures.judged c.judge.ensures.heard (c.in_ok-answered.ensures.outcome honest))
+    (told_server (g.L.Link.line c.ask_status.new.self.wire.link)) c.judge.ensures.judged c.judge.ensures.heard (c.in_ok-answered.ensures.outcome honest))
 
 pub returns-clause-idle : goal.returns-clause-idle
 returns-clause-idle g c =

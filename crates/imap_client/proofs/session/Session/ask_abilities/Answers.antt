@@ -1,6 +1,7 @@
 use Rattle.std.proofs.Common.{◌≡◌, inr, ℕ, ◌+◌, List, ◌++◌, ◌∷◌, [], true, false, sym, ◌∙◌, ap, subst, take, Result, Ok, Err}
 use Rattle.std.proofs.lemmas.Result.{err_from_is_err_and}
 use Rattle.imap_session.specs.Answering.{done}
+use Rattle.imap_session.specs.Lines.{told_server}
 use Rattle.imap_link.specs.declared.fault.FarFault.{FarFault}
 use Rattle.imap_link.specs.UsedReplies.{abilities_read}
 use Rattle.imap_link.specs.Outcomes.{Outcome, Never}
@@ -50,8 +51,8 @@ pub returns-in_err-len-clause-outcome : goal.returns-in_err-len-clause-outcome
 returns-in_err-len-clause-outcome g c honest =
     let p = err_from_is_err_and c.from_residual.result c.from_residual.ensures.1 in
     let f = c.in_err-len.field-0.0 in
-    let old = (g.L.Link.line c.args.self.now.wire.link).end.server in
-    let new = (g.L.Link.line c.ask.new.self.wire.link).end.server in
+    let old = (told_server (g.L.Link.line c.args.self.now.wire.link)) in
+    let new = (told_server (g.L.Link.line c.ask.new.self.wire.link)) in
     let n = c.args.self.now.tags + 1 in
     let heard = c.ask.new.self.wire.heard.items in
     subst (λ (r : Result (Unit {0}) FarFault). Outcome (λ x. Remains) Never Remains r old new) (sym (p.1 ∙ ap Err p.2))
@@ -60,8 +61,8 @@ returns-in_err-len-clause-outcome g c honest =
 
 pub returns-then-not-speaks-clause-outcome : goal.returns-then-not-speaks-clause-outcome
 returns-then-not-speaks-clause-outcome g c honest =
-    let old = (g.L.Link.line c.args.self.now.wire.link).end.server in
-    let new = (g.L.Link.line c.ask.new.self.wire.link).end.server in
+    let old = (told_server (g.L.Link.line c.args.self.now.wire.link)) in
+    let new = (told_server (g.L.Link.line c.ask.new.self.wire.link)) in
     let n = c.args.self.now.tags + 1 in
     let done_so = ability_exchanged n old (Ok c.in_ok-len.len) c.ask.new.self.wire.heard.items new (c.in_ok-len.ensures.outcome honest) in
     let told = named_so (tag_text n) _ c.in_ok-speaks.speaks done_so.0 c.in_ok-speaks.ensures.told in
@@ -71,13 +72,13 @@ returns-then-not-speaks-clause-outcome g c honest =
 pub returns-in_err-speaks-clause-outcome : goal.returns-in_err-speaks-clause-outcome
 returns-in_err-speaks-clause-outcome g c honest =
     let p = err_from_is_err_and c.from_residual-in_err-speaks.result c.from_residual-in_err-speaks.ensures.1 in
-    let old = (g.L.Link.line c.args.self.now.wire.link).end.server in
-    let new = (g.L.Link.line c.ask.new.self.wire.link).end.server in
+    let old = (told_server (g.L.Link.line c.args.self.now.wire.link)) in
+    let new = (told_server (g.L.Link.line c.ask.new.self.wire.link)) in
     subst (λ (r : Result (Unit {0}) FarFault). Outcome (λ x. Remains) Never Remains r old new) (sym (p.1 ∙ ap Err (p.2 ∙ c.in_err-speaks.ensures.err)))
     (inr (ability_exchanged (c.args.self.now.tags + 1) old (Ok c.in_ok-len.len) c.ask.new.self.wire.heard.items new (c.in_ok-len.ensures.outcome honest)).1)
 
 pub returns-clause-outcome : goal.returns-clause-outcome
 returns-clause-outcome g c =
-    let old = (g.L.Link.line c.args.self.now.wire.link).end.server in
-    subst (λ l. g.L.Link.honest l → Remains old (g.L.Link.line l).end.server) (sym c.done.ensures.link)
-    (λ honest. (ability_exchanged (c.args.self.now.tags + 1) old (Ok c.in_ok-len.len) c.ask.new.self.wire.heard.items (g.L.Link.line c.ask.new.self.wire.link).end.server (c.in_ok-len.ensures.outcome honest)).1)
+    let old = (told_server (g.L.Link.line c.args.self.now.wire.link)) in
+    subst (λ l. g.L.Link.honest l → Remains old (told_server (g.L.Link.line l))) (sym c.done.ensures.link)
+    (λ honest. (ability_exchanged (c.args.self.now.tags + 1) old (Ok c.in_ok-len.len) c.ask.new.self.wire.heard.items (told_server (g.L.Link.line c.ask.new.self.wire.link)) (c.in_ok-len.ensures.outcome honest)).1)

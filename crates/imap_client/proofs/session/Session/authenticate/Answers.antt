@@ -1,6 +1,7 @@
 use Rattle.std.proofs.Common.{◌≡◌, ℕ, ◌+◌, List, true, sym, ◌∙◌, ap, subst, Result, Ok, Err}
 use Rattle.std.proofs.lemmas.Result.{err_from_is_err_and}
 use Rattle.imap_session.specs.Servers.{is_before_login}
+use Rattle.imap_session.specs.Lines.{told_server}
 use Rattle.imap_link.specs.declared.fault.FarFault.{FarFault}
 use Rattle.imap_link.specs.Outcomes.{Outcome}
 use Rattle.imap_client.specs.Logins.{Authenticates, Rejects}
@@ -33,8 +34,8 @@ returns-in_err-len-clause-outcome g c honest before =
     let f = c.in_err-len.field-0.0 in
     let user = c.args.user.now in
     let password = c.args.password.now in
-    let old = (g.L.Link.line c.args.self.now.wire.link).end.server in
-    let new = (g.L.Link.line c.ask.new.self.wire.link).end.server in
+    let old = (told_server (g.L.Link.line c.args.self.now.wire.link)) in
+    let new = (told_server (g.L.Link.line c.ask.new.self.wire.link)) in
     subst (λ (r : Result (Unit {0}) FarFault). Outcome (λ x. Authenticates user password) (Rejects user password) (Authenticates user password) r old new) (sym (p.1 ∙ ap Err p.2))
     (outcome_err ℕ (Unit {0}) (λ len. Authenticates user password) (λ x. Authenticates user password) (Rejects user password) (Authenticates user password) old new f
     (login_exchanged (c.args.self.now.tags + 1) user password old before (Err f) c.ask.new.self.wire.heard.items new (c.in_err-len.ensures.outcome honest)))
@@ -43,6 +44,6 @@ pub returns-clause-outcome : goal.returns-clause-outcome
 returns-clause-outcome g c =
     let user = c.args.user.now in
     let password = c.args.password.now in
-    let old = (g.L.Link.line c.args.self.now.wire.link).end.server in
-    subst (λ l. g.L.Link.honest l → is_before_login old.condition ≡ true → Authenticates user password old (g.L.Link.line l).end.server) (sym c.done.ensures.link)
-    (λ honest before. login_exchanged (c.args.self.now.tags + 1) user password old before (Ok c.in_ok-len.len) c.ask.new.self.wire.heard.items (g.L.Link.line c.ask.new.self.wire.link).end.server (c.in_ok-len.ensures.outcome honest))
+    let old = (told_server (g.L.Link.line c.args.self.now.wire.link)) in
+    subst (λ l. g.L.Link.honest l → is_before_login old.condition ≡ true → Authenticates user password old (told_server (g.L.Link.line l))) (sym c.done.ensures.link)
+    (λ honest before. login_exchanged (c.args.self.now.tags + 1) user password old before (Ok c.in_ok-len.len) c.ask.new.self.wire.heard.items (told_server (g.L.Link.line c.ask.new.self.wire.link)) (c.in_ok-len.ensures.outcome honest))

@@ -6,6 +6,7 @@ use Rattle.imap_commands.specs.declared.command.FetchItems.TheVariants as wanted
 use Rattle.imap_session.specs.Heard.{AreReplies}
 use Rattle.imap_session.specs.Mailboxes.{FarMailbox}
 use Rattle.imap_session.specs.Servers.{selected}
+use Rattle.imap_session.specs.Lines.{told_server}
 use Rattle.imap_link.specs.declared.fault.FarFault.{FarFault}
 use Rattle.imap_link.specs.Outcomes.{Outcome, Never}
 use Rattle.std.proofs.Common.{Option}
@@ -28,8 +29,8 @@ returns-in_err-len-clause-outcome g c honest m is store range =
     let f = c.in_err-len.field-0.0 in
     let n = c.args.self.now.tags + 1 in
     let heard = c.ask.new.self.wire.heard.items in
-    let old = (g.L.Link.line c.args.self.now.wire.link).end.server in
-    let new = (g.L.Link.line c.ask.new.self.wire.link).end.server in
+    let old = (told_server (g.L.Link.line c.args.self.now.wire.link)) in
+    let new = (told_server (g.L.Link.line c.ask.new.self.wire.link)) in
     let so = λ (found : Option (Vec ℕ Global)). text_of found ≡ bytes_of c.args.uid m.store in
     subst (λ (r : Result (Option (Vec ℕ Global)) FarFault). Outcome (Tells so) Never Remains r old new) (sym (p.1 ∙ ap Err p.2))
     (outcome_err ℕ (Option (Vec ℕ Global)) (λ len. Tells (λ x. AreReplies (replies_for m (one_uid c.args.uid) wanted.Body (tag_text n)) (take x heard)) len) (Tells so) Never Remains old new f
@@ -41,8 +42,8 @@ returns-in_err-body-clause-outcome g c honest m is store range =
     let f = c.in_err-body.field-0.0 in
     let n = c.args.self.now.tags + 1 in
     let heard = c.ask.new.self.wire.heard.items in
-    let old = (g.L.Link.line c.args.self.now.wire.link).end.server in
-    let new = (g.L.Link.line c.ask.new.self.wire.link).end.server in
+    let old = (told_server (g.L.Link.line c.args.self.now.wire.link)) in
+    let new = (told_server (g.L.Link.line c.ask.new.self.wire.link)) in
     let so = λ (found : Option (Vec ℕ Global)). text_of found ≡ bytes_of c.args.uid m.store in
     let rs = replies_for m (one_uid c.args.uid) wanted.Body (tag_text n) in
     let told = fetch_exchanged n old m is (one_uid c.args.uid) wanted.Body (Ok c.in_ok-len.len) heard new (c.in_ok-len.ensures.outcome honest) in
@@ -54,10 +55,10 @@ pub returns-clause-outcome : goal.returns-clause-outcome
 returns-clause-outcome g c =
     let n = c.args.self.now.tags + 1 in
     let heard = c.ask.new.self.wire.heard.items in
-    let old = (g.L.Link.line c.args.self.now.wire.link).end.server in
-    subst (λ l. g.L.Link.honest l → (m : FarMailbox) → selected old ≡ Some m → IsStore m.store → AreInRange m.store.messages → Tells (λ (found : Option (Vec ℕ Global)). text_of found ≡ bytes_of c.args.uid m.store) c.in_ok-body.body old (g.L.Link.line l).end.server) (sym c.done.ensures.link)
+    let old = (told_server (g.L.Link.line c.args.self.now.wire.link)) in
+    subst (λ l. g.L.Link.honest l → (m : FarMailbox) → selected old ≡ Some m → IsStore m.store → AreInRange m.store.messages → Tells (λ (found : Option (Vec ℕ Global)). text_of found ≡ bytes_of c.args.uid m.store) c.in_ok-body.body old (told_server (g.L.Link.line l))) (sym c.done.ensures.link)
     (λ honest m is store range.
-    let new = (g.L.Link.line c.ask.new.self.wire.link).end.server in
+    let new = (told_server (g.L.Link.line c.ask.new.self.wire.link)) in
     let rs = replies_for m (one_uid c.args.uid) wanted.Body (tag_text n) in
     let told = fetch_exchanged n old m is (one_uid c.args.uid) wanted.Body (Ok c.in_ok-len.len) heard new (c.in_ok-len.ensures.outcome honest) in
     reads_so (Option (Vec ℕ Global)) (Option (List ℕ)) text_of (body_told c.args.uid rs) (bytes_of c.args.uid m.store) (tells_body c.args.uid m (tag_text n) store range) old new told.1 c.in_ok-body.body
@@ -67,17 +68,17 @@ pub returns-in_err-len-clause-remains : goal.returns-in_err-len-clause-remains
 returns-in_err-len-clause-remains g c honest m is =
     let n = c.args.self.now.tags + 1 in
     let heard = c.ask.new.self.wire.heard.items in
-    fetch_unchanged n (g.L.Link.line c.args.self.now.wire.link).end.server m is (one_uid c.args.uid) wanted.Body (Err c.in_err-len.field-0.0) heard (g.L.Link.line c.ask.new.self.wire.link).end.server (c.in_err-len.ensures.outcome honest)
+    fetch_unchanged n (told_server (g.L.Link.line c.args.self.now.wire.link)) m is (one_uid c.args.uid) wanted.Body (Err c.in_err-len.field-0.0) heard (told_server (g.L.Link.line c.ask.new.self.wire.link)) (c.in_err-len.ensures.outcome honest)
 
 pub returns-in_err-body-clause-remains : goal.returns-in_err-body-clause-remains
 returns-in_err-body-clause-remains g c honest m is =
     let n = c.args.self.now.tags + 1 in
-    (fetch_exchanged n (g.L.Link.line c.args.self.now.wire.link).end.server m is (one_uid c.args.uid) wanted.Body (Ok c.in_ok-len.len) c.ask.new.self.wire.heard.items (g.L.Link.line c.ask.new.self.wire.link).end.server (c.in_ok-len.ensures.outcome honest)).1
+    (fetch_exchanged n (told_server (g.L.Link.line c.args.self.now.wire.link)) m is (one_uid c.args.uid) wanted.Body (Ok c.in_ok-len.len) c.ask.new.self.wire.heard.items (told_server (g.L.Link.line c.ask.new.self.wire.link)) (c.in_ok-len.ensures.outcome honest)).1
 
 pub returns-clause-remains : goal.returns-clause-remains
 returns-clause-remains g c =
     let n = c.args.self.now.tags + 1 in
-    let old = (g.L.Link.line c.args.self.now.wire.link).end.server in
-    subst (λ l. g.L.Link.honest l → (m : FarMailbox) → selected old ≡ Some m → Remains old (g.L.Link.line l).end.server) (sym c.done.ensures.link)
+    let old = (told_server (g.L.Link.line c.args.self.now.wire.link)) in
+    subst (λ l. g.L.Link.honest l → (m : FarMailbox) → selected old ≡ Some m → Remains old (told_server (g.L.Link.line l))) (sym c.done.ensures.link)
     (λ honest m is.
-    (fetch_exchanged n old m is (one_uid c.args.uid) wanted.Body (Ok c.in_ok-len.len) c.ask.new.self.wire.heard.items (g.L.Link.line c.ask.new.self.wire.link).end.server (c.in_ok-len.ensures.outcome honest)).1)
+    (fetch_exchanged n old m is (one_uid c.args.uid) wanted.Body (Ok c.in_ok-len.len) c.ask.new.self.wire.heard.items (told_server (g.L.Link.line c.ask.new.self.wire.link)) (c.in_ok-len.ensures.outcome honest)).1)

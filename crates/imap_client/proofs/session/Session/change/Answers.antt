@@ -3,6 +3,7 @@ use Rattle.std.proofs.lemmas.Result.{err_from_is_err_and}
 use Rattle.mailcore.specs.Stores.{Store}
 use Rattle.imap_session.specs.Mailboxes.{FarMailbox}
 use Rattle.imap_session.specs.Servers.{selected}
+use Rattle.imap_session.specs.Lines.{told_server}
 use Rattle.imap_link.specs.declared.fault.FarFault.{FarFault}
 use Rattle.imap_link.specs.Outcomes.{Outcome, Never}
 use Rattle.imap_client.specs.Boxes.{Becomes, Changing}
@@ -13,15 +14,15 @@ pub returns-in_err-len-clause-outcome : goal.returns-in_err-len-clause-outcome
 returns-in_err-len-clause-outcome g c honest m is change so =
     let p = err_from_is_err_and c.from_residual.result c.from_residual.ensures.1 in
     let f = c.in_err-len.field-0.0 in
-    let old = (g.L.Link.line c.args.self.now.wire.link).end.server in
-    let new = (g.L.Link.line c.ask.new.self.wire.link).end.server in
+    let old = (told_server (g.L.Link.line c.args.self.now.wire.link)) in
+    let new = (told_server (g.L.Link.line c.ask.new.self.wire.link)) in
     subst (λ (r : Result (Unit {0}) FarFault). Outcome (λ x. Becomes change) Never (Becomes change) r old new) (sym (p.1 ∙ ap Err p.2))
     (outcome_err ℕ (Unit {0}) (λ len. Becomes change) (λ x. Becomes change) Never (Becomes change) old new f
     (changes (c.args.self.now.tags + 1) old m is c.args.call.now change so (Err f) _ new (c.in_err-len.ensures.outcome honest)))
 
 pub returns-clause-outcome : goal.returns-clause-outcome
 returns-clause-outcome g c =
-    let old = (g.L.Link.line c.args.self.now.wire.link).end.server in
-    subst (λ l. g.L.Link.honest l → (m : FarMailbox) → selected old ≡ Some m → (change : Store → Store) → Changing c.args.call.now change → Becomes change old (g.L.Link.line l).end.server) (sym c.done.ensures.link)
+    let old = (told_server (g.L.Link.line c.args.self.now.wire.link)) in
+    subst (λ l. g.L.Link.honest l → (m : FarMailbox) → selected old ≡ Some m → (change : Store → Store) → Changing c.args.call.now change → Becomes change old (told_server (g.L.Link.line l))) (sym c.done.ensures.link)
     (λ honest m is change so.
-    changes (c.args.self.now.tags + 1) old m is c.args.call.now change so (Ok c.in_ok-len.len) _ (g.L.Link.line c.ask.new.self.wire.link).end.server (c.in_ok-len.ensures.outcome honest))
+    changes (c.args.self.now.tags + 1) old m is c.args.call.now change so (Ok c.in_ok-len.len) _ (told_server (g.L.Link.line c.ask.new.self.wire.link)) (c.in_ok-len.ensures.outcome honest))

@@ -2,6 +2,7 @@ use Rattle.std.proofs.Common.{◌≡◌, inl, inr, ℕ, ◌+◌, List, true, fal
 use Rattle.std.proofs.lemmas.Result.{err_from_is_err_and}
 use Rattle.imap_replies.specs.declared.word.Status.TheVariants as statuses
 use Rattle.imap_session.specs.Servers.{is_logged_in}
+use Rattle.imap_session.specs.Lines.{told_server}
 use Rattle.imap_link.specs.declared.fault.FarFault.{FarFault}
 use Rattle.imap_link.specs.Outcomes.{Outcome}
 use Rattle.imap_client.specs.declared.far_box.Chosen.{Chosen}
@@ -72,8 +73,8 @@ returns-in_err-len-clause-outcome g c honest logged =
     let p = err_from_is_err_and c.from_residual.result c.from_residual.ensures.1 in
     let f = c.in_err-len.field-0.0 in
     let name = c.args.name.now in
-    let old = (g.L.Link.line c.args.self.now.wire.link).end.server in
-    let new = (g.L.Link.line c.ask.new.self.wire.link).end.server in
+    let old = (told_server (g.L.Link.line c.args.self.now.wire.link)) in
+    let new = (told_server (g.L.Link.line c.ask.new.self.wire.link)) in
     subst (λ (r : Result Chosen FarFault). Outcome (λ x. Selects name x.validity x.next) (NoMailbox name) (Chooses name) r old new) (sym (p.1 ∙ ap Err p.2))
     (outcome_err ℕ Chosen (λ len. ChosenBy name (tag_text (c.args.self.now.tags + 1)) (take len c.ask.new.self.wire.heard.items)) (λ x. Selects name x.validity x.next) (NoMailbox name) (Chooses name) old new f
     (select_exchanged (c.args.self.now.tags + 1) name old logged (Err f) c.ask.new.self.wire.heard.items new (c.in_err-len.ensures.outcome honest)))
@@ -91,8 +92,8 @@ pub returns-in_err-opening-clause-outcome : goal.returns-in_err-opening-clause-o
 returns-in_err-opening-clause-outcome g c honest logged =
     let p = err_from_is_err_and c.from_residual-in_err-opening.result c.from_residual-in_err-opening.ensures.1 in
     let name = c.args.name.now in
-    let old = (g.L.Link.line c.args.self.now.wire.link).end.server in
-    let new = (g.L.Link.line c.ask.new.self.wire.link).end.server in
+    let old = (told_server (g.L.Link.line c.args.self.now.wire.link)) in
+    let new = (told_server (g.L.Link.line c.ask.new.self.wire.link)) in
     let chosen = select_exchanged (c.args.self.now.tags + 1) name old logged (Ok c.in_ok-len.len) c.ask.new.self.wire.heard.items new (c.in_ok-len.ensures.outcome honest) in
     subst (λ (r : Result Chosen FarFault). Outcome (λ x. Selects name x.validity x.next) (NoMailbox name) (Chooses name) r old new) (sym (p.1 ∙ ap Err (p.2 ∙ c.in_err-opening.ensures.err)))
     (inr (effect_so name _ _ old new chosen))
@@ -100,8 +101,8 @@ returns-in_err-opening-clause-outcome g c honest logged =
 pub returns-in_default-clause-outcome : goal.returns-in_default-clause-outcome
 returns-in_default-clause-outcome g c honest logged =
     let name = c.args.name.now in
-    let old = (g.L.Link.line c.args.self.now.wire.link).end.server in
-    let new = (g.L.Link.line c.ask.new.self.wire.link).end.server in
+    let old = (told_server (g.L.Link.line c.args.self.now.wire.link)) in
+    let new = (told_server (g.L.Link.line c.ask.new.self.wire.link)) in
     let chosen = select_exchanged (c.args.self.now.tags + 1) name old logged (Ok c.in_ok-len.len) c.ask.new.self.wire.heard.items new (c.in_ok-len.ensures.outcome honest) in
     let told = told_so name _ _ old new chosen c.in_ok-opening.opening c.in_ok-opening.ensures.told in
     c.in_default.not-Some _ (ap (λ (o : Opening). o.next) told)
@@ -109,8 +110,8 @@ returns-in_default-clause-outcome g c honest logged =
 pub returns-in_default-validity-clause-outcome : goal.returns-in_default-validity-clause-outcome
 returns-in_default-validity-clause-outcome g c honest logged =
     let name = c.args.name.now in
-    let old = (g.L.Link.line c.args.self.now.wire.link).end.server in
-    let new = (g.L.Link.line c.ask.new.self.wire.link).end.server in
+    let old = (told_server (g.L.Link.line c.args.self.now.wire.link)) in
+    let new = (told_server (g.L.Link.line c.ask.new.self.wire.link)) in
     let chosen = select_exchanged (c.args.self.now.tags + 1) name old logged (Ok c.in_ok-len.len) c.ask.new.self.wire.heard.items new (c.in_ok-len.ensures.outcome honest) in
     let told = told_so name _ _ old new chosen c.in_ok-opening.opening c.in_ok-opening.ensures.told in
     c.in_default-validity.not-Some _ (ap (λ (o : Opening). o.validity) told)
@@ -118,10 +119,10 @@ returns-in_default-validity-clause-outcome g c honest logged =
 pub returns-then-opening-clause-outcome : goal.returns-then-opening-clause-outcome
 returns-then-opening-clause-outcome g c =
     let name = c.args.name.now in
-    let old = (g.L.Link.line c.args.self.now.wire.link).end.server in
+    let old = (told_server (g.L.Link.line c.args.self.now.wire.link)) in
     subst (λ l. g.L.Link.honest l → is_logged_in old.condition ≡ true → ⊥) (sym c.done.ensures.link)
     (λ honest logged.
-    let new = (g.L.Link.line c.ask.new.self.wire.link).end.server in
+    let new = (told_server (g.L.Link.line c.ask.new.self.wire.link)) in
     let chosen = select_exchanged (c.args.self.now.tags + 1) name old logged (Ok c.in_ok-len.len) c.ask.new.self.wire.heard.items new (c.in_ok-len.ensures.outcome honest) in
     let told = told_so name _ _ old new chosen c.in_ok-opening.opening c.in_ok-opening.ensures.told in
     let both : false ≡ true = sym (ap (λ (o : Opening). o.is_read_only) told) ∙ c.if-opening.true in
@@ -130,10 +131,10 @@ returns-then-opening-clause-outcome g c =
 pub returns-clause-chosen : goal.returns-clause-chosen
 returns-clause-chosen g c =
     let name = c.args.name.now in
-    let old = (g.L.Link.line c.args.self.now.wire.link).end.server in
-    subst (λ l. g.L.Link.honest l → Selects name c.in-Some-validity.validity c.in-Some.next old (g.L.Link.line l).end.server) (sym c.done.ensures.link)
+    let old = (told_server (g.L.Link.line c.args.self.now.wire.link)) in
+    subst (λ l. g.L.Link.honest l → Selects name c.in-Some-validity.validity c.in-Some.next old (told_server (g.L.Link.line l))) (sym c.done.ensures.link)
     (λ honest.
-    let new = (g.L.Link.line c.ask.new.self.wire.link).end.server in
+    let new = (told_server (g.L.Link.line c.ask.new.self.wire.link)) in
     let chosen = ok_chosen (c.args.self.now.tags + 1) name old c.in_ok-len.len c.ask.new.self.wire.heard.items new (c.in_ok-len.ensures.outcome honest) in
     let told = told_so name _ _ old new chosen c.in_ok-opening.opening c.in_ok-opening.ensures.told in
     selects_so name _ _ old new chosen c.in-Some-validity.validity c.in-Some.next c.in_ok-opening.opening told c.in-Some-validity.is c.in-Some.is)
@@ -141,10 +142,10 @@ returns-clause-chosen g c =
 pub returns-clause-outcome : goal.returns-clause-outcome
 returns-clause-outcome g c =
     let name = c.args.name.now in
-    let old = (g.L.Link.line c.args.self.now.wire.link).end.server in
-    subst (λ l. g.L.Link.honest l → is_logged_in old.condition ≡ true → Selects name c.in-Some-validity.validity c.in-Some.next old (g.L.Link.line l).end.server) (sym c.done.ensures.link)
+    let old = (told_server (g.L.Link.line c.args.self.now.wire.link)) in
+    subst (λ l. g.L.Link.honest l → is_logged_in old.condition ≡ true → Selects name c.in-Some-validity.validity c.in-Some.next old (told_server (g.L.Link.line l))) (sym c.done.ensures.link)
     (λ honest logged.
-    let new = (g.L.Link.line c.ask.new.self.wire.link).end.server in
+    let new = (told_server (g.L.Link.line c.ask.new.self.wire.link)) in
     let chosen = select_exchanged (c.args.self.now.tags + 1) name old logged (Ok c.in_ok-len.len) c.ask.new.self.wire.heard.items new (c.in_ok-len.ensures.outcome honest) in
     let told = told_so name _ _ old new chosen c.in_ok-opening.opening c.in_ok-opening.ensures.told in
     selects_so name _ _ old new chosen c.in-Some-validity.validity c.in-Some.next c.in_ok-opening.opening told c.in-Some-validity.is c.in-Some.is)

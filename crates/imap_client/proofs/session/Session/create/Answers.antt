@@ -1,6 +1,7 @@
 use Rattle.std.proofs.Common.{◌≡◌, ℕ, ◌+◌, true, sym, ◌∙◌, ap, subst, Result, Ok, Err}
 use Rattle.std.proofs.lemmas.Result.{err_from_is_err_and}
 use Rattle.imap_session.specs.Servers.{is_logged_in}
+use Rattle.imap_session.specs.Lines.{told_server}
 use Rattle.imap_link.specs.declared.fault.FarFault.{FarFault}
 use Rattle.imap_link.specs.Outcomes.{Outcome}
 use Rattle.imap_client.specs.Creations.{Makes, CannotMake}
@@ -13,8 +14,8 @@ returns-in_err-len-clause-outcome g c honest logged =
     let p = err_from_is_err_and c.from_residual.result c.from_residual.ensures.1 in
     let f = c.in_err-len.field-0.0 in
     let name = c.args.name.now in
-    let old = (g.L.Link.line c.args.self.now.wire.link).end.server in
-    let new = (g.L.Link.line c.ask.new.self.wire.link).end.server in
+    let old = (told_server (g.L.Link.line c.args.self.now.wire.link)) in
+    let new = (told_server (g.L.Link.line c.ask.new.self.wire.link)) in
     subst (λ (r : Result (Unit {0}) FarFault). Outcome (λ x. Makes name) (CannotMake name) (Makes name) r old new) (sym (p.1 ∙ ap Err p.2))
     (outcome_err ℕ (Unit {0}) (λ len. Makes name) (λ x. Makes name) (CannotMake name) (Makes name) old new f
     (create_exchanged (c.args.self.now.tags + 1) name old logged (Err f) c.ask.new.self.wire.heard.items new (c.in_err-len.ensures.outcome honest)))
@@ -22,6 +23,6 @@ returns-in_err-len-clause-outcome g c honest logged =
 pub returns-clause-outcome : goal.returns-clause-outcome
 returns-clause-outcome g c =
     let name = c.args.name.now in
-    let old = (g.L.Link.line c.args.self.now.wire.link).end.server in
-    subst (λ l. g.L.Link.honest l → is_logged_in old.condition ≡ true → Makes name old (g.L.Link.line l).end.server) (sym c.done.ensures.link)
-    (λ honest logged. create_exchanged (c.args.self.now.tags + 1) name old logged (Ok c.in_ok-len.len) c.ask.new.self.wire.heard.items (g.L.Link.line c.ask.new.self.wire.link).end.server (c.in_ok-len.ensures.outcome honest))
+    let old = (told_server (g.L.Link.line c.args.self.now.wire.link)) in
+    subst (λ l. g.L.Link.honest l → is_logged_in old.condition ≡ true → Makes name old (told_server (g.L.Link.line l))) (sym c.done.ensures.link)
+    (λ honest logged. create_exchanged (c.args.self.now.tags + 1) name old logged (Ok c.in_ok-len.len) c.ask.new.self.wire.heard.items (told_server (g.L.Link.line c.ask.new.self.wire.link)) (c.in_ok-len.ensures.outcome honest))

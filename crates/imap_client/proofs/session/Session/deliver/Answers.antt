@@ -2,10 +2,11 @@ use Rattle.std.proofs.Common.{ℕ, List, sym, ◌∙◌, ap, subst, take, drop, 
 use Rattle.std.proofs.lemmas.Result.{err_from_is_err_and}
 use Rattle.imap_commands.specs.declared.command.Command.{Command}
 use Rattle.imap_session.specs.Servers.{Server}
-use Rattle.exchange_laws.specs.Ends.{ends_of, DidCommand}
+use Rattle.imap_session.specs.Lines.{told_server}
+use Rattle.exchange_laws.specs.Ends.{ends_of}
 use Rattle.imap_link.specs.declared.fault.FarFault.{FarFault}
 use Rattle.imap_link.specs.declared.wire.Answered.{Answered}
-use Rattle.imap_link.specs.Exchanges.{Replied}
+use Rattle.imap_link.specs.Exchanges.{Performs, Replied}
 use Rattle.imap_link.specs.Outcomes.{Never}
 use Rattle.imap_link.proofs.Exits.{if_ok, on_ok}
 use Rattle.imap_client.specs.Appending.{InTwo}
@@ -21,20 +22,20 @@ pub returns-in_err-offer-clause-outcome : goal.returns-in_err-offer-clause-outco
 returns-in_err-offer-clause-outcome g c honest command is =
     let p = err_from_is_err_and c.from_residual.result c.from_residual.ensures.1 in
     let f = c.in_err-offer.field-0.0 in
-    let old = (g.L.Link.line c.args.self.now.wire.link).end.server in
-    let new = (g.L.Link.line c.offer.new.self.wire.link).end.server in
+    let old = (told_server (g.L.Link.line c.args.self.now.wire.link)) in
+    let new = (told_server (g.L.Link.line c.offer.new.self.wire.link)) in
     let heard = c.offer.new.self.wire.heard.items in
     subst (λ (r : Result ℕ FarFault). Exchanged command r heard old new) (sym (p.1 ∙ ap Err p.2))
     (exchanged_err command (λ a. Never) f heard old new
-    (outcome_err (Unit {0}) Answered (λ a. Never) (λ a. Never) Never (DidCommand command) old new f (c.in_err-offer.ensures.outcome honest c.args.rest.now command is)))
+    (outcome_err (Unit {0}) Answered (λ a. Never) (λ a. Never) Never (Performs command) old new f (c.in_err-offer.ensures.outcome honest c.args.rest.now command is)))
 
 pub returns-in_err-answered-clause-outcome : goal.returns-in_err-answered-clause-outcome
 returns-in_err-answered-clause-outcome g c honest command is =
     let p = err_from_is_err_and c.from_residual-in_err-answered.result c.from_residual-in_err-answered.ensures.1 in
     let f = c.in_err-answered.field-0.0 in
-    let old = (g.L.Link.line c.args.self.now.wire.link).end.server in
-    let mid = (g.L.Link.line c.offer.new.self.wire.link).end.server in
-    let new = (g.L.Link.line c.finish.new.self.link).end.server in
+    let old = (told_server (g.L.Link.line c.args.self.now.wire.link)) in
+    let mid = (told_server (g.L.Link.line c.offer.new.self.wire.link)) in
+    let new = (told_server (g.L.Link.line c.finish.new.self.link)) in
     let heard = c.finish.new.self.heard.items in
     let waits = c.in_ok-offer.ensures.outcome (c.in_err-answered.ensures.was_honest honest) c.args.rest.now command is in
     subst (λ (r : Result ℕ FarFault). Exchanged command r heard old new) (sym (p.1 ∙ ap Err p.2))
@@ -51,12 +52,12 @@ judge-requires-clause-idle g c honest =
 
 pub returns-clause-outcome : goal.returns-clause-outcome
 returns-clause-outcome g c =
-    let old = (g.L.Link.line c.args.self.now.wire.link).end.server in
+    let old = (told_server (g.L.Link.line c.args.self.now.wire.link)) in
     let now = c.judge.new.self.wire.heard.items in
-    subst (λ l. g.L.Link.honest l → (command : Command) → InTwo c.args.tag.now c.args.front.now c.args.rest.now command → Exchanged command c.judge.result now old (g.L.Link.line l).end.server) (sym c.judge.ensures.link)
+    subst (λ l. g.L.Link.honest l → (command : Command) → InTwo c.args.tag.now c.args.front.now c.args.rest.now command → Exchanged command c.judge.result now old (told_server (g.L.Link.line l))) (sym c.judge.ensures.link)
     (λ honest command is.
-    let mid = (g.L.Link.line c.offer.new.self.wire.link).end.server in
-    let new = (g.L.Link.line c.finish.new.self.link).end.server in
+    let mid = (told_server (g.L.Link.line c.offer.new.self.wire.link)) in
+    let new = (told_server (g.L.Link.line c.finish.new.self.link)) in
     let waits = c.in_ok-offer.ensures.outcome (c.in_ok-answered.ensures.was_honest honest) c.args.rest.now command is in
     subst (λ (s : Server). Exchanged command c.judge.result now s new) waits.0
     (exchanged_of command c.in_ok-answered.answered.status c.in_ok-answered.answered.len c.judge.new.self.is_ready c.judge.result c.finish.new.self.heard.items now mid new c.judge.ensures.judged c.judge.ensures.heard

@@ -2,6 +2,7 @@ use Rattle.std.proofs.Common.{◌≡◌, ℕ, ◌+◌, List, true, sym, ◌∙�
 use Rattle.std.proofs.lemmas.Result.{err_from_is_err_and}
 use Rattle.imap_replies.specs.declared.word.Status.TheVariants as statuses
 use Rattle.imap_session.specs.Servers.{is_logged_in}
+use Rattle.imap_session.specs.Lines.{told_server}
 use Rattle.imap_link.specs.declared.fault.FarFault.{FarFault}
 use Rattle.imap_link.specs.declared.wire.Answered.{Answered}
 use Rattle.imap_link.specs.Outcomes.{Outcome, Never}
@@ -52,23 +53,23 @@ pub returns-in_err-answered-clause-outcome : goal.returns-in_err-answered-clause
 returns-in_err-answered-clause-outcome g c honest logged =
     let p = err_from_is_err_and c.from_residual.result c.from_residual.ensures.1 in
     let f = c.in_err-answered.field-0.0 in
-    let old = (g.L.Link.line c.args.self.now.wire.link).end.server in
-    let new = (g.L.Link.line c.ask_status.new.self.wire.link).end.server in
+    let old = (told_server (g.L.Link.line c.args.self.now.wire.link)) in
+    let new = (told_server (g.L.Link.line c.ask_status.new.self.wire.link)) in
     subst (λ (r : Result (Unit {0}) FarFault). Outcome (λ x. Remains) Never Remains r old new) (sym (p.1 ∙ ap Err p.2))
     (outcome_err Answered (Unit {0}) (λ a s t. (a.status ≡ statuses.Ok) × Remains s t) (λ x. Remains) Never Remains old new f
     (enable_answered (c.args.self.now.tags + 1) old logged (Err f) c.ask_status.new.self.wire.heard.items new (c.in_err-answered.ensures.outcome honest)))
 
 pub returns-in_default-clause-outcome : goal.returns-in_default-clause-outcome
 returns-in_default-clause-outcome g c honest logged =
-    let old = (g.L.Link.line c.args.self.now.wire.link).end.server in
-    let new = (g.L.Link.line c.ask_status.new.self.wire.link).end.server in
+    let old = (told_server (g.L.Link.line c.args.self.now.wire.link)) in
+    let new = (told_server (g.L.Link.line c.ask_status.new.self.wire.link)) in
     let told = enable_answered (c.args.self.now.tags + 1) old logged (Ok c.in_ok-answered.answered) c.ask_status.new.self.wire.heard.items new (c.in_ok-answered.ensures.outcome honest) in
     c.in_default.not-Ok told.0
 
 pub returns-in-Ok-clause-outcome : goal.returns-in-Ok-clause-outcome
 returns-in-Ok-clause-outcome g c =
-    let old = (g.L.Link.line c.args.self.now.wire.link).end.server in
-    subst (λ l. g.L.Link.honest l → is_logged_in old.condition ≡ true → Remains old (g.L.Link.line l).end.server) (sym c.done.ensures.link)
+    let old = (told_server (g.L.Link.line c.args.self.now.wire.link)) in
+    subst (λ l. g.L.Link.honest l → is_logged_in old.condition ≡ true → Remains old (told_server (g.L.Link.line l))) (sym c.done.ensures.link)
     (λ honest logged.
-    let told = enable_answered (c.args.self.now.tags + 1) old logged (Ok c.in_ok-answered.answered) c.ask_status.new.self.wire.heard.items (g.L.Link.line c.ask_status.new.self.wire.link).end.server (c.in_ok-answered.ensures.outcome honest) in
+    let told = enable_answered (c.args.self.now.tags + 1) old logged (Ok c.in_ok-answered.answered) c.ask_status.new.self.wire.heard.items (told_server (g.L.Link.line c.ask_status.new.self.wire.link)) (c.in_ok-answered.ensures.outcome honest) in
     told.1)

@@ -2,6 +2,7 @@ use Rattle.std.proofs.Common.{◌≡◌, [], sym, ◌∙◌, ap, subst, Result, 
 use Rattle.std.proofs.lemmas.Result.{err_from_is_err_and}
 use Rattle.imap_commands.specs.Writing.{Written}
 use Rattle.imap_replies.specs.declared.word.Status.TheVariants as statuses
+use Rattle.imap_session.specs.Lines.{told_server}
 use Rattle.exchange_laws.specs.Ends.{ends_of}
 use Rattle.imap_link.specs.declared.fault.FarFault.{FarFault}
 use Rattle.imap_link.specs.declared.wire.Answered.{Answered}
@@ -28,8 +29,8 @@ returns-in_err-answered-clause-outcome g c honest =
     let p = err_from_is_err_and c.from_residual-in_err-answered.result c.from_residual-in_err-answered.ensures.1 in
     let f = c.in_err-answered.field-0.0 in
     let command = c.args.command.now in
-    let old = (g.L.Link.line c.args.self.now.wire.link).end.server in
-    let new = (g.L.Link.line c.finish.new.self.link).end.server in
+    let old = (told_server (g.L.Link.line c.args.self.now.wire.link)) in
+    let new = (told_server (g.L.Link.line c.finish.new.self.link)) in
     let heard = c.finish.new.self.heard.items in
     let completes = logout_completes command c.requires.logout c.answer_alone.result c.deref.result.now c.answer_alone.ensures (subst (Written command) (sym c.deref.ensures.value) c.in_ok-text.ensures) in
     let at = idle_of (ends_of (g.L.Link.line c.args.self.now.wire.link) c.args.self.now.wire.heard.items) (c.requires.idle (c.in_err-answered.ensures.was_honest honest)) in
@@ -40,8 +41,8 @@ returns-in_err-answered-clause-outcome g c honest =
 pub returns-in-Ok-clause-outcome : goal.returns-in-Ok-clause-outcome
 returns-in-Ok-clause-outcome g c honest =
     let command = c.args.command.now in
-    let old = (g.L.Link.line c.args.self.now.wire.link).end.server in
-    let new = (g.L.Link.line c.finish.new.self.link).end.server in
+    let old = (told_server (g.L.Link.line c.args.self.now.wire.link)) in
+    let new = (told_server (g.L.Link.line c.finish.new.self.link)) in
     let completes = logout_completes command c.requires.logout c.answer_alone.result c.deref.result.now c.answer_alone.ensures (subst (Written command) (sym c.deref.ensures.value) c.in_ok-text.ensures) in
     let at = idle_of (ends_of (g.L.Link.line c.args.self.now.wire.link) c.args.self.now.wire.heard.items) (c.requires.idle (c.in_ok-answered.ensures.was_honest honest)) in
     (left_answered command c.requires.logout old (Ok c.in_ok-answered.answered) c.finish.new.self.heard.items new (c.in_ok-answered.ensures.outcome honest command [] completes at)).1
@@ -49,8 +50,8 @@ returns-in-Ok-clause-outcome g c honest =
 pub returns-in-No-clause-outcome : goal.returns-in-No-clause-outcome
 returns-in-No-clause-outcome g c honest =
     let command = c.args.command.now in
-    let old = (g.L.Link.line c.args.self.now.wire.link).end.server in
-    let new = (g.L.Link.line c.finish.new.self.link).end.server in
+    let old = (told_server (g.L.Link.line c.args.self.now.wire.link)) in
+    let new = (told_server (g.L.Link.line c.finish.new.self.link)) in
     let completes = logout_completes command c.requires.logout c.answer_alone.result c.deref.result.now c.answer_alone.ensures (subst (Written command) (sym c.deref.ensures.value) c.in_ok-text.ensures) in
     let at = idle_of (ends_of (g.L.Link.line c.args.self.now.wire.link) c.args.self.now.wire.heard.items) (c.requires.idle (c.in_ok-answered.ensures.was_honest honest)) in
     no_is_not c.in_ok-answered.answered.status c.in-No.is
@@ -59,8 +60,8 @@ returns-in-No-clause-outcome g c honest =
 pub returns-clause-outcome : goal.returns-clause-outcome
 returns-clause-outcome g c honest =
     let command = c.args.command.now in
-    let old = (g.L.Link.line c.args.self.now.wire.link).end.server in
-    let new = (g.L.Link.line c.finish.new.self.link).end.server in
+    let old = (told_server (g.L.Link.line c.args.self.now.wire.link)) in
+    let new = (told_server (g.L.Link.line c.finish.new.self.link)) in
     let completes = logout_completes command c.requires.logout c.answer_alone.result c.deref.result.now c.answer_alone.ensures (subst (Written command) (sym c.deref.ensures.value) c.in_ok-text.ensures) in
     let at = idle_of (ends_of (g.L.Link.line c.args.self.now.wire.link) c.args.self.now.wire.heard.items) (c.requires.idle (c.in_ok-answered.ensures.was_honest honest)) in
     bad_is_not c.in_ok-answered.answered.status c.in-Bad.is

@@ -3,6 +3,7 @@ use Rattle.std.proofs.lemmas.Result.{err_from_is_err_and}
 use Rattle.imap_replies.specs.declared.word.Status.TheVariants as statuses
 use Rattle.imap_session.specs.Answering.{done}
 use Rattle.imap_session.specs.Servers.{is_logged_in}
+use Rattle.imap_session.specs.Lines.{told_server}
 use Rattle.imap_client.specs.Tags.{tag_text}
 use Rattle.imap_answers.specs.MailboxNames.{TellsNames}
 use Rattle.imap_client.proofs.Changed.{state_of_parts}
@@ -18,8 +19,8 @@ returns-in_err-len-clause-outcome g c honest logged =
     let p = err_from_is_err_and c.from_residual.result c.from_residual.ensures.1 in
     let n = c.args.self.now.tags + 1 in
     let f = c.in_err-len.field-0.0 in
-    let old = (g.L.Link.line c.args.self.now.wire.link).end.server in
-    let new = (g.L.Link.line c.ask.new.self.wire.link).end.server in
+    let old = (told_server (g.L.Link.line c.args.self.now.wire.link)) in
+    let new = (told_server (g.L.Link.line c.ask.new.self.wire.link)) in
     let heard = c.ask.new.self.wire.heard.items in
     not_answered _ c.from_residual.result (λ names. names.items) old new f (told_first old ++ done (tag_text n) ∷ []) heard (p.1 ∙ ap Err p.2)
     (names_exchanged n old logged (Err f) heard new (c.in_err-len.ensures.outcome honest))
@@ -36,17 +37,17 @@ pub returns-in_err-names-clause-outcome : goal.returns-in_err-names-clause-outco
 returns-in_err-names-clause-outcome g c honest logged =
     let p = err_from_is_err_and c.from_residual-in_err-names.result c.from_residual-in_err-names.ensures.1 in
     let n = c.args.self.now.tags + 1 in
-    let old = (g.L.Link.line c.args.self.now.wire.link).end.server in
-    let new = (g.L.Link.line c.ask.new.self.wire.link).end.server in
+    let old = (told_server (g.L.Link.line c.args.self.now.wire.link)) in
+    let new = (told_server (g.L.Link.line c.ask.new.self.wire.link)) in
     let said = names_exchanged n old logged (Ok c.in_ok-len.len) c.ask.new.self.wire.heard.items new (c.in_ok-len.ensures.outcome honest) in
     not_read _ c.from_residual-in_err-names.result (λ names. names.items) old new (p.1 ∙ ap Err (p.2 ∙ c.in_err-names.ensures.err)) said.1
 
 pub returns-clause-outcome : goal.returns-clause-outcome
 returns-clause-outcome g c =
     let n = c.args.self.now.tags + 1 in
-    let old = (g.L.Link.line c.args.self.now.wire.link).end.server in
+    let old = (told_server (g.L.Link.line c.args.self.now.wire.link)) in
     let heard = c.ask.new.self.wire.heard.items in
-    subst (λ l. g.L.Link.honest l → is_logged_in old.condition ≡ true → TellsNames c.in_ok-names.names.items old (g.L.Link.line l).end.server) (sym c.done.ensures.link)
+    subst (λ l. g.L.Link.honest l → is_logged_in old.condition ≡ true → TellsNames c.in_ok-names.names.items old (told_server (g.L.Link.line l))) (sym c.done.ensures.link)
     (λ honest logged.
-    let said = names_exchanged n old logged (Ok c.in_ok-len.len) heard (g.L.Link.line c.ask.new.self.wire.link).end.server (c.in_ok-len.ensures.outcome honest) in
+    let said = names_exchanged n old logged (Ok c.in_ok-len.len) heard (told_server (g.L.Link.line c.ask.new.self.wire.link)) (c.in_ok-len.ensures.outcome honest) in
     (names_told (tag_text n) (take c.in_ok-len.len heard) old c.in_ok-names.names.items said.0 c.in_ok-names.ensures.told, said.1))

@@ -2,6 +2,7 @@ use Rattle.std.proofs.Common.{ℕ, List, sym, ◌∙◌, ap, subst, Result, Ok, 
 use Rattle.std.proofs.lemmas.Result.{err_from_is_err_and}
 use Rattle.imap_commands.specs.declared.command.Command.{Command}
 use Rattle.imap_session.specs.Servers.{Quiet}
+use Rattle.imap_session.specs.Lines.{told_server}
 use Rattle.exchange_laws.specs.Ends.{ends_of, IsAt}
 use Rattle.imap_link.specs.declared.fault.FarFault.{FarFault}
 use Rattle.imap_client.specs.Appending.{InTwo, WaitsOr}
@@ -58,7 +59,7 @@ returns-in-Go-clause-outcome g c =
     let front = c.args.front.now in
     let old = g.L.Link.line c.args.self.now.wire.link in
     subst (λ l. g.L.Link.honest l → (rest : List ℕ) (command : Command) → InTwo c.args.tag.now front rest command
-    → Quiet old.end.server (g.L.Link.line l).end.server × IsAt front (ends_of (g.L.Link.line l) c.forget.new.self.heard.items)) (sym c.forget.ensures.link)
+    → Quiet (told_server old) (told_server (g.L.Link.line l)) × IsAt front (ends_of (g.L.Link.line l) c.forget.new.self.heard.items)) (sym c.forget.ensures.link)
     (λ honest rest command is.
     let new = g.L.Link.line c.ask.new.self.link in
     let heard = c.ask.new.self.heard.items in

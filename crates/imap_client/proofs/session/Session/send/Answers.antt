@@ -1,6 +1,7 @@
 use Rattle.std.proofs.Common.{[], refl, sym, ◌∙◌, ap, subst, Result, Err}
 use Rattle.std.proofs.lemmas.Result.{err_from_is_err_and}
 use Rattle.imap_commands.specs.Writing.{Written}
+use Rattle.imap_session.specs.Lines.{told_server}
 use Rattle.exchange_laws.specs.Ends.{ends_of}
 use Rattle.imap_link.specs.declared.fault.FarFault.{FarFault}
 use Rattle.imap_link.specs.declared.wire.Answered.{Answered}
@@ -30,8 +31,8 @@ returns-in_err-answered-clause-outcome g c honest =
     let written = subst (Written command) (sym c.deref.ensures.value) c.in_ok-text.ensures in
     let completes = plain_completes command c.of.result c.deref.result.now c.of.ensures c.requires.plain written in
     let at = idle_of (ends_of (g.L.Link.line c.args.self.now.wire.link) c.args.self.now.wire.heard.items) (c.requires.idle was) in
-    let old = (g.L.Link.line c.args.self.now.wire.link).end.server in
-    let new = (g.L.Link.line c.finish.new.self.link).end.server in
+    let old = (told_server (g.L.Link.line c.args.self.now.wire.link)) in
+    let new = (told_server (g.L.Link.line c.finish.new.self.link)) in
     let heard = c.finish.new.self.heard.items in
     subst (λ (r : Result Answered FarFault). AnsweredSo command r heard old new) (sym (p.1 ∙ ap Err p.2)) (c.in_err-answered.ensures.outcome honest command [] completes at)
 

@@ -1,5 +1,6 @@
 use Rattle.std.proofs.Common.{◌≡◌, ◌⊎◌, inr, arith, sym, subst, Result, Err, List, ℕ, [], drop}
 use Rattle.std.proofs.lemmas.Result.{err_from_is_err_and}
+use Rattle.imap_session.specs.Lines.{told_server}
 use Rattle.exchange_laws.specs.Ends.{ends_of, IsAt}
 use Rattle.imap_link.specs.declared.fault.FarFault.{FarFault}
 use Rattle.imap_link.specs.declared.fault.FarFault.TheVariants.{Stopped, Protocol}
@@ -24,8 +25,8 @@ returns-in_err-kind-clause-outcome g c honest =
     let starts = c.in_ok-reconnect.ensures.ok was in
     let none = c.clear.ensures.items in
     let stop = only_stop f _ (greets_well old mid starts) (subst (λ (l : List ℕ). IsStop f ⊎ IsFaulty (drop 0 (ends_of mid l).coming)) none (c.in_err-kind.ensures.fault honest)) in
-    subst (λ (r : Result (Unit {0}) FarFault). Outcome (λ _. Restarts) Never Restarts r old.end.server new.end.server) (sym p.1)
-    (stop_outcome {T = Unit {0}} (λ _. Restarts) Never Restarts p.0 old.end.server new.end.server (subst IsStop (sym p.2) stop) (inr (restarts old mid starts new.end.server (c.in_err-kind.ensures.quiet honest))))
+    subst (λ (r : Result (Unit {0}) FarFault). Outcome (λ _. Restarts) Never Restarts r (told_server old) (told_server new)) (sym p.1)
+    (stop_outcome {T = Unit {0}} (λ _. Restarts) Never Restarts p.0 (told_server old) (told_server new) (subst IsStop (sym p.2) stop) (inr (restarts old mid starts new.end.server (c.in_err-kind.ensures.quiet honest))))
 
 pub returns-in-Hello-clause-idle : goal.returns-in-Hello-clause-idle
 returns-in-Hello-clause-idle g c =

@@ -8,12 +8,12 @@ use Rattle.imap_server.proofs.server.Server.feed.Goals as goal
 
 pub returns-in-Ok-clause-ok : goal.returns-in-Ok-clause-ok
 returns-in-Ok-clause-ok c =
-    fed_by c.args.self.now _ _ c.take.result c.in-Some.unread (ap (λ (i : Inside). record { server = i.service; connection = option_map kept_of i.unread }) c.self-inside.view_is ∙ c.self.view_is) c.take.ensures.value c.in-Some.is
+    fed_by c.args.self.now _ _ c.take.result _ c.in-Some.unread (ap (λ (i : Inside). record { server = i.service; connection = option_map kept_of i.unread; is_lost = i.is_lost }) c.self-inside.view_is ∙ c.self.view_is) c.take.ensures.value c.in-Some.is
     c.args.piece.now c.new-out.result.items c.read.new.out.items c.read.new.self c.in-Ok.after c.new-out.ensures.items c.in-Ok.ensures.ok
 
 pub returns-in-Err-clause-no_memory : goal.returns-in-Err-clause-no_memory
 returns-in-Err-clause-no_memory c is =
-    lost_by c.args.self.now _ _ c.take.result c.in-Some.unread (ap (λ (i : Inside). record { server = i.service; connection = option_map kept_of i.unread }) c.self-inside.view_is ∙ c.self.view_is) c.take.ensures.value c.in-Some.is
+    lost_by c.args.self.now _ _ c.take.result _ c.in-Some.unread (ap (λ (i : Inside). record { server = i.service; connection = option_map kept_of i.unread; is_lost = i.is_lost }) c.self-inside.view_is ∙ c.self.view_is) c.take.ensures.value c.in-Some.is
     c.args.piece.now c.read.new.self c.take.new.self c.take.ensures.after c.in-Err.ensures.err
 
 pub returns-in-Ok-clause-bounded : goal.returns-in-Ok-clause-bounded

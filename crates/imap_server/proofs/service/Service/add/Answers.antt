@@ -2,7 +2,6 @@ use Rattle.std.proofs.Common.{◌≡◌, ◌<◌, length, Some, refl, sym, ◌�
 use Rattle.std.specs.Prelude.{slice_get}
 use Rattle.mailcore.specs.declared.mailbox.Mailbox.{Mailbox}
 use Rattle.mailcore.specs.Operations.{added}
-use Rattle.wire_strings.specs.Literals.{IsLiteral}
 use Rattle.imap_session.specs.Servers.{Server}
 use Rattle.imap_messages.specs.Boxes.{far_of, store_of, IsServed}
 use Rattle.imap_server.proofs.PlaceLemmas.{far_length, far_there, served_there}
@@ -36,9 +35,9 @@ invariant_of-self c =
     let last = c.get.ensures.below_last in
     let bits = c.bits.ensures.bits in
     let set = c.bits.ensures.set in
-    let octets : IsLiteral c.args.message = subst IsLiteral c.octets.ensures.same c.octets.ensures.message.literal in
-    let more = served_added (far_of d) c.args.uid c.args.flags c.args.message is next (omega arith) (omega arith) (omega arith) octets in
-    served_after c.add.result raw c.args.place c.add.new.mailbox d (added c.args.uid c.args.flags c.args.message (store_of d)) c.self.invariant is c.add.ensures.ok c.add.ensures.err more
+    let octets = c.requires.literal in
+    let more = served_added (far_of d) c.args.uid c.args.flags c.args.message.items is next (omega arith) (omega arith) (omega arith) octets in
+    served_after c.add.result raw c.args.place c.add.new.mailbox d (added c.args.uid c.args.flags c.args.message.items (store_of d)) c.self.invariant is c.add.ensures.ok c.add.ensures.err more
 
 pub returns-clause-ok : goal.returns-clause-ok
 returns-clause-ok c =
@@ -46,6 +45,6 @@ returns-clause-ok c =
     let long = far_length c.self.inside.mailboxes.items in
     let here = c.requires.within in
     let within : c.args.place < length c.self.inside.mailboxes.items = omega arith in
-    view_after c.add.result c.args.self.now _ c.self.inside.mailboxes.items c.args.place c.add.new.mailbox c.index_mut.result.now (added c.args.uid c.args.flags c.args.message)
-    (ap (λ (v : Server). v.mailboxes) c.self.view_is) (ap (λ (v : Server). v.user) c.self.view_is) (ap (λ (v : Server). v.password) c.self.view_is) (ap (λ (v : Server). v.condition) c.self.view_is)
+    view_after c.add.result c.args.self.now _ c.self.inside.mailboxes.items c.args.place c.add.new.mailbox c.index_mut.result.now (added c.args.uid c.args.flags c.args.message.items)
+    (ap (λ (v : Server). v.mailboxes) c.self.view_is) (ap (λ (v : Server). v.user) c.self.view_is) (ap (λ (v : Server). v.password) c.self.view_is) (ap (λ (v : Server). v.condition) c.self.view_is) (ap (λ (v : Server). v.has_news) c.self.view_is)
     refl within c.index_mut.ensures.value c.add.ensures.ok

@@ -1,19 +1,24 @@
-use Rattle.std.proofs.Common.{subst}
-use Rattle.imap_session.specs.Servers.{Server}
+use Rattle.std.proofs.Common.{◌++◌, refl, subst}
+use Rattle.imap_session.specs.Servers.{Server, news, told}
 use Rattle.imap_session.specs.Portions.{Asks}
 use Rattle.session_laws.specs.Short.{AreNamed}
-use Rattle.session_laws.proofs.ShortReplies.{does_short}
+use Rattle.session_laws.proofs.ShortReplies.{short_append, news_short, does_short}
+use Rattle.imap_server.proofs.WritingLemmas.{wrote_then}
 use Rattle.imap_server.proofs.HostLemmas.{are_named}
 use Rattle.imap_server.proofs.service.Service.answer_command.Goals as goal
 
 pub returns-clause-ok : goal.returns-clause-ok
 returns-clause-ok c =
-    let a = c.in_ok-answer.ensures.ok in
+    let a = c.in_ok-answer_told.ensures.ok in
     let named : AreNamed c.args.self.now.mailboxes = subst (λ (s : Server). AreNamed s.mailboxes) c.self.view_is (are_named _ c.self.invariant) in (
       (c.new.ensures.empty, c.new.ensures.start),
       record {
-        replies = a.replies;
-        wrote = a.wrote;
-        gives_them = (a.gives_them, does_short c.args.self.now c.answer.new.self (Asks c.args.command) a.replies named a.gives_them);
+        replies = news c.args.self.now ++ a.replies;
+        wrote = wrote_then _ a.replies _ _ _ c.in_ok-say_news.ensures a.wrote;
+        gives_them = (
+          record { own = a.replies; does = a.gives_them; replies_are = refl },
+          short_append (news c.args.self.now) a.replies (news_short c.args.self.now)
+              (does_short (told c.args.self.now) c.answer_told.new.self (Asks c.args.command) a.replies named a.gives_them),
+        );
       },
     )

@@ -1,6 +1,9 @@
 use Rattle.std.proofs.Common.{◌∙◌, List, ℕ, take, drop, None, Some, ap, sym, subst, refl}
 use Rattle.std.proofs.lemmas.Result.{IfOk-weaker}
+use Rattle.imap_session.specs.Servers.{news, told}
 use Rattle.imap_session.specs.Portions.{Asks, Ends, TagIs}
+use Rattle.imap_session.specs.Serving.{ends}
+use Rattle.session_laws.proofs.ShortReplies.{short_append, news_short}
 use Rattle.imap_server.proofs.LineFeeds.{begun_sound, read_portion, command_reads, read_begin, limit_reads}
 use Rattle.imap_server.proofs.WritingLemmas.{wrote_none}
 use Rattle.imap_server.proofs.PlaceAnswers.{whole_there, literal_asked, begins_there, syntax_there, literal_there, limit_there, no_tag_there}
@@ -57,6 +60,7 @@ returns-in-Err-LineTooLong-clause-ok c =
     let p = limit_there c.as_slice.result.now c.args.line.bytes.items c.as_slice.ensures.value c.in-Err-LineTooLong.field-0 c.in-Err-LineTooLong.field-0-is c.in-Err-LineTooLong.ensures.answers in
     IfOk-weaker c.end.result _ _
     (λ after h in_time line.
-    read_portion c.args.self.now c.args.line.bytes.items line Ends _ c.end.new.self c.args.out.now.items c.end.new.out.items after refl in_time
-    (limit_reads c.args.self.now c.args.line.bytes.items line p) refl (refl, h.1.after_is) h.1.wrote h.0)
+    read_portion c.args.self.now c.args.line.bytes.items line Ends _ c.end.new.self c.args.out.now.items c.end.new.out.items after (short_append (news c.args.self.now) _ (news_short c.args.self.now) refl) in_time
+    (limit_reads c.args.self.now c.args.line.bytes.items line p) refl
+    (record { own = (ends (told c.args.self.now)).replies; does = (refl, h.1.after_is); replies_are = refl }) h.1.wrote h.0)
     c.end.ensures.ok

@@ -1,0 +1,89 @@
+//! Messages that come to a mailbox from elsewhere, and what is told of them (RFC 9051, section 7.4.1).
+
+use crate::mailbox_commands::count_of;
+use crate::service::Service;
+use crate::writing::say;
+use imap_commands::command::Command;
+use imap_replies::reply::Reply;
+use mailcore::flags::Flags;
+use mailcore::uid::Uid;
+use std::alloc::AllocError;
+use wire_strings::octets::Octets;
+
+impl Service {
+    ghost use Rattle.std.specs.Prelude.{◌≡◌, ◌||◌, OnOk, OnErr, IfOk};
+    ghost use Rattle.imap_session.specs.Servers.{news, told};
+    ghost use Rattle.imap_session.specs.Steps.{Step};
+    ghost use Rattle.imap_session.specs.Arrivals.{is_selected, Arrived};
+    ghost use Rattle.imap_server.specs.Writing.{Wrote, AnsweredBy};
+
+    /// Tells how many messages the selected mailbox has, where some have arrived since that was told.
+    pub(crate) fn say_news(&self, out: &mut Vec<u8>) -> Result<(), AllocError>
+        ensures { OnOk result (Wrote (news self.now) out.old.items out.new.items) }
+    {
+        if !self.has_news {
+            return Ok(());
+        }
+        match self.selected_place() {
+            Some(place) => say(&Reply::Exists(count_of(self.mailbox(place))), out),
+            None => Ok(()),
+        }
+    }
+
+    /// Does what the command asks for, where the news was told. Where memory runs out, it counts as not told.
+    pub(crate) fn answer_told(
+        &mut self,
+        command: Command,
+        out: &mut Vec<u8>,
+    ) -> Result<(), AllocError>
+        ensures ok { OnOk result (AnsweredBy (Step (told self.old) command) out.old.items out.new.items self.new) }
+        ensures err { OnErr result (self.new ≡ self.old) }
+    {
+        let had_news = self.has_news;
+        self.set_news(false);
+        match self.answer(command, out) {
+            Ok(()) => Ok(()),
+            Err(AllocError) => {
+                self.set_news(had_news);
+                Err(AllocError)
+            }
+        }
+    }
+
+    /// Adds a message that comes from elsewhere to the mailbox of this name, under its next UID.
+    pub(crate) fn arrive(
+        &mut self,
+        name: &[u8],
+        flags: Flags,
+        message: &[u8],
+    ) -> Result<Option<Uid>, AllocError>
+        ensures ok { IfOk result (λ uid. Arrived name.now flags message.now uid self.old self.new) }
+        ensures err { OnErr result (self.new ≡ self.old) }
+    {
+        let Some(place) = self.place_of(name) else {
+            return Ok(None);
+        };
+        if Octets::read(message).is_none() {
+            return Ok(None);
+        }
+        match Uid::new(self.mailbox(place).next) {
+            Some(uid) => {
+                let mut bytes = Vec::new(self.alloc);
+                bytes.extend_from_slice(message)?;
+                self.add(place, uid, flags, bytes)?;
+                self.note(name);
+                Ok(Some(uid))
+            }
+            None => Ok(None),
+        }
+    }
+
+    /// There is news to tell, where the mailbox of this name is selected.
+    fn note(&mut self, name: &[u8])
+        ensures { self.new ≡ record self.old { has_news = is_selected name.now self.old.condition || self.old.has_news } }
+    {
+        if self.is_selected(name) {
+            self.set_news(true);
+        }
+    }
+}
