@@ -15,4 +15,5 @@ pub mod Serving
 pub mod Heard
 pub mod Lines
 pub mod Arrivals
+pub mod Visits
 pub mod SessionExamples

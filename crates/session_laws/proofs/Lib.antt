@@ -9,3 +9,4 @@ pub mod Bodies
 pub mod Refusing
 pub mod Giving
 pub mod Expunging
+pub mod Visiting

@@ -1,6 +1,7 @@
 //! Laws of sessions, each shown by a function that does nothing.
 
 ghost use Rattle.session_laws.specs.Laws as law;
+ghost use Rattle.session_laws.specs.VisitLaws as visit;
 ghost use Rattle.session_laws.specs.Short.{RepliesAreShort, ShortRepliesFit};
 
 /// A stream in two pieces is the stream as one: the replies to one piece and then to another are those to both joined.
@@ -43,4 +44,13 @@ pub fn bodies_stay()
 pub fn replies_fit()
     ensures short { RepliesAreShort }
     ensures fit { ShortRepliesFit }
+{}
+
+/// Others may add messages or not; what they add in two turns they add in one; and a message that arrives is of this kind.
+pub fn visits_follow()
+    ensures nobody { visit.NobodyMayVisit }
+    ensures follow { visit.VisitsFollow }
+    // That the server told of it changes nothing of that.
+    ensures told { visit.VisitsAreTold }
+    ensures arrival { visit.ArrivalsVisit }
 {}
