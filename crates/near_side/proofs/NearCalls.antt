@@ -179,21 +179,21 @@ module _ {F : Type 0} {folders : folder.Ghosts F} (s : NearSide F folders) (new 
   some_admitted (inr (inl all)) = inr (inl (record { answer = tt; done = admits_all true n n' all.done }))
   some_admitted (inr (inr some)) = inr (inr (admits_some true n n' some))
 
-  admitted : {because : BoxFault → Mailbox → Type 0} (answer : Result (Unit {0}) NearFault) → Left because (λ _ b b'. b' ≡ all_admitted b) AdmitsSome answer n n' → Left because (λ _. Admits true) (AdmitsPart true) answer n n'
-  admitted (Ok x) did = admits_all true n n' did
-  admitted (Err near.Stopped) did = some_admitted did
-  admitted (Err near.NoMemory) did = some_admitted did
-  admitted (Err near.UidsExhausted) did = did
-  admitted (Err near.Absent) did = did
-  admitted (Err near.TwoWithOneUid) did = did
-  admitted (Err near.BadMeta) did = did
+  admitted : (because : BoxFault → Mailbox → Type 0) (answer : Result (Unit {0}) NearFault) → Left because (λ _ b b'. b' ≡ all_admitted b) AdmitsSome answer n n' → Left because (λ _. Admits true) (AdmitsPart true) answer n n'
+  admitted because (Ok x) did = admits_all true n n' did
+  admitted because (Err near.Stopped) did = some_admitted did
+  admitted because (Err near.NoMemory) did = some_admitted did
+  admitted because (Err near.UidsExhausted) did = did
+  admitted because (Err near.Absent) did = did
+  admitted because (Err near.TwoWithOneUid) did = did
+  admitted because (Err near.BadMeta) did = did
 
   -- it gives all that waits its UIDs
   pub admits : (answer : Result (Unit {0}) NearFault) → Ends true (box_of s.near) (box_of new) answer → (honest → TurnsMailbox all_admitted AdmitsSome s.near new answer)
       → (honest → IsErrOf answer near.UidsExhausted → IsFull (length n.waiting) n)
       → Call {T = Unit {0}} honest ⊥ (Arrives side.Near every true) (NoRoom side.Near (λ b. length b.waiting)) (λ _. Admits true) (AdmitsPart true) (seen_of s) now (told_by answer)
   admits answer ends did full = calls true (NoRoom side.Near (λ b. length b.waiting)) (λ _. Admits true) (AdmitsPart true) answer ends
-      (λ h. admitted answer (turned true (NoRoom side.Near (λ b. length b.waiting)) AdmitsSome all_admitted answer ends (did h) (λ is _. (refl, full h is))))
+      (λ h. admitted (NoRoom side.Near (λ b. length b.waiting)) answer (turned true (NoRoom side.Near (λ b. length b.waiting)) AdmitsSome all_admitted answer ends (did h) (λ is _. (refl, full h is))))
 
   -- it adds a message
   appends : (bytes : List ℕ) (flags : ℕ) → n' ≡ delivered bytes flags n → Appends side.Near bytes flags (Some n.store.next) n n'

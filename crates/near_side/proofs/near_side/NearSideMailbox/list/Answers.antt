@@ -1,3 +1,4 @@
+use Rattle.std.specs.Prelude.{true}
 use Rattle.mailcore.specs.declared.side.Side.TheVariants as side
 use Rattle.mailbox.specs.Operations.{Lists}
 use Rattle.near_side.proofs.NearCalls.{reads}
