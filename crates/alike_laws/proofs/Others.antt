@@ -29,10 +29,13 @@ use Rattle.run_laws.proofs.Admission.{admitted_sound, turn_admits}
 use Rattle.run_laws.proofs.Named.{highest_below}
 use Rattle.run_laws.proofs.Worlds.{kept_below}
 use Rattle.step_laws.specs.OwnLaws.{bears, is_own}
+use Rattle.outside.specs.Devices.{Named}
+use Rattle.outside.specs.Sparing.{AreOthers}
+use Rattle.outside.proofs.Sparing.{others_last}
 use Rattle.underway.specs.Endings.{DoneAt}
 use Rattle.underway.specs.Openings.{world_at}
 use Rattle.alike_laws.proofs.CalledNext.{called_new}
-use Rattle.alike_laws.specs.Others.{IsLeft, IsOthers, OthersAreLeft, OthersAreCopiedNext}
+use Rattle.alike_laws.specs.Others.{IsLeft, IsOthers, OthersAreLeft, OthersAreSpared, OthersStay, OthersAreCopiedNext}
 
 -- ---- messages that rise are told apart by their UIDs
 
@@ -83,15 +86,18 @@ copied_uids side (u ∷ uids) (mark ∷ marks) (m ∷ ms) l k = ap (λ us. u ∷
 
 -- ---- a message that is none of the run's
 
+-- its UID was not given when the plan was made
+came_later : (w : World) (marks : List (List ℕ)) (side : Side) (m : Message) → is_own w marks side m.uid m.bytes ≡ false → (store w side).next ≤ m.uid
+came_later w marks side m other = elim (cases_lt m.uid (store w side).next) [
+  | inl l ↦ absurd (both_ways (is_own w marks side m.uid m.bytes) other (or_left (nat_lt m.uid (store w side).next) (list_any (λ mark. bears mark m.bytes) marks) (lt-ltb m.uid (store w side).next l)))
+  | inr l ↦ l
+]
+
 module _ (w : World) (options : Options) (marks : List (List ℕ)) (found next : World) (sound : IsInOrder w) (below : NamesBelow w) (a : AlikeBy w options found)
     (own_is : (side : Side) (m : Message) → Contains (store found side).messages m → Contains (store next side).messages m × (is_own w marks side m.uid m.bytes ≡ true))
     (order : IsInOrder next) (side : Side) (m : Message) (there : Contains (store next side).messages m) (other : is_own w marks side m.uid m.bytes ≡ false) where
-  -- its UID was not given when the plan was made
   not_below : (store w side).next ≤ m.uid
-  not_below = elim (cases_lt m.uid (store w side).next) [
-    | inl l ↦ absurd (both_ways (is_own w marks side m.uid m.bytes) other (or_left (nat_lt m.uid (store w side).next) (list_any (λ mark. bears mark m.bytes) marks) (lt-ltb m.uid (store w side).next l)))
-    | inr l ↦ l
-  ]
+  not_below = came_later w marks side m other
 
   -- it is none of the run's messages
   no_own : (c : Message) → Contains (store found side).messages c → c.uid ≢ m.uid
@@ -162,6 +168,19 @@ own_there w marks now Far m k = filter_contains (λ (x : Message). is_own w mark
 own_there w marks now Near m k =
     let c = filter_contains (λ (x : Message). is_own w marks Near x.uid x.bytes) now.near.messages m k in
     (Contains-append_left now.near.messages (numbered_under (admission_uids now) now.waiting) m c.0, c.1)
+
+pub others_spared : OthersAreSpared
+others_spared ours alone opening d over side m other =
+    let w = over.world in
+    let later = came_later w over.holds.marks side m other in
+    All-weaker (λ n. n.uid < (store w n.side).next) (λ n. n.side ≡ side → n.uid ≢ m.uid)
+    (λ n before is same. let bound : n.uid < (store w side).next = subst (λ (s : Side). n.uid < (store w s).next) is before in omega (arith, bound, later, same)) d.named over.holds.alike.spares
+
+pub others_stay : OthersStay
+others_stay ours alone opening d d' on over side m there other =
+    let s = on.spares in
+    let spared : AreOthers (s.since ++ d.named) side m.uid = subst (λ (names : List Named). AreOthers names side m.uid) s.named (others_spared ours alone opening d' over side m other) in
+    s.messages side m there (others_last s.since d.named side m.uid spared)
 
 pub others_left : OthersAreLeft
 others_left ours alone opening d over order side m others = by_side side others

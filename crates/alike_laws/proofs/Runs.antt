@@ -1,7 +1,10 @@
 -- One device and two runs, and the run behind one that is done.
-use Rattle.std.proofs.Common.{◌≡◌, ℕ, Bool, List, [], ◌∷◌, Option, Some, None, inl, inr, refl, sym, ap, subst, ◌∙◌, arith, append-nil}
+use Rattle.std.proofs.Common.{◌≡◌, ◌≤◌, ℕ, Bool, List, [], Option, Some, None, inl, inr, refl, sym, ap, subst, ◌∙◌, arith, append-nil}
 use Rattle.std.proofs.Math.Logic.{∥∥₁_elim}
 use Rattle.std.proofs.Props.{props}
+use Rattle.mailcore.specs.declared.side.Side.{Side}
+use Rattle.mailcore.specs.declared.side.Side.TheVariants.{Far, Near}
+use Rattle.mailcore.proofs.RiseLemmas.{rise-ends}
 use Rattle.rules.specs.declared.entry.Entry.{Entry}
 use Rattle.rules.specs.declared.options.Options.{Options}
 use Rattle.rules.specs.declared.plan.Plan.{Plan}
@@ -9,7 +12,7 @@ use Rattle.rules.specs.declared.state.SyncState.{SyncState}
 use Rattle.rules.specs.Admission.{admitted_under}
 use Rattle.rules.specs.AlikeBy.{AlikeBy}
 use Rattle.rules.specs.Entries.{ArePairs}
-use Rattle.rules.specs.World.{IsInOrder, World}
+use Rattle.rules.specs.World.{IsInOrder, World, store}
 use Rattle.sync_state.specs.declared.journal.Logged.{Logged}
 use Rattle.sync_state.specs.declared.journal.WrittenJournal.{WrittenJournal}
 use Rattle.sync_state.proofs.StateLemmas.{no_pairs}
@@ -24,6 +27,8 @@ use Rattle.outside.specs.Devices.{Device}
 use Rattle.underway.specs.Moments.{PlannedAt, Stands, with_log}
 use Rattle.underway.specs.Openings.{Grows, IsIdle, world_at}
 use Rattle.underway.proofs.Ends.{admitted_is}
+use Rattle.underway.proofs.Foreign.{two}
+use Rattle.underway.proofs.Moves.{spares_more}
 use Rattle.alike_laws.specs.Runs.{DoneIsOpening, DoneIsUnplanned, OnePlan, OneState, PlannedOrNot}
 
 -- ---- what the files hold
@@ -80,6 +85,10 @@ grows_none alone w order = record {
   nobody = λ e. (refl, refl);
 }
 
+-- a run gives no UID again
+no_less : (w : World) (options : Options) (d : Device) (marks : List (List ℕ)) (s : SyncState) (side : Side) → (k : AlikeBy w options (own_world w marks (world_at d s))) → (store w side).next ≤ (store (own_world w marks (world_at d s)) side).next
+no_less w options d marks s side k = rise-ends (store w side).next (k.uids side) (store (own_world w marks (world_at d s)) side).next (k.rise side)
+
 pub done_is_unplanned : DoneIsUnplanned
 done_is_unplanned ours alone opening d options over order =
     let x = over.holds in
@@ -92,6 +101,7 @@ done_is_unplanned ours alone opening d options over order =
       chosen = refl;
       below = record { pulled = b.pulled; pushed = b.pushed; far = b.far; near = b.near };
       grows = grows_none alone (world_at d x.state) order;
+      spares = spares_more over.world (world_at d x.state) d (two (λ side. (store over.world side).next ≤ (store (world_at d x.state) side).next) (no_less over.world opening.options d x.marks x.state Far k.alike) (no_less over.world opening.options d x.marks x.state Near k.alike)) k.spares;
     }
 
 -- the entries of a state that the files hold are pairs

@@ -6,12 +6,13 @@ use Rattle.rules.specs.World.{World}
 use Rattle.book.specs.declared.book.Pending.TheVariants.{Missing}
 use Rattle.book.specs.Books.{Holds}
 use Rattle.outside.specs.Devices.{Device}
-use Rattle.underway.specs.Openings.{Opening, Unplanned, world_at}
+use Rattle.underway.specs.Openings.{Opening, SparesLater, Unplanned, world_at}
 
--- both mailboxes and the state are the world's, and there is no journal
+-- both mailboxes and the state are the world's, there is no journal, and no call has named a message of at least the next UID of its side
 pub record HoldsWorld (w : World) (d : Device) : Type 0 where
   pub world : world_at d w.state ≡ w
   pub files : Holds d.files w.state Missing
+  pub spares : SparesLater w d
 
 -- the device holds a world that a run may begin with, and a number comes behind that of its state
 pub record Begins (w : World) (d : Device) : Type 0 where

@@ -16,7 +16,9 @@ use Rattle.rules.specs.Options.{covers, goes}
 use Rattle.rules.specs.Propagation.{New}
 use Rattle.rules.specs.World.{World, IsInOrder, store, scene_of}
 use Rattle.step_laws.specs.OwnLaws.{is_own}
-use Rattle.outside.specs.Devices.{Device}
+use Rattle.outside.specs.Devices.{Device, box}
+use Rattle.outside.specs.GoingOn.{GoesOn}
+use Rattle.outside.specs.Sparing.{AreOthers}
 use Rattle.underway.specs.Conditions.{IsOver}
 use Rattle.underway.specs.Openings.{Opening, world_at}
 
@@ -40,6 +42,19 @@ OthersAreLeft =
     (ours : List ℕ → Bool) (alone : Bool) (opening : Opening) (d : Device) (over : IsOver ours alone opening d) →
     IsInOrder (world_at d over.holds.state) → (side : Side) (m : Message) →
     IsOthers over.world over.holds.marks side (next_world d over.holds.state) m → IsLeft side m.uid over.holds.state
+
+-- no call of the run was to change or to remove a message that others added behind its listings
+abbrev pub OthersAreSpared : Type 0
+OthersAreSpared =
+    (ours : List ℕ → Bool) (alone : Bool) (opening : Opening) (d : Device) (over : IsOver ours alone opening d) (side : Side) (m : Message) →
+    is_own over.world over.holds.marks side m.uid m.bytes ≡ false → AreOthers d.named side m.uid
+
+-- So each that stood on a device while the run was at work stands there once it is over, with its flags and bytes under its UID. How a device
+-- goes on each call says, each attempt, and all of them.
+abbrev pub OthersStay : Type 0
+OthersStay =
+    (ours : List ℕ → Bool) (alone : Bool) (opening : Opening) (d d' : Device) → GoesOn d d' → (over : IsOver ours alone opening d') (side : Side) (m : Message) →
+    Contains (box d side).messages m → is_own over.world over.holds.marks side m.uid m.bytes ≡ false → Contains (box d' side).messages m
 
 -- so the next plan copies each that is fit, where its direction copies new messages, unless it is marked as deleted and Expunge covers its side
 abbrev pub OthersAreCopiedNext : Type 0

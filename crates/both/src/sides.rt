@@ -1,6 +1,6 @@
 //! What a run over a mailbox at a server and one in a folder stands on, while nothing is open.
 
-ghost use Rattle.std.specs.Prelude.{◌≡◌, None};
+ghost use Rattle.std.specs.Prelude.{◌≡◌, [], None};
 ghost use Rattle.std.specs.Int.NonZero.{non_zero_u32_get};
 ghost use Rattle.far_side.specs.FarSides.{seen_of as seen_of_far};
 ghost use Rattle.near_box.specs.Mailboxes.{near_of};
@@ -36,7 +36,7 @@ impl<L: Link + Drop, F: Folder + Drop, S: Shelf + Drop> Sides<L, F, S> {
     /// folder has no meta file.
     pub fn together(self, alloc: Global, fresh: NonZeroU32) -> Both<L, F, S>
         ensures seen { seen_of result ≡ seen_with (device_with (seen_of_far self.far).stored
-            (near_of (non_zero_u32_get fresh) (F.seen self.folder).stored) (S.seen self.shelf).stored) untouched }
+            (near_of (non_zero_u32_get fresh) (F.seen self.folder).stored) (S.seen self.shelf).stored []) untouched }
         ensures opened { opened_of result ≡ None }
     {
         let Sides { far, folder, shelf } = self;

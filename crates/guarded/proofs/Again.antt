@@ -45,7 +45,7 @@ asks_behind h1 h2 ours alone direction uid flags mark old mid new (Ok carried) r
     stops = c.acts.stops ∙ r.stops;
     effect = λ h. let f = c.acts.effect h in record { mid = f.mid; before = arrives_again ours alone old.device mid.device f.mid (r.added (before h)) f.before; behind = f.behind };
   };
-  goes_on = λ h. goes_after old.device.files mid.device.files new.device.files (r.goes_on (before h)) (c.goes_on h);
+  goes_on = λ h. goes_after old.device mid.device new.device (r.goes_on (before h)) (c.goes_on h);
   counts = record {
     told = c.counts.told ∙ r.told;
     appends = c.counts.appends ∙ ap (λ n. n + copies_made carried) r.appends;
@@ -60,7 +60,7 @@ asks_behind h1 h2 ours alone direction uid flags mark old mid new (Err fault) r 
     stuck = λ is. absurd (both_ways old.is_broken r.was_whole is);
     left = λ h. let f = c.acts.left h in record { mid = f.mid; before = arrives_again ours alone old.device mid.device f.mid (r.added (before h)) f.before; behind = f.behind };
   };
-  goes_on = λ h. goes_after old.device.files mid.device.files new.device.files (r.goes_on (before h)) (c.goes_on h);
+  goes_on = λ h. goes_after old.device mid.device new.device (r.goes_on (before h)) (c.goes_on h);
   counts = record {
     told = c.counts.told;
     noted = λ _. c.counts.noted r.is_whole ∙ ap (λ (ts : List OutsideFault). fault ∷ ts) r.told;

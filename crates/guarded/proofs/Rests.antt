@@ -15,11 +15,11 @@ pub record Rests (honest : Type 0) (ours : List ℕ → Bool) (alone : Bool) (ol
   pub appends : new.appends ≡ old.appends
   pub reopened : new.reopened ≡ old.reopened
   pub added : honest → Arrives ours alone old.device new.device
-  pub goes_on : honest → GoesOn old.device.files new.device.files
+  pub goes_on : honest → GoesOn old.device new.device
 
 -- no call
 pub rests_none : (honest : Type 0) (ours : List ℕ → Bool) (alone : Bool) (s : Seen) → s.is_broken ≡ false → Rests honest ours alone s s
-rests_none honest ours alone s whole = record { was_whole = whole; is_whole = whole; stops = refl; told = refl; appends = refl; reopened = refl; added = λ h. quiet ours alone s.device; goes_on = λ h. stays s.device.files s.device.files refl }
+rests_none honest ours alone s whole = record { was_whole = whole; is_whole = whole; stops = refl; told = refl; appends = refl; reopened = refl; added = λ h. quiet ours alone s.device; goes_on = λ h. stays s.device s.device refl }
 
 -- one more call that answers what is so
 pub rests_read : {T : Type 0} (h1 h2 : Type 0) (ours : List ℕ → Bool) (alone : Bool) (tells : T → Device → Type 0) (answer : T) (old mid new : Seen) → Rests h1 ours alone old mid → (h2 → h1) → Reads h2 (Arrives ours alone) tells mid new (Ok answer) → Rests h2 ours alone old new
@@ -34,5 +34,5 @@ rests_read h1 h2 ours alone tells answer old mid new r before c = record {
       let f = c.acts.effect h in
       let then : Arrives ours alone mid.device new.device = subst (λ (d : Device). Arrives ours alone mid.device d) (sym f.behind.0) f.before in
       arrives_again ours alone old.device mid.device new.device (r.added (before h)) then;
-  goes_on = λ h. goes_after old.device.files mid.device.files new.device.files (r.goes_on (before h)) (c.goes_on h);
+  goes_on = λ h. goes_after old.device mid.device new.device (r.goes_on (before h)) (c.goes_on h);
 }

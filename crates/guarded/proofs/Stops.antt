@@ -50,7 +50,7 @@ stuck honest ours alone copies may_tell does leaves s broken may same = record {
     stuck = λ _. (refl, refl);
     left = λ _. record { mid = s.device; before = quiet ours alone s.device; behind = same };
   };
-  goes_on = λ _. stays s.device.files s.device.files refl;
+  goes_on = λ _. stays s.device s.device refl;
   counts = record {
     told = may;
     noted = λ whole. absurd (both_ways s.is_broken whole broken);

@@ -1,1 +1,3 @@
+pub mod Sparing
 pub mod GoingOn
+pub mod CallsSpare

@@ -16,6 +16,7 @@ use Rattle.outside.specs.Opened.{Opened, IsHeld}
 pub record OnFiles (does : Effect Files) (d d' : Device) : Type 0 where
   pub far : d'.far ≡ d.far
   pub near : d'.near ≡ d.near
+  pub named : d'.named ≡ d.named
   pub files : does d.files d'.files
 
 -- the effect on the files of a book that was read, by the journal that it has

@@ -16,7 +16,7 @@ use Rattle.outside.specs.declared.outside.Carried.{Carried}
 use Rattle.outside.specs.declared.outside.Carried.TheVariants.{Absent, Unfit, Made}
 use Rattle.mailbox.specs.Operations as ops
 use Rattle.mailbox.specs.Operations.{Tells}
-use Rattle.outside.specs.Devices.{Device, box, on_box}
+use Rattle.outside.specs.Devices.{Device, box, naming, on_box}
 
 -- ---- listings
 
@@ -30,14 +30,19 @@ ListsNear from listing d = ShowsAbove Near from d.near.store listing
 
 -- ---- changes
 
--- the mailbox of a side changes so
-abbrev pub Turns : Side → (Store → Store) → Effect Device
-Turns side change d d' = d' ≡ on_box side change d
+-- the message with this UID is named, and the mailbox of its side changes so
+abbrev pub Turns : Side → (uid : ℕ) → (Store → Store) → Effect Device
+Turns side uid change d d' = d' ≡ naming side uid (on_box side change d)
+
+-- it is named, and nothing is changed
+abbrev pub Names : Side → (uid : ℕ) → Effect Device
+Names side uid d d' = d' ≡ naming side uid d
 
 -- the near mailbox changes so
 pub record OnNear (does : Effect Mailbox) (d d' : Device) : Type 0 where
   pub far : d'.far ≡ d.far
   pub files : d'.files ≡ d.files
+  pub named : d'.named ≡ d.named
   pub near : does d.near d'.near
 
 -- the waiting files that were read have the UIDs from next on

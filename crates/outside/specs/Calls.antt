@@ -88,12 +88,12 @@ FromShelf NoMemory = Unit {0}
 -- ---- calls
 
 -- Others may act first. A call that answers has its effect; one that does not leaves what its fault says, and from then on the
--- outside is broken. Whatever a call does, what the files hold goes on. It is said where server, folder and shelf have kept their word; what
--- is counted holds without that.
+-- outside is broken. Whatever a call does, the device goes on. It is said where server, folder and shelf have kept their word; what is
+-- counted holds without that.
 pub record Call {T : Type 0} (honest : Type 0) (others : Effect Device) (copies : T → ℕ) (may_tell : OutsideFault → Type 0)
     (does : T → Effect Device) (leaves : OutsideFault → Effect Device) (old new : Seen) (result : Result T OutsideFault) : Type 0 where
   pub acts : Acts honest IsStop (Between others) does leaves (as_device old) (as_device new) result
-  pub goes_on : honest → GoesOn old.device.files new.device.files
+  pub goes_on : honest → GoesOn old.device new.device
   pub counts : Counts copies may_tell old new result
 
 -- the effect, with some answer

@@ -1,4 +1,5 @@
--- How what the files hold goes on: the state's run never falls, and while one lasts neither its plan nor a step that is logged is lost.
+-- How a device goes on. The state's run never falls, while one lasts neither its plan nor a step that is logged is lost, and each message
+-- that no call names stays.
 use Rattle.std.specs.Prelude.{◌≡◌, ◌⊎◌, ◌<◌, ℕ, List, ◌++◌}
 use Rattle.device.specs.Calls.{Effect}
 use Rattle.rules.specs.declared.state.SyncState.{SyncState}
@@ -8,6 +9,8 @@ use Rattle.book.specs.declared.book.Pending.{Pending}
 use Rattle.book.specs.declared.book.Pending.TheVariants.{Missing, Useless, Planned}
 use Rattle.book.specs.Books.{Holds}
 use Rattle.book.specs.Shelves.{Files}
+use Rattle.outside.specs.Devices.{Device}
+use Rattle.outside.specs.Sparing.{Spares}
 
 -- the same plan, and steps that are logged behind the ones that were
 pub record Continues (old new : Journal) : Type 0 where
@@ -38,5 +41,10 @@ pub record HoldsNext (s : SyncState) (p : Pending) (files : Files) : Type 0 wher
   pub goes_on : GoesOnTo s p state pending
 
 -- whatever the files held, they hold what it goes on to
-abbrev pub GoesOn : Effect Files
-GoesOn old new = (s : SyncState) (p : Pending) → Holds old s p → HoldsNext s p new
+abbrev pub FilesGoOn : Effect Files
+FilesGoOn old new = (s : SyncState) (p : Pending) → Holds old s p → HoldsNext s p new
+
+-- what the files hold goes on, and each message that calls did not name since stands where it stood
+pub record GoesOn (d d' : Device) : Type 0 where
+  pub files : FilesGoOn d.files d'.files
+  pub spares : Spares d d'

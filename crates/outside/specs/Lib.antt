@@ -1,4 +1,5 @@
 pub mod Devices
+pub mod Sparing
 pub mod GoingOn
 pub mod Arrivals
 pub mod Calls

@@ -42,7 +42,7 @@ pub trait Outside {
     ghost use Rattle.outside.specs.Opened.{IsBook, IsHeld, IsOpen, IsRead, Opened, AreCommitted, TakesCommit, TakesDiscard, TakesLog, TakesPlan, journal_of, state_of, turned, with_box};
     ghost use Rattle.outside.specs.BookCalls.{FromLog, LeavesUnread, OfBook, ReadsBook};
     ghost use Rattle.mailbox.specs.Operations.{HasNumbers, removed};
-    ghost use Rattle.outside.specs.BoxCalls.{Admits, AdmitsPart, Carry, ListsFar, ListsNear, SetsAside, Turns, copies_made};
+    ghost use Rattle.outside.specs.BoxCalls.{Admits, AdmitsPart, Carry, ListsFar, ListsNear, Names, SetsAside, Turns, copies_made};
 
     /// Server, folder and shelf have kept their word so far.
     ghost honest: { Self → Type 0 };
@@ -191,24 +191,24 @@ pub trait Outside {
         requires is_open { IsOpen side (opened self.old) }
         ensures was_honest { honest self.new → honest self.old }
         ensures opened { opened self.new ≡ opened self.old }
-        ensures call { Changes {T = Unit {0}} (honest self.new) (Arrives ours alone) (λ _. Turns side (flags_added uid flags)) Nothing
-            (seen self.old) (seen self.new) result };
+        ensures call { Changes {T = Unit {0}} (honest self.new) (Arrives ours alone) (λ _. Turns side uid (flags_added uid flags))
+            (Names side uid) (seen self.old) (seen self.new) result };
 
     /// Clears these flags of a message. Nothing is done where it is not there.
     fn remove_flags(&mut self, side: Side, uid: Uid, flags: Flags) -> Result<(), OutsideFault>
         requires is_open { IsOpen side (opened self.old) }
         ensures was_honest { honest self.new → honest self.old }
         ensures opened { opened self.new ≡ opened self.old }
-        ensures call { Changes {T = Unit {0}} (honest self.new) (Arrives ours alone) (λ _. Turns side (flags_removed uid flags)) Nothing
-            (seen self.old) (seen self.new) result };
+        ensures call { Changes {T = Unit {0}} (honest self.new) (Arrives ours alone) (λ _. Turns side uid (flags_removed uid flags))
+            (Names side uid) (seen self.old) (seen self.new) result };
 
     /// Removes a message, if it is there. A far message is removed only if it is marked as deleted (RFC 9051, section 6.4.9).
     fn expunge(&mut self, side: Side, uid: Uid) -> Result<(), OutsideFault>
         requires is_open { IsOpen side (opened self.old) }
         ensures was_honest { honest self.new → honest self.old }
         ensures opened { opened self.new ≡ opened self.old }
-        ensures call { Changes {T = Unit {0}} (honest self.new) (Arrives ours alone) (λ _. Turns side (removed side uid)) Nothing
-            (seen self.old) (seen self.new) result };
+        ensures call { Changes {T = Unit {0}} (honest self.new) (Arrives ours alone) (λ _. Turns side uid (removed side uid))
+            (Names side uid) (seen self.old) (seen self.new) result };
 
     /// Stops as a call does that stops before it has an effect: whoever calls it does not let the run go on.
     fn stop(&mut self) -> OutsideFault

@@ -1,5 +1,5 @@
 -- What others do to a mailbox, they do to the device that it stands in.
-use Rattle.std.proofs.Common.{◌≡◌, ◌∙◌, ap, sym, refl, ℕ, Bool, true, false, List, [], ◌∷◌, Option, None, Some, arith}
+use Rattle.std.proofs.Common.{◌≡◌, ◌∙◌, ap, sym, refl, ℕ, Bool, true, false, List, [], Option, None, Some, arith}
 use Rattle.std.specs.Prelude.{◌&&◌, ◌++◌}
 use Rattle.std.proofs.lemmas.Bool.{and_parts}
 use Rattle.std.proofs.lemmas.List.{append-nil}
@@ -8,7 +8,6 @@ use Rattle.mailcore.specs.declared.mailbox.Message.{Message}
 use Rattle.mailcore.specs.declared.side.Side.{Side}
 use Rattle.mailcore.specs.declared.side.Side.TheVariants as sides
 use Rattle.mailcore.specs.Content.{mark_of}
-use Rattle.mailcore.specs.Stores.{Waiting}
 use Rattle.mailcore.specs.Mailboxes.{Mailbox}
 use Rattle.mailbox.specs.Arrivals as box
 use Rattle.visitors.specs.Visitors.{IsForeign}

@@ -1,5 +1,5 @@
 -- From the clauses of the book's part to those of the outside's.
-use Rattle.std.proofs.Common.{◌≡◌, ◌<◌, ◌⊎◌, inl, inr, ap, refl, subst, sym, ◌∙◌, ℕ, Bool, true, false, Option, None, Some, Result, Ok, Err}
+use Rattle.std.proofs.Common.{◌≡◌, ◌<◌, ◌⊎◌, inl, inr, ap, refl, subst, sym, ◌∙◌, ℕ, Bool, true, false, List, Option, None, Some, Result, Ok, Err}
 use Rattle.std.specs.Prelude.{IfErr, IsErrOf, ◌&&◌}
 use Rattle.book.specs.declared.shelf.Shelf as shelf
 use Rattle.mailbox.specs.declared.mailbox.Mailbox as mailbox
@@ -18,11 +18,13 @@ use Rattle.outside.specs.declared.fault.OutsideFault.TheVariants as fault
 use Rattle.outside.specs.Arrivals.{Arrives}
 use Rattle.outside.specs.BookCalls as there
 use Rattle.outside.specs.Calls.{Call, FromShelf, LeavesBy, Writes}
-use Rattle.outside.specs.Devices.{Device}
-use Rattle.outside.specs.GoingOn.{GoesOn}
+use Rattle.outside.specs.Devices.{Device, Named}
+use Rattle.outside.specs.GoingOn.{FilesGoOn}
+use Rattle.outside.proofs.CallsSpare.{AreSparing, book_spares, leaving_spares}
+use Rattle.outside.proofs.Sparing.{arrivals_spare, nothing_named}
 use Rattle.outside.specs.Opened as opened
 use Rattle.mailbox.proofs.Quiet.{quiet as box_quiet}
-use Rattle.outside.proofs.GoingOn.{stays}
+use Rattle.outside.proofs.GoingOn.{files_stay}
 use Rattle.pair.specs.PartCalls.{LeavesSome, Part, PartChanges}
 use Rattle.pair.specs.Stops.{Standing, StopsSo}
 use Rattle.pair.specs.declared.book_part.BookPart.{BookPart}
@@ -85,15 +87,15 @@ are_committed f n (Some k) (Some k') h = record { made = h.made; pending = h.pen
 
 -- ---- a call of the book that was read
 
-of_book : (f n : Bool) (k : Option Kept) (does : Pending → Effect Files) (far : Store) (near : Mailbox) (files files' : Files) → OfKept does k files files'
-    → there.OfBook does (opened_with f n k) (record { far = far; near = near; files = files }) (record { far = far; near = near; files = files' })
-of_book f n None does far near files files' h = h
-of_book f n (Some k) does far near files files' h = record { far = refl; near = refl; files = h }
+of_book : (f n : Bool) (k : Option Kept) (does : Pending → Effect Files) (far : Store) (near : Mailbox) (files files' : Files) (named : List Named) → OfKept does k files files'
+    → there.OfBook does (opened_with f n k) (record { far = far; near = near; files = files; named = named }) (record { far = far; near = near; files = files'; named = named })
+of_book f n None does far near files files' named h = h
+of_book f n (Some k) does far near files files' named h = record { far = refl; near = refl; named = refl; files = h }
 
 -- ---- a call of the book, behind what others did
 
 module _ (honest own : Type 0) (others : Effect Device) (may_tell : OutsideFault → Type 0) (does part : Effect Files) (does' part' : Effect Device) (put : Files → Device) (files files' : Files)
-    (all : does files files' → does' (put files) (put files')) (some : part files files' → part' (put files) (put files')) where
+    (all : does files files' → does' (put files) (put files')) (some : part files files' → part' (put files) (put files')) (sparing : AreSparing {T = Unit {0}} others (λ _. does') (LeavesBy {T = Unit {0}} (λ _. does') part')) where
   left_so : (e : OutsideFault) → LeavesSome {T = Unit {0}} (λ _. does) part e files files' → LeavesBy {T = Unit {0}} (λ _. does') part' e (put files) (put files')
   left_so fault.Stopped (inl h) = inl (ap put h)
   left_so fault.Stopped (inr (inl h)) = inr (inl (record { answer = tt; done = all h.done }))
@@ -108,13 +110,13 @@ module _ (honest own : Type 0) (others : Effect Device) (may_tell : OutsideFault
 
   -- others act first, on the device as it was
   files_call : (d : Device) (c : Counts) (answer : Result (Unit {0}) OutsideFault)
-      → (honest → GoesOn d.files (put files').files) → (honest → own) → (honest → others d (put files)) → c.is_broken ≡ false → IfErr answer may_tell → (honest → PartChanges own (λ (x : Unit {0}). does) part files files' answer)
+      → (honest → FilesGoOn d.files (put files').files) → (honest → own) → (honest → others d (put files)) → c.is_broken ≡ false → IfErr answer may_tell → (honest → PartChanges own (λ (x : Unit {0}). does) part files files' answer)
       → Writes honest others may_tell does' part' (seen_with d c) (seen_with (put files') (ended (λ _. 0) answer c)) answer
   files_call d c (Ok x) goes kept before whole may p =
-      done_call {T = Unit {0}} honest others (λ _. 0) may_tell (λ _. does') (LeavesBy {T = Unit {0}} (λ _. does') part') d (put files') c whole goes x
+      done_call {T = Unit {0}} honest others (λ _. 0) may_tell (λ _. does') (LeavesBy {T = Unit {0}} (λ _. does') part') d (put files') c whole sparing goes x
       (λ h. record { mid = put files; before = before h; behind = all (p h (kept h)) })
   files_call d c (Err e) goes kept before whole may p =
-      failed_call {T = Unit {0}} honest others (λ _. 0) may_tell (λ _. does') (LeavesBy {T = Unit {0}} (λ _. does') part') d (put files') c whole goes e may
+      failed_call {T = Unit {0}} honest others (λ _. 0) may_tell (λ _. does') (LeavesBy {T = Unit {0}} (λ _. does') part') d (put files') c whole sparing goes e may
       (λ h. record { mid = put files; before = before h; behind = left_so e (p h (kept h)) })
 
 -- ---- why it stops
@@ -142,17 +144,17 @@ tells_log f n k logged (Err e) h = from_log f n k logged e h
 
 -- ---- the book is read
 
-reads_so : (f n : Bool) (k : Option Kept) (far : Store) (near : Mailbox) (files files' : Files) → ReadsFiles k files files'
-    → there.ReadsBook (opened_with f n k) (record { far = far; near = near; files = files }) (record { far = far; near = near; files = files' })
-reads_so f n k far near files files' h =
-    (ap (λ (x : Files). record { far = far; near = near; files = x }) h.0, is_held f n k (record { far = far; near = near; files = files }) h.1)
+reads_so : (f n : Bool) (k : Option Kept) (far : Store) (near : Mailbox) (files files' : Files) (named : List Named) → ReadsFiles k files files'
+    → there.ReadsBook (opened_with f n k) (record { far = far; near = near; files = files; named = named }) (record { far = far; near = near; files = files'; named = named })
+reads_so f n k far near files files' named h =
+    (ap (λ (x : Files). record { far = far; near = near; files = x; named = named }) h.0, is_held f n k (record { far = far; near = near; files = files; named = named }) h.1)
 
 -- ---- the call of the book is that of the outside
 
 -- what the outside says of a call of the book
 pub record BookEnds (honest : Type 0) (others : Effect Device) (may_tell : OutsideFault → Type 0) (does part : Effect Device) (d d' : Device) (c c' : Counts) (result : Result (Unit {0}) OutsideFault) : Type 0 where
   pub call : Writes honest others may_tell does part (seen_with d c) (seen_with d' c') result
-  pub tallied : Tallied {T = Unit {0}} no_copies result c c'
+  pub tallied : Tallied {T = Unit {0}} (ended no_copies) result c c'
 
 module _ {F N S : Type 0} {fars : mailbox.Ghosts F} {nears : mailbox.Ghosts N} {shelves : shelf.Ghosts S} (p : Pair F N S fars nears shelves) where
   -- the near mailbox and the book are as they are now
@@ -161,13 +163,13 @@ module _ {F N S : Type 0} {fars : mailbox.Ghosts F} {nears : mailbox.Ghosts N} {
       → (nears.honest near → box.Arrives side.Near nears.ours nears.alone (nears.seen p.near).stored (nears.seen near).stored)
       → (nears.honest near → PartChanges (shelves.is_honest ≡ true) (λ (x : Unit {0}). OfKept does (kept_of p.book)) (OfKept part (kept_of p.book)) (files_of p.book) (files_of book) answer)
       → BookEnds (fars.honest p.far × nears.honest near × (shelves.is_honest ≡ true)) (Arrives (both fars.ours nears.ours) (fars.alone && nears.alone)) may_tell
-      (there.OfBook does (opened_of p)) (there.OfBook part (opened_of p)) (device_of p) (device_with (fars.seen p.far).stored (nears.seen near).stored (files_of book)) p.tally c' result
+      (there.OfBook does (opened_of p)) (there.OfBook part (opened_of p)) (device_of p) (device_with (fars.seen p.far).stored (nears.seen near).stored (files_of book) c'.named) p.tally c' result
   book_ends does part may_tell near book c' answer result leads whole same now may before changes = record {
-    call = tallied honest others (λ _. 0) may_tell (λ _. there.OfBook does (opened_of p)) (LeavesBy {T = Unit {0}} (λ _. there.OfBook does (opened_of p)) (there.OfBook part (opened_of p))) d (with_files (files_of book)) p.tally c' answer result same now
+    call = tallied honest others (λ _. 0) may_tell (λ _. there.OfBook does (opened_of p)) (LeavesBy {T = Unit {0}} (λ _. there.OfBook does (opened_of p)) (there.OfBook part (opened_of p))) d (device_with (fars.seen p.far).stored (nears.seen near).stored (files_of book)) p.tally c' answer result same now
         (files_call honest (shelves.is_honest ≡ true) others may_tell (OfKept does k) (OfKept part k) (there.OfBook does (opened_of p)) (there.OfBook part (opened_of p)) with_files (files_of p.book) (files_of book)
-        (of_book f n k does _ _ _ _) (of_book f n k part _ _ _ _) d p.tally answer
+        (of_book f n k does _ _ _ _ p.tally.named) (of_book f n k part _ _ _ _ p.tally.named) sparing d p.tally answer
         (λ h. goes_by does part (shelves.is_honest ≡ true) (files_of p.book) (files_of book) k (is_at p.book (p.book_whole whole) h.2) leads.0 leads.1 answer h.2 (changes h.1)) (λ h. h.2) (λ h. arrives h.1) whole may (λ h. changes h.1));
-    tallied = tally no_copies answer result p.tally c' whole same now;
+    tallied = tally (ended no_copies) answer result p.tally c' whole same now;
   }
     where
       f : Bool
@@ -189,7 +191,14 @@ module _ {F N S : Type 0} {fars : mailbox.Ghosts F} {nears : mailbox.Ghosts N} {
       others = Arrives (both fars.ours nears.ours) (fars.alone && nears.alone)
 
       with_files : Files → Device
-      with_files files = device_with (fars.seen p.far).stored (nears.seen near).stored files
+      with_files files = device_with (fars.seen p.far).stored (nears.seen near).stored files p.tally.named
+
+      sparing : AreSparing {T = Unit {0}} others (λ _. there.OfBook does (opened_of p)) (LeavesBy {T = Unit {0}} (λ _. there.OfBook does (opened_of p)) (there.OfBook part (opened_of p)))
+      sparing = record {
+        others = arrivals_spare (both fars.ours nears.ours) (fars.alone && nears.alone);
+        does = λ _. book_spares does (opened_of p);
+        leaves = leaving_spares {T = Unit {0}} (λ _. there.OfBook does (opened_of p)) (there.OfBook part (opened_of p)) (λ _. book_spares does (opened_of p)) (book_spares part (opened_of p));
+      }
 
       arrives : nears.honest near → others d (with_files (files_of p.book))
       arrives h = arrives_at nears.ours (both fars.ours nears.ours) nears.alone (fars.alone && nears.alone) (less_right fars.ours nears.ours) (alone_right fars.alone nears.alone) d side.Near (nears.seen p.near).stored (nears.seen near).stored (before h)
@@ -208,9 +217,9 @@ module _ {F N S : Type 0} {fars : mailbox.Ghosts F} {nears : mailbox.Ghosts N} {
       → Part (shelves.is_honest ≡ true) (λ (x : Unit {0}). ReadsFiles (kept_of book)) LeavesUnread (files_of p.book) (files_of book) answer
       → Call (fars.honest p.far × nears.honest p.near × (shelves.is_honest ≡ true)) (Arrives (both fars.ours nears.ours) (fars.alone && nears.alone)) (λ (x : Unit {0}). 0) FromShelf
       (λ (x : Unit {0}). there.ReadsBook (opened_with (fars.is_open p.far) (nears.is_open p.near) (kept_of book))) there.LeavesUnread
-      (seen_with (device_of p) p.tally) (seen_with (device_with (fars.seen p.far).stored (nears.seen p.near).stored (files_of book)) c') result
+      (seen_with (device_of p) p.tally) (seen_with (device_with (fars.seen p.far).stored (nears.seen p.near).stored (files_of book) c'.named) c') result
   open_ends book c' answer result whole same now may reads =
-      tallied honest others (λ _. 0) FromShelf does there.LeavesUnread (device_of p) (with_files (files_of book)) p.tally c' answer result same now (by_answer answer may reads)
+      tallied honest others (λ _. 0) FromShelf does there.LeavesUnread (device_of p) (device_with (fars.seen p.far).stored (nears.seen p.near).stored (files_of book)) p.tally c' answer result same now (by_answer answer may reads)
     where
       honest : Type 0
       honest = fars.honest p.far × nears.honest p.near × (shelves.is_honest ≡ true)
@@ -219,16 +228,23 @@ module _ {F N S : Type 0} {fars : mailbox.Ghosts F} {nears : mailbox.Ghosts N} {
       others = Arrives (both fars.ours nears.ours) (fars.alone && nears.alone)
 
       with_files : Files → Device
-      with_files files = device_with (fars.seen p.far).stored (nears.seen p.near).stored files
+      with_files files = device_with (fars.seen p.far).stored (nears.seen p.near).stored files p.tally.named
 
       does : Unit {0} → Effect Device
       does x = there.ReadsBook (opened_with (fars.is_open p.far) (nears.is_open p.near) (kept_of book))
 
+      sparing : AreSparing others does there.LeavesUnread
+      sparing = record {
+        others = arrivals_spare (both fars.ours nears.ours) (fars.alone && nears.alone);
+        does = λ x d d' r. nothing_named d d' r.0;
+        leaves = λ e d d' r. nothing_named d d' r.0;
+      }
+
       by_answer : (a : Result (Unit {0}) OutsideFault) → IfErr a FromShelf → Part (shelves.is_honest ≡ true) (λ (x : Unit {0}). ReadsFiles (kept_of book)) LeavesUnread (files_of p.book) (files_of book) a
           → Call honest others (λ _. 0) FromShelf does there.LeavesUnread (seen_with (device_of p) p.tally) (seen_with (with_files (files_of book)) (ended (λ _. 0) a p.tally)) a
       by_answer (Ok x) h r =
-          done_call honest others (λ _. 0) FromShelf does there.LeavesUnread (device_of p) (with_files (files_of book)) p.tally whole (λ y. stays (files_of p.book) (files_of book) (r y.2).0) x
-          (λ y. record { mid = device_of p; before = quiet _ _ _; behind = reads_so (fars.is_open p.far) (nears.is_open p.near) (kept_of book) _ _ (files_of p.book) (files_of book) (r y.2) })
+          done_call honest others (λ _. 0) FromShelf does there.LeavesUnread (device_of p) (with_files (files_of book)) p.tally whole sparing (λ y. files_stay (files_of p.book) (files_of book) (r y.2).0) x
+          (λ y. record { mid = device_of p; before = quiet _ _ _; behind = reads_so (fars.is_open p.far) (nears.is_open p.near) (kept_of book) _ _ (files_of p.book) (files_of book) p.tally.named (r y.2) })
       by_answer (Err e) h r =
-          failed_call honest others (λ _. 0) FromShelf does there.LeavesUnread (device_of p) (with_files (files_of book)) p.tally whole (λ y. stays (files_of p.book) (files_of book) (r y.2).0) e h
+          failed_call honest others (λ _. 0) FromShelf does there.LeavesUnread (device_of p) (with_files (files_of book)) p.tally whole sparing (λ y. files_stay (files_of p.book) (files_of book) (r y.2).0) e h
           (λ y. record { mid = device_of p; before = quiet _ _ _; behind = (ap with_files (r y.2).0, (r y.2).1) })

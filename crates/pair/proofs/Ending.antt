@@ -6,8 +6,9 @@ use Rattle.outside.specs.declared.fault.OutsideFault.{OutsideFault}
 use Rattle.outside.specs.declared.fault.OutsideFault.TheVariants as fault
 use Rattle.outside.specs.Arrivals.{Arrives}
 use Rattle.outside.specs.Calls.{Call, stops_told}
-use Rattle.outside.specs.Devices.{Device}
-use Rattle.outside.specs.GoingOn.{GoesOn}
+use Rattle.outside.specs.Devices.{Device, Named}
+use Rattle.outside.specs.GoingOn.{FilesGoOn}
+use Rattle.outside.proofs.CallsSpare.{AreSparing, followed_spares}
 use Rattle.outside.proofs.GoingOn.{stays}
 use Rattle.pair.specs.Tallies.{Counts, Tallied, ended, failed, seen_with}
 use Rattle.pair.proofs.Arriving.{quiet}
@@ -25,7 +26,7 @@ stuck honest ours alone copies may_tell does leaves d c broken may same = record
     stuck = λ _. (refl, refl);
     left = λ _. record { mid = d; before = quiet ours alone d; behind = same };
   };
-  goes_on = λ _. stays d.files d.files refl;
+  goes_on = λ _. stays d d refl;
   counts = record {
     told = may;
     noted = λ whole. absurd (cc);
@@ -39,7 +40,7 @@ stuck honest ours alone copies may_tell does leaves d c broken may same = record
 -- ---- an answer is told as it is
 
 module _ {T : Type 0} (honest : Type 0) (others : Effect Device) (copies : T → ℕ) (may_tell : OutsideFault → Type 0) (does : T → Effect Device) (leaves : OutsideFault → Effect Device) (d d' : Device) (c : Counts)
-    (whole : c.is_broken ≡ false) (goes : honest → GoesOn d.files d'.files) where
+    (whole : c.is_broken ≡ false) (sparing : AreSparing others does leaves) (files : honest → FilesGoOn d.files d'.files) where
   pub failed_call : (e : OutsideFault) → may_tell e → (honest → Follows others (leaves e) d d')
       → Call honest others copies may_tell does leaves (seen_with d c) (seen_with d' (failed e c)) (Err e)
   failed_call e may left_so = record {
@@ -50,7 +51,7 @@ module _ {T : Type 0} (honest : Type 0) (others : Effect Device) (copies : T →
       stuck = λ broken. absurd (cc);
       left = left_so;
     };
-    goes_on = goes;
+    goes_on = λ h. record { files = files h; spares = followed_spares others (leaves e) sparing.others (sparing.leaves e) d d' (left_so h) };
     counts = record {
       told = may;
       noted = λ _. refl;
@@ -64,23 +65,29 @@ module _ {T : Type 0} (honest : Type 0) (others : Effect Device) (copies : T →
   pub done_call : (x : T) → (honest → Follows others (does x) d d') → Call honest others copies may_tell does leaves (seen_with d c) (seen_with d' (ended copies (Ok x) c)) (Ok x)
   done_call x done_so = record {
     acts = record { was_whole = whole; is_whole = whole; stops = refl; effect = done_so };
-    goes_on = goes;
+    goes_on = λ h. record { files = files h; spares = followed_spares others (does x) sparing.others (sparing.does x) d d' (done_so h) };
     counts = record { told = refl; appends = omega arith; reopened = refl };
   }
 
 -- ---- what was counted
 
-pub tally : {T : Type 0} (copies : T → ℕ) (answer result : Result T OutsideFault) (c c' : Counts) → c.is_broken ≡ false → result ≡ answer → c' ≡ ended copies answer c → Tallied copies result c c'
-tally copies answer result c c' whole same now = record { counted = λ _. now ∙ ap (λ r. ended copies r c) (sym same); stuck = λ broken. absurd (cc) }
+pub tally : {T : Type 0} (ends : Result T OutsideFault → Counts → Counts) (answer result : Result T OutsideFault) (c c' : Counts) → c.is_broken ≡ false → result ≡ answer → c' ≡ ends answer c → Tallied ends result c c'
+tally ends answer result c c' whole same now = record { counted = λ _. now ∙ ap (λ r. ends r c) (sym same); stuck = λ broken. absurd (cc) }
 
--- a call whose answer is counted as it is
-pub tallied : {T : Type 0} (honest : Type 0) (others : Effect Device) (copies : T → ℕ) (may_tell : OutsideFault → Type 0) (does : T → Effect Device) (leaves : OutsideFault → Effect Device) (d d' : Device) (c c' : Counts) (answer result : Result T OutsideFault)
+-- such a call names no message
+pub none_named : {T : Type 0} (copies : T → ℕ) (answer : Result T OutsideFault) (c : Counts) → (ended copies answer c).named ≡ c.named
+none_named copies (Ok x) c = refl
+none_named copies (Err e) c = refl
+
+-- a call whose answer is counted as it is, over a device that has the messages that were named
+pub tallied : {T : Type 0} (honest : Type 0) (others : Effect Device) (copies : T → ℕ) (may_tell : OutsideFault → Type 0) (does : T → Effect Device) (leaves : OutsideFault → Effect Device) (d : Device) (now_with : List Named → Device) (c c' : Counts) (answer result : Result T OutsideFault)
     → result ≡ answer → c' ≡ ended copies answer c
-    → Call honest others copies may_tell does leaves (seen_with d c) (seen_with d' (ended copies answer c)) answer
-    → Call honest others copies may_tell does leaves (seen_with d c) (seen_with d' c') result
-tallied {T} honest others copies may_tell does leaves d d' c c' answer result same now call =
-    subst (λ (k : Counts). Call honest others copies may_tell does leaves (seen_with d c) (seen_with d' k) result) (sym now)
-    (subst (λ (r : Result T OutsideFault). Call honest others copies may_tell does leaves (seen_with d c) (seen_with d' (ended copies answer c)) r) (sym same) call)
+    → Call honest others copies may_tell does leaves (seen_with d c) (seen_with (now_with c.named) (ended copies answer c)) answer
+    → Call honest others copies may_tell does leaves (seen_with d c) (seen_with (now_with c'.named) c') result
+tallied {T} honest others copies may_tell does leaves d now_with c c' answer result same now call =
+    subst (λ (k : Counts). Call honest others copies may_tell does leaves (seen_with d c) (seen_with (now_with k.named) k) result) (sym now)
+    (subst (λ (ns : List Named). Call honest others copies may_tell does leaves (seen_with d c) (seen_with (now_with ns) (ended copies answer c)) result) (sym (none_named copies answer c))
+    (subst (λ (r : Result T OutsideFault). Call honest others copies may_tell does leaves (seen_with d c) (seen_with (now_with c.named) (ended copies answer c)) r) (sym same) call))
 
 -- ---- what is said of an answer is said of the result
 

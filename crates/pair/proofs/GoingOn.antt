@@ -1,5 +1,5 @@
 -- What the files hold goes on, whatever a call of the book does to them.
-use Rattle.std.proofs.Common.{◌≡◌, ◌<◌, ◌⊎◌, inl, inr, refl, sym, subst, ℕ, Bool, true, false, List, [], ◌∷◌, ◌++◌, Option, None, Some, Result, Ok, Err, append-nil, arith}
+use Rattle.std.proofs.Common.{◌≡◌, ◌<◌, ◌⊎◌, inl, inr, refl, sym, subst, Bool, true, false, [], ◌∷◌, Option, None, Some, Result, Ok, Err, append-nil, arith}
 use Rattle.book.specs.declared.shelf.Shelf as shelf
 use Rattle.device.specs.Calls.{Effect}
 use Rattle.rules.specs.declared.plan.Plan.{Plan}
@@ -14,9 +14,9 @@ use Rattle.book.specs.Shelves.{Files}
 use Rattle.book.proofs.KnownBooks.{book_known}
 use Rattle.outside.specs.declared.fault.OutsideFault.{OutsideFault}
 use Rattle.outside.specs.declared.fault.OutsideFault.TheVariants as fault
-use Rattle.outside.specs.GoingOn.{GoesOn, HoldsNext, KeepsPlan}
+use Rattle.outside.specs.GoingOn.{FilesGoOn, HoldsNext, KeepsPlan}
 use Rattle.outside.specs.Opened as opened
-use Rattle.outside.proofs.GoingOn.{keeps_same, stays}
+use Rattle.outside.proofs.GoingOn.{files_stay, keeps_same}
 use Rattle.pair.specs.declared.book_part.BookPart.{BookPart}
 use Rattle.pair.specs.BookParts.{files_of, goes_on, kept_in, kept_of, standing_of}
 use Rattle.pair.specs.Kept.{Kept, OfKept, TakesPlan}
@@ -83,28 +83,28 @@ LeadsOn does (Some k) = (old new : Files) → Holds old k.state k.pending → Fi
 
 module _ (does part : Pending → Effect Files) (own : Type 0) (old new : Files) where
   -- what the files hold is what was read
-  from_known : (k : Kept) → Holds old k.state k.pending → HoldsNext k.state k.pending new → GoesOn old new
+  from_known : (k : Kept) → Holds old k.state k.pending → HoldsNext k.state k.pending new → FilesGoOn old new
   from_known k held next s p h =
       let same = book_known old k.state s k.pending p held h in
       subst (λ (x : SyncState). HoldsNext x p new) same.0 (subst (λ (q : Pending). HoldsNext k.state q new) same.1 next)
 
-  by_effect : (k : Option Kept) (some : Pending → Effect Files) → IsAt k old → LeadsOn some k → OfKept some k old new → GoesOn old new
+  by_effect : (k : Option Kept) (some : Pending → Effect Files) → IsAt k old → LeadsOn some k → OfKept some k old new → FilesGoOn old new
   by_effect None some at leads h = absurd h
   by_effect (Some k) some at leads h = from_known k at.0 (leads old new at.0 at.1 h)
 
-  pub goes_by : (k : Option Kept) → IsAt k old → LeadsOn does k → LeadsOn part k → (answer : Result (Unit {0}) OutsideFault) → own → PartChanges own (λ (x : Unit {0}). OfKept does k) (OfKept part k) old new answer → GoesOn old new
+  pub goes_by : (k : Option Kept) → IsAt k old → LeadsOn does k → LeadsOn part k → (answer : Result (Unit {0}) OutsideFault) → own → PartChanges own (λ (x : Unit {0}). OfKept does k) (OfKept part k) old new answer → FilesGoOn old new
   goes_by k at all some (Ok x) is h = by_effect k does at all (h is)
   goes_by k at all some (Err e) is h = by_fault e (h is)
     where
-      by_fault : (e : OutsideFault) → Rattle.pair.specs.PartCalls.LeavesSome {T = Unit {0}} (λ _. OfKept does k) (OfKept part k) e old new → GoesOn old new
-      by_fault fault.Stopped (inl same) = stays old new same
+      by_fault : (e : OutsideFault) → Rattle.pair.specs.PartCalls.LeavesSome {T = Unit {0}} (λ _. OfKept does k) (OfKept part k) e old new → FilesGoOn old new
+      by_fault fault.Stopped (inl same) = files_stay old new same
       by_fault fault.Stopped (inr (inl d)) = by_effect k does at all d.done
       by_fault fault.Stopped (inr (inr d)) = by_effect k part at some d
-      by_fault fault.Refused same = stays old new same
-      by_fault (fault.Box side number) same = stays old new same
-      by_fault (fault.BadState line) same = stays old new same
-      by_fault (fault.BadJournal line) same = stays old new same
-      by_fault fault.NoMemory (inl same) = stays old new same
+      by_fault fault.Refused same = files_stay old new same
+      by_fault (fault.Box side number) same = files_stay old new same
+      by_fault (fault.BadState line) same = files_stay old new same
+      by_fault (fault.BadJournal line) same = files_stay old new same
+      by_fault fault.NoMemory (inl same) = files_stay old new same
       by_fault fault.NoMemory (inr (inl d)) = by_effect k does at all d.done
       by_fault fault.NoMemory (inr (inr d)) = by_effect k part at some d
 

@@ -1,5 +1,5 @@
 -- How the faults of a book are told.
-use Rattle.std.specs.Prelude.{Bool, true, false, Result, Ok, Err}
+use Rattle.std.specs.Prelude.{Result, Ok, Err}
 use Rattle.sync_state.specs.declared.fault.BookFault.{BookFault}
 use Rattle.sync_state.specs.declared.fault.BookFault.TheVariants as book
 use Rattle.outside.specs.declared.fault.OutsideFault.{OutsideFault}

@@ -32,7 +32,7 @@ module _ {F N S : Type 0} {fars : mailbox.Ghosts F} {nears : mailbox.Ghosts N} {
 
   -- what they work on
   abbrev pub device_of : Pair F N S fars nears shelves → Device
-  device_of p = device_with (fars.seen p.far).stored (nears.seen p.near).stored (files_of p.book)
+  device_of p = device_with (fars.seen p.far).stored (nears.seen p.near).stored (files_of p.book) p.tally.named
 
   -- the outside as a contract sees it
   abbrev pub seen_of : Pair F N S fars nears shelves → Seen

@@ -3,19 +3,21 @@ use Rattle.std.specs.Prelude.{◌≡◌, ◌+◌, ℕ, Bool, true, false, List, 
 use Rattle.outside.specs.declared.fault.OutsideFault.{OutsideFault}
 use Rattle.outside.specs.declared.fault.OutsideFault.TheVariants.{Stopped, Refused, Box, BadState, BadJournal, NoMemory}
 use Rattle.outside.specs.Calls.{Seen, stops_told}
-use Rattle.outside.specs.Devices.{Device}
+use Rattle.mailcore.specs.declared.side.Side.{Side}
+use Rattle.outside.specs.Devices.{Device, Named}
 
--- whether a call has failed since the outside was opened; the faults that were told, the last first; how many copies were made; and how
--- the device was each time it was opened again, the last first
+-- whether a call has failed since the outside was opened; the faults that were told, the last first; how many copies were made; which
+-- messages were named, the last first; and how the device was each time it was opened again, the last first
 pub record Counts : Type 0 where
   pub is_broken : Bool
   pub told : List OutsideFault
   pub copies : ℕ
+  pub named : List Named
   pub reopened : List Device
 
 -- no call was made
 abbrev pub untouched : Counts
-untouched = record { is_broken = false; told = []; copies = 0; reopened = [] }
+untouched = record { is_broken = false; told = []; copies = 0; named = []; reopened = [] }
 
 -- a call has told this fault
 abbrev pub failed : OutsideFault → Counts → Counts
@@ -38,9 +40,24 @@ ended copies (Err fault) c = failed fault c
 abbrev pub no_copies : {T : Type 0} → T → ℕ
 no_copies answer = 0
 
--- What a call with this result has counted: the result, and nothing else. Of a broken outside nothing is counted.
-pub record Tallied {T : Type 0} (copies : T → ℕ) (result : Result T OutsideFault) (old new : Counts) : Type 0 where
-  pub counted : old.is_broken ≡ false → new ≡ ended copies result old
+-- The messages that are named behind a call with this answer, which was to change or to remove a message. It is named, unless the
+-- fault says that nothing was changed.
+abbrev pub named_by : {T : Type 0} → Named → Result T OutsideFault → List Named → List Named
+named_by message (Ok answer) before = message ∷ before
+named_by message (Err Stopped) before = message ∷ before
+named_by message (Err Refused) before = before
+named_by message (Err (Box side number)) before = before
+named_by message (Err (BadState line)) before = before
+named_by message (Err (BadJournal line)) before = before
+named_by message (Err NoMemory) before = message ∷ before
+
+-- a call with this answer has ended, which was to change or to remove this message of the mailbox of this side
+abbrev pub ended_naming : {T : Type 0} → Side → (uid : ℕ) → Result T OutsideFault → Counts → Counts
+ended_naming side uid answer c = record (ended no_copies answer c) { named = named_by (record { side = side; uid = uid }) answer c.named }
+
+-- What a call with this result has counted, which ends so: the result, and nothing else. Of a broken outside nothing is counted.
+pub record Tallied {T : Type 0} (ends : Result T OutsideFault → Counts → Counts) (result : Result T OutsideFault) (old new : Counts) : Type 0 where
+  pub counted : old.is_broken ≡ false → new ≡ ends result old
   pub stuck : old.is_broken ≡ true → new ≡ old
 
 -- ---- what an outside shows

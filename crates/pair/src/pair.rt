@@ -97,7 +97,6 @@ impl<F: Mailbox + FarNext + Drop, N: Mailbox + Drop, S: Shelf + Drop> FarNext fo
 
 impl<F: Mailbox + Drop, N: Mailbox + Drop, S: Shelf + Drop> Outside for Pair<F, N, S> {
     ghost use Rattle.std.specs.Prelude.{◌&&◌, List, ℕ, Bool};
-    ghost use Rattle.device.specs.Calls.{Nothing};
     ghost use Rattle.mailcore.specs.Operations.{flags_added, flags_removed, marked_from};
     ghost use Rattle.mailcore.specs.Sides.{target};
     ghost use Rattle.sync_state.specs.declared.journal.Logged.TheVariants.{Void};
@@ -111,11 +110,11 @@ impl<F: Mailbox + Drop, N: Mailbox + Drop, S: Shelf + Drop> Outside for Pair<F, 
     ghost use Rattle.outside.specs.Opened.{TakesCommit, TakesDiscard, TakesLog, TakesPlan};
     ghost use Rattle.outside.specs.BookCalls.{FromLog, LeavesUnread, ReadsBook};
     ghost use Rattle.mailbox.specs.Operations.{HasNumbers, removed, NoRoom};
-    ghost use Rattle.outside.specs.BoxCalls.{Admits, AdmitsPart, Carry, ListsFar, ListsNear, SetsAside, Turns};
+    ghost use Rattle.outside.specs.BoxCalls.{Admits, AdmitsPart, Carry, ListsFar, ListsNear, Names, SetsAside, Turns};
     ghost use Rattle.outside.specs.BoxCalls.{copies_made};
     ghost use Rattle.mailbox.specs.Calls.{Never};
     ghost use Rattle.pair.specs.Parts.{both};
-    ghost use Rattle.pair.specs.Tallies.{Tallied, counted_again, no_copies};
+    ghost use Rattle.pair.specs.Tallies.{Tallied, counted_again, ended, ended_naming, no_copies};
     ghost use Rattle.pair.specs.Pairs.{BookCall, BoxChange, BoxRead, PairCall, device_of, honest_of, opened_of, seen_of};
     ghost use Rattle.pair.specs.Pairs.{ByBook, ByBox, ByCopy, BySyncedBook, IsSyncedFirst, IsWhole, CannotOpen};
 
@@ -134,7 +133,7 @@ impl<F: Mailbox + Drop, N: Mailbox + Drop, S: Shelf + Drop> Outside for Pair<F, 
         ensures book { OnOk result (IsBook (opened_of self.new)) }
         ensures call { PairCall (λ _. 0) FromShelf (λ _. ReadsBook (opened_of self.new)) LeavesUnread self.old self.new result }
         ensures why { IsErrOf result OutsideFault.Stopped → ByBook self.old self.new }
-        ensures tallied { Tallied no_copies result self.old.tally self.new.tally }
+        ensures tallied { Tallied (ended no_copies) result self.old.tally self.new.tally }
     {
         if self.tally.is_broken() {
             return Err(OutsideFault::Stopped);
@@ -157,7 +156,7 @@ impl<F: Mailbox + Drop, N: Mailbox + Drop, S: Shelf + Drop> Outside for Pair<F, 
         ensures opened { OnOk result (opened_of self.new ≡ turned (λ _. Missing) (opened_of self.old)) }
         ensures call { BookCall FromBook (λ p. TurnsJournal p Missing) (λ p. TurnsHalf p Missing) self.old self.new result }
         ensures why { IsErrOf result OutsideFault.Stopped → ByBook self.old self.new }
-        ensures tallied { Tallied no_copies result self.old.tally self.new.tally }
+        ensures tallied { Tallied (ended no_copies) result self.old.tally self.new.tally }
     {
         if self.tally.is_broken() {
             return Err(OutsideFault::Stopped);
@@ -172,7 +171,7 @@ impl<F: Mailbox + Drop, N: Mailbox + Drop, S: Shelf + Drop> Outside for Pair<F, 
         ensures opened { OnOk result (opened_of self.new ≡ turned mended (opened_of self.old)) }
         ensures call { BookCall FromBook (λ p. TurnsJournal p (mended p)) (λ p. TurnsHalf p p) self.old self.new result }
         ensures why { IsErrOf result OutsideFault.Stopped → ByBook self.old self.new }
-        ensures tallied { Tallied no_copies result self.old.tally self.new.tally }
+        ensures tallied { Tallied (ended no_copies) result self.old.tally self.new.tally }
     {
         if self.tally.is_broken() {
             return Err(OutsideFault::Stopped);
@@ -188,7 +187,7 @@ impl<F: Mailbox + Drop, N: Mailbox + Drop, S: Shelf + Drop> Outside for Pair<F, 
         ensures call { BookCall FromBook (λ _. TurnsJournal Missing (begun plan)) (λ _. TurnsHalf Missing Useless)
             self.old self.new result }
         ensures why { IsErrOf result OutsideFault.Stopped → BySyncedBook self.old self.new }
-        ensures tallied { Tallied no_copies result self.old.tally self.new.tally }
+        ensures tallied { Tallied (ended no_copies) result self.old.tally self.new.tally }
         ensures synced { IsSyncedFirst self.old self.new }
     {
         if self.tally.is_broken() {
@@ -205,7 +204,7 @@ impl<F: Mailbox + Drop, N: Mailbox + Drop, S: Shelf + Drop> Outside for Pair<F, 
         ensures call { BookCall (FromLog (opened_of self.old) (as_done copy)) (λ p. TurnsJournal p (logged_more p (as_done copy)))
             (λ p. TurnsHalf p (torn p)) self.old self.new result }
         ensures why { IsErrOf result OutsideFault.Stopped → ByBook self.old self.new }
-        ensures tallied { Tallied no_copies result self.old.tally self.new.tally }
+        ensures tallied { Tallied (ended no_copies) result self.old.tally self.new.tally }
     {
         if self.tally.is_broken() {
             return Err(OutsideFault::Stopped);
@@ -220,7 +219,7 @@ impl<F: Mailbox + Drop, N: Mailbox + Drop, S: Shelf + Drop> Outside for Pair<F, 
         ensures opened { OnOk result (opened_of self.new ≡ turned (λ p. logged_more p Void) (opened_of self.old)) }
         ensures call { BookCall FromBook (λ p. TurnsJournal p (logged_more p Void)) (λ p. TurnsHalf p (torn p)) self.old self.new result }
         ensures why { IsErrOf result OutsideFault.Stopped → ByBook self.old self.new }
-        ensures tallied { Tallied no_copies result self.old.tally self.new.tally }
+        ensures tallied { Tallied (ended no_copies) result self.old.tally self.new.tally }
     {
         if self.tally.is_broken() {
             return Err(OutsideFault::Stopped);
@@ -236,7 +235,7 @@ impl<F: Mailbox + Drop, N: Mailbox + Drop, S: Shelf + Drop> Outside for Pair<F, 
         ensures held { result ≡ Ok tt → honest_of self.new → IsHeld (opened_of self.new) (seen_of self.new).device }
         ensures call { BookCall FromBook CommitsTo CommitsHalf self.old self.new result }
         ensures why { IsErrOf result OutsideFault.Stopped → BySyncedBook self.old self.new }
-        ensures tallied { Tallied no_copies result self.old.tally self.new.tally }
+        ensures tallied { Tallied (ended no_copies) result self.old.tally self.new.tally }
         ensures synced { IsSyncedFirst self.old self.new }
     {
         if self.tally.is_broken() {
@@ -251,7 +250,7 @@ impl<F: Mailbox + Drop, N: Mailbox + Drop, S: Shelf + Drop> Outside for Pair<F, 
         ensures opened { OnOk result (opened_of self.new ≡ with_box side (opened_of self.old)) }
         ensures call { BoxRead (λ validity d. validity ≡ (box d side).validity) self.old self.new result }
         ensures why { IfErr result (ByBox side (CannotOpen side self.old) self.old self.new) }
-        ensures tallied { Tallied no_copies result self.old.tally self.new.tally }
+        ensures tallied { Tallied (ended no_copies) result self.old.tally self.new.tally }
     {
         if self.tally.is_broken() {
             return Err(OutsideFault::Stopped);
@@ -274,7 +273,7 @@ impl<F: Mailbox + Drop, N: Mailbox + Drop, S: Shelf + Drop> Outside for Pair<F, 
         ensures opened { opened_of self.new ≡ opened_of self.old }
         ensures call { BoxChange (Admits (F.alone && N.alone)) (AdmitsPart (F.alone && N.alone)) self.old self.new result }
         ensures why { IfErr result (ByBox Side.Near (NoRoom Side.Near (λ b. length b.waiting)) self.old self.new) }
-        ensures tallied { Tallied no_copies result self.old.tally self.new.tally }
+        ensures tallied { Tallied (ended no_copies) result self.old.tally self.new.tally }
     {
         if self.tally.is_broken() {
             return Err(OutsideFault::Stopped);
@@ -290,7 +289,7 @@ impl<F: Mailbox + Drop, N: Mailbox + Drop, S: Shelf + Drop> Outside for Pair<F, 
         ensures numbers { IfOk result HasNumbers }
         ensures call { BoxRead (ListsFar (F.alone && N.alone) (seen_of self.old).device.far.next) self.old self.new result }
         ensures why { IfErr result (ByBox Side.Far Never self.old self.new) }
-        ensures tallied { Tallied no_copies result self.old.tally self.new.tally }
+        ensures tallied { Tallied (ended no_copies) result self.old.tally self.new.tally }
     {
         if self.tally.is_broken() {
             return Err(OutsideFault::Stopped);
@@ -306,7 +305,7 @@ impl<F: Mailbox + Drop, N: Mailbox + Drop, S: Shelf + Drop> Outside for Pair<F, 
         ensures numbers { IfOk result HasNumbers }
         ensures call { BoxRead (ListsNear from) self.old self.new result }
         ensures why { IfErr result (ByBox Side.Near Never self.old self.new) }
-        ensures tallied { Tallied no_copies result self.old.tally self.new.tally }
+        ensures tallied { Tallied (ended no_copies) result self.old.tally self.new.tally }
     {
         if self.tally.is_broken() {
             return Err(OutsideFault::Stopped);
@@ -321,7 +320,7 @@ impl<F: Mailbox + Drop, N: Mailbox + Drop, S: Shelf + Drop> Outside for Pair<F, 
         ensures opened { opened_of self.new ≡ opened_of self.old }
         ensures call { BoxRead (λ found d. found ≡ marked_from mark from (box d side)) self.old self.new result }
         ensures why { IfErr result (ByBox side Never self.old self.new) }
-        ensures tallied { Tallied no_copies result self.old.tally self.new.tally }
+        ensures tallied { Tallied (ended no_copies) result self.old.tally self.new.tally }
     {
         if self.tally.is_broken() {
             return Err(OutsideFault::Stopped);
@@ -352,7 +351,7 @@ impl<F: Mailbox + Drop, N: Mailbox + Drop, S: Shelf + Drop> Outside for Pair<F, 
         ensures call { PairCall copies_made FromBox (Carry direction uid flags mark)
             (LeavesBy (Carry direction uid flags mark) (SetsAside (target direction))) self.old self.new result }
         ensures why { IfErr result (ByCopy direction self.old self.new) }
-        ensures tallied { Tallied copies_made result self.old.tally self.new.tally }
+        ensures tallied { Tallied (ended copies_made) result self.old.tally self.new.tally }
     {
         if self.tally.is_broken() {
             return Err(OutsideFault::Stopped);
@@ -389,9 +388,9 @@ impl<F: Mailbox + Drop, N: Mailbox + Drop, S: Shelf + Drop> Outside for Pair<F, 
         requires is_open { IsOpen side (opened_of self.old) }
         ensures was_honest { honest_of self.new → honest_of self.old }
         ensures opened { opened_of self.new ≡ opened_of self.old }
-        ensures call { BoxChange (Turns side (flags_added uid flags)) Nothing self.old self.new result }
+        ensures call { BoxChange (Turns side uid (flags_added uid flags)) (Names side uid) self.old self.new result }
         ensures why { IfErr result (ByBox side Never self.old self.new) }
-        ensures tallied { Tallied no_copies result self.old.tally self.new.tally }
+        ensures tallied { Tallied (ended_naming side uid) result self.old.tally self.new.tally }
     {
         if self.tally.is_broken() {
             return Err(OutsideFault::Stopped);
@@ -399,11 +398,11 @@ impl<F: Mailbox + Drop, N: Mailbox + Drop, S: Shelf + Drop> Outside for Pair<F, 
         match side {
             Side::Far => {
                 let answer = self.far.add_flags(uid, flags);
-                self.tally.end_at(Side::Far, answer)
+                self.tally.end_naming(Side::Far, uid, answer)
             }
             Side::Near => {
                 let answer = self.near.add_flags(uid, flags);
-                self.tally.end_at(Side::Near, answer)
+                self.tally.end_naming(Side::Near, uid, answer)
             }
         }
     }
@@ -412,9 +411,9 @@ impl<F: Mailbox + Drop, N: Mailbox + Drop, S: Shelf + Drop> Outside for Pair<F, 
         requires is_open { IsOpen side (opened_of self.old) }
         ensures was_honest { honest_of self.new → honest_of self.old }
         ensures opened { opened_of self.new ≡ opened_of self.old }
-        ensures call { BoxChange (Turns side (flags_removed uid flags)) Nothing self.old self.new result }
+        ensures call { BoxChange (Turns side uid (flags_removed uid flags)) (Names side uid) self.old self.new result }
         ensures why { IfErr result (ByBox side Never self.old self.new) }
-        ensures tallied { Tallied no_copies result self.old.tally self.new.tally }
+        ensures tallied { Tallied (ended_naming side uid) result self.old.tally self.new.tally }
     {
         if self.tally.is_broken() {
             return Err(OutsideFault::Stopped);
@@ -422,11 +421,11 @@ impl<F: Mailbox + Drop, N: Mailbox + Drop, S: Shelf + Drop> Outside for Pair<F, 
         match side {
             Side::Far => {
                 let answer = self.far.remove_flags(uid, flags);
-                self.tally.end_at(Side::Far, answer)
+                self.tally.end_naming(Side::Far, uid, answer)
             }
             Side::Near => {
                 let answer = self.near.remove_flags(uid, flags);
-                self.tally.end_at(Side::Near, answer)
+                self.tally.end_naming(Side::Near, uid, answer)
             }
         }
     }
@@ -435,9 +434,9 @@ impl<F: Mailbox + Drop, N: Mailbox + Drop, S: Shelf + Drop> Outside for Pair<F, 
         requires is_open { IsOpen side (opened_of self.old) }
         ensures was_honest { honest_of self.new → honest_of self.old }
         ensures opened { opened_of self.new ≡ opened_of self.old }
-        ensures call { BoxChange (Turns side (removed side uid)) Nothing self.old self.new result }
+        ensures call { BoxChange (Turns side uid (removed side uid)) (Names side uid) self.old self.new result }
         ensures why { IfErr result (ByBox side Never self.old self.new) }
-        ensures tallied { Tallied no_copies result self.old.tally self.new.tally }
+        ensures tallied { Tallied (ended_naming side uid) result self.old.tally self.new.tally }
     {
         if self.tally.is_broken() {
             return Err(OutsideFault::Stopped);
@@ -445,11 +444,11 @@ impl<F: Mailbox + Drop, N: Mailbox + Drop, S: Shelf + Drop> Outside for Pair<F, 
         match side {
             Side::Far => {
                 let answer = self.far.expunge(uid);
-                self.tally.end_at(Side::Far, answer)
+                self.tally.end_naming(Side::Far, uid, answer)
             }
             Side::Near => {
                 let answer = self.near.expunge(uid);
-                self.tally.end_at(Side::Near, answer)
+                self.tally.end_naming(Side::Near, uid, answer)
             }
         }
     }

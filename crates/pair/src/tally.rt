@@ -1,10 +1,10 @@
-//! Whether calls of an outside are answered, what was told, and how the device was each time it was opened again.
+//! Whether calls of an outside are answered, what was told and named, and how the device was each time it was opened again.
 
 ghost use Rattle.std.specs.Prelude.{◌≡◌, false};
 ghost use Rattle.outside.specs.BoxCalls.{copies_made};
 ghost use Rattle.outside.specs.Devices.{Device};
 ghost use Rattle.pair.specs.Faults.{told, told_by};
-ghost use Rattle.pair.specs.Tallies.{counted_again, ended, failed, no_copies, untouched};
+ghost use Rattle.pair.specs.Tallies.{counted_again, ended, ended_naming, failed, no_copies, untouched};
 
 use crate::book_part::BookPart;
 use crate::reopened::Reopened;
@@ -13,27 +13,35 @@ use device::history::History;
 use mailbox::fault::BoxFault;
 use mailbox::mailbox::Mailbox;
 use mailcore::side::Side;
+use mailcore::uid::Uid;
 use outside::fault::OutsideFault;
 use outside::outside::Carried;
 use std::marker::Model;
 
-/// Whether calls of an outside are answered, and, for contracts alone, which faults were told, how many copies were made, and how the
-/// device was each time the outside was opened again.
+/// Whether calls of an outside are answered, and, for contracts alone, which faults were told, how many copies were made, which messages
+/// calls have named, and how the device was each time the outside was opened again.
 #[derive(Drop)]
 pub struct Tally {
     is_broken: bool,
     told: History<OutsideFault>,
     copies: History<Carried>,
+    named: History<(Side, Uid)>,
     reopened: Reopened,
 }
 
 impl Model for Tally {
-    ghost use Rattle.std.specs.Prelude.{length};
+    ghost use Rattle.std.specs.Prelude.{length, map};
     ghost use Rattle.pair.specs.Tallies.{Counts};
 
     ghost Value = { Counts };
 
-    ghost view = { λ t. record { is_broken = t.is_broken; told = t.told.items; copies = length t.copies.items; reopened = t.reopened.devices } };
+    ghost view = { λ t. record {
+      is_broken = t.is_broken;
+      told = t.told.items;
+      copies = length t.copies.items;
+      named = map (λ message. record { side = message.0; uid = message.1 }) t.named.items;
+      reopened = t.reopened.devices;
+    } };
 }
 
 impl Tally {
@@ -45,6 +53,7 @@ impl Tally {
             is_broken: false,
             told: History::new(),
             copies: History::new(),
+            named: History::new(),
             reopened: Reopened::new(),
         }
     }
@@ -80,6 +89,24 @@ impl Tally {
                 Err(fault)
             }
         }
+    }
+
+    /// The same of a call that was to change or to remove this message of the mailbox. It is named, unless the fault says that nothing
+    /// was changed.
+    pub fn end_naming<T>(
+        &mut self,
+        side: Side,
+        uid: Uid,
+        answer: Result<T, BoxFault>,
+    ) -> Result<T, OutsideFault>
+        ensures same { result ≡ told_by side answer }
+        ensures now { self.new ≡ ended_naming side uid (told_by side answer) self.old }
+    {
+        match &answer {
+            Err(BoxFault::Refused | BoxFault::Own(_)) => {}
+            _ => self.named = self.named.and(&(side, uid)),
+        }
+        self.end_at(side, answer)
     }
 
     /// The same of a call that may have made a copy.

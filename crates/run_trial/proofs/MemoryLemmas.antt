@@ -1,8 +1,9 @@
 -- The setting of a trial holds its world, and what a run over it leaves.
-use Rattle.std.proofs.Common.{◌≡◌, ℕ, ◌+◌, ◌-◌, ◌<◌, ◌≤◌, ◌^◌, true, List, length, map, Option, None, refl, sym, ap, subst, ◌∙◌, ⊎_elim, arith}
+use Rattle.std.proofs.Common.{◌≡◌, ℕ, ◌+◌, ◌-◌, ◌<◌, ◌≤◌, ◌^◌, true, List, [], length, map, Option, None, refl, sym, ap, subst, ◌∙◌, ⊎_elim, arith}
 use Rattle.std.specs.Prelude.{Result, Ok, Err, OnOk, IfOk, IfErr, IsErrAnd, codes, Vec}
 use Rattle.std.specs.Global.{Global}
 use Rattle.std.proofs.lemmas.Bool.{cases_lt}
+use Rattle.std.proofs.lemmas.List.Elements.{All-nil}
 use Rattle.mailcore.specs.Mailboxes.{Mailbox}
 use Rattle.rules.specs.declared.options.Options.{Options}
 use Rattle.rules.specs.Opening.{IsOpening}
@@ -41,11 +42,11 @@ stands_so : (trial : Trial) (s : Setting) → IsSettingOf trial s → trial.cour
 stands_so trial s holds none opening fits =
     let w : World = world_of trial.world in
     let near : Mailbox = record { store = w.near; waiting = w.waiting } in
-    ap (λ (ms : List FarMailbox). device_with (settled (store_at (codes "INBOX") ms)) (near_of 1 (stored_in s.folder)) (files_of s.shelf)) holds.far
-    ∙ ap (λ (f : Stored). device_with (settled w.far) (near_of 1 f) (files_of s.shelf)) holds.folder
-    ∙ ap (λ (n : Mailbox). device_with (settled w.far) n (files_of s.shelf))
+    ap (λ (ms : List FarMailbox). device_with (settled (store_at (codes "INBOX") ms)) (near_of 1 (stored_in s.folder)) (files_of s.shelf) []) holds.far
+    ∙ ap (λ (f : Stored). device_with (settled w.far) (near_of 1 f) (files_of s.shelf) []) holds.folder
+    ∙ ap (λ (n : Mailbox). device_with (settled w.far) n (files_of s.shelf) [])
     (folder_holds 1 w.near w.waiting opening.world.in_order.near (near_in_range w opening fits) (waiting_in_sets w opening) (few_files w opening fits))
-    ∙ ap (λ (f : Files). device_with (settled w.far) near f)
+    ∙ ap (λ (f : Files). device_with (settled w.far) near f [])
     (holds.shelf ∙ ap (λ (j : Option (Vec ℕ Global)). shelf_of w.state (bytes_of j)) none)
 
 pub stands : (trial : Trial) (s : Setting) (w : World) → w ≡ world_of trial.world → IsSettingOf trial s → trial.course.journal ≡ None
@@ -54,13 +55,13 @@ stands trial s w same holds none =
     subst (λ (x : World). IsOpening x → FitsWords x → device_in s ≡ device_of x) (sym same) (stands_so trial s holds none)
 
 pub holds_world : (w : World) (d : Device) → IsOpening w → FitsWords w → d ≡ device_of w → HoldsWorld w d
-holds_world w d opening fits same = subst (HoldsWorld w) (sym same) (record { world = refl; files = shelf_holds w opening fits })
+holds_world w d opening fits same = subst (HoldsWorld w) (sym same) (record { world = refl; files = shelf_holds w opening fits; spares = All-nil _ })
 
 -- the outside of a run over a setting, by what was said of its parts
 pub setting_seen : (s : Setting) (server : Server) (seen : Seen) → server ≡ s.far.server.server
-    → seen ≡ seen_with (device_with (box_at (codes "INBOX") server) (near_of 1 (stored_in s.folder)) (files_of s.shelf)) untouched → seen ≡ seen_with (device_in s) untouched
+    → seen ≡ seen_with (device_with (box_at (codes "INBOX") server) (near_of 1 (stored_in s.folder)) (files_of s.shelf) []) untouched → seen ≡ seen_with (device_in s) untouched
 setting_seen s server seen same is =
-    is ∙ ap (λ (v : Server). seen_with (device_with (box_at (codes "INBOX") v) (near_of 1 (stored_in s.folder)) (files_of s.shelf)) untouched) same
+    is ∙ ap (λ (v : Server). seen_with (device_with (box_at (codes "INBOX") v) (near_of 1 (stored_in s.folder)) (files_of s.shelf) []) untouched) same
 
 -- ---- what is left of it
 

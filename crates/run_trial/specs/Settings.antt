@@ -21,7 +21,7 @@ inbox_of far = record { name = codes "INBOX"; store = store_of far } ∷ []
 
 -- what a run over them finds
 abbrev pub device_in : Setting → Device
-device_in s = device_with (box_at (codes "INBOX") s.far.server.server) (near_of 1 (stored_in s.folder)) (files_of s.shelf)
+device_in s = device_with (box_at (codes "INBOX") s.far.server.server) (near_of 1 (stored_in s.folder)) (files_of s.shelf) []
 
 -- they hold what the trial says
 pub record IsSettingOf (trial : Trial) (s : Setting) : Type 0 where

@@ -1,6 +1,6 @@
 //! The devices of a trial, and a run over them.
 
-ghost use Rattle.std.specs.Prelude.{◌≡◌, IfErr, IfOk, IsErrOf, OnOk, codes, true};
+ghost use Rattle.std.specs.Prelude.{◌≡◌, [], IfErr, IfOk, IsErrOf, OnOk, codes, true};
 ghost use Rattle.maildir.specs.MemFolders.{stored_in};
 ghost use Rattle.rules.specs.World.{World};
 ghost use Rattle.book.specs.MemShelves.{files_of};
@@ -106,7 +106,7 @@ impl<L: TrialLink + Drop> Devices<L> {
     /// The outside of a run over them. Nothing is open, and no call was made.
     pub(crate) fn together(self, alloc: Global) -> Result<Both<L, MemFolder, MemShelf>, Failure>
         ensures { IfOk result (λ both. seen_of both ≡ seen_with (device_with (box_at (codes "INBOX") (L.line self.link).end.server)
-            (near_of 1 (stored_in self.folder)) (files_of self.shelf)) untouched) }
+            (near_of 1 (stored_in self.folder)) (files_of self.shelf) []) untouched) }
     {
         let sides = Sides {
             far: FarSide::new(alloc, account_of(alloc)?, self.link),

@@ -16,7 +16,7 @@ use Rattle.outside.specs.Arrivals.{Arrives}
 use Rattle.outside.specs.BookCalls.{TellsFiles}
 use Rattle.outside.specs.Calls.{FromShelf, Seen, opened_again}
 use Rattle.outside.specs.Devices.{Device}
-use Rattle.outside.specs.GoingOn.{GoesOn, GoesOnTo}
+use Rattle.outside.specs.GoingOn.{FilesGoOn, GoesOnTo}
 use Rattle.outside.specs.Opened.{IsHeld, Opened, state_of}
 use Rattle.underway.specs.Conditions.{IsPending, Underway}
 use Rattle.underway.specs.Openings.{Opening, Unplanned}
@@ -28,12 +28,12 @@ use Rattle.runner.specs.declared.pass.Pass.{Pass}
 use Rattle.runner.specs.declared.fault.RunFault.TheVariants as run
 use Rattle.runner.specs.Faults.{IsBeyond, IsCaused, IsLastRun, Reasons, because, call_fault, or_beyond, or_refused, or_unread, stops_met}
 use Rattle.runner.specs.Parts.{IsStuck, Left, TellsMore}
-use Rattle.runner.specs.Answers.{Answers, IsAsked, Moves, RunsBy, as_read, run_of}
+use Rattle.runner.specs.Answers.{Answers, IsAsked, Moves, as_read, run_of}
 use Rattle.runner.specs.Attempts.{AnswersAt, AtOpening, HasNoNext, HasReached, IsReached, MetBefore, MetStops, Reopens, TellsNoNext, TriedAt, failed_before, found_by}
 use Rattle.runner.specs.Validities.{IsKept, TellsChanged}
 use Rattle.runner.proofs.PartCalls.{TellsNoBook, broken_or_whole, caused_after, caused_told, more_after, more_none}
 use Rattle.runner.proofs.Passes.{planned_state, run_of_state, unplanned_state}
-use Rattle.runner.proofs.Readings.{no_line, underway_files, unread_left}
+use Rattle.runner.proofs.Readings.{no_line, unread_left}
 use Rattle.runner.proofs.Validities.{changed_before, kept_arrives, kept_next, kept_read}
 
 -- ---- the generator
@@ -297,7 +297,7 @@ caused_since {c} h a u repeats beyond unread f s0 s1 s2 more appends other l g b
 -- ---- a run that is fixed is not beyond the next one
 
 -- it is so still of what the files have gone on to
-pub reached_on : (run : ℕ) (a b : Files) → GoesOn a b → HasReached run a → HasReached run b
+pub reached_on : (run : ℕ) (a b : Files) → FilesGoOn a b → HasReached run a → HasReached run b
 reached_on run a b on r =
     let n = on r.state r.pending r.held in
     record { state = n.state; pending = n.pending; held = n.held; next = by_case n.state n.pending n.goes_on r.next }
@@ -306,7 +306,7 @@ reached_on run a b on r =
     by_case t q (inl same) next = let e = ap (λ (s : SyncState). s.run) same.0 in omega (arith, e, next)
     by_case t q (inr less) next = omega (arith, less, next)
 
-pub fixed_on : (fixed : Option ℕ) (run : ℕ) (a b : Files) → fixed ≡ Some run → GoesOn a b → HasReached run a → IsReached fixed b
+pub fixed_on : (fixed : Option ℕ) (run : ℕ) (a b : Files) → fixed ≡ Some run → FilesGoOn a b → HasReached run a → IsReached fixed b
 fixed_on fixed run a b is on r = subst (λ (x : Option ℕ). IsReached x b) (sym is) (reached_on run a b on r)
 
 pub none_reached : (fixed : Option ℕ) (files : Files) → fixed ≡ None → IsReached fixed files

@@ -1,7 +1,7 @@
 -- Admission, two listings and the writing of the plan.
 use Rattle.std.proofs.Common.{◌≡◌, ◌⊎◌, inl, inr, ℕ, Bool, true, false, List, ◌++◌, length, Option, Some, None, refl, ◌∙◌, ap, subst}
 use Rattle.std.proofs.lemmas.Bool.{both_ways}
-use Rattle.mailcore.specs.declared.side.Side.TheVariants.{Far, Near as NearSide}
+use Rattle.mailcore.specs.declared.side.Side.TheVariants.{Near as NearSide}
 use Rattle.mailcore.specs.declared.listing.Listing.{Listing}
 use Rattle.mailcore.specs.Operations.{ShowsAbove}
 use Rattle.mailcore.specs.Mailboxes.{Mailbox}
@@ -21,13 +21,14 @@ use Rattle.underway.specs.Moments.{Listed}
 use Rattle.underway.specs.Openings.{Opening, Since, Unplanned}
 use Rattle.underway.proofs.Admitting.{drop_whole, grows_numbered}
 use Rattle.underway.proofs.Growth.{files_same, since_map, unplanned_arrives, unplanned_filed}
-use Rattle.underway.proofs.Listings.{listed_arrives, listed_grows, listed_here, listed_world, names_below, plan_written as written_midway}
+use Rattle.underway.proofs.Listings.{grows_next, listed_arrives, listed_grows, listed_here, listed_world, names_below, plan_written as written_midway}
+use Rattle.underway.proofs.Moves.{spares_more}
 use Rattle.runner.specs.Before.{AreShown, BothListed, FarListed, IsClear, IsMade}
 use Rattle.runner.specs.Going.{AtReady}
 
 module _ (ours : List ℕ → Bool) (alone : Bool) (opening : Opening) where
   pub clear_unplanned : (opened : Option Opened) (is_admitted : Bool) (d : Device) → IsClear alone opening opened is_admitted d → Unplanned alone opening d
-  clear_unplanned opened is_admitted d c = record { pending = Missing; idle = tt; files = c.files; chosen = c.chosen; below = c.below; grows = c.grows }
+  clear_unplanned opened is_admitted d c = record { pending = Missing; idle = tt; files = c.files; chosen = c.chosen; below = c.below; grows = c.grows; spares = c.spares }
 
   pub clear_underway : (opened : Option Opened) (is_admitted : Bool) (d : Device) → IsClear alone opening opened is_admitted d → Underway ours alone opening d
   clear_underway opened is_admitted d c = inl (clear_unplanned opened is_admitted d c)
@@ -41,6 +42,7 @@ module _ (ours : List ℕ → Bool) (alone : Bool) (opening : Opening) where
         chosen = c.chosen;
         below = c.below;
         grows = n.grows;
+        spares = n.spares;
         admitted = λ is e. rw (a.nobody e) (c.admitted is e);
       }
 
@@ -56,6 +58,7 @@ module _ (ours : List ℕ → Bool) (alone : Bool) (opening : Opening) where
         chosen = k.chosen;
         below = k.below;
         grows = grows_numbered alone opening.world opening.world.state (length n.read) n.read n.left m d' n.reading t.far n.now k.grows;
+        spares = rw t.named k.spares;
         admitted = λ is e. ap (λ (b : Mailbox). b.waiting) n.now ∙ ap (λ (fs : List Waiting). fs ++ n.left) (drop_whole n.read) ∙ (n.reading.all e).1;
       }
 
@@ -69,6 +72,7 @@ module _ (ours : List ℕ → Bool) (alone : Bool) (opening : Opening) where
         chosen = k.chosen;
         below = k.below;
         grows = grows_numbered alone opening.world opening.world.state n.count n.read n.left m d' n.reading t.far n.now k.grows;
+        spares = rw t.named k.spares;
         admitted = λ e. absurd (both_ways false refl e);
       }
 
@@ -91,7 +95,7 @@ module _ (ours : List ℕ → Bool) (alone : Bool) (opening : Opening) where
         grows = grows;
         admitted = λ e. c.admitted refl e;
         below = names_below alone opening.world (listed_world s far.next d m) grows c.below;
-        holds = (record { far_is = f.lists.shows; near_is = subst (λ (x : ℕ). ShowsAbove NearSide x m.near.store near) pushed l }, listed_here ours alone opening.world s far.next d m grows most (λ e. c.admitted refl e) a c.files);
+        holds = (record { far_is = f.lists.shows; near_is = subst (λ (x : ℕ). ShowsAbove NearSide x m.near.store near) pushed l }, listed_here ours alone opening.world s far.next d m grows most (λ e. c.admitted refl e) a c.files (spares_more opening.world (listed_world s far.next d m) m (grows_next alone opening.world (listed_world s far.next d m) grows) c.spares));
       } in
       rw is (record { clear = c; since = since })
 
@@ -106,15 +110,15 @@ module _ (ours : List ℕ → Bool) (alone : Bool) (opening : Opening) where
       let now = made_arrives (Some o) plan d m a p in
       record {
         state = now.clear.state;
-        since = since_map alone opening _ _ (λ w g k. let l = k.1 in written_midway ours alone w opening.options plan m d' k.0 l t.far t.near (t.files w.state l.files)) now.since;
+        since = since_map alone opening _ _ (λ w g k. let l = k.1 in written_midway ours alone w opening.options plan m d' k.0 l t.far t.near t.named (t.files w.state l.files)) now.since;
       }
 
   pub half_written : (opened : Option Opened) (plan : Plan) (d m d' : Device) → Arrives ours alone d m → IsMade ours alone opening opened plan d → OfBook (λ _. TurnsHalf Missing Useless) opened m d' → Underway ours alone opening d'
   half_written None plan d m d' a p t = absurd t
   half_written (Some o) plan d m d' a p t =
       let c = clear_arrives (Some o) true d m a p.clear in
-      by_files (clear_unplanned (Some o) true m c) t.far t.near (t.files opening.world.state c.files)
+      by_files (clear_unplanned (Some o) true m c) t.far t.near t.named (t.files opening.world.state c.files)
     where
-      by_files : Unplanned alone opening m → d'.far ≡ m.far → d'.near ≡ m.near → Holds d'.files opening.world.state Missing ⊎ Holds d'.files opening.world.state Useless → Underway ours alone opening d'
-      by_files n far near (inl held) = inl (unplanned_filed alone opening Missing m d' tt far near held n)
-      by_files n far near (inr held) = inl (unplanned_filed alone opening Useless m d' tt far near held n)
+      by_files : Unplanned alone opening m → d'.far ≡ m.far → d'.near ≡ m.near → d'.named ≡ m.named → Holds d'.files opening.world.state Missing ⊎ Holds d'.files opening.world.state Useless → Underway ours alone opening d'
+      by_files n far near named (inl held) = inl (unplanned_filed alone opening Missing m d' tt far near named held n)
+      by_files n far near named (inr held) = inl (unplanned_filed alone opening Useless m d' tt far near named held n)

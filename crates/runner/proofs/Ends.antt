@@ -1,26 +1,22 @@
 -- How several attempts end, by the last of them.
-use Rattle.std.proofs.Common.{◌≡◌, ◌<◌, ◌+◌, ℕ, Bool, List, Option, Result, Ok, Err, refl, sym, subst}
+use Rattle.std.proofs.Common.{◌≡◌, ◌<◌, ◌+◌, ℕ, Bool, List, sym, subst}
 use Rattle.rand_core.specs.Stream.{Stream}
 use Rattle.mailcore.specs.declared.side.Side.{Side}
 use Rattle.rules.specs.declared.options.Options.{Options}
-use Rattle.rules.specs.declared.state.SyncState.{SyncState}
-use Rattle.book.specs.declared.book.Pending.{Pending}
-use Rattle.book.specs.Books.{Holds}
 use Rattle.outside.specs.Calls.{Seen}
 use Rattle.outside.specs.Devices.{Device}
-use Rattle.underway.specs.Conditions.{IsOver, Underway}
+use Rattle.underway.specs.Conditions.{IsOver}
 use Rattle.underway.specs.Openings.{Opening}
 use Rattle.runner.specs.declared.fault.RunFault.{RunFault}
 use Rattle.runner.specs.declared.fault.RunFault.TheVariants as run
 use Rattle.runner.specs.declared.pass.Settled.{Settled}
-use Rattle.runner.specs.Answers.{as_read}
 use Rattle.runner.specs.Attempts.{AnswersAt, ChangedLast, began_on}
 use Rattle.runner.specs.Faults.{IsCaused, Reasons}
 use Rattle.runner.specs.Finding.{FindsAt}
 use Rattle.runner.specs.Parts.{Left}
 use Rattle.runner.specs.Results.{IsTold}
 use Rattle.runner.specs.Settled.{IsSettled}
-use Rattle.runner.specs.Validities.{HasChanged, IsKept, TellsChanged}
+use Rattle.runner.specs.Validities.{TellsChanged}
 use Rattle.runner.proofs.Passes.{over_alike}
 use Rattle.runner.proofs.Readings.{underway_files}
 use Rattle.runner.proofs.Reopening.{BeganAt}

@@ -84,7 +84,7 @@ module _ (ours : List ℕ → Bool) (alone : Bool) (opening : Opening) (opened :
   log_made now d m d' g h a at e =
       let t = of_book (λ p. Turns p (logged_more p logged)) opened m d' g.untorn e in
       let k = moment_map alone opening opened _ (λ w. Midway ours alone w opening.options (plan_at opened) (log_at opened ++ logged ∷ []) false (log_at opened ++ logged ∷ []) false d')
-      (λ w grows b x. midway_filed ours alone w opening.options (plan_at opened) (log_at opened) (log_at opened ++ logged ∷ []) false false (log_at opened ++ logged ∷ []) false m d' t.far t.near (t.files w.state x.files) x)
+      (λ w grows b x. midway_filed ours alone w opening.options (plan_at opened) (log_at opened) (log_at opened ++ logged ∷ []) false false (log_at opened ++ logged ∷ []) false m d' t.far t.near t.named (t.files w.state x.files) x)
       (done_arrives ours alone opening opened logged d m a at) in
       rw (h.plan, h.log) (record { state = h.state ∙ k.state; since = k.since })
 
@@ -97,11 +97,11 @@ module _ (ours : List ℕ → Bool) (alone : Bool) (opening : Opening) (opened :
   half_underway d m d' g a at e =
       let t = of_book (λ p. TurnsHalf p (torn p)) opened m d' g.untorn e in
       planned ours alone opening opened (λ w. PlannedAt ours alone w opening.options d') d' (λ w p. p)
-      (moment_map alone opening opened _ _ (λ w grows b x. by_files w t.far t.near x (t.files w.state x.files)) (done_arrives ours alone opening opened logged d m a at))
+      (moment_map alone opening opened _ _ (λ w grows b x. by_files w t.far t.near t.named x (t.files w.state x.files)) (done_arrives ours alone opening opened logged d m a at))
     where
-      by_files : (w : World) → d'.far ≡ m.far → d'.near ≡ m.near → Midway ours alone w opening.options (plan_at opened) (log_at opened) false (log_at opened ++ logged ∷ []) false m → Holds d'.files w.state (with_log (plan_at opened) (log_at opened) false) ⊎ Holds d'.files w.state (with_log (plan_at opened) (log_at opened) true) → PlannedAt ours alone w opening.options d'
-      by_files w far near x (inl held) = record { plan = plan_at opened; log = log_at opened; is_torn = false; stands = inr (logged, midway_filed ours alone w opening.options (plan_at opened) (log_at opened) (log_at opened) false false (log_at opened ++ logged ∷ []) false m d' far near held x) }
-      by_files w far near x (inr held) = record { plan = plan_at opened; log = log_at opened; is_torn = true; stands = inr (logged, midway_filed ours alone w opening.options (plan_at opened) (log_at opened) (log_at opened) false true (log_at opened ++ logged ∷ []) false m d' far near held x) }
+      by_files : (w : World) → d'.far ≡ m.far → d'.near ≡ m.near → d'.named ≡ m.named → Midway ours alone w opening.options (plan_at opened) (log_at opened) false (log_at opened ++ logged ∷ []) false m → Holds d'.files w.state (with_log (plan_at opened) (log_at opened) false) ⊎ Holds d'.files w.state (with_log (plan_at opened) (log_at opened) true) → PlannedAt ours alone w opening.options d'
+      by_files w far near named x (inl held) = record { plan = plan_at opened; log = log_at opened; is_torn = false; stands = inr (logged, midway_filed ours alone w opening.options (plan_at opened) (log_at opened) (log_at opened) false false (log_at opened ++ logged ∷ []) false m d' far near named held x) }
+      by_files w far near named x (inr held) = record { plan = plan_at opened; log = log_at opened; is_torn = true; stands = inr (logged, midway_filed ours alone w opening.options (plan_at opened) (log_at opened) (log_at opened) false true (log_at opened ++ logged ∷ []) false m d' far near named held x) }
 
   -- the UID of a copy that was made is not taken
   never_taken : (d m : Device) → IsGoing opened → Arrives ours alone d m → AtDone ours alone opening opened logged d → IsTaken opened logged → ⊥

@@ -281,14 +281,14 @@ module _ {T : Type 0} (honest : Type 0) (others : Effect Device) (copies : T →
 
 -- ---- what the files hold
 
-pub goes_on : {T : Type 0} (reasons : Reasons) (honest : Type 0) (from underway : Device → Type 0) (copies : T → ℕ) (reaches : T → Device → Type 0) (s0 s1 : Seen) (r : Result T RunFault) → PartOr reasons honest from underway copies reaches s0 s1 r → honest → GoesOn s0.device.files s1.device.files
+pub goes_on : {T : Type 0} (reasons : Reasons) (honest : Type 0) (from underway : Device → Type 0) (copies : T → ℕ) (reaches : T → Device → Type 0) (s0 s1 : Seen) (r : Result T RunFault) → PartOr reasons honest from underway copies reaches s0 s1 r → honest → GoesOn s0.device s1.device
 goes_on reasons honest from underway copies reaches s0 s1 (Ok x) p = p.goes_on
 goes_on reasons honest from underway copies reaches s0 s1 (Err e) p = p.goes_on
 
 -- ---- no call
 
 pub passed_none : (honest : Type 0) (from to : Device → Type 0) (s : Seen) → s.is_broken ≡ false → (from s.device → to s.device) → Passed honest from to 0 s s
-passed_none honest from to s whole f = record { is_whole = whole; stops = refl; told = refl; appends = omega arith; reopened = refl; goes_on = λ h. stays s.device.files s.device.files refl; reaches = λ h at. f at }
+passed_none honest from to s whole f = record { is_whole = whole; stops = refl; told = refl; appends = omega arith; reopened = refl; goes_on = λ h. stays s.device s.device refl; reaches = λ h at. f at }
 
 -- ---- one part after another
 
@@ -299,7 +299,7 @@ passed_after h0 h1 a b c m n s0 s1 s2 honest p q = record {
   told = q.told ∙ p.told;
   appends = omega (arith, p.appends, q.appends);
   reopened = q.reopened ∙ p.reopened;
-  goes_on = λ h. goes_after s0.device.files s1.device.files s2.device.files (p.goes_on (honest h)) (q.goes_on h);
+  goes_on = λ h. goes_after s0.device s1.device s2.device (p.goes_on (honest h)) (q.goes_on h);
   reaches = λ h at. q.reaches h (p.reaches (honest h) at);
 }
 
@@ -314,7 +314,7 @@ left_after {reasons} h0 h1 a b underway m f s0 s1 s2 honest p q =
       caused = caused_after reasons f s0 s1 s2 (stop_after s0 s1 s2 p.is_whole p.stops) more (omega (arith, p.appends)) q.caused;
       no_less = let n = q.no_less in record { stops = omega (arith, p.stops, n.stops); told = more_after s0 s1 s2 more n.told; appends = omega (arith, p.appends, n.appends); reopened = n.reopened ∙ p.reopened };
       stops = λ _. q.stops p.is_whole ∙ ap (λ (k : ℕ). k + stops_met f) p.stops;
-      goes_on = λ h. goes_after s0.device.files s1.device.files s2.device.files (p.goes_on (honest h)) (q.goes_on h);
+      goes_on = λ h. goes_after s0.device s1.device s2.device (p.goes_on (honest h)) (q.goes_on h);
       left = λ h at. leaves_after underway f s0 s1 s2 more (q.left h (p.reaches (honest h) at));
     }
 

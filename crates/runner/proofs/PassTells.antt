@@ -1,5 +1,5 @@
 -- What a pass says as a whole, of what its parts say.
-use Rattle.std.proofs.Common.{◌≡◌, ◌≤◌, ◌+◌, ℕ, Bool, true, List, Result, Ok, Err, IfOk, refl, subst}
+use Rattle.std.proofs.Common.{◌≡◌, ◌≤◌, ◌+◌, ℕ, Bool, true, List, Result, Ok, Err, IfOk}
 use Rattle.std.specs.Prelude.{OnOk}
 use Rattle.rand_core.specs.Stream.{Stream}
 use Rattle.rules.specs.declared.options.Options.{Options}

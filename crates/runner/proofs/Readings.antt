@@ -186,33 +186,33 @@ module _ (ours : List ℕ → Bool) (alone : Bool) (opening : Opening) where
   idle_kept p q (inl e) i = subst IsIdle (sym e) i
   idle_kept p q (inr k) i = k.1
 
-  filed_unplanned : (o : Opened) (q : Pending) (m d' : Device) → TurnsIdle o.pending q → Holds m.files o.state o.pending → d'.far ≡ m.far → d'.near ≡ m.near → Holds d'.files o.state q → Unplanned alone opening m → Unplanned alone opening d'
-  filed_unplanned o q m d' t held far near now n =
+  filed_unplanned : (o : Opened) (q : Pending) (m d' : Device) → TurnsIdle o.pending q → Holds m.files o.state o.pending → d'.far ≡ m.far → d'.near ≡ m.near → d'.named ≡ m.named → Holds d'.files o.state q → Unplanned alone opening m → Unplanned alone opening d'
+  filed_unplanned o q m d' t held far near named now n =
       let e = book_known m.files o.state opening.world.state o.pending n.pending held n.files in
-      unplanned_filed alone opening q m d' (idle_kept o.pending q t (subst IsIdle (sym e.1) n.idle)) far near (subst (λ (s : SyncState). Holds d'.files s q) e.0 now) n
+      unplanned_filed alone opening q m d' (idle_kept o.pending q t (subst IsIdle (sym e.1) n.idle)) far near named (subst (λ (s : SyncState). Holds d'.files s q) e.0 now) n
 
-  stands_filed : (w : World) (plan : Plan) (log : List Logged) (torn torn' : Bool) (m d' : Device) → d'.far ≡ m.far → d'.near ≡ m.near → Holds d'.files w.state (with_log plan log torn') → Stands ours alone w opening.options plan log torn m → Stands ours alone w opening.options plan log torn' d'
-  stands_filed w plan log torn torn' m d' far near holds (inl k) = inl (k.0, midway_filed ours alone w opening.options plan log log torn torn' log k.0 m d' far near holds k.1)
-  stands_filed w plan log torn torn' m d' far near holds (inr k) = inr (k.0, midway_filed ours alone w opening.options plan log log torn torn' (log ++ k.0 ∷ []) false m d' far near holds k.1)
+  stands_filed : (w : World) (plan : Plan) (log : List Logged) (torn torn' : Bool) (m d' : Device) → d'.far ≡ m.far → d'.near ≡ m.near → d'.named ≡ m.named → Holds d'.files w.state (with_log plan log torn') → Stands ours alone w opening.options plan log torn m → Stands ours alone w opening.options plan log torn' d'
+  stands_filed w plan log torn torn' m d' far near named holds (inl k) = inl (k.0, midway_filed ours alone w opening.options plan log log torn torn' log k.0 m d' far near named holds k.1)
+  stands_filed w plan log torn torn' m d' far near named holds (inr k) = inr (k.0, midway_filed ours alone w opening.options plan log log torn torn' (log ++ k.0 ∷ []) false m d' far near named holds k.1)
 
-  filed_planned : (o : Opened) (q : Pending) (m d' : Device) → TurnsIdle o.pending q → Holds m.files o.state o.pending → d'.far ≡ m.far → d'.near ≡ m.near → Holds d'.files o.state q → (w : World) → PlannedAt ours alone w opening.options m → PlannedAt ours alone w opening.options d'
-  filed_planned o q m d' t held far near now w p =
+  filed_planned : (o : Opened) (q : Pending) (m d' : Device) → TurnsIdle o.pending q → Holds m.files o.state o.pending → d'.far ≡ m.far → d'.near ≡ m.near → d'.named ≡ m.named → Holds d'.files o.state q → (w : World) → PlannedAt ours alone w opening.options m → PlannedAt ours alone w opening.options d'
+  filed_planned o q m d' t held far near named now w p =
       let e = book_known m.files o.state w.state o.pending (with_log p.plan p.log p.is_torn) held (planned_files w m p) in
       by_turn e.0 e.1 t
     where
       by_turn : o.state ≡ w.state → o.pending ≡ with_log p.plan p.log p.is_torn → TurnsIdle o.pending q → PlannedAt ours alone w opening.options d'
-      by_turn s is (inl same) = record { plan = p.plan; log = p.log; is_torn = p.is_torn; stands = stands_filed w p.plan p.log p.is_torn p.is_torn m d' far near (subst (λ (x : SyncState). Holds d'.files x (with_log p.plan p.log p.is_torn)) s (subst (λ (x : Pending). Holds d'.files o.state x) (same ∙ is) now)) p.stands }
+      by_turn s is (inl same) = record { plan = p.plan; log = p.log; is_torn = p.is_torn; stands = stands_filed w p.plan p.log p.is_torn p.is_torn m d' far near named (subst (λ (x : SyncState). Holds d'.files x (with_log p.plan p.log p.is_torn)) s (subst (λ (x : Pending). Holds d'.files o.state x) (same ∙ is) now)) p.stands }
       by_turn s is (inr k) = absurd (subst IsIdle is k.0)
 
-  filed_done : (o : Opened) (q : Pending) (m d' : Device) → TurnsIdle o.pending q → Holds m.files o.state o.pending → d'.far ≡ m.far → d'.near ≡ m.near → Holds d'.files o.state q → (w : World) → DoneAt ours alone w opening.options m → DoneAt ours alone w opening.options d'
-  filed_done o q m d' t held far near now w x =
+  filed_done : (o : Opened) (q : Pending) (m d' : Device) → TurnsIdle o.pending q → Holds m.files o.state o.pending → d'.far ≡ m.far → d'.near ≡ m.near → d'.named ≡ m.named → Holds d'.files o.state q → (w : World) → DoneAt ours alone w opening.options m → DoneAt ours alone w opening.options d'
+  filed_done o q m d' t held far near named now w x =
       let e = book_known m.files o.state x.state o.pending x.pending held x.files in
-      record { state = x.state; pending = q; idle = idle_kept o.pending q t (subst IsIdle (sym e.1) x.idle); files = subst (λ (s : SyncState). Holds d'.files s q) e.0 now; marks = x.marks; alike = alike_filed ours alone w opening.options x.marks m d' x.state far near x.alike }
+      record { state = x.state; pending = q; idle = idle_kept o.pending q t (subst IsIdle (sym e.1) x.idle); files = subst (λ (s : SyncState). Holds d'.files s q) e.0 now; marks = x.marks; alike = alike_filed ours alone w opening.options x.marks m d' x.state far near named x.alike }
 
-  filed_underway : (o : Opened) (q : Pending) (m d' : Device) → TurnsIdle o.pending q → Holds m.files o.state o.pending → d'.far ≡ m.far → d'.near ≡ m.near → Holds d'.files o.state q → Underway ours alone opening m → Underway ours alone opening d'
-  filed_underway o q m d' t held far near now (inl u) = inl (filed_unplanned o q m d' t held far near now u)
-  filed_underway o q m d' t held far near now (inr (inl s)) = inr (inl (since_map alone opening _ _ (λ w g p. filed_planned o q m d' t held far near now w p) s))
-  filed_underway o q m d' t held far near now (inr (inr s)) = inr (inr (since_map alone opening _ _ (λ w g x. filed_done o q m d' t held far near now w x) s))
+  filed_underway : (o : Opened) (q : Pending) (m d' : Device) → TurnsIdle o.pending q → Holds m.files o.state o.pending → d'.far ≡ m.far → d'.near ≡ m.near → d'.named ≡ m.named → Holds d'.files o.state q → Underway ours alone opening m → Underway ours alone opening d'
+  filed_underway o q m d' t held far near named now (inl u) = inl (filed_unplanned o q m d' t held far near named now u)
+  filed_underway o q m d' t held far near named now (inr (inl s)) = inr (inl (since_map alone opening _ _ (λ w g p. filed_planned o q m d' t held far near named now w p) s))
+  filed_underway o q m d' t held far near named now (inr (inr s)) = inr (inr (since_map alone opening _ _ (λ w g x. filed_done o q m d' t held far near named now w x) s))
 
   -- ---- a journal without a plan goes
 
@@ -221,7 +221,7 @@ module _ (ours : List ℕ → Bool) (alone : Bool) (opening : Opening) where
   forgot (Some o) d m d' none a k t =
       let n = known_arrives (Some o) d m a k in
       let now = t.files o.state n.held in
-      record { underway = filed_underway o Missing m d' (inr (none, tt)) n.held t.far t.near now n.underway; held = now }
+      record { underway = filed_underway o Missing m d' (inr (none, tt)) n.held t.far t.near t.named now n.underway; held = now }
 
   pub forgot_held : (opened : Option Opened) (d m d' : Device) → IsRead opened → Arrives ours alone d m → IsHeld opened d → OfBook (λ p. Turns p Missing) opened m d' → IsEmptied opened d'
   forgot_held None d m d' read a held t = held
@@ -229,11 +229,11 @@ module _ (ours : List ℕ → Bool) (alone : Bool) (opening : Opening) where
 
   pub half_forgot : (opened : Option Opened) (d m d' : Device) → HasNoPlan opened → Arrives ours alone d m → IsKnown ours alone opening opened d → OfBook (λ p. TurnsHalf p Missing) opened m d' → Underway ours alone opening d'
   half_forgot None d m d' none a k t = absurd none
-  half_forgot (Some o) d m d' none a k t = let n = known_arrives (Some o) d m a k in by_files n.held n.underway t.far t.near (t.files o.state n.held)
+  half_forgot (Some o) d m d' none a k t = let n = known_arrives (Some o) d m a k in by_files n.held n.underway t.far t.near t.named (t.files o.state n.held)
     where
-      by_files : Holds m.files o.state o.pending → Underway ours alone opening m → d'.far ≡ m.far → d'.near ≡ m.near → Holds d'.files o.state o.pending ⊎ Holds d'.files o.state Missing → Underway ours alone opening d'
-      by_files held u far near (inl now) = filed_underway o o.pending m d' (inl refl) held far near now u
-      by_files held u far near (inr now) = filed_underway o Missing m d' (inr (none, tt)) held far near now u
+      by_files : Holds m.files o.state o.pending → Underway ours alone opening m → d'.far ≡ m.far → d'.near ≡ m.near → d'.named ≡ m.named → Holds d'.files o.state o.pending ⊎ Holds d'.files o.state Missing → Underway ours alone opening d'
+      by_files held u far near named (inl now) = filed_underway o o.pending m d' (inl refl) held far near named now u
+      by_files held u far near named (inr now) = filed_underway o Missing m d' (inr (none, tt)) held far near named now u
 
   pub stores_kept : (opened : Option Opened) (d m d' : Device) → IsRead opened → Arrives ours alone d m → OfBook (λ p. Turns p Missing) opened m d' → alone ≡ true → (d'.far ≡ d.far) × (d'.near ≡ d.near)
   stores_kept None d m d' read a t e = absurd read
@@ -254,6 +254,7 @@ module _ (ours : List ℕ → Bool) (alone : Bool) (opening : Opening) where
         chosen = n.chosen;
         below = n.below;
         grows = rw (t.far, t.near) n.grows;
+        spares = rw t.named n.spares;
         admitted = λ e. absurd (both_ways false refl e);
       }
 
@@ -262,12 +263,12 @@ module _ (ours : List ℕ → Bool) (alone : Bool) (opening : Opening) where
   pub taken_known : (opened : Option Opened) (d : Device) → IsTakenUp ours alone opening opened d → IsKnown ours alone opening opened d
   taken_known opened d k = record { underway = inr (inl k.pending); held = k.held }
 
-  mended_stands : (written : WrittenJournal) (s : SyncState) (w : World) (m d' : Device) → Holds m.files s (Planned written) → d'.far ≡ m.far → d'.near ≡ m.near → Holds d'.files s (mended (Planned written)) → PlannedAt ours alone w opening.options m → (s ≡ w.state) × Stands ours alone w opening.options written.journal.plan written.journal.log false d'
-  mended_stands written s w m d' held far near now p =
+  mended_stands : (written : WrittenJournal) (s : SyncState) (w : World) (m d' : Device) → Holds m.files s (Planned written) → d'.far ≡ m.far → d'.near ≡ m.near → d'.named ≡ m.named → Holds d'.files s (mended (Planned written)) → PlannedAt ours alone w opening.options m → (s ≡ w.state) × Stands ours alone w opening.options written.journal.plan written.journal.log false d'
+  mended_stands written s w m d' held far near named now p =
       let e = book_known m.files s w.state (Planned written) (with_log p.plan p.log p.is_torn) held (planned_files w m p) in
       let is : written ≡ record { journal = record { plan = p.plan; log = p.log }; is_torn = p.is_torn } = let x = e.1 in cc in
       let files : Holds d'.files w.state (with_log p.plan p.log false) = subst (λ (x : WrittenJournal). Holds d'.files w.state (Planned (record x { is_torn = false }))) is (subst (λ (x : SyncState). Holds d'.files x (Planned (record written { is_torn = false }))) e.0 now) in
-      (e.0, subst (λ (x : WrittenJournal). Stands ours alone w opening.options x.journal.plan x.journal.log false d') (sym is) (stands_filed w p.plan p.log p.is_torn false m d' far near files p.stands))
+      (e.0, subst (λ (x : WrittenJournal). Stands ours alone w opening.options x.journal.plan x.journal.log false d') (sym is) (stands_filed w p.plan p.log p.is_torn false m d' far near named files p.stands))
 
   pub untorn : (opened : Option Opened) (d m d' : Device) → HasPlan opened → Arrives ours alone d m → IsTakenUp ours alone opening opened d → OfBook (λ p. Turns p (mended p)) opened m d' → AtReady ours alone opening (turned mended opened) true d'
   untorn None d m d' plan a k t = absurd plan
@@ -279,7 +280,7 @@ module _ (ours : List ℕ → Bool) (alone : Bool) (opening : Opening) where
       by_pending (Planned written) plan held t =
           let s = pending_arrives ours alone opening d m a k.pending in
           let now = t.files o.state held in
-          let one = mended_stands written o.state s.world m d' held t.far t.near now s.holds in
+          let one = mended_stands written o.state s.world m d' held t.far t.near t.named now s.holds in
           record {
             state = ap (λ (x : SyncState). Some x) (one.0 ∙ s.grows.state);
             since = record { world = s.world; grows = s.grows; admitted = s.admitted; below = s.below; holds = one.1 };
@@ -287,8 +288,8 @@ module _ (ours : List ℕ → Bool) (alone : Bool) (opening : Opening) where
 
   pub half_untorn : (opened : Option Opened) (d m d' : Device) → HasPlan opened → Arrives ours alone d m → IsTakenUp ours alone opening opened d → OfBook (λ p. TurnsHalf p p) opened m d' → Underway ours alone opening d'
   half_untorn None d m d' plan a k t = absurd plan
-  half_untorn (Some o) d m d' plan a k t = let n = known_arrives (Some o) d m a (taken_known (Some o) d k) in by_files n.held n.underway t.far t.near (t.files o.state n.held)
+  half_untorn (Some o) d m d' plan a k t = let n = known_arrives (Some o) d m a (taken_known (Some o) d k) in by_files n.held n.underway t.far t.near t.named (t.files o.state n.held)
     where
-      by_files : Holds m.files o.state o.pending → Underway ours alone opening m → d'.far ≡ m.far → d'.near ≡ m.near → Holds d'.files o.state o.pending ⊎ Holds d'.files o.state o.pending → Underway ours alone opening d'
-      by_files held u far near (inl now) = filed_underway o o.pending m d' (inl refl) held far near now u
-      by_files held u far near (inr now) = filed_underway o o.pending m d' (inl refl) held far near now u
+      by_files : Holds m.files o.state o.pending → Underway ours alone opening m → d'.far ≡ m.far → d'.near ≡ m.near → d'.named ≡ m.named → Holds d'.files o.state o.pending ⊎ Holds d'.files o.state o.pending → Underway ours alone opening d'
+      by_files held u far near named (inl now) = filed_underway o o.pending m d' (inl refl) held far near named now u
+      by_files held u far near named (inr now) = filed_underway o o.pending m d' (inl refl) held far near named now u

@@ -1,5 +1,5 @@
 -- The outside is opened again before each attempt but the first.
-use Rattle.std.proofs.Common.{◌≡◌, ◌⊎◌, ◌-◌, ◌+◌, ◌++◌, inl, inr, ℕ, Bool, List, [], ◌∷◌, All, length, Option, refl, sym, ◌∙◌, ap, subst, arith}
+use Rattle.std.proofs.Common.{◌≡◌, ◌⊎◌, ◌-◌, ◌+◌, inl, inr, ℕ, Bool, List, [], ◌∷◌, All, Option, refl, sym, ◌∙◌, ap, subst, arith}
 use Rattle.std.proofs.lemmas.Bool.{cases_eq}
 use Rattle.std.proofs.lemmas.List.Elements.{All-cons, All-nil}
 use Rattle.rand_core.specs.Stream.{Stream}
@@ -25,14 +25,14 @@ module _ (ours : List ℕ → Bool) (alone : Bool) (opening : Opening) where
     pub goes_on : from → GoesOnOver reopens.since start.device now.device
 
   pub attempted_none : (from : Type 0) (n : ℕ) (s : Seen) → n ≡ 0 → Attempted from n s s
-  attempted_none from n s z = record { reopens = record { since = []; now = refl; as_many = sym z }; each = λ f. All-nil (Underway ours alone opening); goes_on = λ f. stays s.device.files s.device.files refl }
+  attempted_none from n s z = record { reopens = record { since = []; now = refl; as_many = sym z }; each = λ f. All-nil (Underway ours alone opening); goes_on = λ f. stays s.device s.device refl }
 
   -- an attempt behind these finds the outside so
   record Found (n : ℕ) (before : List Device) (start now s1 : Seen) : Type 0 where
     reopens : Reopens n start s1
     at : began_on reopens.since start.device ≡ s1.device
     each : Underway ours alone opening s1.device → All (Underway ours alone opening) before → All (Underway ours alone opening) reopens.since
-    goes_on : (s2 : Seen) → GoesOnOver before start.device now.device → GoesOn s1.device.files s2.device.files → GoesOnOver reopens.since start.device s2.device
+    goes_on : (s2 : Seen) → GoesOnOver before start.device now.device → GoesOn s1.device s2.device → GoesOnOver reopens.since start.device s2.device
 
   found_again : (n : ℕ) (start now s1 : Seen) → (n ≡ 0 → now ≡ start) → s1 ≡ found_by n now → (r : Reopens (n - 1) start now) → Found n r.since start now s1
   found_again n start now s1 first e r = by_first (cases_eq n 0)
@@ -44,7 +44,7 @@ module _ (ours : List ℕ → Bool) (alone : Bool) (opening : Opening) where
             reopens = record { since = []; now = ap (λ (s : Seen). s.reopened) same; as_many = sym z };
             at = sym (ap (λ (s : Seen). s.device) same);
             each = λ u us. All-nil (Underway ours alone opening);
-            goes_on = λ s2 over on. subst (λ (s : Seen). GoesOn s.device.files s2.device.files) same on;
+            goes_on = λ s2 over on. subst (λ (s : Seen). GoesOn s.device s2.device) same on;
           }
       by_first (inr f) =
           let later = e ∙ found_later n now f in
@@ -57,7 +57,7 @@ module _ (ours : List ℕ → Bool) (alone : Bool) (opening : Opening) where
             };
             at = sym (found_device n now s1 e);
             each = λ u us. All-cons (Underway ours alone opening) now.device r.since (subst (λ (d : Device). Underway ours alone opening d) (found_device n now s1 e) u) us;
-            goes_on = λ s2 over on. (over, subst (λ (d : Device). GoesOn d.files s2.device.files) (found_device n now s1 e) on);
+            goes_on = λ s2 over on. (over, subst (λ (d : Device). GoesOn d s2.device) (found_device n now s1 e) on);
           }
 
   -- where it began, as it is told behind it
@@ -70,7 +70,7 @@ module _ (ours : List ℕ → Bool) (alone : Bool) (opening : Opening) where
   underway_found n fixed now s1 e t = subst (λ (d : Device). Underway ours alone opening d) (sym (found_device n now s1 e)) (tried_underway ours alone opening fixed now.device t)
 
   pub began_at : (from : Type 0) (n : ℕ) (fixed : Option ℕ) (start now s1 s2 : Seen) (stream drawn : Stream) → (n ≡ 0 → now ≡ start) → (n ≡ 0 → drawn ≡ stream) → Moves stream drawn → s1 ≡ found_by n now
-      → Attempted from (n - 1) start now → from → TriedAt ours alone opening fixed now.device → GoesOn s1.device.files s2.device.files → s2.reopened ≡ s1.reopened → BeganAt n start s1 s2 stream drawn
+      → Attempted from (n - 1) start now → from → TriedAt ours alone opening fixed now.device → GoesOn s1.device s2.device → s2.reopened ≡ s1.reopened → BeganAt n start s1 s2 stream drawn
   began_at from n fixed start now s1 s2 stream drawn first undrawn moved e k f t on kept =
       let found = found_again n start now s1 first e k.reopens in
       let u = underway_found n fixed now s1 e t in
@@ -94,7 +94,7 @@ module _ (ours : List ℕ → Bool) (alone : Bool) (opening : Opening) where
 
   -- one attempt more
   pub attempted_more : (from from' : Type 0) (n : ℕ) (fixed : Option ℕ) (start now s1 s2 : Seen) → (from' → from) → (n ≡ 0 → now ≡ start) → s1 ≡ found_by n now
-      → Attempted from (n - 1) start now → (from → TriedAt ours alone opening fixed now.device) → (from' → GoesOn s1.device.files s2.device.files) → s2.reopened ≡ s1.reopened → Attempted from' (n + 1 - 1) start s2
+      → Attempted from (n - 1) start now → (from → TriedAt ours alone opening fixed now.device) → (from' → GoesOn s1.device s2.device) → s2.reopened ≡ s1.reopened → Attempted from' (n + 1 - 1) start s2
   attempted_more from from' n fixed start now s1 s2 before first e k t on kept =
       let found = found_again n start now s1 first e k.reopens in
       record {

@@ -1,5 +1,5 @@
 -- What becomes of a copy goes by its source.
-use Rattle.std.proofs.Common.{◌≡◌, inl, inr, ℕ, Bool, List, Option, Ok}
+use Rattle.std.proofs.Common.{inl, inr, ℕ, Bool, List, Option, Ok}
 use Rattle.mailcore.specs.declared.side.Direction.{Direction}
 use Rattle.mailcore.specs.Sides.{target}
 use Rattle.outside.specs.declared.outside.Carried.{Carried}

@@ -1,6 +1,7 @@
 -- Where the next step stands on some world since the opening, and what calls make of that.
-use Rattle.std.proofs.Common.{◌≡◌, ◌⊎◌, inl, inr, ℕ, Bool, true, false, List, [], ◌∷◌, ◌++◌, Option, Some, None, refl, sym, ◌∙◌, subst}
+use Rattle.std.proofs.Common.{◌≡◌, ◌⊎◌, ◌<◌, inl, inr, ℕ, Bool, true, false, List, [], ◌∷◌, ◌++◌, Option, Some, None, refl, sym, ◌∙◌, subst}
 use Rattle.std.specs.Prelude.{All}
+use Rattle.std.proofs.lemmas.List.Elements.{All-head}
 use Rattle.mailcore.specs.declared.side.Side.{Side}
 use Rattle.mailcore.specs.declared.side.Direction.{Direction}
 use Rattle.mailcore.specs.FlagSet.{DELETED, has}
@@ -9,7 +10,7 @@ use Rattle.mailcore.specs.Sides.{target}
 use Rattle.rules.specs.declared.plan.Plan.{Plan}
 use Rattle.rules.specs.declared.plan.Step.{Step}
 use Rattle.rules.specs.declared.plan.Step.TheVariants as step
-use Rattle.rules.specs.World.{World, NamesBelow}
+use Rattle.rules.specs.World.{World, IsInOrder, NamesBelow, store}
 use Rattle.sync_state.specs.declared.journal.Logged.{Logged}
 use Rattle.sync_state.specs.declared.journal.Logged.TheVariants.{Copied, Done}
 use Rattle.step_laws.specs.Steps.{Boxes, changed_uid, step_after, box as messages_in, with_box as with_messages_in}
@@ -19,19 +20,20 @@ use Rattle.outside.specs.declared.outside.Carried.{Carried}
 use Rattle.outside.specs.declared.outside.Carried.TheVariants.{Absent, Unfit, Made}
 use Rattle.outside.specs.Arrivals.{Arrives}
 use Rattle.mailbox.specs.Operations.{Tells, removed}
-use Rattle.outside.specs.BoxCalls.{Carry, SetsAside, Turns}
+use Rattle.outside.specs.BoxCalls.{Carry, Names, SetsAside, Turns}
 use Rattle.outside.specs.Calls.{DoesSome, LeavesBy}
-use Rattle.outside.specs.Devices.{Device, box}
+use Rattle.outside.specs.Devices.{Device, Named, box}
 use Rattle.outside.specs.Opened.{Opened}
 use Rattle.underway.specs.Conditions.{Underway}
 use Rattle.underway.specs.Moments.{HasBegun, Midway, PlannedAt, Stands, boxes_at}
 use Rattle.underway.specs.Openings.{Grows, Opening}
-use Rattle.underway.specs.Plans.{first_uid}
+use Rattle.underway.specs.Plans.{IsPlanned, first_uid, names_of}
 use Rattle.underway.proofs.Arrived.{stands_arrives}
 use Rattle.underway.proofs.Copies.{brought, copy_found, not_absent, not_unfit, sought}
 use Rattle.underway.proofs.Expunging.{stands_deleted}
 use Rattle.underway.proofs.Flagging.{clear_made, clear_none, none_made, set_made}
-use Rattle.underway.proofs.Moves.{IsMoved, midway_arrives, midway_set_aside, moved}
+use Rattle.underway.proofs.Moves.{IsMoved, begun_named as has_begun_named, midway_arrives, midway_set_aside, moved, stands_named}
+use Rattle.underway.proofs.Naming.{named_before}
 use Rattle.underway.proofs.Plain.{any_whole}
 use Rattle.runner.specs.Going.{AtBegun, AtCopied, AtDone, AtMoment, AtReady, AtSought, CopiesUnder, FoundCopy, Ready, log_at, next_at, number_at, plan_at}
 use Rattle.runner.specs.Faults.{RefusedAt}
@@ -196,29 +198,45 @@ module _ (ours : List ℕ → Bool) (alone : Bool) (opening : Opening) (opened :
         done Unfit c = rw c.0 (ready_underway false m (ready_arrives false d m a r))
         done (Made told) c = copied_underway d' (carry_untold told d m d' a r c)
 
+  -- ---- a call that has named its message, and done nothing
+
+  planned_by : (w : World) (d : Device) → Stands ours alone w opening.options plan log false d → IsPlanned ours w opening.options plan
+  planned_by w d (inl k) = let at = k.1 in at.planned
+  planned_by w d (inr k) = let at = k.1 in at.planned
+
+  module _ (s : Step) (side : Side) (uid : ℕ) (is : next_at opened ≡ Some s) (names : names_of s ≡ record { side = side; uid = uid } ∷ []) where
+    before_it : (w : World) → IsInOrder w → NamesBelow w → IsPlanned ours w opening.options plan → uid < (store w side).next
+    before_it w order below p = All-head (λ n. n.uid < (store w n.side).next) (record { side = side; uid = uid }) [] (subst (λ (ns : List Named). All (λ n. n.uid < (store w n.side).next) ns) names (named_before w opening.options plan log s order below p is))
+
+    pub ready_named : (d m d' : Device) → Arrives ours alone d m → AtReady ours alone opening opened true d → Names side uid m d' → AtReady ours alone opening opened true d'
+    ready_named d m d' a r t = moment_map alone opening opened _ _ (λ w g b at. stands_named ours alone w opening.options plan side uid log false m d' (before_it w g.in_order b (planned_by w m at)) t at) (ready_arrives true d m a r)
+
+    pub begun_named : (is_made : Bool) (d m d' : Device) → Arrives ours alone d m → AtBegun ours alone opening opened is_made d → Names side uid m d' → AtBegun ours alone opening opened is_made d'
+    begun_named is_made d m d' a r t = moment_map alone opening opened _ _ (λ w g b at. has_begun_named ours alone w opening.options plan side uid log is_made m d' (before_it w g.in_order b (planned_by w m (begun_stands w is_made m at))) t at) (begun_arrives is_made d m a r)
+
   -- ---- a call that is a whole step
 
-  pub whole_made : (s : Step) → next_at opened ≡ Some s → Rattle.step_laws.specs.Steps.makes_copy s ≡ false → (d m d' : Device) → Arrives ours alone d m → AtReady ours alone opening opened true d → IsMoved m d' (step_after (boxes_at m) s None) → AtDone ours alone opening opened Done d'
-  whole_made s is plain d m d' a r c = moment_map alone opening opened _ _ (λ w g b at. any_whole ours alone w opening.options plan log s is plain false m d' at c) (ready_arrives true d m a r)
+  pub whole_made : (s : Step) → next_at opened ≡ Some s → Rattle.step_laws.specs.Steps.makes_copy s ≡ false → (d m d' : Device) → Arrives ours alone d m → AtReady ours alone opening opened true d → IsMoved (names_of s) m d' (step_after (boxes_at m) s None) → AtDone ours alone opening opened Done d'
+  whole_made s is plain d m d' a r c = moment_map alone opening opened _ _ (λ w g b at. any_whole ours alone w opening.options plan log s is plain g.in_order b false m d' at c) (ready_arrives true d m a r)
 
   -- a message whose expunge is next is marked as deleted, if it is there
   pub ready_deleted : (side : Side) (uid : ℕ) → next_at opened ≡ Some (step.Expunge side uid) → (d : Device) → AtReady ours alone opening opened true d → All (λ m. m.uid ≡ uid → has m.flags DELETED ≡ true) (messages_in (boxes_at d) side)
   ready_deleted side uid is d k = let s = k.since in stands_deleted ours alone s.world opening.options plan log s.grows.in_order side uid is false d s.holds
 
-  pub expunge_made : (side : Side) (uid : ℕ) → next_at opened ≡ Some (step.Expunge side uid) → (d m d' : Device) → Arrives ours alone d m → AtReady ours alone opening opened true d → Turns side (removed side uid) m d' → AtDone ours alone opening opened Done d'
+  pub expunge_made : (side : Side) (uid : ℕ) → next_at opened ≡ Some (step.Expunge side uid) → (d m d' : Device) → Arrives ours alone d m → AtReady ours alone opening opened true d → Turns side uid (removed side uid) m d' → AtDone ours alone opening opened Done d'
   expunge_made side uid is d m d' a r t = whole_made (step.Expunge side uid) is refl d m d' a r (removed_is side uid m d' (ready_deleted side uid is m (ready_arrives true d m a r)) t)
 
   -- ---- flags
 
   module _ (dir : Direction) (far near set cleared : ℕ) (is : next_at opened ≡ Some (step.Flags dir far near set cleared)) where
-    pub set_called : (is_made : Bool) (d m d' : Device) → Arrives ours alone d m → AtReady ours alone opening opened true d → Turns (target dir) (flags_added (changed_uid dir far near) set) m d' → AtBegun ours alone opening opened is_made d'
-    set_called is_made d m d' a r t = moment_map alone opening opened _ _ (λ w g b at. set_made ours alone w opening.options plan log dir far near set cleared is is_made m d' at (moved (target dir) _ m d' t)) (ready_arrives true d m a r)
+    pub set_called : (is_made : Bool) (d m d' : Device) → Arrives ours alone d m → AtReady ours alone opening opened true d → Turns (target dir) (changed_uid dir far near) (flags_added (changed_uid dir far near) set) m d' → AtBegun ours alone opening opened is_made d'
+    set_called is_made d m d' a r t = moment_map alone opening opened _ _ (λ w g b at. set_made ours alone w opening.options plan log dir far near set cleared is g.in_order b is_made m d' at (moved (target dir) (changed_uid dir far near) _ m d' t)) (ready_arrives true d m a r)
 
     pub set_none : (d : Device) → AtReady ours alone opening opened true d → AtBegun ours alone opening opened false d
     set_none d r = moment_map alone opening opened _ _ (λ w g b at. none_made ours alone w opening.options plan log dir far near set cleared is d at) r
 
-    pub clear_called : (is_made : Bool) → (is_made ≡ false → set ≡ 0) → (d m d' : Device) → Arrives ours alone d m → AtBegun ours alone opening opened is_made d → Turns (target dir) (flags_removed (changed_uid dir far near) cleared) m d' → AtDone ours alone opening opened Done d'
-    clear_called is_made f d m d' a r t = moment_map alone opening opened _ _ (λ w g b at. clear_made ours alone w opening.options plan log dir far near set cleared is is_made f m d' at (moved (target dir) _ m d' t)) (begun_arrives is_made d m a r)
+    pub clear_called : (is_made : Bool) → (is_made ≡ false → set ≡ 0) → (d m d' : Device) → Arrives ours alone d m → AtBegun ours alone opening opened is_made d → Turns (target dir) (changed_uid dir far near) (flags_removed (changed_uid dir far near) cleared) m d' → AtDone ours alone opening opened Done d'
+    clear_called is_made f d m d' a r t = moment_map alone opening opened _ _ (λ w g b at. clear_made ours alone w opening.options plan log dir far near set cleared is g.in_order b is_made f m d' at (moved (target dir) (changed_uid dir far near) _ m d' t)) (begun_arrives is_made d m a r)
 
     pub clear_uncalled : cleared ≡ 0 → (d : Device) → AtBegun ours alone opening opened true d → AtDone ours alone opening opened Done d
     clear_uncalled none d r = moment_map alone opening opened _ _ (λ w g b at. clear_none ours alone w opening.options plan log dir far near set cleared is none d at) r

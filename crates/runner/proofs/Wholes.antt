@@ -17,6 +17,7 @@ use Rattle.mailbox.specs.Operations.{may_go, removed}
 use Rattle.outside.specs.BoxCalls.{Turns}
 use Rattle.outside.specs.Devices.{Device}
 use Rattle.underway.specs.Moments.{boxes_at}
+use Rattle.underway.specs.Plans.{names_of}
 use Rattle.underway.proofs.Flagged.{flagged_same}
 use Rattle.underway.proofs.Moves.{IsMoved, moved}
 use Rattle.runner.specs.Going.{sets_first}
@@ -37,20 +38,20 @@ goes Far uid ms h = h
 goes Near uid ms h = All-weaker (λ (m : Message). m.uid ≡ uid → has m.flags DELETED ≡ true) (λ m. m.uid ≡ uid → true ≡ true) (λ m k e. refl) ms h
 
 -- a message that is marked as deleted, if it is there, is removed
-pub removed_is : (side : Side) (uid : ℕ) (d d' : Device) → All (λ m. m.uid ≡ uid → has m.flags DELETED ≡ true) (messages_in (boxes_at d) side) → Turns side (removed side uid) d d' → IsMoved d d' (step_after (boxes_at d) (step.Expunge side uid) None)
+pub removed_is : (side : Side) (uid : ℕ) (d d' : Device) → All (λ m. m.uid ≡ uid → has m.flags DELETED ≡ true) (messages_in (boxes_at d) side) → Turns side uid (removed side uid) d d' → IsMoved (names_of (step.Expunge side uid)) d d' (step_after (boxes_at d) (step.Expunge side uid) None)
 removed_is side uid d d' h t =
     let ms = messages_in (boxes_at d) side in
-    subst (λ (b : Boxes). IsMoved d d' b) (ap (λ (xs : List Message). with_messages_in (boxes_at d) side xs) (without_one side uid ms (goes side uid ms h)))
-    (moved side (filter (λ m. not (m.uid == uid && may_go side m))) d d' t)
+    subst (λ (b : Boxes). IsMoved (names_of (step.Expunge side uid)) d d' b) (ap (λ (xs : List Message). with_messages_in (boxes_at d) side xs) (without_one side uid ms (goes side uid ms h)))
+    (moved side uid (filter (λ m. not (m.uid == uid && may_go side m))) d d' t)
 
 deleted_is : (x : ℕ) → union x (2 ^ DELETED) ≡ with_deleted x
 unfolding with_deleted
 deleted_is x = refl
 
-pub marked : (direction : Direction) (far near flags : ℕ) (d d' : Device) → flags ≡ 2 ^ DELETED → Turns (target direction) (flags_added (changed_uid direction far near) flags) d d' → IsMoved d d' (step_after (boxes_at d) (step.Gone direction far near) None)
+pub marked : (direction : Direction) (far near flags : ℕ) (d d' : Device) → flags ≡ 2 ^ DELETED → Turns (target direction) (changed_uid direction far near) (flags_added (changed_uid direction far near) flags) d d' → IsMoved (names_of (step.Gone direction far near)) d d' (step_after (boxes_at d) (step.Gone direction far near) None)
 marked direction far near flags d d' e t =
-    subst (λ (b : Boxes). IsMoved d d' b) (flagged_same (boxes_at d) (target direction) (changed_uid direction far near) (λ x. union x flags) with_deleted (λ x. ap (λ (f : ℕ). union x f) e ∙ deleted_is x))
-    (moved (target direction) _ d d' t)
+    subst (λ (b : Boxes). IsMoved (names_of (step.Gone direction far near)) d d' b) (flagged_same (boxes_at d) (target direction) (changed_uid direction far near) (λ x. union x flags) with_deleted (λ x. ap (λ (f : ℕ). union x f) e ∙ deleted_is x))
+    (moved (target direction) (changed_uid direction far near) _ d d' t)
 
 -- ---- which of the two calls of a flags step are made
 

@@ -41,7 +41,7 @@ pub record IsTried (ours : List ℕ → Bool) (alone : Bool) (opening : Opening)
   pub asked : IsAsked ours opening options stream
   pub tried : TriedAt ours alone opening fixed d
 
--- ---- what the files hold goes on
+-- ---- the device goes on
 
 -- the files hold a state that this run is not beyond
 pub record HasReached (run : ℕ) (files : Files) : Type 0 where
@@ -57,8 +57,8 @@ IsReached (Some run) files = HasReached run files
 
 -- it has gone on from the first of several devices to the next one, and so on to this one; those between are given, the last first
 abbrev pub GoesOnOver : (since : List Device) → (start now : Device) → Type 0
-GoesOnOver [] start now = GoesOn start.files now.files
-GoesOnOver (d ∷ since) start now = GoesOnOver since start d × GoesOn d.files now.files
+GoesOnOver [] start now = GoesOn start now
+GoesOnOver (d ∷ since) start now = GoesOnOver since start d × GoesOn d now
 
 -- ---- the last attempt
 
@@ -75,7 +75,7 @@ pub record Reopens (times : ℕ) (old new : Seen) : Type 0 where
 
 -- Where an attempt began that came after so many others. Behind each of those the outside was opened again, and not otherwise, with the run
 -- underway. The first one began where `settle` was called, and each other where the outside was opened for it. From one to the next, and from
--- the last to its end, no plan and no logged step was lost. The generator has moved by whole pairs.
+-- the last to its end, no plan and no logged step was lost, and each message that no call named stayed. The generator has moved by whole pairs.
 pub record Began (ours : List ℕ → Bool) (alone : Bool) (opening : Opening) (earlier : ℕ) (old new : Seen) (stream : Stream) : Type 0 where
   pub reopens : Reopens earlier old new
   pub each : All (Underway ours alone opening) reopens.since

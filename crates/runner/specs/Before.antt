@@ -12,7 +12,7 @@ use Rattle.outside.specs.Devices.{Device}
 use Rattle.outside.specs.Opened.{IsHeld, Opened, state_of}
 use Rattle.underway.specs.Conditions.{IsPending, Underway}
 use Rattle.underway.specs.Moments.{Listed}
-use Rattle.underway.specs.Openings.{Grows, IsIdle, Opening, Since, Unplanned, world_at}
+use Rattle.underway.specs.Openings.{Grows, IsIdle, Opening, Since, SparesLater, Unplanned, world_at}
 use Rattle.underway.specs.Plans.{IsPlanned}
 
 -- a plan of the next run is pending
@@ -57,6 +57,7 @@ pub record IsClear (alone : Bool) (opening : Opening) (opened : Option Opened) (
   pub chosen : opening.called ≡ opening.options
   pub below : NamesBelow opening.world
   pub grows : Grows alone opening.world (world_at d opening.world.state)
+  pub spares : SparesLater opening.world d
   pub admitted : is_admitted ≡ true → alone ≡ true → d.near.waiting ≡ []
 
 -- the far mailbox was listed; others may have added since

@@ -22,24 +22,24 @@ pub record NoLess (old new : Seen) : Type 0 where
   pub appends : old.appends ≤ new.appends
   pub reopened : new.reopened ≡ old.reopened
 
--- a part that answered: no call of it had a fault, it has made so many copies, nothing was opened again, what the files hold has gone on, and
--- it leads from one condition to another
+-- a part that answered: no call of it had a fault, it has made so many copies, nothing was opened again, the device has gone on, and it
+-- leads from one condition to another
 pub record Passed (honest : Type 0) (from to : Device → Type 0) (copies : ℕ) (old new : Seen) : Type 0 where
   pub is_whole : new.is_broken ≡ false
   pub stops : new.stops ≡ old.stops
   pub told : new.told ≡ old.told
   pub appends : new.appends ≡ old.appends + copies
   pub reopened : new.reopened ≡ old.reopened
-  pub goes_on : honest → GoesOn old.device.files new.device.files
+  pub goes_on : honest → GoesOn old.device new.device
   pub reaches : honest → from old.device → to new.device
 
--- a part that ended with a fault; where the outside was whole before, a stop that it tells was counted once, and no other. What the files hold
--- has gone on.
+-- a part that ended with a fault; where the outside was whole before, a stop that it tells was counted once, and no other. The device has gone
+-- on.
 pub record Left (reasons : Reasons) (honest : Type 0) (from underway : Device → Type 0) (fault : RunFault) (old new : Seen) : Type 0 where
   pub caused : IsCaused reasons fault old new
   pub no_less : NoLess old new
   pub stops : old.is_broken ≡ false → new.stops ≡ old.stops + stops_met fault
-  pub goes_on : honest → GoesOn old.device.files new.device.files
+  pub goes_on : honest → GoesOn old.device new.device
   pub left : honest → from old.device → LeavesRun underway fault old new
 
 -- a part that may tell a fault of the run's own, for these reasons

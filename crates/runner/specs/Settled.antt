@@ -1,5 +1,5 @@
 -- What several attempts at one run answer, leave and count.
-use Rattle.std.specs.Prelude.{◌≡◌, ◌<◌, ◌≤◌, ◌+◌, ◌-◌, ℕ, Bool, true, List, Result, Ok, Err}
+use Rattle.std.specs.Prelude.{◌≡◌, ◌≤◌, ◌+◌, ◌-◌, ℕ, Bool, true, List, Result, Ok, Err}
 use Rattle.rand_core.specs.Stream.{Stream}
 use Rattle.mailcore.specs.declared.side.Side.{Side}
 use Rattle.rules.specs.declared.options.Options.{Options}
@@ -12,7 +12,7 @@ use Rattle.runner.specs.declared.fault.RunFault.{RunFault}
 use Rattle.runner.specs.declared.fault.RunFault.TheVariants as run
 use Rattle.runner.specs.declared.pass.Settled.{Settled}
 use Rattle.runner.specs.Attempts.{AnswersAt, Began, ChangedLast, HaveRepeated, MetBefore, MetStops, Reopens, began_on, failed_before}
-use Rattle.runner.specs.Faults.{IsCaused, LeavesRun, Reasons, RefusedAt, TellsNoRun, because, or_beyond, or_refused, or_unread}
+use Rattle.runner.specs.Faults.{IsCaused, LeavesRun, RefusedAt, TellsNoRun, because, or_beyond, or_refused, or_unread}
 use Rattle.runner.specs.Finding.{FindsAt}
 use Rattle.runner.specs.Results.{IsTold}
 

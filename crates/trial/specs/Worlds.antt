@@ -1,5 +1,5 @@
 -- The world of a trial in the words of the rules, and the device that holds it.
-use Rattle.std.specs.Prelude.{◌<◌, ◌^◌, length, map, None}
+use Rattle.std.specs.Prelude.{◌<◌, ◌^◌, [], length, map, None}
 use Rattle.mailcore.specs.declared.mailbox.Mailbox.{Mailbox}
 use Rattle.mailcore.specs.Stores.{Store, Waiting}
 use Rattle.rules.specs.World.{World}
@@ -17,9 +17,9 @@ waiting_of f = record { flags = f.flags; bytes = f.bytes }
 abbrev pub world_of : written.World → World
 world_of w = record { far = store_of w.far; near = store_of w.near; waiting = map waiting_of w.waiting.items; state = w.state }
 
--- both mailboxes and the state are the world's, and there is no journal
+-- both mailboxes and the state are the world's, there is no journal, and no message was named
 abbrev pub device_of : World → Device
-device_of w = record { far = w.far; near = record { store = w.near; waiting = w.waiting }; files = shelf_of w.state None }
+device_of w = record { far = w.far; near = record { store = w.near; waiting = w.waiting }; files = shelf_of w.state None; named = [] }
 
 -- its numbers, and that of its waiting files, fit the words of a machine
 pub record FitsWords (w : World) : Type 0 where

@@ -58,6 +58,7 @@ alike_arrives ours false w options marks d m s a k =
         state = b.state;
       };
       borne = k.borne;
+      spares = k.spares;
       nobody = λ e. absurd (both_ways false refl e);
     })
 
@@ -72,14 +73,15 @@ done_arrives ours alone w options d m a h = record {
 }
 
 -- both mailboxes as they were
-pub alike_filed : (ours : List ℕ → Bool) (alone : Bool) (w : World) (options : Options) (marks : List (List ℕ)) (d d' : Device) (s : SyncState) → d'.far ≡ d.far → d'.near ≡ d.near → AlikeAt ours alone w options marks d s → AlikeAt ours alone w options marks d' s
-alike_filed ours alone w options marks d d' s far near k =
+pub alike_filed : (ours : List ℕ → Bool) (alone : Bool) (w : World) (options : Options) (marks : List (List ℕ)) (d d' : Device) (s : SyncState) → d'.far ≡ d.far → d'.near ≡ d.near → d'.named ≡ d.named → AlikeAt ours alone w options marks d s → AlikeAt ours alone w options marks d' s
+alike_filed ours alone w options marks d d' s far near named k =
     let same : world_at d s ≡ world_at d' s = rw (far, near) refl in
     let by : (a : AlikeBy w options (own_world w marks (world_at d' s))) × (a.marks ≡ marks) = subst (λ (x : World). (a : AlikeBy w options (own_world w marks x)) × (a.marks ≡ marks)) same (k.alike, k.borne) in
     record {
       are_ours = k.are_ours;
       alike = by.0;
       borne = by.1;
+      spares = rw named k.spares;
       nobody = λ e. subst (λ (x : World). own_world w marks x ≡ x) same (k.nobody e);
     }
 

@@ -80,6 +80,10 @@ copied_files : (dir : Direction) (copy : Message) (next : ℕ) (d : Device) → 
 copied_files Pull copy next d = refl
 copied_files Push copy next d = refl
 
+copied_named : (dir : Direction) (copy : Message) (next : ℕ) (d : Device) → (on_box (target dir) (with_copy copy next) d).named ≡ d.named
+copied_named Pull copy next d = refl
+copied_named Push copy next d = refl
+
 copied_waiting : (dir : Direction) (copy : Message) (next : ℕ) (d : Device) → (on_box (target dir) (with_copy copy next) d).near.waiting ≡ d.near.waiting
 copied_waiting Pull copy next d = refl
 copied_waiting Push copy next d = refl
@@ -147,6 +151,7 @@ module _ (ours : List ℕ → Bool) (alone : Bool) (w : World) (options : Option
     validity = at.validity;
     rises = at.rises;
     boxes = at.boxes ∙ ap (λ (o : Option Step). begun true before o) is;
+    spares = at.spares;
     nobody = at.nobody;
   }
 
@@ -220,6 +225,7 @@ module _ (ours : List ℕ → Bool) (alone : Bool) (w : World) (options : Option
           rises = λ k. let b = copied_between dir uid flags mark copy next message d least below k in
               rw more (rises-more k (store w k).next plan.steps (results_of log) s (Some copy) (box d k).next (box now k).next less is_next (at.rises k) b.0 b.1);
           boxes = ap (λ (x : Boxes). own test x) is_step ∙ more_among test plan.steps (results_of log) s (Some copy) (boxes_of w) (boxes_at d) (boxes_at d) less is_next at.boxes refl own_step ∙ ap (λ (rs : List (Option ℕ)). after plan.steps rs (boxes_of w)) (sym more);
+          spares = rw (copied_named dir message next d) at.spares;
           nobody = λ a. (ap (λ (x : Boxes). own test x) is_step ∙ among test (boxes_at d) s (Some copy) own_step ∙ ap (λ (x : Boxes). step_after x s (Some copy)) (at.nobody a).0 ∙ sym is_step, copied_waiting dir message next d ∙ (at.nobody a).1);
         }
 

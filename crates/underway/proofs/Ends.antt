@@ -63,6 +63,7 @@ module _ (ours : List ℕ → Bool) (alone : Bool) (w : World) (options : Option
         validity = at.validity;
         rises = at.rises;
         boxes = at.boxes ∙ ap (λ (o : Option Step). begun k.0 (after plan.steps (results_of log) (boxes_of w)) o) none ∙ nothing k.0;
+        spares = at.spares;
         nobody = at.nobody;
       }
     where
@@ -102,6 +103,7 @@ module _ (ours : List ℕ → Bool) (alone : Bool) (w : World) (options : Option
         are_ours = p.are_ours;
         alike = by;
         borne = refl;
+        spares = at.spares;
         nobody = λ e. ap (λ (b : Boxes). with_boxes d s b []) (at.nobody e).0 ∙ ap (λ (fs : List Waiting). with_boxes d s (boxes_at d) fs) (sym (at.nobody e).1);
       })
 
@@ -109,7 +111,7 @@ module _ (ours : List ℕ → Bool) (alone : Bool) (w : World) (options : Option
   ended m d' sound stands t =
       let at = whole_at false m stands in
       let made = t.files w.state at.files in
-      record { state = made.state; files = made.held; alike = alike_filed ours alone w options (marks_of plan.steps) m d' made.state t.far t.near (alike_now false m made.state sound at made.made) }
+      record { state = made.state; files = made.held; alike = alike_filed ours alone w options (marks_of plan.steps) m d' made.state t.far t.near t.named (alike_now false m made.state sound at made.made) }
 
   pub half_ended : (m d' : Device) → IsInOrder w → Stands ours alone w options plan log false m → OnFiles (CommitsHalf (with_log plan log false)) m d' → PlannedAt ours alone w options d' ⊎ DoneAt ours alone w options d'
   half_ended m d' sound stands t = by_files (t.files w.state at.files)
@@ -118,7 +120,7 @@ module _ (ours : List ℕ → Bool) (alone : Bool) (w : World) (options : Option
       at = whole_at false m stands
 
       done : (pending : Pending) → IsIdle pending → (s : SyncState) → Commits (record { plan = plan; log = log }) w.state s → Holds d'.files s pending → DoneAt ours alone w options d'
-      done pending idle s made held = record { state = s; pending = pending; idle = idle; files = held; marks = marks_of plan.steps; alike = alike_filed ours alone w options (marks_of plan.steps) m d' s t.far t.near (alike_now false m s sound at made) }
+      done pending idle s made held = record { state = s; pending = pending; idle = idle; files = held; marks = marks_of plan.steps; alike = alike_filed ours alone w options (marks_of plan.steps) m d' s t.far t.near t.named (alike_now false m s sound at made) }
 
       committed : (k : HoldsCommitted (with_log plan log false) w.state d'.files) → DoneAt ours alone w options d'
       committed k = by_held k.held
@@ -128,7 +130,7 @@ module _ (ours : List ℕ → Bool) (alone : Bool) (w : World) (options : Option
           by_held (inr held) = done Missing tt k.state k.made held
 
       by_files : Holds d'.files w.state (with_log plan log false) ⊎ HoldsCommitted (with_log plan log false) w.state d'.files → PlannedAt ours alone w options d' ⊎ DoneAt ours alone w options d'
-      by_files (inl held) = inl (record { plan = plan; log = log; is_torn = false; stands = inl (false, midway_filed ours alone w options plan log log false false log false m d' t.far t.near held at) })
+      by_files (inl held) = inl (record { plan = plan; log = log; is_torn = false; stands = inl (false, midway_filed ours alone w options plan log log false false log false m d' t.far t.near t.named held at) })
       by_files (inr k) = inr (committed k)
 
 pub ended_done : (ours : List ℕ → Bool) (alone : Bool) (w : World) (options : Options) (d : Device) → EndedAt ours alone w options d → DoneAt ours alone w options d

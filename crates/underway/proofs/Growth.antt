@@ -63,6 +63,9 @@ module _ (ours : List ℕ → Bool) where
   pub files_same : (alone : Bool) (d m : Device) → Arrives ours alone d m → m.files ≡ d.files
   files_same alone d m a = ap (λ (x : Device). x.files) a.now
 
+  pub named_same : (alone : Bool) (d m : Device) → Arrives ours alone d m → m.named ≡ d.named
+  named_same alone d m a = ap (λ (x : Device). x.named) a.now
+
   pub unplanned_arrives : (alone : Bool) (opening : Opening) (d m : Device) → Arrives ours alone d m → Unplanned alone opening d → Unplanned alone opening m
   unplanned_arrives alone opening d m a u = record {
     pending = u.pending;
@@ -71,17 +74,19 @@ module _ (ours : List ℕ → Bool) where
     chosen = u.chosen;
     below = u.below;
     grows = grows_arrives alone opening.world opening.world.state d m u.grows a;
+    spares = rw (named_same alone d m a) u.spares;
   }
 
 -- another journal, and both mailboxes as they were
-pub unplanned_filed : (alone : Bool) (opening : Opening) (pending : Pending) (d d' : Device) → IsIdle pending → d'.far ≡ d.far → d'.near ≡ d.near → Holds d'.files opening.world.state pending → Unplanned alone opening d → Unplanned alone opening d'
-unplanned_filed alone opening pending d d' idle far near holds u = record {
+pub unplanned_filed : (alone : Bool) (opening : Opening) (pending : Pending) (d d' : Device) → IsIdle pending → d'.far ≡ d.far → d'.near ≡ d.near → d'.named ≡ d.named → Holds d'.files opening.world.state pending → Unplanned alone opening d → Unplanned alone opening d'
+unplanned_filed alone opening pending d d' idle far near named holds u = record {
   pending = pending;
   idle = idle;
   files = holds;
   chosen = u.chosen;
   below = u.below;
   grows = rw (far, near) u.grows;
+  spares = rw named u.spares;
 }
 
 -- what is so of some world since the opening is so with all that is known of the world

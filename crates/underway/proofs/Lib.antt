@@ -4,6 +4,7 @@ pub mod Flagged
 pub mod ApartFlags
 pub mod Sources
 pub mod Foreign
+pub mod Naming
 pub mod Moves
 pub mod Plain
 pub mod Flagging

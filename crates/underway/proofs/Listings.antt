@@ -3,6 +3,7 @@ use Rattle.std.proofs.Common.{◌≡◌, ◌≤◌, ◌<◌, ℕ, Bool, true, fa
 use Rattle.std.proofs.lemmas.List.Elements.{All-weaker}
 use Rattle.mailcore.specs.declared.listing.Listing.{Listing}
 use Rattle.mailcore.specs.declared.mailbox.Message.{Message}
+use Rattle.mailcore.specs.declared.side.Side.{Side}
 use Rattle.mailcore.specs.declared.side.Side.TheVariants.{Far, Near}
 use Rattle.mailcore.proofs.RiseLemmas.{rise-ends}
 use Rattle.mailcore.specs.Mailboxes.{Mailbox}
@@ -23,7 +24,7 @@ use Rattle.mailbox.specs.Operations.{TellsNext}
 use Rattle.mailbox.proofs.Listed.{told_alone, told_least, told_store}
 use Rattle.outside.specs.Arrivals.{Arrives}
 use Rattle.outside.specs.Devices.{Device, box}
-use Rattle.underway.specs.Openings.{Grows, world_at}
+use Rattle.underway.specs.Openings.{Grows, SparesLater, world_at}
 use Rattle.underway.specs.Moments.{Listed, Midway, boxes_at, with_log}
 use Rattle.underway.specs.Plans.{IsPlanned}
 use Rattle.underway.proofs.Foreign.{two, own_arrived}
@@ -54,11 +55,16 @@ listed_grows alone w s far d m g h told =
       nobody = λ e. (ap (λ (n : ℕ). record d.far { next = n }) (told_alone alone w.far.next far d.far told e) ∙ (g.nobody e).0, (h.nobody e).1);
     }
 
+-- UIDs are given again by neither side
+pub grows_next : (alone : Bool) (w now : World) → Grows alone w now → (side : Side) → (store w side).next ≤ (store now side).next
+grows_next alone w now g Far = g.far_next
+grows_next alone w now g Near = rise-ends w.near.next g.uids now.near.next g.rise
+
 -- what the state names was given
 pub names_below : (alone : Bool) (w now : World) → Grows alone w now → NamesBelow w → NamesBelow now
 names_below alone w now g b =
-    let far = g.far_next in
-    let near = rise-ends w.near.next g.uids now.near.next g.rise in
+    let far = grows_next alone w now g Far in
+    let near = grows_next alone w now g Near in
     rw g.state (record {
       pulled = let k = b.pulled in omega arith;
       pushed = let k = b.pushed in omega arith;
@@ -79,12 +85,13 @@ module _ (ours : List ℕ → Bool) (alone : Bool) where
         validity = two (λ side. (box now side).validity ≡ (store w side).validity) (v Far) (v Near);
         next = two (λ side. (store w side).next ≤ (box now side).next) (omega arith) (next Near);
         boxes = λ marks mine. own_arrived ours w marks d.far.messages d.near.store.messages a.messages d.far.next a.next mine far_next a.rise a.far_foreign ∙ l.boxes marks mine;
+        spares = l.spares;
         nobody = λ e. subst (λ (x : Device). (boxes_at x ≡ boxes_of w) × (x.near.waiting ≡ [])) (sym (a.nobody e) ∙ a.now) (l.nobody e);
       })
 
   -- it is shown by the far listing on d, and the near one on m, before which others added
-  pub listed_here : (w : World) (s : SyncState) (next : ℕ) (d m : Device) → Grows alone w (listed_world s next d m) → next ≤ d.far.next → (alone ≡ true → m.near.waiting ≡ []) → Arrives ours alone d m → Holds m.files s Missing → Listed ours alone (listed_world s next d m) m
-  listed_here w s next d m g most admitted a files =
+  pub listed_here : (w : World) (s : SyncState) (next : ℕ) (d m : Device) → Grows alone w (listed_world s next d m) → next ≤ d.far.next → (alone ≡ true → m.near.waiting ≡ []) → Arrives ours alone d m → Holds m.files s Missing → SparesLater (listed_world s next d m) m → Listed ours alone (listed_world s next d m) m
+  listed_here w s next d m g most admitted a files spares =
       let here : World = listed_world s next d m in
       let low = rise-ends d.far.next (map (λ (x : Message). x.uid) a.messages) a.next a.rise in
       let far_is : m.far ≡ record d.far { next = a.next; messages = d.far.messages ++ a.messages } = ap (λ (x : Device). x.far) a.now in
@@ -93,6 +100,7 @@ module _ (ours : List ℕ → Bool) (alone : Bool) where
         validity = two (λ side. (box m side).validity ≡ (store here side).validity) (rw far_is refl) refl;
         next = two (λ side. (store here side).next ≤ (box m side).next) (rw far_is (omega (arith, low, most))) (omega arith);
         boxes = λ marks mine. rw far_is (own_arrived ours here marks d.far.messages m.near.store.messages a.messages d.far.next a.next mine most a.rise a.far_foreign ∙ opening_own here marks g.in_order);
+        spares = spares;
         nobody = λ e. (let same : m.far ≡ d.far = ap (λ (x : Device). x.far) (a.nobody e) in rw same refl, admitted e);
       }
 
@@ -102,8 +110,8 @@ module _ (ours : List ℕ → Bool) (alone : Bool) where
   fit_none [] = tt
   fit_none (s ∷ steps) = tt
 
-  pub plan_written : (w : World) (options : Options) (plan : Plan) (m d' : Device) → IsPlanned ours w options plan → Listed ours alone w m → d'.far ≡ m.far → d'.near ≡ m.near → Holds d'.files w.state (with_log plan [] false) → Midway ours alone w options plan [] false [] false d'
-  plan_written w options plan m d' p l far near holds =
+  pub plan_written : (w : World) (options : Options) (plan : Plan) (m d' : Device) → IsPlanned ours w options plan → Listed ours alone w m → d'.far ≡ m.far → d'.near ≡ m.near → d'.named ≡ m.named → Holds d'.files w.state (with_log plan [] false) → Midway ours alone w options plan [] false [] false d'
+  plan_written w options plan m d' p l far near named holds =
       let same = same_boxes m d' far near in
       let boxes : boxes_at d' ≡ boxes_at m = rw (far, near) refl in
       let own_is = l.boxes p.marks p.are_ours in
@@ -114,5 +122,6 @@ module _ (ours : List ℕ → Bool) (alone : Bool) where
         validity = λ side. rw (same side) (l.validity side);
         rises = λ side. rw (same side, given-none side plan.steps) (l.next side);
         boxes = ap (λ (b : Boxes). own (is_own w p.marks) b) boxes ∙ own_is ∙ sym (after-none plan.steps (boxes_of w));
+        spares = rw named l.spares;
         nobody = λ e. (ap (λ (b : Boxes). own (is_own w p.marks) b) boxes ∙ own_is ∙ sym (boxes ∙ (l.nobody e).0), ap (λ (n : Mailbox). n.waiting) near ∙ (l.nobody e).1);
       }

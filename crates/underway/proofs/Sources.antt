@@ -43,7 +43,7 @@ pub record IsSource (w : World) (d : Direction) (uid : ℕ) : Type 0 where
   pub same : message.uid ≡ uid
   pub is_fit : fit (source d) message.bytes ≡ true
 
-of_item : (w : World) (options : Options) (d : Direction) (i : Item) → Contains (items (scene_of w options) (source d)) i → (m : Message) × Contains (store w (source d)).messages m × (item_of (source d) m ≡ i)
+pub of_item : (w : World) (options : Options) (d : Direction) (i : Item) → Contains (items (scene_of w options) (source d)) i → (m : Message) × Contains (store w (source d)).messages m × (item_of (source d) m ≡ i)
 of_item w options Pull i c = map_contains (item_of Far) w.far.messages i c
 of_item w options Push i c = map_contains (item_of Near) w.near.messages i c
 

@@ -12,14 +12,15 @@ use Rattle.book.specs.declared.book.Pending.TheVariants.{Missing}
 use Rattle.book.specs.Books.{Holds}
 use Rattle.run_laws.specs.AlikeLaws.{own_world}
 use Rattle.outside.specs.Devices.{Device}
-use Rattle.underway.specs.Openings.{IsIdle, world_at}
+use Rattle.underway.specs.Openings.{IsIdle, SparesLater, world_at}
 
 -- Both mailboxes and this state are alike to the outcome of the world: under rising UIDs, with copies that bear these marks, which differ,
--- and without what others added. Where nobody adds any, nothing is left out.
+-- and without what others added, each of which was spared. Where nobody adds any, nothing is left out.
 pub record AlikeAt (ours : List ℕ → Bool) (alone : Bool) (w : World) (options : Options) (marks : List (List ℕ)) (d : Device) (state : SyncState) : Type 0 where
   pub are_ours : All (λ mark. ours mark ≡ true) marks
   pub alike : AlikeBy w options (own_world w marks (world_at d state))
   pub borne : alike.marks ≡ marks
+  pub spares : SparesLater w d
   pub nobody : alone ≡ true → own_world w marks (world_at d state) ≡ world_at d state
 
 -- the run is done; its journal may still be there

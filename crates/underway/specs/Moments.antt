@@ -13,6 +13,7 @@ use Rattle.step_laws.specs.Steps.{Boxes, Fit, Rises, after, boxes_of, own}
 use Rattle.step_laws.specs.OwnLaws.{is_own}
 use Rattle.run_laws.specs.CommitLaws.{results_of}
 use Rattle.outside.specs.Devices.{Device, box}
+use Rattle.underway.specs.Openings.{SparesLater}
 use Rattle.underway.specs.Plans.{IsPlanned, begun, next_of}
 
 -- the messages of both mailboxes
@@ -23,7 +24,7 @@ boxes_at d = record { far = d.far.messages; near = d.near.store.messages }
 abbrev pub with_log : Plan → List Logged → (is_torn : Bool) → Pending
 with_log plan log is_torn = Planned (record { journal = record { plan = plan; log = log }; is_torn = is_torn })
 
--- The plan of the world is in the journal, with this log. Both mailboxes are those of the world after the steps that have these
+-- The plan of the world is in the journal, with this log, and each message that came behind it was spared. Both mailboxes are those of the world after the steps that have these
 -- results, and after the first call of the next one, if it is half done; what others added is left out. Where nobody adds any, nothing
 -- is left out and no file waits.
 pub record Midway (ours : List ℕ → Bool) (alone : Bool) (w : World) (options : Options) (plan : Plan) (log : List Logged) (is_torn : Bool) (results : List Logged) (is_half : Bool) (d : Device) : Type 0 where
@@ -33,6 +34,7 @@ pub record Midway (ours : List ℕ → Bool) (alone : Bool) (w : World) (options
   pub validity : (side : Side) → (box d side).validity ≡ (store w side).validity
   pub rises : (side : Side) → Rises side (store w side).next plan.steps (results_of results) (box d side).next
   pub boxes : own (is_own w planned.marks) (boxes_at d) ≡ begun is_half (after plan.steps (results_of results) (boxes_of w)) (next_of plan.steps results)
+  pub spares : SparesLater w d
   pub nobody : alone ≡ true → (own (is_own w planned.marks) (boxes_at d) ≡ boxes_at d) × (d.near.waiting ≡ [])
 
 -- behind the steps that are logged none of the calls of the next one is done, or the first of two, or all of them
@@ -49,13 +51,14 @@ pub record PlannedAt (ours : List ℕ → Bool) (alone : Bool) (w : World) (opti
 
 -- ---- before the plan
 
--- Both mailboxes of a device are those of a world that was listed, but for what others added since; there is no journal. Where nobody adds
+-- Both mailboxes of a device are those of a world that was listed, but for what others added since, which was spared; there is no journal. Where nobody adds
 -- any, nothing was added and no file waits.
 pub record Listed (ours : List ℕ → Bool) (alone : Bool) (w : World) (d : Device) : Type 0 where
   pub files : Holds d.files w.state Missing
   pub validity : (side : Side) → (box d side).validity ≡ (store w side).validity
   pub next : (side : Side) → (store w side).next ≤ (box d side).next
   pub boxes : (marks : List (List ℕ)) → All (λ mark. ours mark ≡ true) marks → own (is_own w marks) (boxes_at d) ≡ boxes_of w
+  pub spares : SparesLater w d
   pub nobody : alone ≡ true → (boxes_at d ≡ boxes_of w) × (d.near.waiting ≡ [])
 
 -- ---- the next step

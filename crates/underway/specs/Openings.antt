@@ -1,5 +1,5 @@
 -- What a run begins with, and what becomes of it before there is a plan.
-use Rattle.std.specs.Prelude.{◌≡◌, ◌≤◌, ℕ, Bool, true, List, [], ◌++◌, IsPermutation, length}
+use Rattle.std.specs.Prelude.{◌≡◌, ◌≤◌, ◌<◌, ℕ, Bool, true, List, [], ◌++◌, All, IsPermutation, length}
 use Rattle.mailcore.specs.declared.side.Side.{Side}
 use Rattle.mailcore.specs.declared.mailbox.Message.{Message}
 use Rattle.mailcore.specs.Rise.{Rise}
@@ -41,6 +41,10 @@ pub record Grows (alone : Bool) (w now : World) : Type 0 where
   pub near : now.near.messages ≡ w.near.messages ++ numbered_under uids named
   pub nobody : alone ≡ true → (now.far ≡ w.far) × (named ++ now.waiting ≡ w.waiting)
 
+-- each message that came behind this world is spared: no call was to change or to remove one of at least the next UID of its side
+abbrev pub SparesLater : World → Device → Type 0
+SparesLater w d = All (λ n. n.uid < (store w n.side).next) d.named
+
 -- there is no plan of the run behind this state: no journal, or one without a plan or of a run that was made
 abbrev pub IsIdle : Pending → Type 0
 IsIdle Missing = Unit {0}
@@ -55,6 +59,7 @@ pub record Unplanned (alone : Bool) (opening : Opening) (d : Device) : Type 0 wh
   pub chosen : opening.called ≡ opening.options
   pub below : NamesBelow opening.world
   pub grows : Grows alone opening.world (world_at d opening.world.state)
+  pub spares : SparesLater opening.world d
 
 -- so much is so of some world since the opening, that of both listings on which the plan was made; where nobody adds any files, all have
 -- their UIDs by then

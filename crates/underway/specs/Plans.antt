@@ -2,6 +2,7 @@
 use Rattle.std.specs.Prelude.{◌≡◌, ℕ, Bool, true, List, [], ◌∷◌, All, Option, None, Some, if◌then◌else◌}
 use Rattle.mailcore.specs.declared.side.Side.{Side}
 use Rattle.mailcore.specs.declared.side.Side.TheVariants.{Far, Near}
+use Rattle.mailcore.specs.Sides.{target}
 use Rattle.rules.specs.declared.options.Options.{Options}
 use Rattle.rules.specs.declared.plan.Plan.{Plan}
 use Rattle.rules.specs.declared.plan.Step.{Step}
@@ -11,7 +12,8 @@ use Rattle.rules.specs.World.{World, store}
 use Rattle.sync_state.specs.declared.journal.Logged.{Logged}
 use Rattle.run_laws.specs.CommitLaws.{IsPlanOf}
 use Rattle.step_laws.specs.Laws.{half_flagged}
-use Rattle.step_laws.specs.Steps.{Boxes}
+use Rattle.step_laws.specs.Steps.{Boxes, changed_uid}
+use Rattle.outside.specs.Devices.{Named}
 
 -- the next UID of a side when the plan was made
 abbrev pub first_uid : Plan → Side → ℕ
@@ -42,3 +44,10 @@ half_done b (Some (step.Expunge side u)) = b
 
 abbrev pub begun : (is_half : Bool) → Boxes → Option Step → Boxes
 begun is_half b next = if is_half then half_done b next else b
+
+-- the message that a step is to change or to remove
+abbrev pub names_of : Step → List Named
+names_of (step.New d u flags mark) = []
+names_of (step.Gone d far near) = record { side = target d; uid = changed_uid d far near } ∷ []
+names_of (step.Flags d far near set cleared) = record { side = target d; uid = changed_uid d far near } ∷ []
+names_of (step.Expunge side u) = record { side = side; uid = u } ∷ []

@@ -1,5 +1,11 @@
-use Rattle.alike_laws.proofs.Others.{others_copied_next, others_left}
+use Rattle.alike_laws.proofs.Others.{others_copied_next, others_left, others_spared, others_stay}
 use Rattle.alike_laws.proofs.others_are_left_to_the_next_run.Goals as goal
+
+pub returns-clause-spared : goal.returns-clause-spared
+returns-clause-spared c = others_spared
+
+pub returns-clause-stay : goal.returns-clause-stay
+returns-clause-stay c = others_stay
 
 pub returns-clause-left : goal.returns-clause-left
 returns-clause-left c = others_left

@@ -1,10 +1,13 @@
-use Rattle.std.proofs.Common.{◌≡◌, ◌==◌, ◌∙◌, ℕ, true, ap, sym, subst, Bool}
+use Rattle.std.proofs.Common.{◌≡◌, ◌==◌, ◌∙◌, ℕ, true, refl, ap, sym, subst, Bool}
 use Rattle.std.proofs.lemmas.Bool.{both_ways, eqb-true}
+use Rattle.mailcore.specs.Sides.{target}
+use Rattle.rules.specs.declared.plan.Step.TheVariants as step
+use Rattle.step_laws.specs.Steps.{changed_uid}
 use Rattle.sync_state.specs.declared.journal.Logged.TheVariants.{Done}
 use Rattle.underway.specs.Conditions.{Underway}
 use Rattle.runner.specs.Going.{AtBegun, sets_first}
 use Rattle.runner.proofs.PartCalls.{from_box, left_step, line_of_box, passed_call, passed_none}
-use Rattle.runner.proofs.Stages.{begun_arrives, begun_held, begun_underway, clear_called, clear_uncalled, done_underway, left_by}
+use Rattle.runner.proofs.Stages.{begun_arrives, begun_held, begun_named, begun_underway, clear_called, clear_uncalled, done_underway, left_by}
 use Rattle.runner.proofs.Wholes.{sets_none, sets_where_none}
 use Rattle.runner.proofs.changing.clear_flags.Goals as goal
 
@@ -46,7 +49,7 @@ returns-in-Err-clause-part g c =
       from_box c.in-Err.fault told,
       left_by (Underway ours alone g.opening) _ _ c.in-Err.fault m s1.device own
           (begun_underway ours alone g.opening opened made m (begun_arrives ours alone g.opening opened made _ m a at))
-          absurd
+          (λ part. begun_underway ours alone g.opening opened made s1.device (begun_named ours alone g.opening opened (step.Flags f.direction f.far f.near f.set f.cleared) (target f.direction) (changed_uid f.direction f.far f.near) c.requires.1.1.0 refl made _ m s1.device a at (rw (c.target-side.ensures, c.changed_uid-uid.ensures) at part)))
           (λ x does. done_underway ours alone g.opening opened Done s1.device (clear_called ours alone g.opening opened f.direction f.far f.near f.set f.cleared c.requires.1.1.0 made (sets_none f.set f.cleared) _ m s1.device a at (rw (c.target-side.ensures, c.changed_uid-uid.ensures) at does))),
     )))
 

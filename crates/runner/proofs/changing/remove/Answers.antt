@@ -1,8 +1,9 @@
-use Rattle.std.proofs.Common.{true}
+use Rattle.std.proofs.Common.{true, refl}
+use Rattle.rules.specs.declared.plan.Step.TheVariants as step
 use Rattle.sync_state.specs.declared.journal.Logged.TheVariants.{Done}
 use Rattle.underway.specs.Conditions.{Underway}
 use Rattle.runner.proofs.PartCalls.{from_box, left_step, line_of_box, passed_call}
-use Rattle.runner.proofs.Stages.{done_underway, expunge_made, left_by, ready_arrives, ready_held, ready_underway}
+use Rattle.runner.proofs.Stages.{done_underway, expunge_made, left_by, ready_arrives, ready_held, ready_named, ready_underway}
 use Rattle.runner.proofs.changing.remove.Goals as goal
 
 pub expunge-requires : goal.expunge-requires
@@ -33,6 +34,6 @@ returns-in-Err-clause-part g c =
       from_box c.in-Err.fault told,
       left_by (Underway ours alone g.opening) _ _ c.in-Err.fault m s1.device own
           (ready_underway ours alone g.opening opened true m (ready_arrives ours alone g.opening opened true _ m a at))
-          absurd
+          (λ part. ready_underway ours alone g.opening opened true s1.device (ready_named ours alone g.opening opened (step.Expunge side uid) side uid c.requires.1.1 refl _ m s1.device a at part))
           (λ x does. done_underway ours alone g.opening opened Done s1.device (expunge_made ours alone g.opening opened side uid c.requires.1.1 _ m s1.device a at does)),
     )))

@@ -1,10 +1,13 @@
-use Rattle.std.proofs.Common.{◌≡◌, ◌∙◌, Bool, true, false, sym, subst, arith}
+use Rattle.std.proofs.Common.{◌≡◌, ◌∙◌, Bool, true, false, refl, sym, subst, arith}
 use Rattle.std.proofs.lemmas.Bool.{both_ways}
 use Rattle.std.proofs.lemmas.Grind.{common_steps}
+use Rattle.mailcore.specs.Sides.{target}
+use Rattle.rules.specs.declared.plan.Step.TheVariants as step
+use Rattle.step_laws.specs.Steps.{changed_uid}
 use Rattle.underway.specs.Conditions.{Underway}
 use Rattle.runner.specs.Going.{AtBegun, sets_first}
 use Rattle.runner.proofs.PartCalls.{from_box, left_step, line_of_box, passed_call, passed_none}
-use Rattle.runner.proofs.Stages.{begun_underway, left_by, ready_arrives, ready_held, ready_underway, set_called, set_none}
+use Rattle.runner.proofs.Stages.{begun_underway, left_by, ready_arrives, ready_held, ready_named, ready_underway, set_called, set_none}
 use Rattle.runner.proofs.changing.set_flags.Goals as goal
 
 pub add_flags-requires : goal.add_flags-requires
@@ -33,7 +36,7 @@ returns-in-Err-clause-part g c =
       from_box c.in-Err.fault told,
       left_by (Underway ours alone g.opening) _ _ c.in-Err.fault m s1.device own
           (ready_underway ours alone g.opening opened true m (ready_arrives ours alone g.opening opened true _ m a at))
-          absurd
+          (λ part. ready_underway ours alone g.opening opened true s1.device (ready_named ours alone g.opening opened (step.Flags f.direction f.far f.near f.set f.cleared) (target f.direction) (changed_uid f.direction f.far f.near) c.requires.1.1.0 refl _ m s1.device a at (rw (c.target-side.ensures, c.changed_uid-uid.ensures) at part)))
           (λ x does. begun_underway ours alone g.opening opened true s1.device (set_called ours alone g.opening opened f.direction f.far f.near f.set f.cleared c.requires.1.1.0 true _ m s1.device a at (rw (c.target-side.ensures, c.changed_uid-uid.ensures) at does))),
     )))
 

@@ -2,12 +2,8 @@ use Rattle.std.proofs.Common.{◌≡◌, Option, Some, None, true, false, is_som
 use Rattle.std.proofs.lemmas.Grind.{common_steps}
 use Rattle.underway.specs.Conditions.{Underway}
 use Rattle.underway.proofs.Arrived.{underway_arrives}
-use Rattle.book.specs.declared.book.Pending.{Pending}
-use Rattle.book.specs.declared.book.Pending.TheVariants.{Missing, Useless, Planned}
-use Rattle.book.specs.Books.{IsPlanned}
 use Rattle.outside.specs.Devices.{Device}
 use Rattle.outside.specs.Opened.{Opened}
-use Rattle.underway.specs.Openings.{IsIdle}
 use Rattle.runner.specs.Before.{HasNoPlan, HasPlan, IsEmptied}
 use Rattle.runner.proofs.PartCalls.{from_book, left_call, line_of_book, passed_call}
 use Rattle.runner.proofs.Readings.{forgot, forgot_held, half_forgot, has_none, has_plan, never_both, none_of, none_taken, some_of, stores_kept}

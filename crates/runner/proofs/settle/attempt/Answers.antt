@@ -78,7 +78,7 @@ returns-in_err-number-clause-reached g c = λ h at. none_reached c.fix_run.new.r
 
 pub returns-clause-reached : goal.returns-clause-reached
 returns-clause-reached g c = λ h at.
-    fixed_on c.fix_run.new.run c.in_ok-number.number _ _ c.in_ok-number.ensures.fixed (goes_on _ _ _ _ _ _ _ _ c.pass.result c.pass.ensures.part h) (c.in_ok-number.ensures.number (c.pass.ensures.was_honest h) at)
+    fixed_on c.fix_run.new.run c.in_ok-number.number _ _ c.in_ok-number.ensures.fixed (goes_on _ _ _ _ _ _ _ _ c.pass.result c.pass.ensures.part h).files (c.in_ok-number.ensures.number (c.pass.ensures.was_honest h) at)
 
 pub returns-clause-told : goal.returns-clause-told
 returns-clause-told g c =

@@ -1,6 +1,4 @@
-use Rattle.std.proofs.Common.{◌≡◌, ◌+◌, inl, inr, refl, subst, arith}
-use Rattle.book.specs.Books.{Holds}
-use Rattle.outside.specs.Devices.{Device}
+use Rattle.std.proofs.Common.{◌≡◌, ◌+◌, inl, inr, refl, arith}
 use Rattle.runner.specs.Attempts.{AtOpening}
 use Rattle.runner.proofs.Attempts.{last_run, next_read, next_unread, opening_left, reached_read, run_read}
 use Rattle.runner.proofs.PartCalls.{left_call, left_here, line_of_shelf, passed_call, stuck_call, whole_call}

@@ -1,6 +1,7 @@
 use Rattle.std.proofs.Common.{◌∙◌, sym, inl, refl}
 use Rattle.mailcore.specs.declared.side.Side.TheVariants as side
 use Rattle.mailbox.specs.Operations.{removed}
+use Rattle.outside.proofs.Sparing.{removal_changes_one}
 use Rattle.pair.specs.BookParts.{kept_of}
 use Rattle.pair.specs.Pairs.{device_of}
 use Rattle.pair.proofs.BoxCalls.{far_ends, near_ends, turning}
@@ -21,15 +22,15 @@ pub returns-in-Far : goal.returns-in-Far
 returns-in-Far g c =
     let p = c.args.self.now in
     let b = c.expunge-answer in
-    let e = c.end_at in
+    let e = c.end_naming in
     let whole = sym c.is_broken.ensures ∙ c.if-is_broken.false in
-    let ends = far_ends p (turning (device_of p) side.Far (removed side.Far c.args.uid)) b.new.self e.new.self b.result e.result whole e.ensures.same e.ensures.now (rw p.far_is at b.ensures.call) in
+    let ends = far_ends p (turning (device_of p) c.args.uid (removed side.Far c.args.uid) (removal_changes_one side.Far c.args.uid) side.Far) b.new.self e.new.self b.result e.result whole e.ensures.same e.ensures.now (rw p.far_is at b.ensures.call) in
     record {
       was_honest = λ h. (b.ensures.was_honest h.0, h.1, h.2);
       opened = far_stays _ _ (g.N.Mailbox.is_open p.near) (kept_of p.book) (rw c.in-Far.is at c.requires.is_open) b.ensures.open;
       call = rw c.in-Far.is ends.call;
       why = rw c.in-Far.is ends.why;
-      tallied = ends.tallied;
+      tallied = rw c.in-Far.is ends.tallied;
     }
 
 pub expunge-answer-requires-in-Near : goal.expunge-answer-requires-in-Near
@@ -42,13 +43,13 @@ pub returns-in-Near : goal.returns-in-Near
 returns-in-Near g c =
     let p = c.args.self.now in
     let b = c.expunge-answer-in-Near in
-    let e = c.end_at-in-Near in
+    let e = c.end_naming-in-Near in
     let whole = sym c.is_broken.ensures ∙ c.if-is_broken.false in
-    let ends = near_ends p (turning (device_of p) side.Near (removed side.Near c.args.uid)) b.new.self e.new.self b.result e.result whole e.ensures.same e.ensures.now (rw p.near_is at b.ensures.call) in
+    let ends = near_ends p (turning (device_of p) c.args.uid (removed side.Near c.args.uid) (removal_changes_one side.Near c.args.uid) side.Near) b.new.self e.new.self b.result e.result whole e.ensures.same e.ensures.now (rw p.near_is at b.ensures.call) in
     record {
       was_honest = λ h. (h.0, b.ensures.was_honest h.1, h.2);
       opened = near_stays (g.F.Mailbox.is_open p.far) _ _ (kept_of p.book) (rw c.in-Near.is at c.requires.is_open) b.ensures.open;
       call = rw c.in-Near.is ends.call;
       why = rw c.in-Near.is ends.why;
-      tallied = ends.tallied;
+      tallied = rw c.in-Near.is ends.tallied;
     }

@@ -1,7 +1,7 @@
 use Rattle.std.proofs.Common.{◌∙◌, sym, refl}
 use Rattle.pair.specs.BookParts.{kept_of}
 use Rattle.pair.specs.Pairs.{device_of}
-use Rattle.pair.specs.Tallies.{no_copies}
+use Rattle.pair.specs.Tallies.{ended, no_copies}
 use Rattle.pair.proofs.BookCalls as books
 use Rattle.pair.proofs.Ending.{on_ok, stuck, tally}
 use Rattle.pair.proofs.pair.PairOutside.open_book.Goals as goal
@@ -20,5 +20,5 @@ returns g c =
       book = on_ok _ _ b.result e.result e.ensures.same (books.is_book (g.F.Mailbox.is_open p.far) (g.N.Mailbox.is_open p.near) (kept_of b.new.self)) b.ensures.book;
       call = books.open_ends p b.new.self e.new.self b.result e.result whole e.ensures.same e.ensures.now b.ensures.told b.ensures.part;
       why = books.by_book p b.new.self b.result e.result whole e.ensures.same b.ensures.stops;
-      tallied = tally no_copies b.result e.result p.tally e.new.self whole e.ensures.same e.ensures.now;
+      tallied = tally (ended no_copies) b.result e.result p.tally e.new.self whole e.ensures.same e.ensures.now;
     }

@@ -1,7 +1,7 @@
 -- `and` makes a value without bytes, and calls its list that of the other with this device before it. Assumes `Logic`.
 use Rattle.std.proofs.Common.{List, [], ◌∷◌, ◌++◌, refl}
 use Rattle.std.proofs.raw_atomic.Walks.{proved_at}
-use mir.Val.{Val, vptr}
+use mir.Val.{Val}
 use prog.Wp.{WpFn}
 use contract.Running.{tables}
 use types.Kit.{‵, raw, ◌⊛◌, prop, ◌$◌, ◌∵◌, !, qed, move, keep, drop, split, fsplit, fjoin, feq_l, regoal, suffices, done}
