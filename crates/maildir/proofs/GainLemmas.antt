@@ -12,7 +12,7 @@ use Rattle.visitors.specs.Visitors.{IsForeign, Visitors}
 use Rattle.maildir.specs.declared.folder.File.{File}
 use Rattle.maildir.specs.declared.folder.FileName.{FileName}
 use Rattle.maildir.specs.Folders.{Stored, AreApart, is_at, is_left, moved, name_of_file, placed, removed_file, renamed_file, with_copy, with_meta, without}
-use Rattle.maildir.specs.Gains.{Gains, IsArrival}
+use Rattle.maildir.specs.Gains.{Adds, Gains, IsArrival}
 use Rattle.maildir.specs.MemFolders.{with_arrival, with_file}
 use Rattle.maildir.specs.Names.{is_waiting}
 use Rattle.maildir.proofs.FileLemmas.{at_true, at_from_name}
@@ -221,6 +221,10 @@ gains_none v s = record {
   nobody = λ alone. refl;
 }
 
+pub adds_none : (v : Visitors) (s : Stored) → Adds v s s
+unfolding gains_none
+adds_none v s = record { gains = gains_none v s; behind = sym (append-nil s.files) }
+
 pub gains_more : (v : Visitors) (s m n : Stored) → Gains v s m → Gains v m n → Gains v s n
 gains_more v s m n g h =
     let at_first : (y : File) → IsArrival v.ours m.files y → All (λ f. name_of_file f ≢ name_of_file y) (s.files ++ g.more) =
@@ -243,6 +247,13 @@ gains_more v s m n g h =
       meta = h.meta ∙ g.meta;
       nobody = λ alone. h.nobody alone ∙ g.nobody alone;
     }
+
+pub adds_more : (v : Visitors) (s m n : Stored) → Adds v s m → Adds v m n → Adds v s n
+unfolding gains_more
+adds_more v s m n g h = record {
+  gains = gains_more v s m n g.gains h.gains;
+  behind = h.behind ∙ ap (λ (l : List File). l ++ h.gains.more) g.behind ∙ append_assoc s.files g.gains.more h.gains.more;
+}
 
 -- ---- a file arrives
 
@@ -269,3 +280,8 @@ one_arrives v s file others waits foreign none = record {
   meta = refl;
   nobody = λ alone. absurd (false≢true (sym others ∙ alone));
 }
+
+pub one_added : (v : Visitors) (s : Stored) (file : File) → v.alone ≡ false → is_waiting file.name ≡ true → IsForeign v.ours (mark_of file.bytes)
+    → list_any (is_at file.place file.name) s.files ≡ false → Adds v s (with_arrival file s)
+unfolding one_arrives
+one_added v s file others waits foreign none = record { gains = one_arrives v s file others waits foreign none; behind = refl }

@@ -1,3 +1,4 @@
+pub mod AddedLemmas
 pub mod CutLemmas
 pub mod FileLemmas
 pub mod GainLemmas

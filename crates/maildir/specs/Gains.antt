@@ -1,5 +1,5 @@
 -- What others add to a folder while a run is at work: other programs deliver mail to it, and people file mail there.
-use Rattle.std.specs.Prelude.{◌≡◌, ◌≢◌, ◌++◌, ℕ, Bool, true, List, All}
+use Rattle.std.specs.Prelude.{◌≡◌, ◌≢◌, ◌++◌, ℕ, Bool, true, false, List, All}
 use Rattle.std.specs.List.Sorted.{IsPermutation}
 use Rattle.mailcore.specs.Content.{mark_of}
 use Rattle.visitors.specs.Visitors.{Visitors, IsForeign}
@@ -23,3 +23,16 @@ pub record Gains (visitors : Visitors) (old new : Stored) : Type 0 where
   pub copy : new.copy ≡ old.copy
   pub meta : new.meta ≡ old.meta
   pub nobody : visitors.alone ≡ true → new ≡ old
+
+-- others add files, which stand behind those that were there
+pub record Adds (visitors : Visitors) (old new : Stored) : Type 0 where
+  pub gains : Gains visitors old new
+  pub behind : new.files ≡ old.files ++ gains.more
+
+-- nobody else adds files
+abbrev pub nobody : Visitors
+nobody = record { ours = λ mark. true; alone = true }
+
+-- others add files, and write no marks
+abbrev pub others : Visitors
+others = record { ours = λ mark. true; alone = false }

@@ -1,6 +1,7 @@
 pub mod Cut
 pub mod DiskFolders
 pub mod FlaggedNames
+pub mod FolderCalls
 pub mod Folders
 pub mod Gains
 pub mod IndexedFiles
@@ -11,3 +12,4 @@ pub mod Metas
 pub mod NameIndexes
 pub mod Names
 pub mod Number
+pub mod VisitedFolders

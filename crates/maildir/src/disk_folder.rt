@@ -261,8 +261,11 @@ impl<R: Files + Clock + AllocGlobal + Clone + Drop> DiskFolder<R> {
 impl<R: Files + Clock + AllocGlobal + Clone + Drop> Folder for DiskFolder<R> {
     ghost use Rattle.std.specs.Prelude.{false, true};
     ghost use Rattle.maildir.specs.DiskFolders.{seen_on_disk};
+    ghost use Rattle.maildir.specs.Gains.{others};
 
     ghost is_honest = { false };
+
+    ghost visitors = { others };
 
     ghost seen = { seen_on_disk };
 

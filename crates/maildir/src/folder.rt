@@ -74,24 +74,34 @@ pub enum Origin<'a> {
 /// A Maildir folder: its files in `new` and `cur`, a copy that is being written in `tmp`, and the meta file.
 ///
 /// Each call answers Ok with its effect, or a fault with its effect, without it, or (`write_tmp` alone) with a beginning
-/// of its bytes. After a fault each call answers `Stopped` and changes nothing, until `reopen`, which keeps what is
-/// stored.
+/// of its bytes. After a fault each call answers `Stopped` and changes nothing, until `reopen`, which keeps what is stored.
+///
+/// Others may add files at any time. They count as stored from the next reading of the names on: until then no call meets them, since a
+/// file that comes waits under a name of its own, and a call is asked of a name that was read, or gives one that does not wait. What
+/// others add before a call they could as well have added behind it (`laws::others_could_come_behind`).
 pub trait Folder {
     ghost use Rattle.device.specs.Calls.{Seen, Call, Read, Rest, Nothing, Reopens};
+    ghost use Rattle.visitors.specs.Visitors.{Visitors};
+    ghost use Rattle.maildir.specs.FolderCalls.{ReadAnew};
     ghost use Rattle.maildir.specs.Folders.{Stored, Lists, Begins, Removes, Renames, bytes_of, with_copy, with_meta, listed, text_of};
 
-    /// Whether the folder gives back what was written, and nobody else writes to it.
+    /// Whether the folder gives back what was written, and others do no more than to add files.
     ghost is_honest: { Bool };
 
-    /// What is stored, whether a call has stopped since the folder was opened, and how many calls have stopped.
+    /// The marks that others do not write, and whether nobody else adds files.
+    ghost visitors: { Visitors };
+
+    /// What is stored, as far as its names were read since it came, whether a call has stopped since the folder was opened, and how many
+    /// calls have stopped.
     ghost seen: { Self → Seen Stored };
 
     /// What was renamed, removed and replaced so far outlives a loss of power.
     ghost is_synced: { Self → Bool };
 
-    /// The names of files in `new` and `cur`, in any order, or none where `new`, `cur` or `tmp` is missing.
+    /// The names of files in `new` and `cur`, in any order, or none where `new`, `cur` or `tmp` is missing. What others have added since
+    /// the names were read last is among them.
     fn names(&mut self) -> Result<Option<Vec<FileName>>, DeviceFault>
-        ensures { Read is_honest (λ names. Lists (listed names)) (seen self.old) (seen self.new) result };
+        ensures { ReadAnew is_honest visitors (λ names. Lists (listed names)) (seen self.old) (seen self.new) result };
 
     /// The bytes of a file, or none where it is missing.
     fn read(&mut self, file: Source<'_>) -> Result<Option<Vec<u8>>, DeviceFault>

@@ -1,7 +1,7 @@
 //! What one reading of the names in `new` and `cur` found: messages, files that wait for a UID, and files that can get none.
 
 ghost use Rattle.std.specs.Prelude.{◌≡◌, is_some};
-ghost use Rattle.maildir.specs.Names.{uid_in};
+ghost use Rattle.maildir.specs.Names.{is_waiting, uid_in};
 
 use crate::entries::entries_in;
 use crate::folder::{FileName, Place};
@@ -124,7 +124,9 @@ fn has_uid(name: &[u8]) -> bool
 }
 
 /// Whether a name is that of a file that waits for a UID.
-fn is_waiting(name: &[u8]) -> bool {
+pub(crate) fn is_waiting(name: &[u8]) -> bool
+    ensures { result ≡ is_waiting name.now }
+{
     match read_name(name) {
         Some(name) => name.uid.is_none(),
         None => false,

@@ -7,7 +7,7 @@ ghost use Rattle.mailcore.specs.FlagSet.{FLAGS};
 ghost use Rattle.maildir.specs.declared.folder.FileName.{FileName};
 ghost use Rattle.maildir.specs.declared.meta.Meta.{Meta};
 ghost use Rattle.maildir.specs.Folders.{AreApart, Stored, is_at, placed, removed_file, renamed_file, with_copy, with_meta};
-ghost use Rattle.maildir.specs.Gains.{Gains};
+ghost use Rattle.maildir.specs.Gains.{Adds, Gains};
 ghost use Rattle.maildir.specs.Letters.{flags_in, has_letter, letters_with};
 ghost use Rattle.maildir.specs.Metas.{MetaText, meta_of};
 ghost use Rattle.maildir.specs.Names.{NameParts, NameText, name_of, is_letter, is_waiting, are_letters, uid_in};
@@ -61,4 +61,6 @@ pub fn others_add_in_turn()
     ensures nothing { (v : Visitors) (s : Stored) → Gains v s s }
     ensures more { (v : Visitors) (s m n : Stored) → Gains v s m → Gains v m n → Gains v s n }
     ensures apart { (v : Visitors) (s m : Stored) → Gains v s m → AreApart s.files → AreApart m.files }
+    ensures nothing_behind { (v : Visitors) (s : Stored) → Adds v s s }
+    ensures more_behind { (v : Visitors) (s m n : Stored) → Adds v s m → Adds v m n → Adds v s n }
 {}

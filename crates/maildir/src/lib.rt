@@ -19,3 +19,4 @@ mod name_index;
 mod number;
 pub mod standing;
 mod sure_names;
+pub mod visited_folder;

@@ -47,8 +47,9 @@ pub struct MemFolder {
 impl MemFolder {
     ghost use Rattle.mailcore.specs.Content.{mark_of};
     ghost use Rattle.visitors.specs.Visitors.{IsForeign, Visitors};
-    ghost use Rattle.maildir.specs.Folders.{is_at, with_meta};
-    ghost use Rattle.maildir.specs.Gains.{Gains};
+    ghost use Rattle.device.specs.Calls.{Read};
+    ghost use Rattle.maildir.specs.Folders.{Lists, is_at, listed, with_meta};
+    ghost use Rattle.maildir.specs.Gains.{Adds, Gains};
     ghost use Rattle.maildir.specs.MemFolders.{empty, hidden, seen_of, stored_in, with_arrival, with_file};
     ghost use Rattle.maildir.specs.Names.{is_waiting};
 
@@ -91,6 +92,8 @@ impl MemFolder {
         ensures synced { self.new.is_synced ≡ self.old.is_synced }
         ensures gains { (visitors : Visitors) → visitors.alone ≡ false → is_waiting name ≡ true → IsForeign visitors.ours (mark_of bytes)
             → Gains visitors (stored_in self.old) (stored_in self.new) }
+        ensures adds { (visitors : Visitors) → visitors.alone ≡ false → is_waiting name ≡ true → IsForeign visitors.ours (mark_of bytes)
+            → OnOk result (Adds visitors (stored_in self.old) (stored_in self.new)) }
     {
         let file = File {
             place: Place::Cur,
@@ -146,6 +149,30 @@ impl MemFolder {
         ensures { (seen_of self.now).stops < 2 ^ 64 → result ≡ (seen_of self.now).stops }
     {
         self.stopping.stop_count()
+    }
+
+    // No memory is left for a call of it.
+    pub(crate) fn lack(&mut self) -> DeviceFault
+        ensures fault { result ≡ DeviceFault.NoMemory }
+        ensures seen { seen_of self.new ≡ record (seen_of self.old) { is_broken = true } }
+    {
+        self.stopping.lack()
+    }
+
+    // The names of its files, or none where the three folders are not there.
+    pub(crate) fn read_names(&mut self) -> Result<Option<Vec<FileName>>, DeviceFault>
+        ensures { Read true (λ names. Lists (listed names)) (seen_of self.old) (seen_of self.new) result }
+    {
+        if self.stopping.begin(FolderCall::Names)?.is_some() {
+            return Err(self.stopping.stop());
+        }
+        if !self.is_there {
+            return Ok(None);
+        }
+        match names_of(self.alloc, self.files.as_slice()) {
+            Ok(names) => Ok(Some(names)),
+            Err(_) => Err(self.stopping.lack()),
+        }
     }
 
     // The bytes of a file, or none where it is missing.
@@ -218,25 +245,19 @@ impl MemFolder {
 
 impl Folder for MemFolder {
     ghost use Rattle.std.specs.Prelude.{true};
+    ghost use Rattle.maildir.specs.Gains.{nobody};
     ghost use Rattle.maildir.specs.MemFolders.{seen_of};
 
     ghost is_honest = { true };
+
+    ghost visitors = { nobody };
 
     ghost seen = { seen_of };
 
     ghost is_synced = { λ folder. folder.is_synced };
 
     fn names(&mut self) -> Result<Option<Vec<FileName>>, DeviceFault> {
-        if self.stopping.begin(FolderCall::Names)?.is_some() {
-            return Err(self.stopping.stop());
-        }
-        if !self.is_there {
-            return Ok(None);
-        }
-        match names_of(self.alloc, self.files.as_slice()) {
-            Ok(names) => Ok(Some(names)),
-            Err(_) => Err(self.stopping.lack()),
-        }
+        self.read_names()
     }
 
     fn read(&mut self, file: Source<'_>) -> Result<Option<Vec<u8>>, DeviceFault> {

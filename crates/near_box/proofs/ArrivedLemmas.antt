@@ -12,11 +12,11 @@ use Rattle.mailbox.specs.Arrivals.{Arrives}
 use Rattle.visitors.specs.Visitors.{IsForeign, Visitors}
 use Rattle.maildir.specs.declared.folder.File.{File}
 use Rattle.maildir.specs.Folders.{Stored}
-use Rattle.maildir.specs.Gains.{Gains, IsArrival}
+use Rattle.maildir.specs.Gains.{Adds, Gains, IsArrival}
 use Rattle.maildir.specs.Names.{is_waiting}
 use Rattle.maildir.proofs.PermutedLemmas.{passing_in_any_order}
 use Rattle.near_box.specs.Mailboxes.{IsMailbox, is_before, near_of, waiting_files, waiting_of}
-use Rattle.near_box.proofs.GainedLemmas.{store_gained}
+use Rattle.near_box.proofs.GainedLemmas.{store_added, store_gained}
 use Rattle.near_box.proofs.KeptLemmas.{filter_all}
 use Rattle.near_box.proofs.SortingLemmas.{sorted_permutes}
 
@@ -36,8 +36,10 @@ waiting_gathered v s s' gains =
     (subst (λ (l : List File). IsPermutation l (filter waits s'.files)) all_wait (passing_in_any_order waits (s.files ++ more) s'.files gains.files))
     (sorted_permutes is_before (filter waits s'.files)))
 
-pub gained_arrives : (v : Visitors) (fresh : ℕ) (s s' : Stored) → IsMailbox fresh s → Gains v s s' → Arrives side.Near v.ours v.alone (near_of fresh s) (near_of fresh s')
-gained_arrives v fresh s s' is gains = record {
+-- where its messages are the same
+arrives_beside : (v : Visitors) (fresh : ℕ) (s s' : Stored) → (near_of fresh s').store ≡ (near_of fresh s).store → Gains v s s'
+    → Arrives side.Near v.ours v.alone (near_of fresh s) (near_of fresh s')
+arrives_beside v fresh s s' same gains = record {
   comes = record {
     files = map waiting_of gains.more;
     waiting = map waiting_of (waiting_files s'.files);
@@ -45,7 +47,14 @@ gained_arrives v fresh s s' is gains = record {
         (IsPermutation-map waiting_of (waiting_files s.files ++ gains.more) (waiting_files s'.files) (waiting_gathered v s s' gains));
     foreign = All-map (λ w. IsForeign v.ours (mark_of w.bytes)) waiting_of gains.more
         (All-weaker (IsArrival v.ours s.files) (λ y. IsForeign v.ours (mark_of (waiting_of y).bytes)) (λ y a. a.foreign) gains.more gains.arrivals);
-    now = ap (λ (store : Store). let b : Mailbox = record { store = store; waiting = map waiting_of (waiting_files s'.files) } in b) (store_gained v fresh s s' is gains);
+    now = ap (λ (store : Store). let b : Mailbox = record { store = store; waiting = map waiting_of (waiting_files s'.files) } in b) same;
   };
   nobody = λ alone. ap (near_of fresh) (gains.nobody alone);
 }
+
+pub gained_arrives : (v : Visitors) (fresh : ℕ) (s s' : Stored) → IsMailbox fresh s → Gains v s s' → Arrives side.Near v.ours v.alone (near_of fresh s) (near_of fresh s')
+gained_arrives v fresh s s' is gains = arrives_beside v fresh s s' (store_gained v fresh s s' is gains) gains
+
+-- of any folder, where the files stand behind the others
+pub added_arrives : (v : Visitors) (fresh : ℕ) (s s' : Stored) → Adds v s s' → Arrives side.Near v.ours v.alone (near_of fresh s) (near_of fresh s')
+added_arrives v fresh s s' adds = arrives_beside v fresh s s' (store_added v fresh s s' adds) adds.gains

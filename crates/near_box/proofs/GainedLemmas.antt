@@ -1,5 +1,5 @@
 -- What others add to a folder leaves the messages of its mailbox as they are.
-use Rattle.std.proofs.Common.{◌≡◌, ℕ, true, ltb, lt-ltb, List, [], ◌∷◌, ◌++◌, get_or, All, Option, None, refl, sym, ap, subst, ◌∙◌, append-nil}
+use Rattle.std.proofs.Common.{◌≡◌, ◌<◌, ℕ, true, ltb, lt-ltb, List, [], ◌∷◌, ◌++◌, get_or, All, Option, None, refl, sym, ap, subst, ◌∙◌, append-nil}
 use Rattle.std.specs.Prelude.{AllPairs}
 use Rattle.std.specs.List.{cons_option, filter_map}
 use Rattle.std.specs.List.Sorted.{IsPermutation}
@@ -13,11 +13,14 @@ use Rattle.maildir.specs.declared.folder.File.{File}
 use Rattle.maildir.specs.declared.meta.Meta.{Meta}
 use Rattle.maildir.specs.FlaggedNames.{flags_by_name}
 use Rattle.maildir.specs.Folders.{Stored}
-use Rattle.maildir.specs.Gains.{Gains, IsArrival}
+use Rattle.maildir.specs.Gains.{Adds, Gains, IsArrival}
 use Rattle.maildir.specs.Names.{is_waiting}
 use Rattle.maildir.proofs.GainLemmas.{apart_gained}
 use Rattle.maildir.proofs.PermutedLemmas.{picked_in_any_order}
-use Rattle.near_box.specs.Mailboxes.{IsMailbox, by_uid, message_of, messages_in, meta_at, meta_in, near_of, store_of}
+use Rattle.near_box.specs.declared.near_fault.NearFault.{NearFault}
+use Rattle.near_box.specs.declared.near_fault.NearFault.TheVariants.{Stopped, Absent, TwoWithOneUid, BadMeta, UidsExhausted, NoMemory}
+use Rattle.near_box.specs.NearContracts.{TellsWhy}
+use Rattle.near_box.specs.Mailboxes.{AreDistinct, IsMailbox, by_uid, message_of, messages_in, meta_at, meta_in, near_of, store_of}
 use Rattle.near_box.proofs.MailboxLemmas.{mailbox_store, store_mailbox}
 use Rattle.near_box.proofs.NewNameLemmas.{waiting_has_no_uid}
 use Rattle.near_box.proofs.SortingLemmas.{sorted_permuted, sorted_permutes}
@@ -33,13 +36,51 @@ waits_unread : (file : File) → is_waiting file.name ≡ true → message_of fi
 waits_unread file waits =
     ap (option_map (λ uid. let m : Message = record { uid = uid; flags = flags_by_name file.name; bytes = file.bytes } in m)) (waiting_has_no_uid file.name waits)
 
+no_messages : (v : Visitors) (s s' : Stored) (gains : Gains v s s') → filter_map message_of gains.more ≡ []
+no_messages v s s' gains = none_picked message_of gains.more
+    (All-weaker (IsArrival v.ours s.files) (λ y. message_of y ≡ None) (λ y a. waits_unread y a.waits) gains.more gains.arrivals)
+
+kept_messages : (v : Visitors) (s s' : Stored) (gains : Gains v s s') → messages_in (s.files ++ gains.more) ≡ messages_in s.files
+kept_messages v s s' gains =
+    filter_map-append message_of s.files gains.more ∙ ap (λ (l : List Message). messages_in s.files ++ l) (no_messages v s s' gains) ∙ append-nil (messages_in s.files)
+
+-- ---- files that stand behind the others
+
+pub messages_added : (v : Visitors) (s s' : Stored) → Adds v s s' → messages_in s'.files ≡ messages_in s.files
+messages_added v s s' adds = ap messages_in adds.behind ∙ kept_messages v s s' adds.gains
+
+meta_kept : (v : Visitors) (fresh : ℕ) (s s' : Stored) → Gains v s s' → meta_at fresh s' ≡ meta_at fresh s
+meta_kept v fresh s s' gains = ap (λ (text : Option (List ℕ)). meta_at fresh (record s { meta = text })) gains.meta
+
+pub store_added : (v : Visitors) (fresh : ℕ) (s s' : Stored) → Adds v s s' → (near_of fresh s').store ≡ (near_of fresh s).store
+store_added v fresh s s' adds =
+    ap (λ (m : Meta). store_of m s'.files) (meta_kept v fresh s s' adds.gains)
+    ∙ ap (λ (l : List Message). let x : Store = record { validity = (meta_at fresh s).validity; next = (meta_at fresh s).next; messages = by_uid l } in x) (messages_added v s s' adds)
+
+-- why a folder holds no mailbox, it did before
+pub told_before : (v : Visitors) (fresh : ℕ) (s s' : Stored) (fault : NearFault) → Adds v s s' → TellsWhy fresh s' fault → TellsWhy fresh s fault
+told_before v fresh s s' Stopped adds why = tt
+told_before v fresh s s' Absent adds why = sym adds.gains.is_there ∙ why
+told_before v fresh s s' TwoWithOneUid adds why =
+    (sym adds.gains.is_there ∙ why.0, λ once. why.1 (subst AreDistinct (sym (messages_added v s s' adds)) once))
+told_before v fresh s s' BadMeta adds why = (
+  sym adds.gains.is_there ∙ why.0,
+  subst AreDistinct (messages_added v s s' adds) why.1,
+  λ has. why.2 (record {
+    meta = has.meta;
+    is = ap (meta_in fresh) adds.gains.meta ∙ has.is;
+    below = subst (All (λ m. m.uid < has.meta.next)) (sym (messages_added v s s' adds)) has.below;
+  }),
+)
+told_before v fresh s s' UidsExhausted adds why = absurd why
+told_before v fresh s s' NoMemory adds why = tt
+
+-- ---- in any order
+
 module _ (v : Visitors) (fresh : ℕ) (s s' : Stored) (is : IsMailbox fresh s) (gains : Gains v s s') where
   same_messages : IsPermutation (messages_in s.files) (messages_in s'.files)
   same_messages =
-      let none : filter_map message_of gains.more ≡ [] = none_picked message_of gains.more
-      (All-weaker (IsArrival v.ours s.files) (λ y. message_of y ≡ None) (λ y a. waits_unread y a.waits) gains.more gains.arrivals) in
-      subst (λ (l : List Message). IsPermutation l (messages_in s'.files))
-      (filter_map-append message_of s.files gains.more ∙ ap (λ (l : List Message). messages_in s.files ++ l) none ∙ append-nil (messages_in s.files))
+      subst (λ (l : List Message). IsPermutation l (messages_in s'.files)) (kept_messages v s s' gains)
       (picked_in_any_order message_of (s.files ++ gains.more) s'.files gains.files)
 
   same_order : by_uid (messages_in s'.files) ≡ by_uid (messages_in s.files)
@@ -54,8 +95,7 @@ module _ (v : Visitors) (fresh : ℕ) (s s' : Stored) (is : IsMailbox fresh s) (
 
   pub store_gained : (near_of fresh s').store ≡ (near_of fresh s).store
   store_gained =
-      let meta : meta_at fresh s' ≡ meta_at fresh s = ap (λ (text : Option (List ℕ)). meta_at fresh (record s { meta = text })) gains.meta in
-      ap (λ (m : Meta). store_of m s'.files) meta
+      ap (λ (m : Meta). store_of m s'.files) (meta_kept v fresh s s' gains)
       ∙ ap (λ (l : List Message). let x : Store = record { validity = (meta_at fresh s).validity; next = (meta_at fresh s).next; messages = l } in x) same_order
 
   pub mailbox_gained : IsMailbox fresh s'

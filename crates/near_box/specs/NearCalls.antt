@@ -2,7 +2,9 @@
 use Rattle.std.specs.Prelude.{◌≡◌, ℕ, ◌+◌, ◌<◌, ◌≤◌, ◌⊎◌, Bool, true, false, Result, Ok, Err}
 use Rattle.device.specs.Calls.{Seen}
 use Rattle.device.specs.declared.DeviceFault.TheVariants.{Stopped as DeviceStopped, NoMemory as DeviceNoMemory}
+use Rattle.visitors.specs.Visitors.{Visitors}
 use Rattle.maildir.specs.Folders.{Stored}
+use Rattle.maildir.specs.Gains.{Adds}
 use Rattle.near_box.specs.declared.near_fault.NearFault.{NearFault}
 use Rattle.near_box.specs.declared.near_fault.NearFault.TheVariants.{Stopped, Absent, TwoWithOneUid, BadMeta, UidsExhausted, NoMemory}
 use Rattle.near_box.specs.declared.read_fault.ReadFault.{ReadFault}
@@ -108,7 +110,7 @@ abbrev pub Opens : {B F : Type 0} → (B → Seen Stored) → (F → Seen Stored
 Opens of_box of_folder old (Ok box) = Looks {T = Unit {0}} old (of_box box) (Ok tt)
 Opens of_box of_folder old (Err fault) = Looks {T = Unit {0}} old (of_folder fault.1) (Err fault.0)
 
--- what is stored is as it was
-abbrev pub Keeps : {B F : Type 0} → (B → Seen Stored) → (F → Seen Stored) → Seen Stored → Result B (NearFault × F) → Type 0
-Keeps of_box of_folder old (Ok box) = (of_box box).stored ≡ old.stored
-Keeps of_box of_folder old (Err fault) = (of_folder fault.1).stored ≡ old.stored
+-- others may have added files
+abbrev pub Gathers : {B F : Type 0} → Visitors → (B → Seen Stored) → (F → Seen Stored) → Seen Stored → Result B (NearFault × F) → Type 0
+Gathers visitors of_box of_folder old (Ok box) = Adds visitors old.stored (of_box box).stored
+Gathers visitors of_box of_folder old (Err fault) = Adds visitors old.stored (of_folder fault.1).stored

@@ -1,7 +1,7 @@
 -- What the calls of the near mailbox answer, and what they do to the mailbox that stands in its folder.
 use Rattle.std.specs.Prelude.{◌≡◌, ◌⊎◌, ℕ, true, false, Result, Ok, Err}
 use Rattle.mailcore.specs.Mailboxes.{Mailbox}
-use Rattle.device.specs.Calls.{Effect}
+use Rattle.device.specs.Calls.{Effect, Seen}
 use Rattle.near_box.specs.declared.near_fault.NearFault.{NearFault}
 use Rattle.near_box.specs.declared.near_fault.NearFault.TheVariants.{Stopped, Absent, TwoWithOneUid, BadMeta, UidsExhausted, NoMemory}
 use Rattle.maildir.specs.Folders.{Stored}
@@ -19,9 +19,9 @@ TellsWhy fresh s UidsExhausted = ⊥
 TellsWhy fresh s NoMemory = Unit {0}
 
 -- what opening a box tells of the folder, which comes back beside a fault
-abbrev pub Tells : {B F : Type 0} → (fresh : ℕ) → Stored → Result B (NearFault × F) → Type 0
-Tells fresh s (Ok box) = IsMailbox fresh s
-Tells fresh s (Err fault) = TellsWhy fresh s fault.0
+abbrev pub Tells : {B F : Type 0} → (fresh : ℕ) → (B → Seen Stored) → (F → Seen Stored) → Result B (NearFault × F) → Type 0
+Tells fresh of_box of_folder (Ok box) = IsMailbox fresh (of_box box).stored
+Tells fresh of_box of_folder (Err fault) = TellsWhy fresh (of_folder fault.1).stored fault.0
 
 -- the same of a box that has its folder already
 abbrev pub TellsOf : {T : Type 0} → (fresh : ℕ) → Stored → Result T NearFault → Type 0

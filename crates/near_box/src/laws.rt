@@ -5,7 +5,7 @@ ghost use Rattle.mailbox.specs.Arrivals.{Arrives};
 ghost use Rattle.mailcore.specs.Ranges.{AreFlagSets, IsInRange};
 ghost use Rattle.mailcore.specs.Stores.{IsStore};
 ghost use Rattle.maildir.specs.Folders.{Stored};
-ghost use Rattle.maildir.specs.Gains.{Gains};
+ghost use Rattle.maildir.specs.Gains.{Adds, Gains};
 ghost use Rattle.near_box.specs.Mailboxes.{IsMailbox, near_of};
 ghost use Rattle.visitors.specs.Visitors.{Visitors};
 
@@ -20,10 +20,11 @@ pub fn near_mailboxes_are_mailboxes()
 {}
 
 /// What others add to the folder of a mailbox arrives in the mailbox: its messages, its UIDVALIDITY and its next UID stay as they are,
-/// the files wait among those that waited, and it is a mailbox still.
+/// the files wait among those that waited, and it is a mailbox still. Files that stand behind the others arrive in any folder.
 pub fn folders_gain_what_arrives()
     ensures arrives { (v : Visitors) (fresh : ℕ) (s s' : Stored) → IsMailbox fresh s → Gains v s s'
         → Arrives Side.Near v.ours v.alone (near_of fresh s) (near_of fresh s') }
     ensures store { (v : Visitors) (fresh : ℕ) (s s' : Stored) → IsMailbox fresh s → Gains v s s' → (near_of fresh s').store ≡ (near_of fresh s).store }
     ensures mailbox { (v : Visitors) (fresh : ℕ) (s s' : Stored) → IsMailbox fresh s → Gains v s s' → IsMailbox fresh s' }
+    ensures behind { (v : Visitors) (fresh : ℕ) (s s' : Stored) → Adds v s s' → Arrives Side.Near v.ours v.alone (near_of fresh s) (near_of fresh s') }
 {}

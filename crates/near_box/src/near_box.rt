@@ -17,7 +17,7 @@ ghost use Rattle.maildir.specs.Folders.{renamed_file, with_meta};
 ghost use Rattle.maildir.specs.Metas.{meta_text};
 ghost use Rattle.near_box.specs.NearEffects.{flagged_files, without_uids, RemovesSome, Admits, AdmitsIf, AppendsPart, admitted, appended};
 ghost use Rattle.near_box.specs.NearEffects.{copy_name as copy_name_of, file_of, name_flagged, raised, set_name};
-ghost use Rattle.near_box.specs.NearCalls.{Part, Told, Ends, Looks, Opens, Keeps};
+ghost use Rattle.near_box.specs.NearCalls.{Part, Told, Ends, Looks, Opens};
 ghost use Rattle.near_box.specs.Surveys.{Surveys, Extends, entries_from, entry_at};
 ghost use Rattle.std.proofs.Props.{props};
 

@@ -3,7 +3,8 @@
 ghost use Rattle.std.specs.Prelude.{◌≡◌, true, false, length, IfErr, IfOk, OnOk};
 ghost use Rattle.std.specs.Int.NonZero.{non_zero_u32_get};
 ghost use Rattle.device.specs.Calls.{Reopens};
-ghost use Rattle.near_box.specs.NearCalls.{Keeps, Looks, Opens};
+ghost use Rattle.maildir.specs.Gains.{Adds};
+ghost use Rattle.near_box.specs.NearCalls.{Gathers, Looks, Opens};
 ghost use Rattle.near_box.specs.NearContracts.{Tells, TellsOf};
 
 use crate::near_box::NearBox;
@@ -17,15 +18,15 @@ use std::num::NonZeroU32;
 impl<F: Folder> NearBox<F> {
     ghost use Rattle.near_box.specs.Boxes.{seen_in, stored_in};
 
-    /// The mailbox of a folder, whose validity is `fresh` where it has no meta file. It reads the folder and
-    /// changes nothing; beside a fault the folder comes back.
+    /// The mailbox of a folder, whose validity is `fresh` where it has no meta file. It reads the folder and changes nothing; others may
+    /// have added files. Beside a fault the folder comes back.
     ///
     /// Faults: `Stopped` and `NoMemory`, and the first that holds of `Absent`, `TwoWithOneUid` and `BadMeta`.
     pub fn open(alloc: Global, folder: F, fresh: NonZeroU32) -> Result<NearBox<F>, (NearFault, F)>
         ensures opens { Opens (λ near. F.seen near.folder) F.seen (F.seen folder) result }
-        ensures keeps { F.is_honest ≡ true → Keeps (λ near. F.seen near.folder) F.seen (F.seen folder) result }
+        ensures adds { F.is_honest ≡ true → Gathers F.visitors (λ near. F.seen near.folder) F.seen (F.seen folder) result }
         ensures ready { IfOk result (λ near. (near.is_ready ≡ true) × (near.fresh ≡ non_zero_u32_get fresh) × (length near.missed.items ≡ 0)) }
-        ensures mailbox { F.is_honest ≡ true → Tells (non_zero_u32_get fresh) (F.seen folder).stored result }
+        ensures mailbox { F.is_honest ≡ true → Tells (non_zero_u32_get fresh) (λ near. F.seen near.folder) F.seen result }
     {
         let mut folder = folder;
         match survey_of(alloc, &mut folder, fresh) {
@@ -60,17 +61,17 @@ impl<F: Folder> NearBox<F> {
     }
 
     /// Opens the mailbox, anew where it is open, with the validity `fresh` where the folder has no meta file. It reads the folder and
-    /// changes nothing. Beside a fault the mailbox is closed.
+    /// changes nothing; others may have added files. Beside a fault the mailbox is closed.
     ///
     /// Faults: `Stopped` and `NoMemory`, and the first that holds of `Absent`, `TwoWithOneUid` and `BadMeta`.
     pub fn enter(&mut self, fresh: NonZeroU32) -> Result<(), NearFault>
         ensures looks { Looks (seen_in self.old) (seen_in self.new) result }
-        ensures keeps { F.is_honest ≡ true → stored_in self.new ≡ stored_in self.old }
+        ensures adds { F.is_honest ≡ true → Adds F.visitors (stored_in self.old) (stored_in self.new) }
         ensures ready { OnOk result (self.new.is_ready ≡ true) }
         ensures closed { IfErr result (λ _. self.new.is_ready ≡ false) }
         ensures fresh { self.new.fresh ≡ non_zero_u32_get fresh }
         ensures missed { self.new.missed ≡ self.old.missed }
-        ensures mailbox { F.is_honest ≡ true → TellsOf (non_zero_u32_get fresh) (stored_in self.old) result }
+        ensures mailbox { F.is_honest ≡ true → TellsOf (non_zero_u32_get fresh) (stored_in self.new) result }
     {
         self.is_ready = false;
         self.fresh = fresh.get();

@@ -7,6 +7,7 @@ ghost use Rattle.std.specs.Ordering.{nat_cmp};
 ghost use Rattle.std.specs.Int.NonZero.{non_zero_u32_get};
 ghost use Rattle.maildir.specs.declared.meta.Meta.{Meta};
 ghost use Rattle.maildir.specs.Folders.{Stored, Lists, text_of};
+ghost use Rattle.maildir.specs.Gains.{Adds};
 ghost use Rattle.near_box.specs.Mailboxes.{first_meta, meta_in};
 ghost use Rattle.maildir.specs.Names.{name_of};
 ghost use Rattle.near_box.specs.NearCalls.{Looks};
@@ -64,7 +65,8 @@ impl Survey {
     }
 }
 
-/// What stands in a folder, whose validity is `fresh` where it has no meta file. It reads and changes nothing.
+/// What stands in a folder, whose validity is `fresh` where it has no meta file. It reads and changes nothing; others may have added
+/// files.
 ///
 /// Faults: `Stopped` and `NoMemory`, and the first that holds of `Absent`, `TwoWithOneUid` and `BadMeta`.
 pub fn survey_of<F: Folder>(
@@ -74,8 +76,8 @@ pub fn survey_of<F: Folder>(
 ) -> Result<Survey, NearFault>
     ensures looks { Looks (F.seen folder.old) (F.seen folder.new) result }
     ensures numbers { IfOk result (λ survey. (0 < survey.meta.validity) × (0 < survey.meta.next)) }
-    ensures keeps { F.is_honest ≡ true → (F.seen folder.new).stored ≡ (F.seen folder.old).stored }
-    ensures tells { F.is_honest ≡ true → SurveyTells (non_zero_u32_get fresh) (F.seen folder.old).stored result }
+    ensures adds { F.is_honest ≡ true → Adds F.visitors (F.seen folder.old).stored (F.seen folder.new).stored }
+    ensures tells { F.is_honest ≡ true → SurveyTells (non_zero_u32_get fresh) (F.seen folder.new).stored result }
 {
     let Some(names) = folder.names()? else {
         return Err(NearFault::Absent);

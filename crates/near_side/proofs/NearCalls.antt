@@ -1,12 +1,11 @@
 -- From what the near box says of a call to the clause of the trait.
-use Rattle.std.proofs.Common.{◌≡◌, ◌⊎◌, inl, inr, ap, refl, subst, sym, ℕ, ◌+◌, ◌^◌, ◌≤◌, Bool, true, false, List, [], ◌∷◌, length, Some, Result, Ok, Err, arith}
+use Rattle.std.proofs.Common.{◌≡◌, ◌⊎◌, inl, inr, ap, refl, subst, sym, ℕ, ◌+◌, ◌^◌, ◌≤◌, Bool, true, false, List, length, Some, Result, Ok, Err, arith}
 use Rattle.std.specs.Prelude.{IfOk, IsErrOf, not}
 use Rattle.std.specs.Int.NonZero.{non_zero_u32_get}
-use Rattle.std.proofs.lemmas.List.Elements.{All-nil}
 use Rattle.device.specs.Calls.{Effect, Follows, Leaves, Nothing, Went}
 use Rattle.mailcore.specs.Ranges.{IsInRange}
-use Rattle.mailcore.specs.Stores.{Waiting}
 use Rattle.mailcore.specs.declared.side.Side.TheVariants as side
+use Rattle.visitors.specs.Visitors.{Visitors}
 use Rattle.maildir.specs.declared.folder.Folder as folder
 use Rattle.near_box.specs.declared.near_box.NearBox.{NearBox}
 use Rattle.near_box.specs.declared.near_fault.NearFault.{NearFault}
@@ -26,12 +25,12 @@ use Rattle.mailbox.proofs.Admitted.{admits_all, admits_some}
 use Rattle.mailbox.proofs.Quiet.{quiet}
 use Rattle.near_side.specs.declared.near_side.NearSide.{NearSide}
 use Rattle.near_side.specs.NearFaults.{told, told_by}
-use Rattle.near_side.specs.NearSides.{every, is_broken_in, seen_at, seen_of}
+use Rattle.near_side.specs.NearSides.{is_broken_in, seen_at, seen_of}
 
--- ---- nobody else acts
+-- ---- nobody acts before
 
-pub alone : {b b' : Mailbox} (does : Effect Mailbox) → does b b' → Follows (Arrives side.Near every true) does b b'
-alone {b} does h = record { mid = b; before = quiet side.Near every true b; behind = h }
+pub unvisited : (v : Visitors) {b b' : Mailbox} (does : Effect Mailbox) → does b b' → Follows (Arrives side.Near v.ours v.alone) does b b'
+unvisited v {b} does h = record { mid = b; before = quiet side.Near v.ours v.alone b; behind = h }
 
 -- ---- an open mailbox
 
@@ -48,8 +47,8 @@ as_it_was false a b h = absurd h
 
 -- a call that does nothing
 pub nothing_done : {F : Type 0} {folders : folder.Ghosts F} (s : NearSide F folders) → (seen_of s).is_broken ≡ false
-    → Went (folders.is_honest ≡ true) (Follows (Arrives side.Near every true) (λ b b'. b' ≡ b)) (seen_of s) (seen_of s)
-nothing_done s whole = record { was_whole = whole; is_whole = whole; stops = refl; effect = λ h. alone (λ b b'. b' ≡ b) refl }
+    → Went (folders.is_honest ≡ true) (Follows (Arrives side.Near folders.visitors.ours folders.visitors.alone) (λ b b'. b' ≡ b)) (seen_of s) (seen_of s)
+nothing_done {F} {folders} s whole = record { was_whole = whole; is_whole = whole; stops = refl; effect = λ h. unvisited folders.visitors (λ b b'. b' ≡ b) refl }
 
 -- what a call does by its answer, and what it leaves by its fault
 abbrev Left : {T : Type 0} → (because : BoxFault → Mailbox → Type 0) → (does : T → Effect Mailbox) → (part : Effect Mailbox) → Result T NearFault → Effect Mailbox
@@ -61,6 +60,9 @@ module _ {F : Type 0} {folders : folder.Ghosts F} (s : NearSide F folders) (new 
   abbrev honest : Type 0
   honest = folders.is_honest ≡ true
 
+  abbrev others : Effect Mailbox
+  others = Arrives side.Near folders.visitors.ours folders.visitors.alone
+
   abbrev now : Seen
   now = seen_at s.is_open (non_zero_u32_get s.fresh) new
 
@@ -71,8 +73,8 @@ module _ {F : Type 0} {folders : folder.Ghosts F} (s : NearSide F folders) (new 
   abbrev n' : Mailbox
   n' = near_of s.near.fresh (stored_in new)
 
-  says_so : (does : Effect Mailbox) → does n n' → Follows (Arrives side.Near every true) does (seen_of s).stored now.stored
-  says_so does h = alone does (subst (λ (f : ℕ). does (near_of f (stored_in s.near)) (near_of f (stored_in new))) s.same_fresh h)
+  says_so : (does : Effect Mailbox) → does n n' → Follows others does (seen_of s).stored now.stored
+  says_so does h = unvisited folders.visitors does (subst (λ (f : ℕ). does (near_of f (stored_in s.near)) (near_of f (stored_in new))) s.same_fresh h)
 
   pub ready : s.near.is_ready ≡ true
   ready = ready_of s.is_open s.near.is_ready (seen_in s.near).is_broken is_open whole
@@ -86,7 +88,7 @@ module _ {F : Type 0} {folders : folder.Ghosts F} (s : NearSide F folders) (new 
   -- ---- by the answer
 
   goes : {T : Type 0} (does : T → Effect Mailbox) (answer : T) → Goes (box_of s.near) (box_of new) → (honest → does answer n n')
-      → Went honest (Follows (Arrives side.Near every true) (does answer)) (seen_of s) now
+      → Went honest (Follows others (does answer)) (seen_of s) now
   goes does answer ends does_so = record {
     was_whole = whole;
     is_whole = rw is_open (ap not ends.is_ready);
@@ -95,11 +97,11 @@ module _ {F : Type 0} {folders : folder.Ghosts F} (s : NearSide F folders) (new 
   }
 
   halts : {is_stop : Type 0} (leaves : Effect Mailbox) → (is_stop → HasCause ⊥ (seen_of s) now) → (seen_of s).stops ≤ now.stops → (honest → leaves n n')
-      → Halts honest ⊥ is_stop (Follows (Arrives side.Near every true) leaves) (seen_of s) now
+      → Halts honest ⊥ is_stop (Follows others leaves) (seen_of s) now
   halts leaves cause no_less leaves_so = record { cause = cause; no_less = no_less; left = λ h. says_so leaves (leaves_so h) }
 
   fails : (T : Type 0) (gives_uids : Bool) (leaves : Effect Mailbox) (e : NearFault) → Ends {T = T} gives_uids (box_of s.near) (box_of new) (Err e) → (honest → leaves n n')
-      → Halts honest ⊥ (told e ≡ fault.Stopped) (Follows (Arrives side.Near every true) leaves) (seen_of s) now
+      → Halts honest ⊥ (told e ≡ fault.Stopped) (Follows others leaves) (seen_of s) now
   fails T gives_uids leaves near.Stopped ends leaves_so = halts leaves (λ _. inl (ends.counted ready)) (omega (arith, ends.counted ready)) leaves_so
   fails T gives_uids leaves near.NoMemory ends leaves_so = halts leaves (λ is. absurd (cc)) ends.no_less leaves_so
   fails T gives_uids leaves near.UidsExhausted ends leaves_so = halts leaves (λ is. absurd (cc)) (omega (arith, ap stops_of (same_box gives_uids ends))) leaves_so
@@ -109,7 +111,7 @@ module _ {F : Type 0} {folders : folder.Ghosts F} (s : NearSide F folders) (new 
 
   calls : {T : Type 0} (gives_uids : Bool) (because : BoxFault → Mailbox → Type 0) (does : T → Effect Mailbox) (part : Effect Mailbox) (answer : Result T NearFault)
       → Ends gives_uids (box_of s.near) (box_of new) answer → (honest → Left because does part answer n n')
-      → Call honest ⊥ (Arrives side.Near every true) because does part (seen_of s) now (told_by answer)
+      → Call honest ⊥ others because does part (seen_of s) now (told_by answer)
   calls gives_uids because does part (Ok answer) ends left_so = goes does answer ends left_so
   calls {T} gives_uids because does part (Err e) ends left_so = fails T gives_uids (LeavesBy does part because (told e)) e ends left_so
 
@@ -134,13 +136,13 @@ module _ {F : Type 0} {folders : folder.Ghosts F} (s : NearSide F folders) (new 
 
   -- it reads
   pub reads : {T : Type 0} (tells : T → Mailbox → Type 0) (answer : Result T NearFault) → Ends false (box_of s.near) (box_of new) answer → (honest → stored_in new ≡ stored_in s.near)
-      → (honest → IfOk answer (λ x. tells x n)) → Call honest ⊥ (Arrives side.Near every true) Never (Answers tells) Nothing (seen_of s) now (told_by answer)
+      → (honest → IfOk answer (λ x. tells x n)) → Call honest ⊥ others Never (Answers tells) Nothing (seen_of s) now (told_by answer)
   reads tells answer ends same tells_so = calls false Never (Answers tells) Nothing answer ends
       (λ h. unchanged (Answers tells) answer ends (same_near (same h)) (answered tells answer (same_near (same h)) (tells_so h)))
 
   -- it rests
   pub rests : (answer : Result (Unit {0}) NearFault) → Ends false (box_of s.near) (box_of new) answer → (honest → stored_in new ≡ stored_in s.near)
-      → Call {T = Unit {0}} honest ⊥ (Arrives side.Near every true) Never (λ _ b b'. b' ≡ b) Nothing (seen_of s) now (told_by answer)
+      → Call {T = Unit {0}} honest ⊥ others Never (λ _ b b'. b' ≡ b) Nothing (seen_of s) now (told_by answer)
   rests answer ends same = calls false Never (λ _ b b'. b' ≡ b) Nothing answer ends
       (λ h. unchanged (λ _ b b'. b' ≡ b) answer ends (same_near (same h)) (rested answer (same_near (same h))))
 
@@ -170,17 +172,17 @@ module _ {F : Type 0} {folders : folder.Ghosts F} (s : NearSide F folders) (new 
 
   -- it gives no UIDs
   pub turns : (change : Mailbox → Mailbox) (answer : Result (Unit {0}) NearFault) → Ends false (box_of s.near) (box_of new) answer → (honest → TurnsMailbox change Nothing s.near new answer)
-      → Call {T = Unit {0}} honest ⊥ (Arrives side.Near every true) Never (λ _ b b'. b' ≡ change b) Nothing (seen_of s) now (told_by answer)
+      → Call {T = Unit {0}} honest ⊥ others Never (λ _ b b'. b' ≡ change b) Nothing (seen_of s) now (told_by answer)
   turns change answer ends did = calls false Never (λ _ b b'. b' ≡ change b) Nothing answer ends (λ h. turned false Never Nothing change answer ends (did h) (λ is no. absurd (cc)))
 
   -- all that waits was read
-  some_admitted : Leaves (DoesSome {T = Unit {0}} (λ _ b b'. b' ≡ all_admitted b)) AdmitsSome n n' → Leaves (DoesSome {T = Unit {0}} (λ _. Admits true)) (AdmitsPart true) n n'
+  some_admitted : Leaves (DoesSome {T = Unit {0}} (λ _ b b'. b' ≡ all_admitted b)) AdmitsSome n n' → Leaves (DoesSome {T = Unit {0}} (λ _. Admits folders.visitors.alone)) (AdmitsPart folders.visitors.alone) n n'
   some_admitted (inl same) = inl same
-  some_admitted (inr (inl all)) = inr (inl (record { answer = tt; done = admits_all true n n' all.done }))
-  some_admitted (inr (inr some)) = inr (inr (admits_some true n n' some))
+  some_admitted (inr (inl all)) = inr (inl (record { answer = tt; done = admits_all folders.visitors.alone n n' all.done }))
+  some_admitted (inr (inr some)) = inr (inr (admits_some folders.visitors.alone n n' some))
 
-  admitted : (because : BoxFault → Mailbox → Type 0) (answer : Result (Unit {0}) NearFault) → Left because (λ _ b b'. b' ≡ all_admitted b) AdmitsSome answer n n' → Left because (λ _. Admits true) (AdmitsPart true) answer n n'
-  admitted because (Ok x) did = admits_all true n n' did
+  admitted : (because : BoxFault → Mailbox → Type 0) (answer : Result (Unit {0}) NearFault) → Left because (λ _ b b'. b' ≡ all_admitted b) AdmitsSome answer n n' → Left because (λ _. Admits folders.visitors.alone) (AdmitsPart folders.visitors.alone) answer n n'
+  admitted because (Ok x) did = admits_all folders.visitors.alone n n' did
   admitted because (Err near.Stopped) did = some_admitted did
   admitted because (Err near.NoMemory) did = some_admitted did
   admitted because (Err near.UidsExhausted) did = did
@@ -191,8 +193,8 @@ module _ {F : Type 0} {folders : folder.Ghosts F} (s : NearSide F folders) (new 
   -- it gives all that waits its UIDs
   pub admits : (answer : Result (Unit {0}) NearFault) → Ends true (box_of s.near) (box_of new) answer → (honest → TurnsMailbox all_admitted AdmitsSome s.near new answer)
       → (honest → IsErrOf answer near.UidsExhausted → IsFull (length n.waiting) n)
-      → Call {T = Unit {0}} honest ⊥ (Arrives side.Near every true) (NoRoom side.Near (λ b. length b.waiting)) (λ _. Admits true) (AdmitsPart true) (seen_of s) now (told_by answer)
-  admits answer ends did full = calls true (NoRoom side.Near (λ b. length b.waiting)) (λ _. Admits true) (AdmitsPart true) answer ends
+      → Call {T = Unit {0}} honest ⊥ others (NoRoom side.Near (λ b. length b.waiting)) (λ _. Admits folders.visitors.alone) (AdmitsPart folders.visitors.alone) (seen_of s) now (told_by answer)
+  admits answer ends did full = calls true (NoRoom side.Near (λ b. length b.waiting)) (λ _. Admits folders.visitors.alone) (AdmitsPart folders.visitors.alone) answer ends
       (λ h. admitted (NoRoom side.Near (λ b. length b.waiting)) answer (turned true (NoRoom side.Near (λ b. length b.waiting)) AdmitsSome all_admitted answer ends (did h) (λ is _. (refl, full h is))))
 
   -- it adds a message
@@ -200,12 +202,12 @@ module _ {F : Type 0} {folders : folder.Ghosts F} (s : NearSide F folders) (new 
   appends bytes flags added = record { uid = n.store.next; gives = (refl, refl); now = added }
 
   pub added_one : (bytes : List ℕ) (flags uid : ℕ) → Goes (box_of s.near) (box_of new) → (honest → uid ≡ n.store.next) → (honest → n' ≡ delivered bytes flags n)
-      → Went honest (Follows (Arrives side.Near every true) (Appends side.Near bytes flags (Some uid))) (seen_of s) now
+      → Went honest (Follows others (Appends side.Near bytes flags (Some uid))) (seen_of s) now
   added_one bytes flags uid ends next did = goes (Appends side.Near bytes flags) (Some uid) ends (λ h. rw (next h) (appends bytes flags (did h)))
 
   pub added_none : (bytes : List ℕ) (flags : ℕ) (e : NearFault) → Ends {T = ℕ} true (box_of s.near) (box_of new) (Err e) → (honest → (n' ≡ n) ⊎ ((n' ≡ delivered bytes flags n) ⊎ SetsAside n n'))
       → (honest → e ≡ near.UidsExhausted → IsFull 1 n)
-      → Halts honest ⊥ (told e ≡ fault.Stopped) (Follows (Arrives side.Near every true) (LeavesBy (Appends side.Near bytes flags) SetsAside (NoRoom side.Near (λ _. 1)) (told e))) (seen_of s) now
+      → Halts honest ⊥ (told e ≡ fault.Stopped) (Follows others (LeavesBy (Appends side.Near bytes flags) SetsAside (NoRoom side.Near (λ _. 1)) (told e))) (seen_of s) now
   added_none bytes flags e ends left_so full = fails ℕ true (LeavesBy (Appends side.Near bytes flags) SetsAside (NoRoom side.Near (λ _. 1)) (told e)) e ends
       (λ h. failed ℕ true (NoRoom side.Near (λ _. 1)) (Appends side.Near bytes flags) SetsAside (delivered bytes flags) e (λ all. record { answer = Some n.store.next; done = appends bytes flags all }) ends (left_so h) (λ is _. (refl, full h is)))
 

@@ -8,6 +8,7 @@ use Rattle.mailcore.specs.declared.side.Side.TheVariants as side
 use Rattle.maildir.specs.declared.folder.Folder as folder
 use Rattle.maildir.specs.declared.meta.Meta.{Meta}
 use Rattle.maildir.specs.Folders.{Stored}
+use Rattle.maildir.specs.Gains.{Adds}
 use Rattle.near_box.specs.declared.near_box.NearBox.{NearBox}
 use Rattle.near_box.specs.declared.near_fault.NearFault.{NearFault}
 use Rattle.near_box.specs.declared.near_fault.NearFault.TheVariants as near
@@ -16,14 +17,15 @@ use Rattle.mailcore.specs.Mailboxes.{Mailbox}
 use Rattle.near_box.specs.Mailboxes.{IsMetaOf, near_of}
 use Rattle.near_box.specs.NearCalls.{Looks}
 use Rattle.near_box.specs.NearContracts.{TellsWhy}
+use Rattle.near_box.proofs.ArrivedLemmas.{added_arrives}
+use Rattle.near_box.proofs.GainedLemmas.{told_before}
 use Rattle.mailbox.specs.declared.fault.BoxFault.TheVariants as fault
 use Rattle.mailbox.specs.Arrivals.{Arrives}
 use Rattle.mailbox.specs.Calls.{Halts, LeavesBy, Seen}
 use Rattle.mailbox.specs.Operations.{Answers, TellsValidity}
 use Rattle.near_side.specs.declared.near_side.NearSide.{NearSide}
 use Rattle.near_side.specs.NearFaults.{told}
-use Rattle.near_side.specs.NearSides.{Unfit, every, is_broken_in, seen_at, seen_of}
-use Rattle.near_side.proofs.NearCalls.{alone}
+use Rattle.near_side.specs.NearSides.{Unfit, is_broken_in, seen_at, seen_of}
 
 -- the folder of a mailbox that has not failed is whole
 folder_whole : (is_open is_ready is_broken : Bool) → (is_ready ≡ true → is_broken ≡ false) → is_broken_in is_open is_ready is_broken ≡ false → is_broken ≡ false
@@ -35,7 +37,7 @@ stopped_now : (old new : FolderSeen Stored) → old.is_broken ≡ false → (old
 stopped_now old new whole (inl broken) = absurd (cc)
 stopped_now old new whole (inr rose) = rose
 
-module _ {F : Type 0} {folders : folder.Ghosts F} (s : NearSide F folders) (new : NearBox F folders) (whole : (seen_of s).is_broken ≡ false) (missed : new.missed ≡ s.near.missed) (same : folders.is_honest ≡ true → stored_in new ≡ stored_in s.near) where
+module _ {F : Type 0} {folders : folder.Ghosts F} (s : NearSide F folders) (new : NearBox F folders) (whole : (seen_of s).is_broken ≡ false) (missed : new.missed ≡ s.near.missed) (adds : folders.is_honest ≡ true → Adds folders.visitors (stored_in s.near) (stored_in new)) where
   abbrev honest : Type 0
   honest = folders.is_honest ≡ true
 
@@ -48,8 +50,13 @@ module _ {F : Type 0} {folders : folder.Ghosts F} (s : NearSide F folders) (new 
   missed_same : length new.missed.items ≡ length s.near.missed.items
   missed_same = ap (λ (m : History (Unit {0})). length m.items) missed
 
-  near_same : honest → (now false).stored ≡ (seen_of s).stored
-  near_same h = ap (near_of (non_zero_u32_get s.fresh)) (same h)
+  -- others have added files, and then nothing is changed
+  others_first : (does : Effect Mailbox) → honest → does (now false).stored (now false).stored → Follows (Arrives side.Near folders.visitors.ours folders.visitors.alone) does (seen_of s).stored (now false).stored
+  others_first does h done = record {
+    mid = (now false).stored;
+    before = added_arrives folders.visitors (non_zero_u32_get s.fresh) (stored_in s.near) (stored_in new) (adds h);
+    behind = done;
+  }
 
   folder_is_whole : (seen_in s.near).is_broken ≡ false
   folder_is_whole = folder_whole s.is_open s.near.is_ready (seen_in s.near).is_broken s.near.is_whole whole
@@ -57,23 +64,23 @@ module _ {F : Type 0} {folders : folder.Ghosts F} (s : NearSide F folders) (new 
   -- ---- it is opened
 
   pub opens : (meta : Meta) → Looks {T = Unit {0}} (seen_in s.near) (seen_in new) (Ok tt) → new.is_ready ≡ true → new.fresh ≡ non_zero_u32_get s.fresh
-      → (honest → IsMetaOf (mailbox_of new).store meta) → Went honest (Follows (Arrives side.Near every true) (Answers TellsValidity meta.validity)) (seen_of s) (now true)
+      → (honest → IsMetaOf (mailbox_of new).store meta) → Went honest (Follows (Arrives side.Near folders.visitors.ours folders.visitors.alone) (Answers TellsValidity meta.validity)) (seen_of s) (now true)
   opens meta looks is_ready fresh is = record {
     was_whole = whole;
     is_whole = ap not is_ready;
     stops = omega (arith, missed_same, looks.2);
-    effect = λ h. alone (Answers TellsValidity meta.validity) (near_same h, (is h).0 ∙ ap (λ (f : ℕ). (near_of f (stored_in new)).store.validity) fresh ∙ ap (λ (n : Mailbox). n.store.validity) (near_same h));
+    effect = λ h. others_first (Answers TellsValidity meta.validity) h (refl, (is h).0 ∙ ap (λ (f : ℕ). (near_of f (stored_in new)).store.validity) fresh);
   }
 
   -- ---- or not
 
-  unfit : (e : NearFault) → Looks {T = Unit {0}} (seen_in s.near) (seen_in new) (Err e) → honest → TellsWhy (non_zero_u32_get s.fresh) (stored_in s.near) e → Leaves e (seen_of s).stored (now false).stored
-  unfit near.Stopped looks h why = inl (near_same h)
-  unfit near.NoMemory looks h why = inl (near_same h)
+  unfit : (e : NearFault) → Looks {T = Unit {0}} (seen_in s.near) (seen_in new) (Err e) → honest → TellsWhy (non_zero_u32_get s.fresh) (stored_in s.near) e → Leaves e (now false).stored (now false).stored
+  unfit near.Stopped looks h why = inl refl
+  unfit near.NoMemory looks h why = inl refl
   unfit near.UidsExhausted looks h why = absurd looks
-  unfit near.Absent looks h why = (near_same h, inl (refl, why))
-  unfit near.TwoWithOneUid looks h why = (near_same h, inr (inl (refl, why)))
-  unfit near.BadMeta looks h why = (near_same h, inr (inr (refl, why)))
+  unfit near.Absent looks h why = (refl, inl (refl, why))
+  unfit near.TwoWithOneUid looks h why = (refl, inr (inl (refl, why)))
+  unfit near.BadMeta looks h why = (refl, inr (inr (refl, why)))
 
   cause : (e : NearFault) → Looks {T = Unit {0}} (seen_in s.near) (seen_in new) (Err e) → told e ≡ fault.Stopped → (seen_of s).stops < (now false).stops
   cause near.Stopped looks is = omega (arith, missed_same, stopped_now (seen_in s.near) (seen_in new) folder_is_whole looks.0)
@@ -91,10 +98,10 @@ module _ {F : Type 0} {folders : folder.Ghosts F} (s : NearSide F folders) (new 
   no_less near.TwoWithOneUid looks = omega (arith, missed_same, looks.1)
   no_less near.BadMeta looks = omega (arith, missed_same, looks.1)
 
-  pub stays_closed : (e : NearFault) → Looks {T = Unit {0}} (seen_in s.near) (seen_in new) (Err e) → (honest → TellsWhy (non_zero_u32_get s.fresh) (stored_in s.near) e)
-      → Halts honest ⊥ (told e ≡ fault.Stopped) (Follows (Arrives side.Near every true) (Leaves e)) (seen_of s) (now false)
+  pub stays_closed : (e : NearFault) → Looks {T = Unit {0}} (seen_in s.near) (seen_in new) (Err e) → (honest → TellsWhy (non_zero_u32_get s.fresh) (stored_in new) e)
+      → Halts honest ⊥ (told e ≡ fault.Stopped) (Follows (Arrives side.Near folders.visitors.ours folders.visitors.alone) (Leaves e)) (seen_of s) (now false)
   stays_closed e looks why = record {
     cause = λ is. inl (cause e looks is);
     no_less = no_less e looks;
-    left = λ h. alone (Leaves e) (unfit e looks h (why h));
+    left = λ h. others_first (Leaves e) h (unfit e looks h (told_before folders.visitors (non_zero_u32_get s.fresh) (stored_in s.near) (stored_in new) e (adds h) (why h)));
   }

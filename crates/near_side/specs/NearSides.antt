@@ -1,5 +1,5 @@
 -- The near mailbox of a run as the clauses of its calls name it.
-use Rattle.std.specs.Prelude.{◌≡◌, ◌⊎◌, ℕ, Bool, List, true, false, not, Result}
+use Rattle.std.specs.Prelude.{◌≡◌, ◌⊎◌, ℕ, Bool, true, false, not, Result}
 use Rattle.std.specs.Int.NonZero.{non_zero_u32_get}
 use Rattle.device.specs.Calls.{Effect}
 use Rattle.mailcore.specs.declared.side.Side.TheVariants as side
@@ -16,10 +16,6 @@ use Rattle.mailbox.specs.declared.fault.BoxFault.TheVariants.{Stopped, Refused, 
 use Rattle.mailbox.specs.Arrivals.{Arrives}
 use Rattle.mailbox.specs.Calls.{Call, Seen}
 use Rattle.near_side.specs.declared.near_side.NearSide.{NearSide}
-
--- nobody else writes a mark
-abbrev pub every : List ℕ → Bool
-every mark = true
 
 -- whether a call has failed: of an open mailbox its box, of a closed one its folder
 abbrev pub is_broken_in : (is_open is_ready is_broken : Bool) → Bool
@@ -47,8 +43,8 @@ module _ {F : Type 0} {folders : folder.Ghosts F} where
       ((number ≡ 2) × why Absent) ⊎ (((number ≡ 3) × why TwoWithOneUid) ⊎ ((number ≡ 4) × why BadMeta))
   Unfit side NoMemory = ⊥
 
-  -- a call: nobody else acts, and the other end, which is the folder, ends nothing
+  -- a call: others may have added files to the folder, and the other end, which is the folder, ends nothing
   abbrev pub Calls : {T : Type 0} → (because : BoxFault → Mailbox → Type 0) → (does : T → Effect Mailbox) → (part : Effect Mailbox)
       → (old new : NearSide F folders) → Result T BoxFault → Type 0
   Calls because does part old new result =
-      Call (folders.is_honest ≡ true) ⊥ (Arrives side.Near every true) because does part (seen_of old) (seen_of new) result
+      Call (folders.is_honest ≡ true) ⊥ (Arrives side.Near folders.visitors.ours folders.visitors.alone) because does part (seen_of old) (seen_of new) result

@@ -63,15 +63,15 @@ impl<F: Folder + Drop> Mailbox for NearSide<F> {
     ghost use Rattle.mailcore.specs.Mailboxes.{SetsAside};
     ghost use Rattle.mailbox.specs.Calls.{IsPlain, Never};
     ghost use Rattle.mailbox.specs.Operations.{Admits, AdmitsPart, Answers, Appends, IsCopyText, IsFull, NoRoom, TellsValidity};
-    ghost use Rattle.near_side.specs.NearSides.{Calls, Unfit, every, seen_of};
+    ghost use Rattle.near_side.specs.NearSides.{Calls, Unfit, seen_of};
 
     ghost side = { Near };
 
     ghost honest = { λ _. F.is_honest ≡ true };
 
-    ghost ours = { every };
+    ghost ours = { F.visitors.ours };
 
-    ghost alone = { true };
+    ghost alone = { F.visitors.alone };
 
     ghost seen = { seen_of };
 
@@ -88,7 +88,7 @@ impl<F: Folder + Drop> Mailbox for NearSide<F> {
     fn open(&mut self) -> Result<u32, BoxFault>
         requires whole { (seen_of self.old).is_broken ≡ false }
         ensures open { OnOk result (self.new.is_open ≡ true) }
-        ensures mailbox { F.is_honest ≡ true → OnOk result (IsMailbox (non_zero_u32_get self.old.fresh) (stored_in self.old.near)) }
+        ensures mailbox { F.is_honest ≡ true → OnOk result (IsMailbox (non_zero_u32_get self.old.fresh) (stored_in self.new.near)) }
         ensures call { Calls (λ fault _. Unfit self.old fault) (Answers TellsValidity) Nothing self.old self.new result }
     {
         self.is_open = false;
@@ -149,7 +149,7 @@ impl<F: Folder + Drop> Mailbox for NearSide<F> {
         ensures open { self.new.is_open ≡ true }
         ensures full { F.is_honest ≡ true → (let b = (seen_of self.old).stored in IsFull (length b.waiting) b)
             → IsErrOf result (BoxFault.Own 5) }
-        ensures call { Calls {T = Unit {0}} (NoRoom Near (λ b. length b.waiting)) (λ _. Admits true) (AdmitsPart true) self.old self.new result }
+        ensures call { Calls {T = Unit {0}} (NoRoom Near (λ b. length b.waiting)) (λ _. Admits F.visitors.alone) (AdmitsPart F.visitors.alone) self.old self.new result }
     {
         told_by(self.near.admit())
     }

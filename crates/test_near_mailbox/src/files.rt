@@ -4,6 +4,7 @@ use crate::stopped_at::tell_notes;
 use maildir::disk_folder::DiskFolder;
 use maildir::folder::{Folder, Place};
 use maildir::mem_folder::MemFolder;
+use maildir::visited_folder::VisitedFolder;
 use std::alloc::{AllocError, Global};
 use std::fs;
 use test_scripts::failure::Failure;
@@ -56,6 +57,20 @@ impl OpenFolder for MemFolder {
             add_file(alloc, files, "", b".uidvalidity", text)?;
         }
         Ok(())
+    }
+}
+
+impl OpenFolder for VisitedFolder {
+    fn stop_count(&self) -> usize {
+        self.folder().stops()
+    }
+
+    /// It notes nothing.
+    fn tell_notes(&self, _: &mut Told) {}
+
+    /// Those of which the names were read.
+    fn add_files(&self, rt: &HostRuntime, files: &mut Vec<Standing>) -> Result<(), Failure> {
+        self.folder().add_files(rt, files)
     }
 }
 

@@ -9,6 +9,7 @@
 //! |---|---|
 //! | `folder memory` | an empty folder in memory |
 //! | `folder memory stops STOP` | the same, where one call of the folder stops: STOP is `before CALL K`, `after CALL K` or `behind B CALL K`, in the K-th call of this name, behind B bytes of it |
+//! | `folder visited` | an empty folder in memory, to which others add files |
 //! | `folder disk` | an empty folder on a disk, among the temporary files. Paths are read from it from now on |
 //! | `folder at PATH` | a folder that stands on a disk already; nothing of it is changed by that |
 //! | `name NAME` | what the name of a file says, and how it is written |
@@ -19,6 +20,13 @@
 //! |---|---|
 //! | `put PATH "BYTES"` | a file, as `cur/NAME`, `new/NAME` or `.uidvalidity` |
 //! | `hide` | `cur`, `new` and `tmp` are missing |
+//!
+//! What others add to a folder, said before its mailbox is opened, and what stands there at the end:
+//!
+//! | Line | Effect or answer |
+//! |---|---|
+//! | `comes CALL K NAME "BYTES"` | a file comes to `cur` before the K-th call of this name |
+//! | `leave` | the files of the folder with all that has come |
 //!
 //! What stands on a disk, at any time:
 //!
@@ -74,3 +82,4 @@ mod seat;
 mod stop;
 mod stopped_at;
 mod trial;
+mod visited;

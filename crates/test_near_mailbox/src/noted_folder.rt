@@ -63,6 +63,8 @@ impl<F: Folder> NotedFolder<F> {
 impl<F: Folder> Folder for NotedFolder<F> {
     ghost is_honest = { F.is_honest };
 
+    ghost visitors = { F.visitors };
+
     ghost seen = { λ noted. F.seen noted.folder };
 
     ghost is_synced = { λ noted. F.is_synced noted.folder };

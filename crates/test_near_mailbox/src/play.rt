@@ -5,6 +5,7 @@ use crate::ground::Ground;
 use crate::memory::Memory;
 use crate::name::tell_name;
 use crate::seat::Seat;
+use crate::visited::Visited;
 use maildir::disk_folder::DiskFolder;
 use test_scripts::failure::Failure;
 use test_scripts::play::{Player, play_all};
@@ -35,6 +36,7 @@ struct Desk<'a> {
 enum Stage {
     Empty,
     Memory(Memory),
+    Visited(Visited),
     Disk(Seat<DiskFolder<HostRuntime>>),
 }
 
@@ -65,6 +67,10 @@ impl Desk<'_> {
                 self.put(Stage::Memory(Memory::read(alloc, line)));
                 return Ok(());
             }
+            "visited" => {
+                self.put(Stage::Visited(Visited::new(alloc)));
+                return Ok(());
+            }
             "disk" => self.ground.new_folder()?,
             "at" => DiskFolder::new(self.rt, line.text())?,
             _ => return Err(Failure::Script),
@@ -87,6 +93,7 @@ impl Desk<'_> {
         match &mut self.stage {
             Stage::Empty => Err(Failure::Script),
             Stage::Memory(memory) => memory.play(&self.rt, word, line, script),
+            Stage::Visited(visited) => visited.play(&self.rt, word, line, script),
             Stage::Disk(seat) => play_on_disk(&self.rt, seat, word, line, script),
         }
     }

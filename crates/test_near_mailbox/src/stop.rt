@@ -40,7 +40,8 @@ pub fn read_stop(line: &mut Words<'_>) -> Stop<FolderCall> {
     }
 }
 
-fn read_call(line: &mut Words<'_>) -> FolderCall {
+/// The call that a word means.
+pub fn read_call(line: &mut Words<'_>) -> FolderCall {
     let word = line.word();
     for call in CALLS {
         if word_of(call) == word {

@@ -1,4 +1,4 @@
-use Rattle.maildir.proofs.GainLemmas.{apart_gained, gains_more, gains_none}
+use Rattle.maildir.proofs.GainLemmas.{adds_more, adds_none, apart_gained, gains_more, gains_none}
 use Rattle.maildir.proofs.laws.others_add_in_turn.Goals as goal
 
 pub returns-clause-nothing : goal.returns-clause-nothing
@@ -9,3 +9,9 @@ returns-clause-more c = gains_more
 
 pub returns-clause-apart : goal.returns-clause-apart
 returns-clause-apart c = apart_gained
+
+pub returns-clause-nothing_behind : goal.returns-clause-nothing_behind
+returns-clause-nothing_behind c = adds_none
+
+pub returns-clause-more_behind : goal.returns-clause-more_behind
+returns-clause-more_behind c = adds_more

@@ -1,4 +1,4 @@
-use Rattle.near_box.proofs.ArrivedLemmas.{gained_arrives}
+use Rattle.near_box.proofs.ArrivedLemmas.{added_arrives, gained_arrives}
 use Rattle.near_box.proofs.GainedLemmas.{mailbox_gained, store_gained}
 use Rattle.near_box.proofs.laws.folders_gain_what_arrives.Goals as goal
 
@@ -10,3 +10,6 @@ returns-clause-store c = store_gained
 
 pub returns-clause-mailbox : goal.returns-clause-mailbox
 returns-clause-mailbox c = mailbox_gained
+
+pub returns-clause-behind : goal.returns-clause-behind
+returns-clause-behind c = added_arrives
