@@ -1,9 +1,17 @@
 -- One call of the far box behind another, at the server.
-use Rattle.std.proofs.Common.{◌≡◌, ℕ, true, List, Result, Ok, Err, IfOk, sym, ap, subst, ◌∙◌, inl, inr, refl}
-use Rattle.std.specs.Prelude.{IsErrAnd}
+use Rattle.std.proofs.Common.{◌≡◌, ◌≤◌, ◌<◌, ◌+◌, ℕ, suc, Bool, true, false, List, [], ◌∷◌, Result, Ok, Err, arith, sym, ap, subst, ◌∙◌, inl, inr, refl}
+use Rattle.std.specs.Prelude.{All, IsErrAnd, map, max}
+use Rattle.std.proofs.lemmas.List.Elements.{All-nil, All-cons}
+use Rattle.mailcore.specs.declared.mailbox.Message.{Message}
+use Rattle.mailcore.specs.Listed.{AreBelow, item_of}
+use Rattle.mailcore.specs.Stores.{Store, IsStore}
+use Rattle.mailbox.specs.Operations.{ListsFar, TellsNext}
+use Rattle.visitors.specs.Visitors.{Visitors}
+use Rattle.imap_session.specs.Visits.{AllGain, Visits, Among}
+use Rattle.imap_client.proofs.Visited.{at_once}
+use Rattle.imap_client.proofs.Staying.{shows_so}
 use Rattle.mailcore.specs.declared.listing.Listing.{Listing}
 use Rattle.mailcore.specs.declared.side.Side.TheVariants.{Far}
-use Rattle.mailcore.specs.Operations.{Shows}
 use Rattle.imap_link.specs.declared.fault.FarFault.{FarFault}
 use Rattle.imap_link.specs.declared.fault.FarFault.TheVariants as far
 use Rattle.imap_link.specs.Exchanges.{Restarts}
@@ -11,8 +19,8 @@ use Rattle.imap_link.specs.Outcomes.{Outcome, Never as Unrefused}
 use Rattle.exchange_laws.specs.Ends.{MayHave}
 use Rattle.imap_session.specs.Mailboxes.{FarMailbox, mailbox_at}
 use Rattle.imap_session.specs.Servers.{Server, is_before_login, is_logged_in}
-use Rattle.imap_answers.specs.Listings.{ListsFrom}
-use Rattle.imap_client.specs.Logins.{Authenticates, Rejects, Remains, is_known}
+use Rattle.imap_answers.specs.Listings.{ListsFrom, next_above}
+use Rattle.imap_client.specs.Logins.{Authenticates, Rejects, Remains}
 use Rattle.imap_client.specs.Readings.{Tells}
 use Rattle.far_side.specs.declared.stage.Stage.{Stage}
 use Rattle.far_side.specs.Chosen.{IsChosen, IsUnknown, KeepsMailboxes, ListsAll, LogsIn, Misses, TellsValidity, store_at}
@@ -51,19 +59,40 @@ boxes_of s = s.mailboxes
 abbrev pub LoginEnds : (user password : List ℕ) → Result (Unit {0}) FarFault → Server → Server → Type 0
 LoginEnds user password = Outcome (λ _. LogsIn) (IsUnknown user password) KeepsMailboxes
 
-module _ (user password : List ℕ) (old mid new : Server) where
-  pub unconnected : (e : FarFault) → Outcome {T = Unit {0}} (λ _. Restarts) Unrefused Restarts (Err e) old new → LoginEnds user password (Err e) old new
-  unconnected e o = err_so Unrefused (IsUnknown user password) Restarts old old new refl (λ r. ap boxes_of r) (λ h. absurd h) (Unit {0}) (Unit {0}) (λ _. Restarts) (λ _. LogsIn) e o
+-- others acted behind a new connection; they might as well have acted before it
+abbrev earlier : Server → Server → Server
+earlier old mid = record mid { condition = old.condition }
+
+module _ (v : Visitors) (user password : List ℕ) (old mid : Server) where
+  pub unconnected : (new : Server) (e : FarFault) → Outcome {T = Unit {0}} (λ _. Restarts) Unrefused Restarts (Err e) old new → Among v (LoginEnds user password (Err e)) old new
+  unconnected new e o =
+      at_once v (LoginEnds user password (Err e)) old new
+      (err_so Unrefused (IsUnknown user password) Restarts old old new refl (λ r. ap boxes_of r) (λ h. absurd h) (Unit {0}) (Unit {0}) (λ _. Restarts) (λ _. LogsIn) e o)
 
   pub before_login : Restarts old mid → is_before_login mid.condition ≡ true
   before_login r = ap (λ (s : Server). is_before_login s.condition) r
 
-  pub connected : Restarts old mid → (r : Result (Unit {0}) FarFault)
-      → Outcome (λ _. Authenticates user password) (Rejects user password) (Authenticates user password) r mid new → LoginEnds user password r old new
-  connected is r o =
-      joined (Rejects user password) (IsUnknown user password) (Authenticates user password) old mid new (ap boxes_of is) (λ a. ap boxes_of a.1)
-      (λ h. (sym (ap (is_known user password) is) ∙ h.0, ap boxes_of h.1 ∙ ap boxes_of is)) (λ _. Authenticates user password) (λ _. LogsIn)
-      (λ x a. (ap boxes_of a.1 ∙ ap boxes_of is, ap (λ (s : Server). is_logged_in s.condition) a.1)) r o
+  visits_before : Restarts old mid → (late : Server) → Visits v mid late → Visits v old (earlier old late)
+  visits_before is late h = record {
+    user = h.user ∙ ap (λ (s : Server). s.user) is;
+    password = h.password ∙ ap (λ (s : Server). s.password) is;
+    condition = refl;
+    gains = subst (λ (ms : List FarMailbox). AllGain v ms late.mailboxes) (ap boxes_of is) h.gains;
+    nobody = λ alone. h.nobody alone ∙ ap boxes_of is;
+  }
+
+  pub connected : (new : Server) → Restarts old mid → (r : Result (Unit {0}) FarFault)
+      → Among v (Outcome (λ _. Authenticates user password) (Rejects user password) (Authenticates user password) r) mid new → Among v (LoginEnds user password r) old new
+  connected new is r a =
+      let late = a.mid in
+      record {
+        mid = earlier old late;
+        visits = visits_before is late a.visits;
+        then =
+            joined (Rejects user password) (IsUnknown user password) (Authenticates user password) (earlier old late) late new refl (λ a. ap boxes_of a.1)
+            (λ h. (h.0, ap boxes_of h.1)) (λ _. Authenticates user password) (λ _. LogsIn)
+            (λ x a. (ap boxes_of a.1, ap (λ (s : Server). is_logged_in s.condition) a.1)) r a.then;
+      }
 
 -- ---- a selection behind it
 
@@ -76,12 +105,45 @@ module _ (stage : Stage) (user password name : List ℕ) (old mid new : Server) 
 
 -- ---- what is listed, where the mailbox is selected again
 
-module _ (name : List ℕ) (old mid new : Server) where
-  pub listed : (next : ℕ) (c : IsChosen name mid) → KeepsMailboxes old mid → (r : Result Listing FarFault) → IfOk r (λ listing. Shows Far c.mailbox.store listing)
-      → Outcome (Tells (ListsFrom next c.mailbox.store)) Unrefused Remains r mid new → Outcome (ListsAll name) Unrefused KeepsMailboxes r old new
-  listed next c before (Ok listing) shows o = (
+above_least : (ms : List Message) (n : ℕ) → n ≤ next_above n (map (item_of Far) ms)
+above_least [] n = omega arith
+above_least (m ∷ ms) n = let rest = above_least ms (max n (m.uid + 1)) in omega (arith, rest)
+
+above_each : (ms : List Message) (n : ℕ) → All (λ m. m.uid < next_above n (map (item_of Far) ms)) ms
+above_each [] n = All-nil (λ (m : Message). m.uid < n)
+above_each (m ∷ ms) n =
+    let rest = above_least ms (max n (m.uid + 1)) in
+    All-cons (λ (x : Message). x.uid < next_above (max n (m.uid + 1)) (map (item_of Far) ms)) m ms (omega (arith, rest)) (above_each ms (max n (m.uid + 1)))
+
+above_most : (ms : List Message) (n k : ℕ) → n ≤ k → AreBelow ms k → next_above n (map (item_of Far) ms) ≤ k
+above_most [] n k le below = le
+above_most (m ∷ ms) n k le below =
+    let less : m.uid < k = below 0 m (omega arith) in
+    above_most ms (max n (m.uid + 1)) k (omega (arith, le, less)) (λ i d within. below (suc i) d (omega (arith, within)))
+
+module _ (known next : ℕ) (s : Store) (listing : Listing) (is : IsStore s) (least : known ≤ next) (most : next ≤ s.next) (l : ListsFrom next s listing) where
+  next_is : listing.next ≡ next_above next (map (item_of Far) s.messages)
+  next_is = l.next ∙ ap (next_above next) l.items
+
+  tells : (alone : Bool) → (alone ≡ true → next ≡ s.next) → TellsNext alone known listing s
+  tells true same = (shows_so next s listing is (same refl) l).next
+  tells false same =
+      inr (record {
+        least = (let a = above_least s.messages next in omega (arith, next_is, a, least));
+        above = subst (λ (n : ℕ). All (λ m. m.uid < n) s.messages) (sym next_is) (above_each s.messages next);
+        most = (let a = above_most s.messages next s.next most is.below in omega (arith, next_is, a));
+      })
+
+  pub lists_far : (alone : Bool) → (alone ≡ true → next ≡ s.next) → ListsFar alone known listing s
+  lists_far alone same = record { shows = record { validity = l.validity; next = refl; items = l.items }; next = tells alone same }
+
+module _ (alone : Bool) (known : ℕ) (name : List ℕ) (old mid new : Server) where
+  pub listed : (next : ℕ) (c : IsChosen name mid) → KeepsMailboxes old mid → IsStore c.mailbox.store → known ≤ next → next ≤ c.mailbox.store.next → (alone ≡ true → next ≡ c.mailbox.store.next) → (r : Result Listing FarFault)
+      → Outcome (Tells (ListsFrom next c.mailbox.store)) Unrefused Remains r mid new → Outcome (ListsAll alone known name) Unrefused KeepsMailboxes r old new
+  listed next c before is least most same (Ok listing) o = (
     ap boxes_of o.1 ∙ before,
-    subst (λ (ms : List FarMailbox). Shows Far (store_at name ms) listing) before (subst (λ s. Shows Far s listing) (sym (store_is name mid c)) shows),
+    subst (λ (ms : List FarMailbox). ListsFar alone known listing (store_at name ms)) before
+        (subst (λ s. ListsFar alone known listing s) (sym (store_is name mid c)) (lists_far known next c.mailbox.store listing is least most o.0 alone same)),
   )
-  listed next c before (Err e) shows o =
-      err_so Unrefused Unrefused Remains old mid new before (λ q. ap boxes_of q) (λ h. h) Listing Listing (Tells (ListsFrom next c.mailbox.store)) (ListsAll name) e o
+  listed next c before is least most same (Err e) o =
+      err_so Unrefused Unrefused Remains old mid new before (λ q. ap boxes_of q) (λ h. h) Listing Listing (Tells (ListsFrom next c.mailbox.store)) (ListsAll alone known name) e o

@@ -12,8 +12,8 @@ use Rattle.imap_link.specs.declared.fault.FarFault.{FarFault}
 use Rattle.imap_link.specs.declared.fault.FarFault.TheVariants as far
 use Rattle.imap_link.specs.declared.link.Link as link
 use Rattle.imap_link.specs.Outcomes.{Outcome, Never as Unrefused}
-use Rattle.imap_link.specs.Soundness.{AreSound}
-use Rattle.imap_session.specs.Mailboxes.{FarMailbox}
+use Rattle.imap_link.specs.Soundness.{AreSound, IsSound}
+use Rattle.imap_session.specs.Mailboxes.{FarMailbox, mailbox_at}
 use Rattle.imap_session.specs.Servers.{Server, is_logged_in, selected, with_selected}
 use Rattle.imap_client.specs.declared.far_box.FarBox.{FarBox}
 use Rattle.imap_client.specs.Appending.{Adds, AddsSome, NoUidLeft}
@@ -36,7 +36,9 @@ use Rattle.far_side.specs.FarStops.{Ends, HasEnded}
 use Rattle.far_side.specs.Stages.{is_broken_at, is_open_at, is_reached}
 use Rattle.far_side.proofs.Endings.{ends_of}
 use Rattle.far_side.proofs.Mailboxes.{chosen_of, logged_in_there, selected_is, sound_there, store_is}
-use Rattle.far_side.proofs.Outcomes.{Did, add_did, change_did, every, quiet, read_did}
+use Rattle.far_side.proofs.Outcomes.{Did, add_did, change_did, read_did}
+use Rattle.far_side.proofs.Visited.{Found, arrives, chosen_then, found_then, range_then, store_then}
+use Rattle.imap_session.specs.Visits.{Visits, Among}
 
 -- ---- whether it goes on
 
@@ -78,18 +80,18 @@ module _ {L : Type 0} {links : link.Ghosts L} (name : List ℕ) (old_stage new_s
 
   pub far_call : {T : Type 0} (honest : Type 0) (because : BoxFault → Mailbox → Type 0) (does : T → Effect Mailbox) (part : Effect Mailbox) (r : Result T FarFault)
       → is_broken_at old_stage old.is_selected old.session.is_ready ≡ false → OnOk r (new.is_selected ≡ true) → Ends (state_of old.session) (state_of new.session) r
-      → (honest → Did does part because r (box_at name (server_of old.session)) (box_at name (server_of new.session)))
-      → Call honest (HasEnded (state_of new.session)) (Arrives Far every true) because does part (seen_at old_stage name old) (seen_at new_stage name new) (told_by r)
+      → (honest → Among links.visitors (λ s t. Did does part because r (box_at name s) (box_at name t)) (server_of old.session) (server_of new.session))
+      → Call honest (HasEnded (state_of new.session)) (Arrives Far links.visitors.ours links.visitors.alone) because does part (seen_at old_stage name old) (seen_at new_stage name new) (told_by r)
   far_call honest because does part (Ok a) whole selected ends did = record {
     was_whole = whole;
     is_whole = is_whole new_stage new.is_selected new.session.is_ready ends.0 selected;
     stops = ends.1;
-    effect = λ h. record { mid = box_at name (server_of old.session); before = quiet (box_at name (server_of old.session)); behind = did h };
+    effect = λ h. let a = did h in record { mid = box_at name a.mid; before = arrives links.visitors name (server_of old.session) a.mid a.visits; behind = a.then };
   }
   far_call honest because does part (Err e) whole selected ends did = record {
     cause = λ is. ends.0 (told_stopped e is);
     no_less = ends.1;
-    left = λ h. record { mid = box_at name (server_of old.session); before = quiet (box_at name (server_of old.session)); behind = did h };
+    left = λ h. let a = did h in record { mid = box_at name a.mid; before = arrives links.visitors name (server_of old.session) a.mid a.visits; behind = a.then };
   }
 
 pub loaded : (uid : ℕ) (body : List ℕ) (is_there : Bool) (s : Store) → (if is_there then Some body else None) ≡ bytes_of uid s → Loads uid body is_there (settled s)
@@ -136,52 +138,75 @@ module _ {L : Type 0} {links : link.Ghosts L} {name : List ℕ} {stage : Stage} 
   pub still_logged_in : new.name ≡ old.name → new.session.is_ready ≡ true → links.honest new.session.wire.link → is_logged_in (server_of new.session).condition ≡ true
   still_logged_in same ready h = logged_in_by name new (still_named same) (k.still ∙ is_selected) ready h
 
-  pub still_fresh : new.next ≡ old.next → (links.honest new.session.wire.link → (m : FarMailbox) → selected (server_of old.session) ≡ Some m → Remains (server_of old.session) (server_of new.session))
-      → (links.honest old.session.wire.link → old.next ≡ (store_at name (server_of old.session).mailboxes).next) → links.honest new.session.wire.link → new.next ≡ (store_at name (server_of new.session).mailboxes).next
-  still_fresh same remains was h =
-      let c = chosen h in
-      same ∙ was (k.was_honest h) ∙ ap (λ (s : Server). (store_at name s.mailboxes).next) (sym (remains h c.mailbox (selected_is name (server_of old.session) c)))
-
   -- ---- the clause of its call
 
   module _ (sound : (l : L) → links.honest l → AreSound (links.line l).end.server.mailboxes) where
     abbrev Says : {T : Type 0} → (because : BoxFault → Mailbox → Type 0) → (does : T → Effect Mailbox) → Result T FarFault → Type 0
     Says because does r =
-        Call (links.honest new.session.wire.link) (HasEnded (state_of new.session)) (Arrives Far every true) because does Nothing (seen_at stage name old) (seen_at stage name new) (told_by r)
+        Call (links.honest new.session.wire.link) (HasEnded (state_of new.session)) (Arrives Far links.visitors.ours links.visitors.alone) because does Nothing (seen_at stage name old) (seen_at stage name new) (told_by r)
 
     says : {T : Type 0} (because : BoxFault → Mailbox → Type 0) (does : T → Effect Mailbox) (commands : ℕ) (r : Result T FarFault) → EndsSo commands (state_of old.session) (state_of new.session) r
-        → (links.honest new.session.wire.link → Did does Nothing because r (box_at name (server_of old.session)) (box_at name (server_of new.session))) → Says because does r
+        → (links.honest new.session.wire.link → Among links.visitors (λ s t. Did does Nothing because r (box_at name s) (box_at name t)) (server_of old.session) (server_of new.session)) → Says because does r
     says because does commands r ends did =
         far_call name stage stage old new (links.honest new.session.wire.link) because does Nothing r k.whole (on_ok (new.is_selected ≡ true) r (k.still ∙ is_selected))
         (ends_of commands (state_of old.session) (state_of new.session) r is_ready k.counts ends) did
 
+    -- what is selected there once others were there
+    module _ (h : links.honest new.session.wire.link) (mid : Server) (visits : Visits links.visitors (server_of old.session) mid) where
+      abbrev late : IsChosen name mid
+      late = chosen_then links.visitors name (server_of old.session) mid visits (chosen h)
+
+      abbrev found : Found links.visitors (chosen h).mailbox (mailbox_at name mid.mailboxes)
+      found = found_then links.visitors name (server_of old.session) mid visits (chosen h).mailbox (chosen h).there
+
+      was_sound : IsSound (chosen h).mailbox
+      was_sound = sound_there name (server_of old.session) (chosen h) (sound old.session.wire.link (k.was_honest h))
+
+      late_store : IsStore late.mailbox.store
+      late_store = store_then links.visitors (chosen h).mailbox.store found.mailbox.store found.gains was_sound.store
+
+      late_range : AreInRange late.mailbox.store.messages
+      late_range = range_then links.visitors (chosen h).mailbox.store found.mailbox.store found.gains was_sound.range.messages
+
     pub reads : {T : Type 0} (tells : T → Mailbox → Type 0) (P : T → Store → Type 0) → ((answer : T) (s : Store) → P answer s → tells answer (settled s)) → (r : Result T FarFault) → EndsSo 1 (state_of old.session) (state_of new.session) r
-        → (links.honest new.session.wire.link → (m : FarMailbox) → selected (server_of old.session) ≡ Some m → IsStore m.store → AreInRange m.store.messages → Outcome (Tells (λ answer. P answer m.store)) Unrefused Remains r (server_of old.session) (server_of new.session))
+        → (links.honest new.session.wire.link → Among links.visitors (λ s t. (m : FarMailbox) → selected s ≡ Some m → IsStore m.store → AreInRange m.store.messages → Outcome (Tells (λ answer. P answer m.store)) Unrefused Remains r s t) (server_of old.session) (server_of new.session))
         → Says Never (Answers tells) r
     reads tells P to r ends outcome =
         says Never (Answers tells) 1 r ends
         (λ h.
-        let c = chosen h in
-        let s = sound_there name (server_of old.session) c (sound old.session.wire.link (k.was_honest h)) in
-        read_did name (server_of old.session) (server_of new.session) (Tells (λ answer. P answer c.mailbox.store)) Unrefused Remains tells Never
-        (λ answer o. (ap (λ (x : Server). x.mailboxes) o.1, subst (λ (x : Store). tells answer (settled x)) (sym (store_is name (server_of old.session) c)) (to answer c.mailbox.store o.0)))
-        (λ e. ap (λ (x : Server). x.mailboxes) e) (λ refused. absurd refused) r (outcome h c.mailbox (selected_is name (server_of old.session) c) s.store s.range.messages))
+        let a = outcome h in
+        let c = late h a.mid a.visits in
+        record {
+          mid = a.mid;
+          visits = a.visits;
+          then =
+              read_did name a.mid (server_of new.session) (Tells (λ answer. P answer c.mailbox.store)) Unrefused Remains tells Never
+              (λ answer o. (ap (λ (x : Server). x.mailboxes) o.1, subst (λ (x : Store). tells answer (settled x)) (sym (store_is name a.mid c)) (to answer c.mailbox.store o.0)))
+              (λ e. ap (λ (x : Server). x.mailboxes) e) (λ refused. absurd refused) r (a.then c.mailbox (selected_is name a.mid c) (late_store h a.mid a.visits) (late_range h a.mid a.visits));
+        })
 
     pub turns : (commands : ℕ) (change own : Store → Store) (r : Result (Unit {0}) FarFault) → EndsSo commands (state_of old.session) (state_of new.session) r
-        → (IsChosen name (server_of old.session) → AreSound (server_of old.session).mailboxes → with_selected change (server_of old.session) ≡ with_selected own (server_of old.session))
-        → (links.honest new.session.wire.link → (m : FarMailbox) → selected (server_of old.session) ≡ Some m → Outcome (λ _. Becomes change) Unrefused (Becomes change) r (server_of old.session) (server_of new.session))
+        → ((s : Server) (c : IsChosen name s) → IsStore c.mailbox.store → with_selected change s ≡ with_selected own s)
+        → (links.honest new.session.wire.link → Among links.visitors (λ s t. (m : FarMailbox) → selected s ≡ Some m → Outcome (λ _. Becomes change) Unrefused (Becomes change) r s t) (server_of old.session) (server_of new.session))
         → Says {T = Unit {0}} Never (λ _. Turns own) r
     turns commands change own r ends same outcome =
         says Never (λ _. Turns own) commands r ends
         (λ h.
-        let c = chosen h in
-        change_did name (server_of old.session) (server_of new.session) change own c (same c (sound old.session.wire.link (k.was_honest h))) r (outcome h c.mailbox (selected_is name (server_of old.session) c)))
+        let a = outcome h in
+        let c = late h a.mid a.visits in
+        record {
+          mid = a.mid;
+          visits = a.visits;
+          then = change_did name a.mid (server_of new.session) change own c (same a.mid c (late_store h a.mid a.visits)) r (a.then c.mailbox (selected_is name a.mid c));
+        })
 
     pub appends : (bytes : List ℕ) (flags : ℕ) (r : Result (Option ℕ) FarFault) → EndsSo 1 (state_of old.session) (state_of new.session) r
-        → (links.honest new.session.wire.link → old.is_selected ≡ true → (m : FarMailbox) → selected (server_of old.session) ≡ Some m → Outcome (Adds m flags bytes) (NoUidLeft m) (AddsSome m flags bytes) r (server_of old.session) (server_of new.session))
+        → (links.honest new.session.wire.link → old.is_selected ≡ true
+        → Among links.visitors (λ s t. (m : FarMailbox) → selected s ≡ Some m → Outcome (Adds m flags bytes) (NoUidLeft m) (AddsSome m flags bytes) r s t) (server_of old.session) (server_of new.session))
         → Says (NoRoom Far (λ _. 1)) (Appends Far bytes flags) r
     appends bytes flags r ends outcome =
         says (NoRoom Far (λ _. 1)) (Appends Far bytes flags) 1 r ends
         (λ h.
-        let c = chosen h in
-        add_did name (server_of old.session) (server_of new.session) bytes flags c r (outcome h is_selected c.mailbox (selected_is name (server_of old.session) c)))
+        let a = outcome h is_selected in
+        let c = late h a.mid a.visits in
+        record { mid = a.mid; visits = a.visits; then = add_did name a.mid (server_of new.session) bytes flags c r (a.then c.mailbox (selected_is name a.mid c)) })

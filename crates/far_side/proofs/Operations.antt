@@ -3,13 +3,12 @@ use Rattle.std.proofs.Common.{◌≡◌, ℕ, Bool, true, false, ◌||◌, ◌&&
 use Rattle.std.specs.List.{list_any}
 use Rattle.mailcore.specs.FlagSet.{has, DELETED}
 use Rattle.mailcore.specs.Operations.{with_messages}
-use Rattle.mailcore.specs.Stores.{Store}
+use Rattle.mailcore.specs.Stores.{IsStore, Store}
 use Rattle.mailcore.specs.declared.mailbox.Message.{Message}
 use Rattle.mailcore.specs.declared.side.Side.TheVariants.{Far}
 use Rattle.imap_commands.specs.declared.command.StoreMode.{StoreMode}
 use Rattle.imap_session.specs.NamedMessages.{flags_changed, stored, swept}
 use Rattle.imap_session.specs.Servers.{Server, with_selected}
-use Rattle.imap_link.specs.Soundness.{AreSound}
 use Rattle.imap_client.specs.Boxes.{one_uid}
 use Rattle.imap_client.specs.Calls.{each_one}
 use Rattle.imap_client.specs.Laws.{deleted_removed}
@@ -17,10 +16,10 @@ use Rattle.imap_client.proofs.Flagging.{selected_same, stored_is_flagged}
 use Rattle.imap_client.proofs.Removing.{swept_is_deleted}
 use Rattle.mailbox.specs.Operations.{may_go, removed}
 use Rattle.far_side.specs.Chosen.{IsChosen}
-use Rattle.far_side.proofs.Mailboxes.{selected_is, sound_there}
+use Rattle.far_side.proofs.Mailboxes.{selected_is}
 
-pub stored_same : (name : List ℕ) (s : Server) (mode : StoreMode) (uid flags : ℕ) → IsChosen name s → AreSound s.mailboxes → with_selected (stored mode flags (one_uid uid)) s ≡ with_selected (flags_changed mode uid flags) s
-stored_same name s mode uid flags c all = stored_is_flagged s c.mailbox mode uid flags (selected_is name s c) (sound_there name s c all).store.rising
+pub stored_same : (name : List ℕ) (s : Server) (mode : StoreMode) (uid flags : ℕ) (c : IsChosen name s) → IsStore c.mailbox.store → with_selected (stored mode flags (one_uid uid)) s ≡ with_selected (flags_changed mode uid flags) s
+stored_same name s mode uid flags c is = stored_is_flagged s c.mailbox mode uid flags (selected_is name s c) is.rising
 
 or_false : (b : Bool) → (b || false) ≡ b
 or_false true = refl
@@ -33,7 +32,7 @@ removed_one uid (m ∷ ms) = rw (or_false (m.uid == uid), removed_one uid ms) re
 removed_same : (uid : ℕ) (s : Store) → deleted_removed (uid ∷ []) s ≡ removed Far uid s
 removed_same uid s = ap (λ (ms : List Message). with_messages (λ _. ms) s) (removed_one uid s.messages)
 
-pub swept_same : (name : List ℕ) (s : Server) (uid : ℕ) → IsChosen name s → AreSound s.mailboxes → with_selected (swept (each_one (uid ∷ []))) s ≡ with_selected (removed Far uid) s
-swept_same name s uid c all =
-    swept_is_deleted s c.mailbox (uid ∷ []) (selected_is name s c) (sound_there name s c all).store.rising
+pub swept_same : (name : List ℕ) (s : Server) (uid : ℕ) (c : IsChosen name s) → IsStore c.mailbox.store → with_selected (swept (each_one (uid ∷ []))) s ≡ with_selected (removed Far uid) s
+swept_same name s uid c is =
+    swept_is_deleted s c.mailbox (uid ∷ []) (selected_is name s c) is.rising
     ∙ selected_same (deleted_removed (uid ∷ [])) (removed Far uid) s c.mailbox (selected_is name s c) (removed_same uid c.mailbox.store)

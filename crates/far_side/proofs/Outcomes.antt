@@ -1,7 +1,6 @@
 -- From what a call of the far box does at the server to what the trait says of it.
 use Rattle.std.proofs.Common.{◌≡◌, ◌≤◌, ◌+◌, ◌^◌, ℕ, Bool, List, [], ◌++◌, Option, Some, None, Result, Ok, Err, false, sym, ap, subst, ◌∙◌, inl, inr, refl, arith, true}
 use Rattle.std.proofs.lemmas.List.{append-nil}
-use Rattle.std.proofs.lemmas.List.Elements.{All-nil}
 use Rattle.device.specs.Calls.{Effect, Follows, Leaves, Nothing, Went}
 use Rattle.mailcore.specs.declared.mailbox.Message.{Message}
 use Rattle.mailcore.specs.declared.side.Side.TheVariants.{Far}
@@ -24,38 +23,23 @@ use Rattle.mailbox.specs.Calls.{DoesSome, LeavesBy, Never, Seen}
 use Rattle.far_side.specs.Chosen.{IsChosen, KeepsMailboxes, box_at, settled, store_at}
 use Rattle.far_side.specs.FarFaults.{told}
 use Rattle.far_side.proofs.Mailboxes.{changed_store, store_is}
-
--- ---- nobody else
-
-abbrev pub every : List ℕ → Bool
-every mark = true
-
-pub quiet : (b : Mailbox) → Arrives Far every true b b
-quiet b = record {
-  comes = record {
-    messages = [];
-    next = b.store.next;
-    rise = omega arith;
-    foreign = All-nil _;
-    now = ap (λ (ms : List Message). let n : Mailbox = record b { store = record b.store { messages = ms } } in n) (sym (append-nil b.store.messages));
-  };
-  nobody = λ _. refl;
-}
+use Rattle.far_side.proofs.Visited.{arrives_none}
+use Rattle.visitors.specs.Visitors.{Visitors}
 
 -- a call that does nothing
-pub rests : (honest : Type 0) (does : Effect Mailbox) (seen : Seen) → seen.is_broken ≡ false → does seen.stored seen.stored → Went honest (Follows (Arrives Far every true) does) seen seen
-rests honest does seen whole done = record {
+pub rests : (v : Visitors) (honest : Type 0) (does : Effect Mailbox) (seen : Seen) → seen.is_broken ≡ false → does seen.stored seen.stored → Went honest (Follows (Arrives Far v.ours v.alone) does) seen seen
+rests v honest does seen whole done = record {
   was_whole = whole;
   is_whole = whole;
   stops = refl;
-  effect = λ h. record { mid = seen.stored; before = quiet seen.stored; behind = done };
+  effect = λ h. record { mid = seen.stored; before = arrives_none v seen.stored; behind = done };
 }
 
 -- nothing waits, so that nothing is admitted
-pub none_admitted : (s : Store) → Admits true (settled s) (settled s)
-none_admitted s =
+pub none_admitted : (alone : Bool) (s : Store) → Admits alone (settled s) (settled s)
+none_admitted alone s =
     let none : s.next + 0 ≡ s.next = omega arith in
-    admits_all true (settled s) (settled s)
+    admits_all alone (settled s) (settled s)
     (sym (ap (λ (n : ℕ). settled (record s { next = n; messages = s.messages ++ [] })) none
     ∙ ap (λ (ms : List Message). settled (record s { messages = ms })) (append-nil s.messages)))
 

@@ -14,7 +14,6 @@ use Rattle.mailbox.specs.declared.fault.BoxFault.TheVariants as boxes
 use Rattle.mailbox.specs.Arrivals.{Arrives}
 use Rattle.mailbox.specs.Calls.{Call, Never}
 use Rattle.mailbox.specs.Operations as ops
-use Rattle.mailbox.proofs.Listed.{lists_all}
 use Rattle.far_side.specs.declared.far_side.FarSide.{FarSide}
 use Rattle.far_side.specs.Chosen.{KeepsMailboxes, ListsAll, TellsValidity, box_at}
 use Rattle.far_side.specs.FarFaults.{told_by}
@@ -22,38 +21,54 @@ use Rattle.far_side.specs.FarSides.{Unfit, honest_of, seen_at, seen_of, server_a
 use Rattle.far_side.specs.FarStops.{Ends, HasEnded}
 use Rattle.far_side.specs.Stages.{RefusesAll}
 use Rattle.far_side.proofs.OpenCalls.{far_call}
-use Rattle.far_side.proofs.Outcomes.{Did, every, read_did}
+use Rattle.far_side.proofs.Outcomes.{Did, read_did}
+use Rattle.far_side.proofs.Visited.{known_before, missed_before}
+use Rattle.imap_session.specs.Servers.{Server}
+use Rattle.imap_session.specs.Visits.{Visits, Among}
 
 module _ {L : Type 0} {links : link.Ghosts L} (old new : FarSide L links) (same : new.account.mailbox.items ≡ old.account.mailbox.items) (whole : (seen_of old).is_broken ≡ false) where
   abbrev name : List ℕ
   name = old.account.mailbox.items
 
   abbrev Says : {T : Type 0} → (because : BoxFault → Mailbox → Type 0) → (does : T → Effect Mailbox) → List ℕ → Result T FarFault → Type 0
-  Says because does n r = Call (honest_of new) (HasEnded (state_of new.far.session)) (Arrives Far every true) because does Nothing (seen_of old) (seen_at new.stage n new.far) (told_by r)
+  Says because does n r = Call (honest_of new) (HasEnded (state_of new.far.session)) (Arrives Far links.visitors.ours links.visitors.alone) because does Nothing (seen_of old) (seen_at new.stage n new.far) (told_by r)
 
   says : {T : Type 0} (because : BoxFault → Mailbox → Type 0) (does : T → Effect Mailbox) (r : Result T FarFault) → OnOk r (new.far.is_selected ≡ true) → Ends (state_of old.far.session) (state_of new.far.session) r
-      → (honest_of new → Did does Nothing because r (box_at name (server_at old)) (box_at name (server_at new))) → Says because does new.account.mailbox.items r
+      → (honest_of new → Among links.visitors (λ s t. Did does Nothing because r (box_at name s) (box_at name t)) (server_at old) (server_at new)) → Says because does new.account.mailbox.items r
   says because does r selected ends did =
       subst (λ (n : List ℕ). Says because does n r) (sym same) (far_call name old.stage new.stage old.far new.far (honest_of new) because does Nothing r whole selected ends did)
 
-  abbrev Refused : Type 0
-  Refused = RefusesAll old.stage old.account.user.items old.account.password.items name (server_at old) (server_at new)
+  abbrev Refused : Server → Type 0
+  Refused mid = RefusesAll old.stage old.account.user.items old.account.password.items name mid (server_at new)
 
-  unfit : Refused → KeepsMailboxes (server_at old) (server_at new) × Unfit old boxes.Refused
-  unfit (inl u) = (u.1.1, inl (u.0, u.1.0))
-  unfit (inr m) = (m.1, inr m.0)
+  unfit : (mid : Server) → Visits links.visitors (server_at old) mid → Refused mid → KeepsMailboxes mid (server_at new) × Unfit old boxes.Refused
+  unfit mid h (inl u) = (u.1.1, inl (u.0, known_before links.visitors old.account.user.items old.account.password.items (server_at old) mid h u.1.0))
+  unfit mid h (inr m) = (m.1, inr (missed_before links.visitors name (server_at old) mid h m.0))
 
   pub opens : (r : Result ℕ FarFault) → OnOk r (new.far.is_selected ≡ true) → Ends (state_of old.far.session) (state_of new.far.session) r
-      → (honest_of new → Outcome (TellsValidity name) (RefusesAll old.stage old.account.user.items old.account.password.items name) KeepsMailboxes r (server_at old) (server_at new))
+      → (honest_of new → Among links.visitors (Outcome (TellsValidity name) (RefusesAll old.stage old.account.user.items old.account.password.items name) KeepsMailboxes r) (server_at old) (server_at new))
       → Says (λ fault _. Unfit old fault) (ops.Answers ops.TellsValidity) new.account.mailbox.items r
   opens r selected ends outcome =
       says (λ fault _. Unfit old fault) (ops.Answers ops.TellsValidity) r selected ends
       (λ h.
-      read_did name (server_at old) (server_at new) (TellsValidity name) (RefusesAll old.stage old.account.user.items old.account.password.items name) KeepsMailboxes ops.TellsValidity (λ fault _. Unfit old fault)
-      (λ validity t. t) (λ k. k) (λ refused. unfit refused) r (outcome h))
+      let a = outcome h in
+      record {
+        mid = a.mid;
+        visits = a.visits;
+        then =
+            read_did name a.mid (server_at new) (TellsValidity name) (RefusesAll old.stage old.account.user.items old.account.password.items name) KeepsMailboxes ops.TellsValidity (λ fault _. Unfit old fault)
+            (λ validity t. t) (λ k. k) (λ refused. unfit a.mid a.visits refused) r a.then;
+      })
 
   pub lists : (known from : ℕ) (r : Result Listing FarFault) → OnOk r (new.far.is_selected ≡ true) → Ends (state_of old.far.session) (state_of new.far.session) r
-      → (honest_of new → Outcome (ListsAll name) Unrefused KeepsMailboxes r (server_at old) (server_at new)) → Says Never (ops.Answers (ops.Lists Far true known from)) new.account.mailbox.items r
+      → (honest_of new → Among links.visitors (Outcome (ListsAll links.visitors.alone known name) Unrefused KeepsMailboxes r) (server_at old) (server_at new))
+      → Says Never (ops.Answers (ops.Lists Far links.visitors.alone known from)) new.account.mailbox.items r
   lists known from r selected ends outcome =
-      says Never (ops.Answers (ops.Lists Far true known from)) r selected ends
-      (λ h. read_did name (server_at old) (server_at new) (ListsAll name) Unrefused KeepsMailboxes (ops.Lists Far true known from) Never (λ listing t. (t.0, lists_all known listing _ t.1)) (λ k. k) (λ refused. absurd refused) r (outcome h))
+      says Never (ops.Answers (ops.Lists Far links.visitors.alone known from)) r selected ends
+      (λ h.
+      let a = outcome h in
+      record {
+        mid = a.mid;
+        visits = a.visits;
+        then = read_did name a.mid (server_at new) (ListsAll links.visitors.alone known name) Unrefused KeepsMailboxes (ops.Lists Far links.visitors.alone known from) Never (λ listing t. t) (λ k. k) (λ refused. absurd refused) r a.then;
+      })

@@ -1,8 +1,7 @@
 -- The mailbox of a name, as a server keeps it.
-use Rattle.std.specs.Prelude.{◌≡◌, ℕ, true, false, List, [], Option, None, Some}
+use Rattle.std.specs.Prelude.{◌≡◌, ℕ, Bool, true, false, List, [], Option, None, Some}
 use Rattle.mailcore.specs.declared.listing.Listing.{Listing}
-use Rattle.mailcore.specs.declared.side.Side.TheVariants.{Far}
-use Rattle.mailcore.specs.Operations.{Shows}
+use Rattle.mailbox.specs.Operations.{ListsFar}
 use Rattle.mailcore.specs.Stores.{Store}
 use Rattle.mailcore.specs.Mailboxes.{Mailbox}
 use Rattle.imap_session.specs.Mailboxes.{FarMailbox, mailbox_at}
@@ -54,9 +53,9 @@ IsUnknown user password old new = (is_known user password old ≡ false) × Keep
 abbrev pub TellsValidity : (name : List ℕ) → (validity : ℕ) → Server → Server → Type 0
 TellsValidity name validity old new = KeepsMailboxes old new × (validity ≡ (store_at name old.mailboxes).validity)
 
--- this is what the mailbox of this name lists
-abbrev pub ListsAll : (name : List ℕ) → Listing → Server → Server → Type 0
-ListsAll name listing old new = KeepsMailboxes old new × Shows Far (store_at name old.mailboxes) listing
+-- this is what the mailbox of this name lists, where this next UID was known
+abbrev pub ListsAll : (alone : Bool) → (known : ℕ) → (name : List ℕ) → Listing → Server → Server → Type 0
+ListsAll alone known name listing old new = KeepsMailboxes old new × ListsFar alone known listing (store_at name old.mailboxes)
 
 -- there is none of this name, and nothing was changed
 abbrev pub Misses : (name : List ℕ) → Server → Server → Type 0

@@ -4,6 +4,7 @@ ghost use Rattle.std.specs.Prelude.{◌≡◌, ◌≤◌, false};
 ghost use Rattle.imap_client.specs.Requests.{IsWord};
 ghost use Rattle.imap_client.specs.Sessions.{server_of, state_of};
 ghost use Rattle.imap_link.specs.Outcomes.{Outcome};
+ghost use Rattle.imap_session.specs.Visits.{Among};
 ghost use Rattle.far_side.specs.Chosen.{IsUnknown, KeepsMailboxes, LogsIn};
 ghost use Rattle.far_side.specs.FarStops.{Ends};
 
@@ -23,7 +24,7 @@ pub(crate) fn log_in<L: Link>(
     ensures closed { far.new.is_selected ≡ false }
     ensures ends { Ends (state_of far.old.session) (state_of far.new.session) result }
     ensures outcome { L.honest far.new.session.wire.link
-        → Outcome (λ _. LogsIn) (IsUnknown user.now password.now) KeepsMailboxes result
+        → Among L.visitors (Outcome (λ _. LogsIn) (IsUnknown user.now password.now) KeepsMailboxes result)
         (server_of far.old.session) (server_of far.new.session) }
 {
     far.reconnect()?;

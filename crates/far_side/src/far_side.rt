@@ -6,6 +6,7 @@ ghost use Rattle.imap_client.specs.Sessions.{server_of, state_of};
 ghost use Rattle.imap_link.specs.Outcomes.{Never, Outcome};
 ghost use Rattle.mailbox.specs.Operations.{HasNumbers};
 ghost use Rattle.imap_session.specs.Servers.{is_logged_in};
+ghost use Rattle.imap_session.specs.Visits.{Among};
 ghost use Rattle.far_side.specs.Chosen.{KeepsMailboxes, ListsAll, Misses, TellsValidity, box_at, store_at};
 ghost use Rattle.far_side.specs.FarStops.{Ends};
 ghost use Rattle.far_side.specs.Stages.{RefusesAll, Unopened, is_open_at, is_reached};
@@ -34,7 +35,7 @@ pub struct FarSide<L: Link> {
     account: Account,
     far: FarBox<L>,
     stage: Stage,
-    // Nothing has changed since the mailbox was selected, so that its next UID is known.
+    // No command was sent since the mailbox was selected, so that its next UID is known.
     is_fresh: bool,
     pub ghost named: { far.is_selected ≡ true → far.name.items ≡ account.mailbox.items },
     pub ghost logged_in: { is_reached stage ≡ true → far.session.is_ready ≡ true → L.honest far.session.wire.link
@@ -81,7 +82,7 @@ impl<L: Link + Drop> FarSide<L> {
         }
     }
 
-    /// The UIDNEXT of the mailbox, where it is open and nothing has changed since it was selected.
+    /// The UIDNEXT of the mailbox, where it is open and no command was sent since it was selected.
     pub fn next(&self) -> Option<u32>
         ensures next { honest_of self.now → IfSome result (λ next. next ≡ (seen_of self.now).stored.store.next) }
         ensures known { self.now.is_fresh ≡ true → is_some result ≡ true }
@@ -123,8 +124,8 @@ impl<L: Link + Drop> FarSide<L> {
         ensures was_honest { honest_of self.new → honest_of self.old }
         ensures reached { OnOk result (is_reached self.new.stage ≡ true) }
         ensures ends { Ends (state_of self.old.far.session) (state_of self.new.far.session) result }
-        ensures outcome { honest_of self.new → Outcome (λ _. KeepsMailboxes)
-            (Unopened self.old.stage self.old.account.user.items self.old.account.password.items) KeepsMailboxes result
+        ensures outcome { honest_of self.new → Among L.visitors (Outcome (λ _. KeepsMailboxes)
+            (Unopened self.old.stage self.old.account.user.items self.old.account.password.items) KeepsMailboxes result)
             (server_at self.old) (server_at self.new) }
     {
         match self.stage {
@@ -149,8 +150,8 @@ impl<L: Link + Drop> FarSide<L> {
         ensures fresh { OnOk result (self.new.is_fresh ≡ true) }
         ensures stays { OnErr result (self.new.stage ≡ self.old.stage) }
         ensures ends { Ends (state_of self.old.far.session) (state_of self.new.far.session) result }
-        ensures outcome { honest_of self.new
-            → Outcome (TellsValidity self.old.account.mailbox.items) (Misses self.old.account.mailbox.items) KeepsMailboxes result
+        ensures outcome { honest_of self.new → Among L.visitors
+            (Outcome (TellsValidity self.old.account.mailbox.items) (Misses self.old.account.mailbox.items) KeepsMailboxes result)
             (server_at self.old) (server_at self.new) }
     {
         self.is_fresh = false;
@@ -168,15 +169,15 @@ impl<L: Link + Drop> FarSide<L> {
         ensures open { OnOk result (is_open_at self.new.stage ≡ true) }
         ensures selected { OnOk result (self.new.far.is_selected ≡ true) }
         ensures ends { Ends (state_of self.old.far.session) (state_of self.new.far.session) result }
-        ensures outcome { honest_of self.new → Outcome (TellsValidity self.old.account.mailbox.items) (RefusesAll self.old.stage
-            self.old.account.user.items self.old.account.password.items self.old.account.mailbox.items) KeepsMailboxes result
-            (server_at self.old) (server_at self.new) }
+        ensures outcome { honest_of self.new → Among L.visitors (Outcome (TellsValidity self.old.account.mailbox.items)
+            (RefusesAll self.old.stage self.old.account.user.items self.old.account.password.items self.old.account.mailbox.items)
+            KeepsMailboxes result) (server_at self.old) (server_at self.new) }
     {
         self.log_in()?;
         self.select()
     }
 
-    // Selects the mailbox again, where something has changed since it was.
+    // Selects the mailbox again, where a command was sent since it was.
     fn refresh(&mut self) -> Result<(), FarFault>
         requires whole { (seen_of self.old).is_broken ≡ false }
         requires open { is_open_at self.old.stage ≡ true }
@@ -186,7 +187,7 @@ impl<L: Link + Drop> FarSide<L> {
         ensures selected { OnOk result (self.new.far.is_selected ≡ true) }
         ensures fresh { OnOk result (self.new.is_fresh ≡ true) }
         ensures ends { Ends (state_of self.old.far.session) (state_of self.new.far.session) result }
-        ensures outcome { honest_of self.new → Outcome (λ _. KeepsMailboxes) Never KeepsMailboxes result
+        ensures outcome { honest_of self.new → Among L.visitors (Outcome (λ _. KeepsMailboxes) Never KeepsMailboxes result)
             (server_at self.old) (server_at self.new) }
     {
         if self.is_fresh {
@@ -196,7 +197,7 @@ impl<L: Link + Drop> FarSide<L> {
         Ok(())
     }
 
-    // What the mailbox lists. Where something has changed since it was selected, it is selected again, which tells its next UID.
+    // What the mailbox lists. Where a command was sent since it was selected, it is selected again, which tells its next UID.
     fn list_anew(&mut self) -> Result<Listing, FarFault>
         requires whole { (seen_of self.old).is_broken ≡ false }
         requires open { is_open_at self.old.stage ≡ true }
@@ -206,10 +207,12 @@ impl<L: Link + Drop> FarSide<L> {
         ensures selected { OnOk result (self.new.far.is_selected ≡ true) }
         ensures numbers { IfOk result HasNumbers }
         ensures ends { Ends (state_of self.old.far.session) (state_of self.new.far.session) result }
-        ensures outcome { honest_of self.new → Outcome (ListsAll self.old.account.mailbox.items) Never KeepsMailboxes result
+        ensures outcome { honest_of self.new → Among L.visitors (Outcome (ListsAll L.visitors.alone
+            (store_at self.old.account.mailbox.items (server_at self.old).mailboxes).next self.old.account.mailbox.items) Never KeepsMailboxes result)
             (server_at self.old) (server_at self.new) }
     {
         self.refresh()?;
+        self.is_fresh = false;
         self.far.list()
     }
 }
@@ -230,9 +233,9 @@ impl<L: Link + Drop> Mailbox for FarSide<L> {
 
     ghost honest = { honest_of };
 
-    ghost ours = { λ _. true };
+    ghost ours = { L.visitors.ours };
 
-    ghost alone = { true };
+    ghost alone = { L.visitors.alone };
 
     // nothing waits at a server, so that there is nothing to admit
     ghost seen = { seen_of };
@@ -257,10 +260,12 @@ impl<L: Link + Drop> Mailbox for FarSide<L> {
     }
 
     fn find_mark(&mut self, mark: Tuid, from: u32) -> Result<Option<Uid>, BoxFault> {
+        self.is_fresh = false;
         told_by(self.far.find_mark(mark, from))
     }
 
     fn load(&mut self, uid: Uid) -> Result<bool, BoxFault> {
+        self.is_fresh = false;
         told_by(self.far.load(uid))
     }
 

@@ -9,6 +9,7 @@ ghost use Rattle.imap_client.specs.Sessions.{server_of, state_of};
 ghost use Rattle.imap_client.specs.States.{EndsSo};
 ghost use Rattle.imap_link.specs.Outcomes.{Never, Outcome};
 ghost use Rattle.imap_session.specs.Servers.{is_logged_in};
+ghost use Rattle.imap_session.specs.Visits.{Among};
 ghost use Rattle.far_side.specs.Chosen.{LogsIn};
 ghost use Rattle.std.proofs.Props.{props};
 
@@ -37,7 +38,7 @@ impl<L: Link + Drop> LoggedIn<L> {
         requires user { IsWord user.now }
         requires password { IsWord password.now }
         ensures was_honest { IfOk result (λ s. L.honest s.session.wire.link → L.honest link) }
-        ensures ok { IfOk result (λ s. L.honest s.session.wire.link → LogsIn (L.line link).end.server (server_of s.session)) }
+        ensures ok { IfOk result (λ s. L.honest s.session.wire.link → Among L.visitors LogsIn (L.line link).end.server (server_of s.session)) }
         ensures ready { IfOk result (λ s. (s.session.is_ready ≡ true) × (L.stops s.session.wire.link ≡ L.stops link)) }
     {
         let mut far = FarBox::closed(Session::closed(alloc, link));
@@ -54,7 +55,8 @@ impl<L: Link + Drop> LoggedIn<L> {
         ensures was_honest { L.honest self.new.session.wire.link → L.honest self.old.session.wire.link }
         ensures ends { EndsSo 1 (state_of self.old.session) (state_of self.new.session) result }
         ensures outcome { L.honest self.new.session.wire.link
-            → Outcome (λ names. TellsNames names.items) Never Remains result (server_of self.old.session) (server_of self.new.session) }
+            → Among L.visitors (Outcome (λ names. TellsNames names.items) Never Remains result)
+            (server_of self.old.session) (server_of self.new.session) }
     {
         self.session.list()
     }
@@ -66,8 +68,8 @@ impl<L: Link + Drop> LoggedIn<L> {
         requires { IsWord name.now }
         ensures was_honest { L.honest self.new.session.wire.link → L.honest self.old.session.wire.link }
         ensures ends { EndsSo 1 (state_of self.old.session) (state_of self.new.session) result }
-        ensures outcome { L.honest self.new.session.wire.link → Outcome (λ _. Makes name.now) (CannotMake name.now) (Makes name.now) result
-            (server_of self.old.session) (server_of self.new.session) }
+        ensures outcome { L.honest self.new.session.wire.link → Among L.visitors (Outcome (λ _. Makes name.now) (CannotMake name.now)
+            (Makes name.now) result) (server_of self.old.session) (server_of self.new.session) }
     {
         self.session.create(name)
     }

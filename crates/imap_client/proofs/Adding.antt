@@ -33,6 +33,9 @@ use Rattle.imap_answers.specs.Given.{given_more, given_in, uid_told}
 use Rattle.imap_client.specs.Boxes.{selected_name, is_next, IsSelected}
 use Rattle.imap_client.specs.Appending.{AddsUnder, AddsSome, Adds, IsTold, NoUidLeft, next_known}
 use Rattle.imap_answers.proofs.Unread.{given_in_read}
+use Rattle.visitors.specs.Visitors.{Visitors}
+use Rattle.imap_session.specs.Visits.{Visits, Among}
+use Rattle.imap_client.proofs.Visited.{at_once}
 use Rattle.imap_client.proofs.Answered.{final_last, said_of}
 use Rattle.imap_client.proofs.Changed.{with_store, selected_changed, there_of}
 
@@ -276,9 +279,16 @@ module _ (T : Type 0) (was now : State) (old new : Server) where
   stuck_outcome does refuses effect (Err faults.ReadOnly) e f same = absurd (not_ready was.is_ready e.was_ready f)
   stuck_outcome does refuses effect (Err faults.NoMemory) e f same = inl same
 
-  pub outcome_where : (does : T → Server → Server → Type 0) (refuses effect : Server → Server → Type 0) (r : Result T FarFault) → EndsSo 1 was now r → (was.is_ready ≡ false → new ≡ old)
-      → (was.is_ready ≡ true → Outcome does refuses effect r old new) → Outcome does refuses effect r old new
-  outcome_where does refuses effect r e same go = elim (cases_Bool was.is_ready) [ inl t ↦ go t | inr f ↦ stuck_outcome does refuses effect r e f (same f) ]
+  -- among what others do, where something is known of the server if the session had not failed
+  pub among_where : (v : Visitors) (Q : Server → Type 0) (does : FarMailbox → T → Server → Server → Type 0) (refuses effect : FarMailbox → Server → Server → Type 0) (r : Result T FarFault) → EndsSo 1 was now r
+      → (was.is_ready ≡ false → new ≡ old) → (was.is_ready ≡ true → (mid : Server) → Visits v old mid → Q mid)
+      → Among v (λ s t. Q s → (m : FarMailbox) → selected s ≡ Some m → Outcome (does m) (refuses m) (effect m) r s t) old new
+      → Among v (λ s t. (m : FarMailbox) → selected s ≡ Some m → Outcome (does m) (refuses m) (effect m) r s t) old new
+  among_where v Q does refuses effect r e same known a =
+      elim (cases_Bool was.is_ready) [
+        | inl t ↦ record { mid = a.mid; visits = a.visits; then = λ m is. a.then (known t a.mid a.visits) m is }
+        | inr f ↦ at_once v (λ s t. (m : FarMailbox) → selected s ≡ Some m → Outcome (does m) (refuses m) (effect m) r s t) old new (λ m is. stuck_outcome (does m) (refuses m) (effect m) r e f (same f))
+      ]
 
 -- of a session that goes on behind a fault
 module _ (was now : State) (old new : Server) (name : List ℕ) (validity next flags : ℕ) (message : List ℕ) where

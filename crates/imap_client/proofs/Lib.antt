@@ -1,4 +1,5 @@
 pub mod TagLemmas
+pub mod Visited
 pub mod Plain
 pub mod Completing
 pub mod InTwo

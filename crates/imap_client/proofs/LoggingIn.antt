@@ -1,12 +1,16 @@
 -- Capabilities are asked for, somebody logs in, and the revision is enabled.
 use Rattle.std.proofs.Common.{◌≡◌, ◌⊎◌, ◌≤◌, inl, inr, ℕ, ◌+◌, Bool, true, false, List, [], ◌∷◌, ◌++◌, refl, sym, ◌∙◌, ap, subst, arith, take, Option, Some, None, Result, Ok, Err}
-use Rattle.std.specs.Prelude.{codes, filter, ◌||◌, if◌then◌else◌}
+use Rattle.std.specs.Prelude.{codes, filter, nat_eq, ◌&&◌, ◌||◌, if◌then◌else◌}
+use Rattle.std.specs.Cmp.Lexicographic.{pointwise}
+use Rattle.visitors.specs.Visitors.{Visitors}
 use Rattle.std.specs.List.{list_any}
 use Rattle.imap_commands.specs.declared.command.Request.TheVariants as requests
 use Rattle.imap_replies.specs.declared.reply.Reply.{Reply}
 use Rattle.imap_replies.specs.declared.reply.Reply.TheVariants.{Continue, Tagged, Notice, Capability, Enabled, List as Listed, Flags, Exists, Expunge, Fetch, Other, OtherNumbered}
 use Rattle.wire_tokens.specs.Names.{has_name}
-use Rattle.imap_session.specs.Servers.{Server, Authenticated, is_before_login, is_logged_in}
+use Rattle.imap_session.specs.Mailboxes.{FarMailbox}
+use Rattle.imap_session.specs.Servers.{Condition, Server, Authenticated, is_before_login, is_logged_in}
+use Rattle.imap_session.specs.Visits.{AllGain, Among}
 use Rattle.imap_session.specs.Answering.{Gives, done, refused_with, out_of_place}
 use Rattle.imap_session.specs.SessionCommands.{REV2, lets_in, logs_in}
 use Rattle.imap_session.specs.Heard.{AreReplies, LeavesOut, WithoutUid}
@@ -199,6 +203,30 @@ module _ (user password : List ℕ) where
   let_in (Err faults.ReadOnly) old mid new a h = h
   let_in (Err faults.NoMemory) old mid new a (inl q) = inr (a.0, q ∙ a.1)
   let_in (Err faults.NoMemory) old mid new a (inr e) = inr (a.0, e ∙ a.1)
+
+  -- the same, where others acted in between: they might as well have acted before
+  pub let_in_among : (v : Visitors) (result : Result (Unit {0}) FarFault) (old mid new : Server) → Authenticates user password old mid → Among v (Outcome (λ x. Remains) Never Remains result) mid new → Among v (Ends result) old new
+  let_in_among v result old mid new a h =
+      let late : Server = h.mid in
+      let before : Server = record late { condition = old.condition } in
+      let user_is : late.user ≡ old.user = h.visits.user ∙ ap (λ (s : Server). s.user) a.1 in
+      let password_is : late.password ≡ old.password = h.visits.password ∙ ap (λ (s : Server). s.password) a.1 in
+      let in_is : late.condition ≡ Authenticated = h.visits.condition ∙ ap (λ (s : Server). s.condition) a.1 in
+      let boxes : mid.mailboxes ≡ old.mailboxes = ap (λ (s : Server). s.mailboxes) a.1 in
+      let known : is_known user password before ≡ true =
+      ap (λ (u : List ℕ). pointwise nat_eq user u && pointwise nat_eq password late.password) user_is ∙ ap (λ (p : List ℕ). pointwise nat_eq user old.user && pointwise nat_eq password p) password_is ∙ a.0 in
+      let after : late ≡ record before { condition = Authenticated } = ap (λ (c : Condition). record late { condition = c }) in_is in
+      record {
+        mid = before;
+        visits = record {
+          user = user_is;
+          password = password_is;
+          condition = refl;
+          gains = subst (λ (ms : List FarMailbox). AllGain v ms late.mailboxes) boxes h.visits.gains;
+          nobody = λ alone. h.visits.nobody alone ∙ boxes;
+        };
+        then = let_in result before late new (known, after) h.then;
+      }
 
 -- ---- how calls of several commands end
 

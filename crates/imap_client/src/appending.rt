@@ -8,9 +8,11 @@ ghost use Rattle.imap_replies.specs.declared.word.Status.TheVariants as statuses
 ghost use Rattle.imap_session.specs.Heard.{AreReplies};
 ghost use Rattle.imap_session.specs.Mailboxes.{FarMailbox};
 ghost use Rattle.imap_session.specs.Servers.{selected};
+ghost use Rattle.imap_session.specs.Visits.{Among};
 ghost use Rattle.exchange_laws.specs.Ends.{ends_of};
 ghost use Rattle.imap_link.specs.Buffers.{IsAnswerText};
 ghost use Rattle.imap_link.specs.Outcomes.{Outcome};
+ghost use Rattle.imap_link.specs.Sending.{AfterVisits};
 ghost use Rattle.imap_client.specs.Appending.{Adds, AddsSome, NoUidLeft, next_known, CanAdd, request_to_add, InTwo, IsInTwo, IsFront, WaitsOr};
 ghost use Rattle.imap_client.specs.Boxes.{IsSelected};
 ghost use Rattle.imap_client.specs.Exchanged.{command_at, Exchanged};
@@ -46,8 +48,8 @@ impl<L: Link> Session<L> {
         ensures counts { L.stops self.old.wire.link ≤ L.stops self.new.wire.link }
         ensures tags { self.new.tags ≡ self.old.tags }
         ensures sent { SentSo tag.now (state_of self.old) (state_of self.new) result }
-        ensures outcome { L.honest self.new.wire.link → (rest : List ℕ) (c : Command) → InTwo tag.now front.now rest c
-            → WaitsOr c front.now result (line_of self.old) (line_of self.new) self.new.wire.heard.items }
+        ensures outcome { L.honest self.new.wire.link → AfterVisits L.visitors (λ line. (rest : List ℕ) (c : Command)
+            → InTwo tag.now front.now rest c → WaitsOr c front.now result line (line_of self.new) self.new.wire.heard.items) (line_of self.old) }
     {
         match self.wire.ask(tag, front)? {
             Told::Go(len) => {
@@ -72,7 +74,7 @@ impl<L: Link> Session<L> {
         ensures tags { self.new.tags ≡ self.old.tags }
         ensures sent { SentSo tag.now (state_of self.old) (state_of self.new) result }
         ensures outcome { L.honest self.new.wire.link → (c : Command) → InTwo tag.now front.now rest.now c
-            → Exchanged c result self.new.wire.heard.items (server_of self.old) (server_of self.new) }
+            → Among L.visitors (Exchanged c result self.new.wire.heard.items) (server_of self.old) (server_of self.new) }
         ensures idle { IfOk result (λ len. L.honest self.new.wire.link
             → IsStill (ends_of (L.line self.new.wire.link) (drop len self.new.wire.heard.items))) }
         ensures answer { IfOk result (λ len. (len ≤ length self.new.wire.heard.items)
@@ -91,8 +93,8 @@ impl<L: Link> Session<L> {
         ensures counts { L.stops self.old.wire.link ≤ L.stops self.new.wire.link }
         ensures stuck { self.old.is_ready ≡ false → self.new ≡ self.old }
         ensures asked { AskedSo (state_of self.old) (state_of self.new) result }
-        ensures outcome { L.honest self.new.wire.link → Exchanged (command_at (self.old.tags + 1) (request_to_add addition.now)) result
-            self.new.wire.heard.items (server_of self.old) (server_of self.new) }
+        ensures outcome { L.honest self.new.wire.link → Among L.visitors (Exchanged (command_at (self.old.tags + 1)
+            (request_to_add addition.now)) result self.new.wire.heard.items) (server_of self.old) (server_of self.new) }
         ensures idle { IfOk result (λ len. L.honest self.new.wire.link
             → IsStill (ends_of (L.line self.new.wire.link) (drop len self.new.wire.heard.items))) }
         ensures answer { IfOk result (λ len. (len ≤ length self.new.wire.heard.items)
@@ -128,10 +130,9 @@ impl<L: Link> Session<L> {
         ensures counts { L.stops self.old.wire.link ≤ L.stops self.new.wire.link }
         ensures stuck { self.old.is_ready ≡ false → self.new ≡ self.old }
         ensures ends { EndsSo 1 (state_of self.old) (state_of self.new) result }
-        ensures outcome { L.honest self.new.wire.link → IsSelected addition.now.name.now validity next (server_of self.old)
-            → (m : FarMailbox) → selected (server_of self.old) ≡ Some m
-            → Outcome (Adds m addition.now.flags addition.now.bytes.now) (NoUidLeft m)
-            (AddsSome m addition.now.flags addition.now.bytes.now) result (server_of self.old) (server_of self.new) }
+        ensures outcome { L.honest self.new.wire.link → Among L.visitors (λ s t. IsSelected addition.now.name.now validity next s
+            → (m : FarMailbox) → selected s ≡ Some m → Outcome (Adds m addition.now.flags addition.now.bytes.now) (NoUidLeft m)
+            (AddsSome m addition.now.flags addition.now.bytes.now) result s t) (server_of self.old) (server_of self.new) }
     {
         let len = self.ask_to_add(addition)?;
         let given = self.given(len)?;
@@ -160,9 +161,9 @@ impl<L: Link> FarBox<L> {
         ensures next { IfOk result (λ told. self.new.next ≡ next_known self.old.next told) }
         ensures unknown { OnErr result (self.new.next ≡ self.old.next) }
         ensures outcome { L.honest self.new.session.wire.link → self.old.is_selected ≡ true
-            → (m : FarMailbox) → selected (server_of self.old.session) ≡ Some m
-            → Outcome (Adds m flags bytes.now) (NoUidLeft m) (AddsSome m flags bytes.now) result (server_of self.old.session)
-            (server_of self.new.session) }
+            → Among L.visitors (λ s t. (m : FarMailbox) → selected s ≡ Some m
+            → Outcome (Adds m flags bytes.now) (NoUidLeft m) (AddsSome m flags bytes.now) result s t)
+            (server_of self.old.session) (server_of self.new.session) }
     {
         let addition = Addition {
             name: &self.name,

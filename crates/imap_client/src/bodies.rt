@@ -6,6 +6,7 @@ ghost use Rattle.imap_replies.specs.declared.reply.Reply.{Reply};
 ghost use Rattle.imap_session.specs.Heard.{AreReplies};
 ghost use Rattle.imap_session.specs.Mailboxes.{FarMailbox};
 ghost use Rattle.imap_session.specs.Servers.{selected};
+ghost use Rattle.imap_session.specs.Visits.{Among};
 ghost use Rattle.imap_link.specs.Outcomes.{Outcome, Never};
 ghost use Rattle.mailcore.specs.Operations.{bytes_of};
 ghost use Rattle.mailcore.specs.Ranges.{AreInRange};
@@ -46,11 +47,11 @@ impl<L: Link> Session<L> {
         ensures counts { L.stops self.old.wire.link ≤ L.stops self.new.wire.link }
         ensures stuck { self.old.is_ready ≡ false → self.new ≡ self.old }
         ensures ends { EndsSo 1 (state_of self.old) (state_of self.new) result }
-        ensures remains { L.honest self.new.wire.link → (m : FarMailbox) → selected (server_of self.old) ≡ Some m
-            → Remains (server_of self.old) (server_of self.new) }
-        ensures outcome { L.honest self.new.wire.link → (m : FarMailbox) → selected (server_of self.old) ≡ Some m → IsStore m.store
-            → AreInRange m.store.messages
-            → Outcome (Tells (λ found. text_of found ≡ bytes_of uid m.store)) Never Remains result (server_of self.old) (server_of self.new) }
+        ensures remains { L.honest self.new.wire.link → Among L.visitors (λ s t. (m : FarMailbox) → selected s ≡ Some m → Remains s t)
+            (server_of self.old) (server_of self.new) }
+        ensures outcome { L.honest self.new.wire.link → Among L.visitors (λ s t. (m : FarMailbox) → selected s ≡ Some m → IsStore m.store
+            → AreInRange m.store.messages → Outcome (Tells (λ found. text_of found ≡ bytes_of uid m.store)) Never Remains result s t)
+            (server_of self.old) (server_of self.new) }
     {
         let len = self.ask(&Call::Body(uid))?;
         let body = self.body_heard(len, uid)?;
@@ -76,11 +77,11 @@ impl<L: Link> FarBox<L> {
             × EndsSo 1 (state_of self.old.session) (state_of after.session) result
             × ((after.name ≡ self.old.name) × (after.validity ≡ self.old.validity) × (after.next ≡ self.old.next)
             × (after.is_selected ≡ self.old.is_selected))
-            × (L.honest after.session.wire.link → (m : FarMailbox) → selected (server_of self.old.session) ≡ Some m
-            → Remains (server_of self.old.session) (server_of after.session))
-            × (L.honest after.session.wire.link → (m : FarMailbox) → selected (server_of self.old.session) ≡ Some m → IsStore m.store
+            × (L.honest after.session.wire.link → Among L.visitors (λ s t. (m : FarMailbox) → selected s ≡ Some m → Remains s t)
+            (server_of self.old.session) (server_of after.session))
+            × (L.honest after.session.wire.link → Among L.visitors (λ s t. (m : FarMailbox) → selected s ≡ Some m → IsStore m.store
             → AreInRange m.store.messages
-            → Outcome (Tells (λ found. option_map (λ b. b.now) found ≡ bytes_of uid m.store)) Never Remains result
+            → Outcome (Tells (λ found. option_map (λ b. b.now) found ≡ bytes_of uid m.store)) Never Remains result s t)
             (server_of self.old.session) (server_of after.session)))) }
     {
         if self.load(uid)? {
@@ -98,11 +99,11 @@ impl<L: Link> FarBox<L> {
         ensures ends { EndsSo 1 (state_of self.old.session) (state_of self.new.session) result }
         ensures same { (self.new.name ≡ self.old.name) × (self.new.validity ≡ self.old.validity) × (self.new.next ≡ self.old.next)
             × (self.new.is_selected ≡ self.old.is_selected) }
-        ensures remains { L.honest self.new.session.wire.link → (m : FarMailbox) → selected (server_of self.old.session) ≡ Some m
-            → Remains (server_of self.old.session) (server_of self.new.session) }
-        ensures outcome { L.honest self.new.session.wire.link → (m : FarMailbox) → selected (server_of self.old.session) ≡ Some m
+        ensures remains { L.honest self.new.session.wire.link → Among L.visitors (λ s t. (m : FarMailbox) → selected s ≡ Some m → Remains s t)
+            (server_of self.old.session) (server_of self.new.session) }
+        ensures outcome { L.honest self.new.session.wire.link → Among L.visitors (λ s t. (m : FarMailbox) → selected s ≡ Some m
             → IsStore m.store → AreInRange m.store.messages
-            → Outcome (Tells (λ is_there. (if is_there then Some self.new.body.items else None) ≡ bytes_of uid m.store)) Never Remains result
+            → Outcome (Tells (λ is_there. (if is_there then Some self.new.body.items else None) ≡ bytes_of uid m.store)) Never Remains result s t)
             (server_of self.old.session) (server_of self.new.session) }
     {
         let found = self.session.body(uid)?;

@@ -7,6 +7,7 @@ ghost use Rattle.imap_session.specs.Heard.{AreReplies};
 ghost use Rattle.imap_session.specs.Mailboxes.{FarMailbox};
 ghost use Rattle.imap_session.specs.Servers.{Server, is_before_login, is_logged_in, selected, with_selected};
 ghost use Rattle.imap_session.specs.NamedMessages.{stored, swept};
+ghost use Rattle.imap_session.specs.Visits.{Among};
 ghost use Rattle.imap_link.specs.Exchanges.{Restarts};
 ghost use Rattle.imap_link.specs.Outcomes.{Outcome, Never};
 ghost use Rattle.mailcore.specs.Stores.{Store};
@@ -77,9 +78,10 @@ impl<L: Link> Session<L> {
         ensures selected { IfOk result (λ b. b.is_selected ≡ true) }
         ensures name { IfOk result (λ b. b.name.items ≡ name.now) }
         ensures selects { IfOk result (λ b. L.honest b.session.wire.link
-            → Selects name.now b.validity b.next (server_of self) (server_of b.session)) }
+            → Among L.visitors (Selects name.now b.validity b.next) (server_of self) (server_of b.session)) }
         ensures fails { IfErr result (λ e. L.honest e.1.wire.link → is_logged_in (server_of self).condition ≡ true
-            → Outcome {T = FarBox L L.Link} (λ b. Never) (NoMailbox name.now) (Chooses name.now) (Err e.0) (server_of self) (server_of e.1)) }
+            → Among L.visitors (Outcome {T = FarBox L L.Link} (λ b. Never) (NoMailbox name.now) (Chooses name.now) (Err e.0))
+            (server_of self) (server_of e.1)) }
         ensures heard { IfOk result (λ b. EndsBy (of_select (self.tags + 1) (λ x. opened x.validity x.next)) (Ok b) self.transcript b.session.transcript) }
         ensures heard_err { IfErr result (λ e. EndsBy {T = FarBox L L.Link} (of_select (self.tags + 1) (λ x. opened x.validity x.next)) (Err e.0)
             self.transcript e.1.transcript) }
@@ -115,10 +117,10 @@ impl<L: Link> Session<L> {
         ensures ends { EndsSo 1 (state_of self.old) (state_of self.new) result }
         ensures name { IfOk result (λ c. c.name.items ≡ name.now) }
         ensures chosen { IfOk result (λ c. L.honest self.new.wire.link
-            → Selects name.now c.validity c.next (server_of self.old) (server_of self.new)) }
+            → Among L.visitors (Selects name.now c.validity c.next) (server_of self.old) (server_of self.new)) }
         ensures outcome { L.honest self.new.wire.link → is_logged_in (server_of self.old).condition ≡ true
-            → Outcome (λ c. Selects name.now c.validity c.next) (NoMailbox name.now) (Chooses name.now) result (server_of self.old)
-            (server_of self.new) }
+            → Among L.visitors (Outcome (λ c. Selects name.now c.validity c.next) (NoMailbox name.now) (Chooses name.now) result)
+            (server_of self.old) (server_of self.new) }
         ensures heard { EndsBy (of_select (self.old.tags + 1) (λ x. opened x.validity x.next)) result self.old.transcript self.new.transcript }
     {
         let len = self.ask(&Call::Select(name))?;
@@ -172,8 +174,9 @@ impl<L: Link> Session<L> {
         ensures counts { L.stops self.old.wire.link ≤ L.stops self.new.wire.link }
         ensures stuck { self.old.is_ready ≡ false → self.new ≡ self.old }
         ensures ends { EndsSo 1 (state_of self.old) (state_of self.new) result }
-        ensures outcome { L.honest self.new.wire.link → (m : FarMailbox) → selected (server_of self.old) ≡ Some m → (change : Store → Store)
-            → Changing call.now change → Outcome (λ _. Becomes change) Never (Becomes change) result (server_of self.old) (server_of self.new) }
+        ensures outcome { L.honest self.new.wire.link → Among L.visitors (λ s t. (m : FarMailbox) → selected s ≡ Some m
+            → (change : Store → Store) → Changing call.now change → Outcome (λ _. Becomes change) Never (Becomes change) result s t)
+            (server_of self.old) (server_of self.new) }
     {
         let len = self.ask(call)?;
         self.done(len);
@@ -226,8 +229,8 @@ impl<L: Link> FarBox<L> {
         ensures closed { self.new.is_selected ≡ false }
         ensures ends { EndsSo 3 (state_of self.old.session) (state_of self.new.session) result }
         ensures outcome { L.honest self.new.session.wire.link → is_before_login (server_of self.old.session).condition ≡ true
-            → Outcome (λ _. Authenticates user.now password.now) (Rejects user.now password.now) (Authenticates user.now password.now) result
-            (server_of self.old.session) (server_of self.new.session) }
+            → Among L.visitors (Outcome (λ _. Authenticates user.now password.now) (Rejects user.now password.now)
+            (Authenticates user.now password.now) result) (server_of self.old.session) (server_of self.new.session) }
         ensures heard { LoginHears self.old.session.tags result self.old.session.transcript self.new.session.transcript }
     {
         self.is_selected = false;
@@ -247,9 +250,9 @@ impl<L: Link> FarBox<L> {
         ensures name { OnOk result (self.new.name.items ≡ name.now) }
         ensures ends { EndsSo 1 (state_of self.old.session) (state_of self.new.session) result }
         ensures selects { OnOk result (L.honest self.new.session.wire.link
-            → Selects name.now self.new.validity self.new.next (server_of self.old.session) (server_of self.new.session)) }
+            → Among L.visitors (Selects name.now self.new.validity self.new.next) (server_of self.old.session) (server_of self.new.session)) }
         ensures outcome { L.honest self.new.session.wire.link → is_logged_in (server_of self.old.session).condition ≡ true
-            → Outcome (λ _. Selects name.now self.new.validity self.new.next) (NoMailbox name.now) (Chooses name.now) result
+            → Among L.visitors (Outcome (λ _. Selects name.now self.new.validity self.new.next) (NoMailbox name.now) (Chooses name.now) result)
             (server_of self.old.session) (server_of self.new.session) }
         ensures heard { EndsBy (of_select (self.old.session.tags + 1) (λ _. opened self.new.validity self.new.next)) result
             self.old.session.transcript self.new.session.transcript }
@@ -305,8 +308,8 @@ impl<L: Link> FarBox<L> {
         ensures ends { EndsSo 1 (state_of self.old.session) (state_of self.new.session) result }
         ensures same { (self.new.name ≡ self.old.name) × (self.new.validity ≡ self.old.validity) × (self.new.next ≡ self.old.next)
             × (self.new.is_selected ≡ self.old.is_selected) }
-        ensures outcome { L.honest self.new.session.wire.link → (m : FarMailbox) → selected (server_of self.old.session) ≡ Some m
-            → Outcome (λ _. Becomes (stored modes.Add flags (one_uid uid))) Never (Becomes (stored modes.Add flags (one_uid uid))) result
+        ensures outcome { L.honest self.new.session.wire.link → Among L.visitors (λ s t. (m : FarMailbox) → selected s ≡ Some m
+            → Outcome (λ _. Becomes (stored modes.Add flags (one_uid uid))) Never (Becomes (stored modes.Add flags (one_uid uid))) result s t)
             (server_of self.old.session) (server_of self.new.session) }
     {
         self.session
@@ -321,8 +324,8 @@ impl<L: Link> FarBox<L> {
         ensures ends { EndsSo 1 (state_of self.old.session) (state_of self.new.session) result }
         ensures same { (self.new.name ≡ self.old.name) × (self.new.validity ≡ self.old.validity) × (self.new.next ≡ self.old.next)
             × (self.new.is_selected ≡ self.old.is_selected) }
-        ensures outcome { L.honest self.new.session.wire.link → (m : FarMailbox) → selected (server_of self.old.session) ≡ Some m
-            → Outcome (λ _. Becomes (stored modes.Remove flags (one_uid uid))) Never (Becomes (stored modes.Remove flags (one_uid uid))) result
+        ensures outcome { L.honest self.new.session.wire.link → Among L.visitors (λ s t. (m : FarMailbox) → selected s ≡ Some m
+            → Outcome (λ _. Becomes (stored modes.Remove flags (one_uid uid))) Never (Becomes (stored modes.Remove flags (one_uid uid))) result s t)
             (server_of self.old.session) (server_of self.new.session) }
     {
         self.session
@@ -338,8 +341,8 @@ impl<L: Link> FarBox<L> {
         ensures ends { EndsSo (commands_for uids.now) (state_of self.old.session) (state_of self.new.session) result }
         ensures same { (self.new.name ≡ self.old.name) × (self.new.validity ≡ self.old.validity) × (self.new.next ≡ self.old.next)
             × (self.new.is_selected ≡ self.old.is_selected) }
-        ensures outcome { L.honest self.new.session.wire.link → (m : FarMailbox) → selected (server_of self.old.session) ≡ Some m
-            → Outcome (λ _. Becomes (swept (each_one uids.now))) Never (Becomes (swept (each_one uids.now))) result
+        ensures outcome { L.honest self.new.session.wire.link → Among L.visitors (λ s t. (m : FarMailbox) → selected s ≡ Some m
+            → Outcome (λ _. Becomes (swept (each_one uids.now))) Never (Becomes (swept (each_one uids.now))) result s t)
             (server_of self.old.session) (server_of self.new.session) }
     {
         if uids.is_empty() {

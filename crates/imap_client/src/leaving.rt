@@ -3,6 +3,7 @@
 ghost use Rattle.std.specs.Prelude.{◌≡◌, true, false, IfOk, IfErr, Ok, Err};
 ghost use Rattle.imap_commands.specs.declared.command.Request.TheVariants as requests;
 ghost use Rattle.exchange_laws.specs.Ends.{ends_of};
+ghost use Rattle.imap_session.specs.Visits.{Among};
 ghost use Rattle.imap_link.specs.Outcomes.{Outcome, Never};
 ghost use Rattle.imap_client.specs.Leaving.{Leaves, LeftSo, LeavesSo};
 ghost use Rattle.imap_client.specs.Stillness.{IsStill};
@@ -26,8 +27,8 @@ impl<L: Link> Session<L> {
         ensures was_honest { IfOk result (λ l. L.honest l → L.honest self.wire.link) }
         ensures still_honest { IfErr result (λ e. L.honest e.1 → L.honest self.wire.link) }
         ensures steady { IfOk result (λ l. (self.is_ready ≡ true) × (L.stops l ≡ L.stops self.wire.link)) }
-        ensures leaves { IfOk result (λ l. L.honest l → Leaves (server_of self) (told_server (L.line l))) }
-        ensures fails { IfErr result (λ e. L.honest e.1 → Outcome {T = Unit {0}} (λ _. Leaves) Never Leaves (Err e.0) (server_of self)
+        ensures leaves { IfOk result (λ l. L.honest l → Among L.visitors Leaves (server_of self) (told_server (L.line l))) }
+        ensures fails { IfErr result (λ e. L.honest e.1 → Among L.visitors (Outcome {T = Unit {0}} (λ _. Leaves) Never Leaves (Err e.0)) (server_of self)
             (told_server (L.line e.1))) }
     {
         let mut session = self;
@@ -43,7 +44,8 @@ impl<L: Link> Session<L> {
         ensures stuck { self.old.is_ready ≡ false → self.new ≡ self.old }
         ensures over { self.new.is_ready ≡ false }
         ensures ends { LeavesSo (state_of self.old) (state_of self.new) result }
-        ensures outcome { L.honest self.new.wire.link → Outcome (λ _. Leaves) Never Leaves result (server_of self.old) (server_of self.new) }
+        ensures outcome { L.honest self.new.wire.link → Among L.visitors (Outcome (λ _. Leaves) Never Leaves result)
+            (server_of self.old) (server_of self.new) }
     {
         self.begin()?;
         let command = self.command(Request::Logout)?;
@@ -58,7 +60,8 @@ impl<L: Link> Session<L> {
         ensures was_honest { L.honest self.new.wire.link → L.honest self.old.wire.link }
         ensures same { (self.new.is_ready ≡ self.old.is_ready) × (self.new.tags ≡ self.old.tags) }
         ensures left { LeftSo command.now.tag (state_of self.old) (state_of self.new) result }
-        ensures outcome { L.honest self.new.wire.link → Outcome (λ _. Leaves) Never Leaves result (server_of self.old) (server_of self.new) }
+        ensures outcome { L.honest self.new.wire.link → Among L.visitors (Outcome (λ _. Leaves) Never Leaves result)
+            (server_of self.old) (server_of self.new) }
     {
         let text = text_of(self.wire.alloc, command)?;
         let answered = self

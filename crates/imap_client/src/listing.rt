@@ -5,6 +5,7 @@ ghost use Rattle.imap_replies.specs.declared.reply.Reply.{Reply};
 ghost use Rattle.imap_session.specs.Heard.{AreReplies};
 ghost use Rattle.imap_session.specs.Mailboxes.{FarMailbox};
 ghost use Rattle.imap_session.specs.Servers.{selected};
+ghost use Rattle.imap_session.specs.Visits.{Among};
 ghost use Rattle.imap_link.specs.Outcomes.{Outcome, Never};
 ghost use Rattle.mailcore.specs.declared.side.Side.TheVariants.{Far};
 ghost use Rattle.mailcore.specs.Listed.{item_of};
@@ -51,11 +52,11 @@ impl<L: Link> Session<L> {
         ensures counts { L.stops self.old.wire.link ≤ L.stops self.new.wire.link }
         ensures stuck { self.old.is_ready ≡ false → self.new ≡ self.old }
         ensures ends { EndsSo 1 (state_of self.old) (state_of self.new) result }
-        ensures remains { L.honest self.new.wire.link → (m : FarMailbox) → selected (server_of self.old) ≡ Some m
-            → Remains (server_of self.old) (server_of self.new) }
-        ensures outcome { L.honest self.new.wire.link → (m : FarMailbox) → selected (server_of self.old) ≡ Some m → IsStore m.store
-            → AreInRange m.store.messages
-            → Outcome (Tells (λ items. items ≡ map (item_of Far) m.store.messages)) Never Remains result (server_of self.old) (server_of self.new) }
+        ensures remains { L.honest self.new.wire.link → Among L.visitors (λ s t. (m : FarMailbox) → selected s ≡ Some m → Remains s t)
+            (server_of self.old) (server_of self.new) }
+        ensures outcome { L.honest self.new.wire.link → Among L.visitors (λ s t. (m : FarMailbox) → selected s ≡ Some m → IsStore m.store
+            → AreInRange m.store.messages → Outcome (Tells (λ items. items ≡ map (item_of Far) m.store.messages)) Never Remains result s t)
+            (server_of self.old) (server_of self.new) }
     {
         let len = self.ask(&Call::Listing)?;
         let items = self.items_heard(len)?;
@@ -78,15 +79,16 @@ impl<L: Link> FarBox<L> {
         ensures ends { EndsSo 1 (state_of self.old.session) (state_of self.new.session) result }
         ensures same { (self.new.name ≡ self.old.name) × (self.new.validity ≡ self.old.validity) × (self.new.next ≡ self.old.next)
             × (self.new.is_selected ≡ self.old.is_selected) }
-        ensures remains { L.honest self.new.session.wire.link → (m : FarMailbox) → selected (server_of self.old.session) ≡ Some m
-            → Remains (server_of self.old.session) (server_of self.new.session) }
+        ensures remains { L.honest self.new.session.wire.link → Among L.visitors (λ s t. (m : FarMailbox) → selected s ≡ Some m → Remains s t)
+            (server_of self.old.session) (server_of self.new.session) }
         ensures numbers { IfOk result (λ listing. (0 < listing.validity) × (0 < listing.next)) }
         ensures outcome { L.honest self.new.session.wire.link → self.old.is_selected ≡ true
-            → (m : FarMailbox) → selected (server_of self.old.session) ≡ Some m → IsStore m.store → AreInRange m.store.messages
-            → Outcome (Tells (ListsFrom self.old.next m.store)) Never Remains result (server_of self.old.session) (server_of self.new.session) }
+            → Among L.visitors (λ s t. (m : FarMailbox) → selected s ≡ Some m → IsStore m.store → AreInRange m.store.messages
+            → Outcome (Tells (ListsFrom self.old.next m.store)) Never Remains result s t) (server_of self.old.session) (server_of self.new.session) }
         ensures shows { L.honest self.new.session.wire.link → self.old.is_selected ≡ true
-            → (m : FarMailbox) → selected (server_of self.old.session) ≡ Some m → IsStore m.store → AreInRange m.store.messages
-            → self.old.next ≡ m.store.next → IfOk result (λ listing. Shows Far m.store listing) }
+            → Among L.visitors (λ s t. (m : FarMailbox) → selected s ≡ Some m → IsStore m.store → AreInRange m.store.messages
+            → self.old.next ≡ m.store.next → IfOk result (λ listing. Shows Far m.store listing))
+            (server_of self.old.session) (server_of self.new.session) }
     {
         let items = self.session.items()?;
         let next = next_above(self.next, items.as_slice());

@@ -5,6 +5,7 @@ ghost use Rattle.std.specs.List.{list_any};
 ghost use Rattle.imap_replies.specs.declared.reply.Reply.{Reply};
 ghost use Rattle.imap_session.specs.Heard.{AreReplies};
 ghost use Rattle.imap_session.specs.Servers.{is_before_login, is_logged_in};
+ghost use Rattle.imap_session.specs.Visits.{Among};
 ghost use Rattle.imap_link.specs.Outcomes.{Outcome, Never};
 ghost use Rattle.imap_client.specs.Logins.{tells_rev2, Authenticates, Rejects, Remains};
 ghost use Rattle.imap_client.specs.Requests.{IsWord};
@@ -36,8 +37,8 @@ impl<L: Link> Session<L> {
         ensures stuck { self.old.is_ready ≡ false → self.new ≡ self.old }
         ensures ends { EndsSo 3 (state_of self.old) (state_of self.new) result }
         ensures outcome { L.honest self.new.wire.link → is_before_login (server_of self.old).condition ≡ true
-            → Outcome (λ _. Authenticates user.now password.now) (Rejects user.now password.now) (Authenticates user.now password.now) result
-            (server_of self.old) (server_of self.new) }
+            → Among L.visitors (Outcome (λ _. Authenticates user.now password.now) (Rejects user.now password.now)
+            (Authenticates user.now password.now) result) (server_of self.old) (server_of self.new) }
         ensures heard { LoginHears self.old.tags result self.old.transcript self.new.transcript }
     {
         self.ask_abilities()?;
@@ -51,7 +52,7 @@ impl<L: Link> Session<L> {
         ensures counts { L.stops self.old.wire.link ≤ L.stops self.new.wire.link }
         ensures stuck { self.old.is_ready ≡ false → self.new ≡ self.old }
         ensures ends { EndsSo 1 (state_of self.old) (state_of self.new) result }
-        ensures outcome { L.honest self.new.wire.link → Outcome (λ _. Remains) Never Remains result (server_of self.old) (server_of self.new) }
+        ensures outcome { L.honest self.new.wire.link → Among L.visitors (Outcome (λ _. Remains) Never Remains result) (server_of self.old) (server_of self.new) }
         ensures heard { EndsBy (of_abilities (self.old.tags + 1)) result self.old.transcript self.new.transcript }
     {
         let len = self.ask(&Call::Capability)?;
@@ -83,8 +84,8 @@ impl<L: Link> Session<L> {
         ensures stuck { self.old.is_ready ≡ false → self.new ≡ self.old }
         ensures ends { EndsSo 1 (state_of self.old) (state_of self.new) result }
         ensures outcome { L.honest self.new.wire.link → is_before_login (server_of self.old).condition ≡ true
-            → Outcome (λ _. Authenticates user.now password.now) (Rejects user.now password.now) (Authenticates user.now password.now) result
-            (server_of self.old) (server_of self.new) }
+            → Among L.visitors (Outcome (λ _. Authenticates user.now password.now) (Rejects user.now password.now)
+            (Authenticates user.now password.now) result) (server_of self.old) (server_of self.new) }
         ensures heard { EndsBy (of_login (self.old.tags + 1)) result self.old.transcript self.new.transcript }
     {
         let len = self.ask(&Call::Login(user, password))?;
@@ -99,7 +100,7 @@ impl<L: Link> Session<L> {
         ensures stuck { self.old.is_ready ≡ false → self.new ≡ self.old }
         ensures ends { EndsSo 1 (state_of self.old) (state_of self.new) result }
         ensures outcome { L.honest self.new.wire.link → is_logged_in (server_of self.old).condition ≡ true
-            → Outcome (λ _. Remains) Never Remains result (server_of self.old) (server_of self.new) }
+            → Among L.visitors (Outcome (λ _. Remains) Never Remains result) (server_of self.old) (server_of self.new) }
         ensures heard { EndsBy (of_enable (self.old.tags + 1)) result self.old.transcript self.new.transcript }
     {
         let answered = self.ask_status(&Call::Enable)?;

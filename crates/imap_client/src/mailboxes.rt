@@ -6,6 +6,7 @@ ghost use Rattle.imap_replies.specs.declared.reply.Reply.{Reply};
 ghost use Rattle.imap_session.specs.Heard.{AreReplies};
 ghost use Rattle.imap_session.specs.MailboxCommands.{is_name};
 ghost use Rattle.imap_session.specs.Servers.{is_logged_in};
+ghost use Rattle.imap_session.specs.Visits.{Among};
 ghost use Rattle.imap_link.specs.Outcomes.{Outcome, Never};
 ghost use Rattle.imap_client.specs.Creations.{Makes, CannotMake};
 ghost use Rattle.imap_client.specs.Logins.{Remains};
@@ -35,7 +36,8 @@ impl<L: Link> Session<L> {
         ensures stuck { self.old.is_ready ≡ false → self.new ≡ self.old }
         ensures ends { EndsSo 1 (state_of self.old) (state_of self.new) result }
         ensures outcome { L.honest self.new.wire.link → is_logged_in (server_of self.old).condition ≡ true
-            → Outcome (λ _. Makes name.now) (CannotMake name.now) (Makes name.now) result (server_of self.old) (server_of self.new) }
+            → Among L.visitors (Outcome (λ _. Makes name.now) (CannotMake name.now) (Makes name.now) result)
+            (server_of self.old) (server_of self.new) }
     {
         let len = self.ask(&Call::Create(name))?;
         self.done(len);
@@ -52,7 +54,7 @@ impl<L: Link> Session<L> {
         ensures ends { EndsSo 1 (state_of self.old) (state_of self.new) result }
         ensures limits { IfOk result (λ names. list_all is_name names.items ≡ true) }
         ensures outcome { L.honest self.new.wire.link → is_logged_in (server_of self.old).condition ≡ true
-            → Outcome (λ names. TellsNames names.items) Never Remains result (server_of self.old) (server_of self.new) }
+            → Among L.visitors (Outcome (λ names. TellsNames names.items) Never Remains result) (server_of self.old) (server_of self.new) }
     {
         let len = self.ask(&Call::Names)?;
         let names = self.names(len)?;

@@ -5,6 +5,7 @@ ghost use Rattle.imap_replies.specs.declared.reply.Reply.{Reply};
 ghost use Rattle.imap_session.specs.Heard.{AreReplies};
 ghost use Rattle.imap_session.specs.Mailboxes.{FarMailbox};
 ghost use Rattle.imap_session.specs.Servers.{selected};
+ghost use Rattle.imap_session.specs.Visits.{Among};
 ghost use Rattle.imap_link.specs.Outcomes.{Outcome, Never};
 ghost use Rattle.mailcore.specs.Operations.{marked_from};
 ghost use Rattle.mailcore.specs.Ranges.{AreInRange};
@@ -46,11 +47,11 @@ impl<L: Link> Session<L> {
         ensures counts { L.stops self.old.wire.link ≤ L.stops self.new.wire.link }
         ensures stuck { self.old.is_ready ≡ false → self.new ≡ self.old }
         ensures ends { EndsSo 1 (state_of self.old) (state_of self.new) result }
-        ensures remains { L.honest self.new.wire.link → (m : FarMailbox) → selected (server_of self.old) ≡ Some m
-            → Remains (server_of self.old) (server_of self.new) }
-        ensures outcome { L.honest self.new.wire.link → (m : FarMailbox) → selected (server_of self.old) ≡ Some m → IsStore m.store
-            → AreInRange m.store.messages
-            → Outcome (Tells (λ found. found ≡ marked_from mark from m.store)) Never Remains result (server_of self.old) (server_of self.new) }
+        ensures remains { L.honest self.new.wire.link → Among L.visitors (λ s t. (m : FarMailbox) → selected s ≡ Some m → Remains s t)
+            (server_of self.old) (server_of self.new) }
+        ensures outcome { L.honest self.new.wire.link → Among L.visitors (λ s t. (m : FarMailbox) → selected s ≡ Some m → IsStore m.store
+            → AreInRange m.store.messages → Outcome (Tells (λ found. found ≡ marked_from mark from m.store)) Never Remains result s t)
+            (server_of self.old) (server_of self.new) }
     {
         let len = self.ask(&Call::Heads(from))?;
         let found = self.mark_heard(len, mark, from)?;
@@ -73,11 +74,11 @@ impl<L: Link> FarBox<L> {
         ensures ends { EndsSo 1 (state_of self.old.session) (state_of self.new.session) result }
         ensures same { (self.new.name ≡ self.old.name) × (self.new.validity ≡ self.old.validity) × (self.new.next ≡ self.old.next)
             × (self.new.is_selected ≡ self.old.is_selected) }
-        ensures remains { L.honest self.new.session.wire.link → (m : FarMailbox) → selected (server_of self.old.session) ≡ Some m
-            → Remains (server_of self.old.session) (server_of self.new.session) }
-        ensures outcome { L.honest self.new.session.wire.link → (m : FarMailbox) → selected (server_of self.old.session) ≡ Some m
+        ensures remains { L.honest self.new.session.wire.link → Among L.visitors (λ s t. (m : FarMailbox) → selected s ≡ Some m → Remains s t)
+            (server_of self.old.session) (server_of self.new.session) }
+        ensures outcome { L.honest self.new.session.wire.link → Among L.visitors (λ s t. (m : FarMailbox) → selected s ≡ Some m
             → IsStore m.store → AreInRange m.store.messages
-            → Outcome (Tells (λ found. found ≡ marked_from mark from m.store)) Never Remains result
+            → Outcome (Tells (λ found. found ≡ marked_from mark from m.store)) Never Remains result s t)
             (server_of self.old.session) (server_of self.new.session) }
     {
         self.session.mark(mark, from)

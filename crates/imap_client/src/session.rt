@@ -13,6 +13,7 @@ ghost use Rattle.imap_client.specs.States.{Opened, SendStops, EndsSo, SentSo, Ju
 ghost use Rattle.imap_link.specs.Faults.{IsHearing};
 ghost use Rattle.imap_link.specs.Outcomes.{Outcome, Never};
 ghost use Rattle.imap_link.specs.Exchanges.{Restarts};
+ghost use Rattle.imap_session.specs.Visits.{Among};
 ghost use Rattle.imap_client.specs.Transcripts.{EndsBy, of_any, of_command};
 
 use crate::call::Call;
@@ -176,8 +177,8 @@ impl<L: Link> Session<L> {
         ensures counts { L.stops self.old.wire.link ≤ L.stops self.new.wire.link }
         ensures tags { self.new.tags ≡ self.old.tags }
         ensures sent { SentSo command.now.tag (state_of self.old) (state_of self.new) result }
-        ensures outcome { L.honest self.new.wire.link → AnsweredSo command.now result self.new.wire.heard.items (server_of self.old)
-            (server_of self.new) }
+        ensures outcome { L.honest self.new.wire.link → Among L.visitors (AnsweredSo command.now result self.new.wire.heard.items)
+            (server_of self.old) (server_of self.new) }
         ensures idle { IfOk result (λ a. L.honest self.new.wire.link → IsStill
             (ends_of (L.line self.new.wire.link) (drop a.len self.new.wire.heard.items))) }
         ensures answer { IfOk result (λ a. (a.len ≤ length self.new.wire.heard.items)
@@ -223,8 +224,8 @@ impl<L: Link> Session<L> {
         ensures was_honest { L.honest self.new.wire.link → L.honest self.old.wire.link }
         ensures counts { L.stops self.old.wire.link ≤ L.stops self.new.wire.link }
         ensures asked { ExchangedSo (state_of self.old) (state_of self.new) result }
-        ensures outcome { L.honest self.new.wire.link → AnsweredSo (command_at (self.old.tags + 1) request) result self.new.wire.heard.items
-            (server_of self.old) (server_of self.new) }
+        ensures outcome { L.honest self.new.wire.link → Among L.visitors (AnsweredSo (command_at (self.old.tags + 1) request) result
+            self.new.wire.heard.items) (server_of self.old) (server_of self.new) }
         ensures idle { IfOk result (λ a. L.honest self.new.wire.link → IsStill
             (ends_of (L.line self.new.wire.link) (drop a.len self.new.wire.heard.items))) }
         ensures answer { IfOk result (λ a. (a.len ≤ length self.new.wire.heard.items)
@@ -243,8 +244,8 @@ impl<L: Link> Session<L> {
         ensures counts { L.stops self.old.wire.link ≤ L.stops self.new.wire.link }
         ensures stuck { self.old.is_ready ≡ false → self.new ≡ self.old }
         ensures asked { AskedSo (state_of self.old) (state_of self.new) result }
-        ensures outcome { L.honest self.new.wire.link → AnsweredSo (command_at (self.old.tags + 1) (request_of call.now)) result
-            self.new.wire.heard.items (server_of self.old) (server_of self.new) }
+        ensures outcome { L.honest self.new.wire.link → Among L.visitors (AnsweredSo (command_at (self.old.tags + 1) (request_of call.now)) result
+            self.new.wire.heard.items) (server_of self.old) (server_of self.new) }
         ensures idle { IfOk result (λ a. L.honest self.new.wire.link → IsStill
             (ends_of (L.line self.new.wire.link) (drop a.len self.new.wire.heard.items))) }
         ensures answer { IfOk result (λ a. (a.len ≤ length self.new.wire.heard.items)
@@ -263,8 +264,8 @@ impl<L: Link> Session<L> {
         ensures counts { L.stops self.old.wire.link ≤ L.stops self.new.wire.link }
         ensures stuck { self.old.is_ready ≡ false → self.new ≡ self.old }
         ensures asked { AskedSo (state_of self.old) (state_of self.new) result }
-        ensures outcome { L.honest self.new.wire.link → Exchanged (command_at (self.old.tags + 1) (request_of call.now)) result
-            self.new.wire.heard.items (server_of self.old) (server_of self.new) }
+        ensures outcome { L.honest self.new.wire.link → Among L.visitors (Exchanged (command_at (self.old.tags + 1) (request_of call.now)) result
+            self.new.wire.heard.items) (server_of self.old) (server_of self.new) }
         ensures idle { IfOk result (λ len. L.honest self.new.wire.link
             → IsStill (ends_of (L.line self.new.wire.link) (drop len self.new.wire.heard.items))) }
         ensures answer { IfOk result (λ len. (len ≤ length self.new.wire.heard.items)

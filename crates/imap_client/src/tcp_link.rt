@@ -60,12 +60,15 @@ impl<R: Net + AllocGlobal + Clone + Drop> TcpLink<R> {
 
 impl<R: Net + AllocGlobal + Clone + Drop> Link for TcpLink<R> {
     ghost use Rattle.imap_client.specs.Nowhere.{no_line};
+    ghost use Rattle.imap_link.specs.Sending.{anybody};
 
     ghost honest = { λ _. ⊥ };
 
     ghost line = { λ _. no_line };
 
     ghost stops = { λ l. l.stops };
+
+    ghost visitors = { anybody };
 
     ghost sound = { λ l kept. absurd kept };
 

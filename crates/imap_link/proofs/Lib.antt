@@ -11,3 +11,4 @@ pub mod Performed
 pub mod Finished
 pub mod Asked
 pub mod Greeted
+pub mod Visited

@@ -5,4 +5,5 @@ pub mod Buffers
 pub mod Searches
 pub mod Outcomes
 pub mod Exchanges
+pub mod Sending
 pub mod Soundness

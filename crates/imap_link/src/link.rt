@@ -2,8 +2,9 @@
 
 ghost use Rattle.std.specs.Prelude.{◌≡◌, ◌<◌, ◌≤◌, ℕ, length, take, IfOk, OnOk, OnErr, IsErrOf, Ok};
 ghost use Rattle.imap_session.specs.Servers.{Quiet};
-ghost use Rattle.imap_session.specs.Serving.{FeedsSome};
-ghost use Rattle.imap_session.specs.Lines.{Line, Sends, Receives, Starts};
+ghost use Rattle.imap_session.specs.Lines.{Line, Receives, Starts};
+ghost use Rattle.visitors.specs.Visitors.{Visitors};
+ghost use Rattle.imap_link.specs.Sending.{SendsThen, SomeThen};
 ghost use Rattle.imap_link.specs.Soundness.{AreSound};
 
 use thiserror::Error;
@@ -23,8 +24,9 @@ pub enum LinkFault {
 ///
 /// Its law is said by ghost members. Where the link is honest, the server saw a beginning of what was sent, what came back
 /// begins the server's replies to it, after `reconnect` no byte of an earlier connection is read at either end
-/// (docs/SESSION.md, "Both ends"), and the server's mailboxes are mailboxes. A link that cannot know that of the other end
-/// is not honest, and promises its counts of stops alone.
+/// (docs/SESSION.md, "Both ends"), the server's mailboxes are mailboxes, and others do nothing to them but add messages, before
+/// the bytes that are sent are read. A link that cannot know that of the other end is not honest, and promises its counts of
+/// stops alone.
 pub trait Link {
     /// The server and what lies between have kept their word so far.
     ghost honest: { Self → Type 0 };
@@ -35,11 +37,14 @@ pub trait Link {
     /// How often a call was stopped or met the end of the bytes.
     ghost stops: { Self → ℕ };
 
-    /// Sends the bytes.
+    /// Who else adds messages at the server.
+    ghost visitors: { Visitors };
+
+    /// Sends the bytes. Others may add messages before they are read.
     fn send(&mut self, bytes: &[u8]) -> Result<(), LinkFault>
         ensures was_honest { honest self.new → honest self.old }
-        ensures ok { OnOk result (honest self.new → Sends bytes.now (line self.old) (line self.new)) }
-        ensures err { OnErr result (honest self.new → FeedsSome (line self.old).end bytes.now (line self.new).end.server) }
+        ensures ok { OnOk result (honest self.new → SendsThen visitors bytes.now (line self.old) (line self.new)) }
+        ensures err { OnErr result (honest self.new → SomeThen visitors (line self.old) bytes.now (line self.new).end.server) }
         ensures counts { stops self.old ≤ stops self.new }
         ensures steady { OnOk result (stops self.new ≡ stops self.old) }
         ensures stopped { IsErrOf result LinkFault.Stopped → stops self.old < stops self.new };

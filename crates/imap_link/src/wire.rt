@@ -9,6 +9,7 @@ ghost use Rattle.imap_link.specs.Buffers.{Reads, IsFaulty, Tells, SaysBye, Expec
 ghost use Rattle.imap_link.specs.UsedReplies.{answer_alone};
 ghost use Rattle.imap_link.specs.Outcomes.{Outcome, Never};
 ghost use Rattle.imap_link.specs.Exchanges.{Exchanges, StaysIdle, AsksFor, Restarts};
+ghost use Rattle.imap_link.specs.Sending.{AfterVisits};
 
 use crate::fault::FarFault;
 use crate::front::{Front, Kind};
@@ -163,8 +164,8 @@ impl<L: Link> Wire<L> {
         ensures was_honest { L.honest self.new.link → L.honest self.old.link }
         ensures counts { L.stops self.old.link ≤ L.stops self.new.link }
         ensures steady { OnOk result (L.stops self.new.link ≡ L.stops self.old.link) }
-        ensures outcome { L.honest self.new.link → Exchanges uses tag.now rest.now result
-            (L.line self.old.link) self.old.heard.items (L.line self.new.link) self.new.heard.items }
+        ensures outcome { L.honest self.new.link → AfterVisits L.visitors (λ line. Exchanges uses tag.now rest.now result
+            line self.old.heard.items (L.line self.new.link) self.new.heard.items) (L.line self.old.link) }
         ensures idle { IfOk result (λ a. L.honest self.new.link → StaysIdle uses tag.now rest.now a.len
             (L.line self.old.link) self.old.heard.items (L.line self.new.link) self.new.heard.items) }
         ensures answer { IfOk result (λ a. (a.len ≤ length self.new.heard.items) × IsAnswerText tag.now a.status (take a.len self.new.heard.items)) }
@@ -185,8 +186,8 @@ impl<L: Link> Wire<L> {
         ensures was_honest { L.honest self.new.link → L.honest self.old.link }
         ensures counts { L.stops self.old.link ≤ L.stops self.new.link }
         ensures steady { OnOk result (L.stops self.new.link ≡ L.stops self.old.link) }
-        ensures outcome { L.honest self.new.link → AsksFor front.now result
-            (L.line self.old.link) self.old.heard.items (L.line self.new.link) self.new.heard.items }
+        ensures outcome { L.honest self.new.link → AfterVisits L.visitors (λ line. AsksFor front.now result
+            line self.old.heard.items (L.line self.new.link) self.new.heard.items) (L.line self.old.link) }
         ensures told { IfOk result (λ told. Tells tag.now self.new.heard.items told) }
         ensures bounded { IsBounded answer_alone (max 4096 (length self.old.heard.items)) self.new.heard.items }
         ensures known { IfErr result IsHearing }

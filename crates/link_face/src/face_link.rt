@@ -2,8 +2,8 @@
 
 ghost use Rattle.std.specs.Prelude.{◌≡◌, ◌<◌, ◌≤◌, ◌+◌, ◌++◌, false, true, length, take, Ok, IfOk, OnOk, OnErr, IsErrOf};
 ghost use Rattle.imap_session.specs.Servers.{Quiet};
-ghost use Rattle.imap_session.specs.Serving.{FeedsSome};
-ghost use Rattle.imap_session.specs.Lines.{Sends, Receives, Starts};
+ghost use Rattle.imap_session.specs.Lines.{Receives, Starts};
+ghost use Rattle.imap_link.specs.Sending.{SendsThen, SomeThen};
 ghost use Rattle.link_face.specs.Faces.{faced, Keeps};
 ghost use Rattle.link_face.specs.Turning.{Leaves, held_of};
 
@@ -109,9 +109,11 @@ impl<L: Link> Link for FaceLink<L> {
 
     ghost stops = { λ f. L.stops f.link + f.face.stops };
 
+    ghost visitors = { L.visitors };
+
     ghost sound = { λ f kept. L.sound f.link kept.0 };
 
-    #[tactic(auto, using(crate::proofs::Feeding::nothing_fed))]
+    #[tactic(auto, using(crate::proofs::Feeding::nothing_sent, crate::proofs::Feeding::faced_sends))]
     fn send(&mut self, bytes: &[u8]) -> Result<(), LinkFault> {
         match self.face.to_send(bytes) {
             Ok(None) => self.link.send(bytes),

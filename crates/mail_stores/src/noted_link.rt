@@ -41,6 +41,8 @@ impl<L: Link> Link for NotedLink<L> {
 
     ghost stops = { λ noted. L.stops noted.link };
 
+    ghost visitors = { L.visitors };
+
     ghost sound = { λ noted kept. L.sound noted.link kept };
 
     fn send(&mut self, bytes: &[u8]) -> Result<(), LinkFault> {

@@ -47,7 +47,7 @@ sends_of old new bytes out unread after f e = record {
 
 -- ---- a part of it
 
-some_none : (end : End) (bytes : List ℕ) → FeedsSome end bytes end.server
+pub some_none : (end : End) (bytes : List ℕ) → FeedsSome end bytes end.server
 some_none end bytes = record { from = λ text told is. record { replies = []; rest = text ++ bytes; runs = no_portion end.server (text ++ bytes) } }
 
 -- there was no connection

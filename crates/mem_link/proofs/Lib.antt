@@ -1,2 +1,3 @@
 pub mod Giving
+pub mod Visiting
 pub mod Taking

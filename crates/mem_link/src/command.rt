@@ -68,8 +68,24 @@ impl Counts {
         }
     }
 
+    /// Which one the next command of this name is.
+    pub(crate) fn next(&self, name: CommandName) -> Nth {
+        let count = match name {
+            CommandName::Select => self.select,
+            CommandName::Fetch => self.fetch,
+            CommandName::Store => self.store,
+            CommandName::Expunge => self.expunge,
+            CommandName::Append => self.append,
+        };
+        Nth {
+            name,
+            number: count.saturating_add(1),
+        }
+    }
+
     /// Counts a command that is sent, and tells which one it is.
     pub(crate) fn push(&mut self, name: CommandName) -> Nth {
+        let next = self.next(name);
         let count = match name {
             CommandName::Select => &mut self.select,
             CommandName::Fetch => &mut self.fetch,
@@ -77,11 +93,8 @@ impl Counts {
             CommandName::Expunge => &mut self.expunge,
             CommandName::Append => &mut self.append,
         };
-        *count = count.saturating_add(1);
-        Nth {
-            name,
-            number: *count,
-        }
+        *count = next.number;
+        next
     }
 }
 

@@ -3,6 +3,7 @@
 ghost use Rattle.std.specs.Prelude.{◌≡◌, ◌^◌, ◌<◌, ◌≤◌, OnOk, Err};
 ghost use Rattle.imap_server.specs.Boxes.{AreServed};
 
+use crate::arrivals::Arrivals;
 use crate::mem_link::{MemLink, PIECE_BYTES};
 use crate::schedule::Schedule;
 use imap_link::link::{Link, LinkFault};
@@ -22,6 +23,7 @@ pub struct LoopLink<R: Net + AllocGlobal + Clone + Drop> {
     /// The server, and what it has said that was not written to its end yet.
     far: MemLink,
     ends: Option<Ends<R::Stream>>,
+    arrivals: Arrivals,
 }
 
 /// Both ends of a connection.
@@ -67,12 +69,22 @@ impl<R: Net + AllocGlobal + Clone + Drop> LoopLink<R> {
         ensures server { (line_of result.far).end.server ≡ server.server }
         ensures stops { stops_of result.far ≡ 0 }
     {
-        let far = MemLink::new(rt.alloc(), server, schedule);
+        let alloc = rt.alloc();
         LoopLink {
             rt,
-            far,
+            far: MemLink::new(alloc, server, schedule),
             ends: None,
+            arrivals: Arrivals::none(alloc),
         }
+    }
+
+    /// The same link to a server to which others add these messages.
+    pub fn among(self, arrivals: Arrivals) -> Self
+        ensures far { result.far ≡ self.far }
+    {
+        let mut link = self;
+        link.arrivals = arrivals;
+        link
     }
 
     /// How many calls have stopped, up to the top of its type.
@@ -128,6 +140,7 @@ impl<R: Net + AllocGlobal + Clone + Drop> LoopLink<R> {
 
 impl<R: Net + AllocGlobal + Clone + Drop> Link for LoopLink<R> {
     ghost use Rattle.mem_link.specs.MemLinks.{line_of, stops_of};
+    ghost use Rattle.imap_link.specs.Sending.{anybody};
 
     ghost honest = { λ _. ⊥ };
 
@@ -135,9 +148,12 @@ impl<R: Net + AllocGlobal + Clone + Drop> Link for LoopLink<R> {
 
     ghost stops = { λ l. stops_of l.far };
 
+    ghost visitors = { anybody };
+
     ghost sound = { λ _ kept. absurd kept };
 
     fn send(&mut self, bytes: &[u8]) -> Result<(), LinkFault> {
+        self.arrivals.come(&mut self.far, bytes)?;
         let (front, stops) = match self.far.begin(bytes) {
             None => (bytes, false),
             Some(front) => (&bytes[..front], true),

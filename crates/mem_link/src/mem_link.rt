@@ -4,14 +4,19 @@ ghost use Rattle.std.specs.Prelude.{◌≡◌, ◌<◌, ◌≤◌, ◌^◌, true
 ghost use Rattle.imap_session.specs.Serving.{FeedsSome};
 ghost use Rattle.imap_session.specs.Servers.{Quiet};
 ghost use Rattle.imap_session.specs.Lines.{Sends, Receives, Starts};
+ghost use Rattle.imap_session.specs.Visits.{Visits};
+ghost use Rattle.imap_link.specs.Sending.{anybody, visited};
+ghost use Rattle.mailcore.specs.Content.{mark_of};
 ghost use Rattle.imap_server.specs.Boxes.{AreServed};
 ghost use Rattle.std.proofs.Props.{props};
 
+use crate::command::Nth;
 use crate::schedule::Schedule;
 use crate::unread::Unread;
 use device::stop_count::StopCount;
 use imap_link::link::{Link, LinkFault};
 use imap_server::server::{Server, ServerFault};
+use mailcore::flags::Flags;
 use std::alloc::{AllocError, Global};
 
 /// At most so many bytes are received at once, where nobody says otherwise.
@@ -123,6 +128,41 @@ impl MemLink {
         LinkFault::NoMemory
     }
 
+    /// The command that begins with these bytes, if they are sent next and something is connected.
+    pub(crate) fn coming(&self, bytes: &[u8]) -> Option<Nth> {
+        if self.is_open {
+            self.schedule.coming(bytes)
+        } else {
+            None
+        }
+    }
+
+    /// Others add a message to the mailbox of this name, if the server can take it.
+    pub(crate) fn arrive(
+        &mut self,
+        mailbox: &[u8],
+        flags: Flags,
+        message: &[u8],
+    ) -> Result<(), LinkFault>
+        ensures line { OnOk result (line_of self.new ≡ visited (line_of self.old) (line_of self.new).end.server) }
+        ensures visits { mark_of message.now ≡ None → Visits anybody (line_of self.old).end.server (line_of self.new).end.server }
+        ensures steady { OnOk result (self.new.stops ≡ self.old.stops) }
+        ensures counted { result ≡ Err LinkFault.Stopped → self.old.stops < self.new.stops }
+        ensures no_less { self.old.stops ≤ self.new.stops }
+    {
+        // That it is a set of flags is known from this, and of the UID that it is one.
+        let _bits = flags.bits();
+        match self.server.arrive(mailbox, flags, message) {
+            Ok(None) => Ok(()),
+            Ok(Some(uid)) => {
+                let _number = uid.get();
+                Ok(())
+            }
+            Err(ServerFault::NoMemory) => Err(self.lack()),
+            Err(ServerFault::Closed) => Err(self.stop()),
+        }
+    }
+
     /// Counts bytes that are sent. Where the link stops, or has stopped, gives how many of them the server reads.
     pub(crate) fn begin(&mut self, bytes: &[u8]) -> Option<usize>
         ensures front { IfSome result (λ front. front ≤ length bytes.now) }
@@ -170,6 +210,7 @@ impl Link for MemLink {
     ghost use Rattle.mem_link.specs.MemLinks.{line_of, stops_of};
     ghost use Rattle.mem_link.specs.Served.{served_are_sound};
     ghost use Rattle.mem_link.specs.Losing.{LosesNothing, IsOpen, SendsAll};
+    ghost use Rattle.imap_link.specs.Sending.{nobody, SendsThen, SomeThen};
 
     ghost honest = { λ _. Unit {0} };
 
@@ -177,13 +218,18 @@ impl Link for MemLink {
 
     ghost stops = { stops_of };
 
+    ghost visitors = { nobody };
+
     ghost sound = { λ m _. served_are_sound m.server.server.mailboxes m.served };
 
-    // It is fed to the server as a whole, or the answer is a fault.
+    // It is fed to the server as a whole, or the answer is a fault. Nobody else is there.
+    #[tactic(auto, using(crate::proofs::Visiting::nobody_sends, crate::proofs::Visiting::nobody_feeds))]
     fn send(&mut self, bytes: &[u8]) -> Result<(), LinkFault>
         ensures all { OnOk result (SendsAll bytes.now (line_of self.old) (line_of self.new)) }
-        ensures ok { OnOk result (Sends bytes.now (line_of self.old) (line_of self.new)) }
-        ensures err { OnErr result (FeedsSome (line_of self.old).end bytes.now (line_of self.new).end.server) }
+        ensures sends { OnOk result (Sends bytes.now (line_of self.old) (line_of self.new)) }
+        ensures feeds { OnErr result (FeedsSome (line_of self.old).end bytes.now (line_of self.new).end.server) }
+        ensures ok { OnOk result (SendsThen nobody bytes.now (line_of self.old) (line_of self.new)) }
+        ensures err { OnErr result (SomeThen nobody (line_of self.old) bytes.now (line_of self.new).end.server) }
         ensures counts { stops_of self.old ≤ stops_of self.new }
         ensures steady { OnOk result (stops_of self.new ≡ stops_of self.old) }
         ensures stopped { IsErrOf result LinkFault.Stopped → stops_of self.old < stops_of self.new }

@@ -106,6 +106,14 @@ impl Schedule {
         }
     }
 
+    /// The command that begins with these bytes, if they are sent next and the link has not stopped.
+    pub(crate) fn coming(&self, bytes: &[u8]) -> Option<Nth> {
+        if self.room == Some(0) {
+            return None;
+        }
+        self.sent.coming(bytes)
+    }
+
     /// Counts bytes that are sent. Where the link stops, gives how many of them the server reads.
     pub(crate) fn send(&mut self, bytes: &[u8]) -> Option<usize>
         ensures front { IfSome result (λ front. front ≤ length bytes.now) }

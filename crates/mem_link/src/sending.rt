@@ -55,6 +55,14 @@ impl Sent {
         }
     }
 
+    /// The command that begins with these bytes, if they are sent next.
+    pub(crate) fn coming(&self, bytes: &[u8]) -> Option<Nth> {
+        match self.literal {
+            None => CommandName::read(bytes).map(|name| self.counts.next(name)),
+            Some(_) => None,
+        }
+    }
+
     /// Counts what is sent, and tells what it is.
     pub(crate) fn push(&mut self, bytes: &[u8]) -> Sending {
         let before = self.bytes;

@@ -91,18 +91,6 @@ pub(crate) struct Devices<L: TrialLink + Drop> {
 }
 
 impl<L: TrialLink + Drop> Devices<L> {
-    /// Makes one run over them, and gives its outside beside what it came to.
-    pub(crate) fn run(
-        self,
-        alloc: Global,
-        options: &Options,
-        tries: u32,
-        state: &SyncState,
-    ) -> Result<Run<L>, Failure> {
-        let outside = self.together(alloc)?;
-        Ok(settle_all(alloc, outside, options, tries, state))
-    }
-
     /// The outside of a run over them. Nothing is open, and no call was made.
     pub(crate) fn together(self, alloc: Global) -> Result<Both<L, MemFolder, MemShelf>, Failure>
         ensures { IfOk result (λ both. seen_of both ≡ seen_with (device_with (box_at (codes "INBOX") (L.line self.link).end.server)

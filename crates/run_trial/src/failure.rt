@@ -3,6 +3,7 @@
 ghost use Rattle.std.specs.Prelude.{◌≡◌};
 ghost use Rattle.run_trial.specs.Statuses.{failure_status};
 
+use device::DeviceFault;
 use std::alloc::{AllocError, AllocFailed};
 use std::io;
 use std::io::ErrorKind;
@@ -46,6 +47,13 @@ impl From<AllocError> for Failure {
 
 impl<T: Drop> From<AllocFailed<T>> for Failure {
     fn from(_fault: AllocFailed<T>) -> Failure {
+        Failure::NoMemory
+    }
+}
+
+/// Of a folder in memory that takes in what others have added.
+impl From<DeviceFault> for Failure {
+    fn from(_fault: DeviceFault) -> Failure {
         Failure::NoMemory
     }
 }

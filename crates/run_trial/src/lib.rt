@@ -9,3 +9,4 @@ pub mod run;
 mod schedule;
 mod server;
 mod setting;
+mod visited;

@@ -21,7 +21,8 @@ use runner::fault::RunFault;
 use std::alloc::Global;
 use trial::trial::Trial;
 
-/// Makes the run of a trial, and gives its outside beside what it came to.
+/// Makes the run of a trial to which others add no message, and gives its outside beside what it came to. If its lines say that some
+/// come, they do not.
 ///
 /// Where the trial has no journal, and its world is one that a run may begin with: an answer leaves both mailboxes and the state alike
 /// to the outcome that the rules name for that world, and a fault leaves the run underway, whatever the attempts and the stops. Behind
@@ -63,6 +64,7 @@ fn run_over(
         folder,
         shelf,
         state,
+        arrivals: _,
     } = setting;
     let FarSetting { server, schedule } = far;
     let devices = Devices {

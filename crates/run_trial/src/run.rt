@@ -3,18 +3,21 @@
 ghost use Rattle.std.specs.Prelude.{◌≡◌, ◌≤◌, IfOk, IsErr};
 ghost use Rattle.imap_server.specs.Boxes.{AreServed};
 
-use crate::devices::{Devices, Run};
+use crate::devices::Devices;
 use crate::failure::Failure;
 use crate::memory::run_in_memory;
 use crate::server::TrialLink;
-use crate::setting::{FarSetting, Setting, setting_of};
-use imap_server::server::Server;
+use crate::setting::{FarSetting, setting_of};
+use crate::visited::{VisitedSetting, run_among, visited};
 use link_face::face_link::FaceLink;
 use link_face::words::Words;
+use mem_link::arrivals::Arrivals;
 use mem_link::loop_link::LoopLink;
 use mem_link::mem_link::MemLink;
-use mem_link::schedule::Schedule;
-use std::alloc::{AllocError, Global};
+use mem_link::visited_link::VisitedLink;
+use runner::fault::RunFault;
+use runner::pass::Settled;
+use std::alloc::Global;
 use std::io;
 use std::io::{Read, Write};
 use std::net::Net;
@@ -97,10 +100,30 @@ fn told_of_trial<R: Net + AllocGlobal + Clone + Drop>(
 {
     let alloc = rt.alloc();
     match request {
-        Request::Memory | Request::Unknown => told_of(alloc, run_in_memory(alloc, trial)?),
+        Request::Memory | Request::Unknown if trial.course.arrivals.is_empty() => {
+            let (outside, settled) = run_in_memory(alloc, trial)?;
+            told_of(alloc, Devices::of(outside), settled)
+        }
+        Request::Memory | Request::Unknown => told_among(alloc, trial),
         Request::Face => told_over_face(alloc, trial),
         Request::Loopback => told_over_loopback(rt, trial),
     }
+}
+
+/// What is told of this trial, in which others add messages.
+fn told_among(alloc: Global, trial: Trial) -> Result<(String, u8), Failure>
+    ensures { IfOk result (λ told. told.1 ≤ 1) }
+{
+    let options = trial.world.options;
+    let tries = trial.course.tries;
+    let VisitedSetting {
+        far,
+        arrivals,
+        near,
+    } = visited(alloc, setting_of(alloc, trial)?)?;
+    let link = link_of(alloc, far, arrivals);
+    let (devices, settled) = run_among(alloc, link, near, &options, tries)?;
+    told_of(alloc, devices, settled)
 }
 
 /// What is told of this trial behind a face.
@@ -109,19 +132,15 @@ fn told_over_face(alloc: Global, trial: Trial) -> Result<(String, u8), Failure>
 {
     let options = trial.world.options;
     let tries = trial.course.tries;
-    let Setting {
+    let VisitedSetting {
         far,
-        folder,
-        shelf,
-        state,
-    } = setting_of(alloc, trial)?;
-    let FarSetting { server, schedule } = far;
-    let devices = Devices {
-        link: face_of(alloc, server, schedule)?,
-        folder,
-        shelf,
-    };
-    told_of(alloc, devices.run(alloc, &options, tries, &state)?)
+        arrivals,
+        near,
+    } = visited(alloc, setting_of(alloc, trial)?)?;
+    let words = Rc::new(alloc, Words::new(alloc))?;
+    let link = FaceLink::new(alloc, link_of(alloc, far, arrivals), words);
+    let (devices, settled) = run_among(alloc, link, near, &options, tries)?;
+    told_of(alloc, devices, settled)
 }
 
 /// What is told of this trial over a loopback connection.
@@ -134,39 +153,31 @@ fn told_over_loopback<R: Net + AllocGlobal + Clone + Drop>(
     let alloc = rt.alloc();
     let options = trial.world.options;
     let tries = trial.course.tries;
-    let Setting {
+    let VisitedSetting {
         far,
-        folder,
-        shelf,
-        state,
-    } = setting_of(alloc, trial)?;
-    let FarSetting { server, schedule } = far;
-    let devices = Devices {
-        link: LoopLink::new(rt, server, schedule),
-        folder,
-        shelf,
-    };
-    told_of(alloc, devices.run(alloc, &options, tries, &state)?)
+        arrivals,
+        near,
+    } = visited(alloc, setting_of(alloc, trial)?)?;
+    let link = LoopLink::new(rt, far.server, far.schedule).among(arrivals);
+    let (devices, settled) = run_among(alloc, link, near, &options, tries)?;
+    told_of(alloc, devices, settled)
 }
 
-/// A link in memory behind a face.
-fn face_of(
-    alloc: Global,
-    server: Server,
-    schedule: Schedule,
-) -> Result<FaceLink<MemLink>, AllocError>
-    requires { AreServed server.server.mailboxes }
+/// A link in memory to this server, to which others add these messages.
+fn link_of(alloc: Global, far: FarSetting, arrivals: Arrivals) -> VisitedLink
+    requires { AreServed far.server.server.mailboxes }
 {
-    let words = Rc::new(alloc, Words::new(alloc))?;
-    Ok(FaceLink::new(alloc, MemLink::new(alloc, server, schedule), words))
+    VisitedLink::new(MemLink::new(alloc, far.server, far.schedule), arrivals)
 }
 
-/// What is told of a run, and the exit status.
-fn told_of<L: TrialLink + Drop>(alloc: Global, run: Run<L>) -> Result<(String, u8), Failure>
+/// What is told of a run, by what it left, and the exit status.
+fn told_of<L: TrialLink + Drop>(
+    alloc: Global,
+    devices: Devices<L>,
+    settled: Result<Settled, RunFault>,
+) -> Result<(String, u8), Failure>
     ensures { IfOk result (λ told. told.1 ≤ 1) }
 {
-    let (outside, settled) = run;
-    let devices = Devices::of(outside);
     let ending = Ending {
         settled,
         stops: devices.stops(),

@@ -44,7 +44,8 @@ fn command_stop(stop: Stop<Command>) -> Option<link::LinkStop> {
     }
 }
 
-fn name_of(command: Command) -> CommandName {
+/// The name of this command, as a link says it.
+pub(crate) fn name_of(command: Command) -> CommandName {
     match command {
         Command::Select => CommandName::Select,
         Command::Fetch => CommandName::Fetch,

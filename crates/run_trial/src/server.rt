@@ -14,6 +14,7 @@ use mailcore::mailbox::Mailbox;
 use mailcore::mailbox_name::MailboxName;
 use mem_link::loop_link::LoopLink;
 use mem_link::mem_link::MemLink;
+use mem_link::visited_link::VisitedLink;
 use std::alloc::{AllocError, Global};
 use std::net::Net;
 
@@ -22,7 +23,7 @@ const USER: &[u8] = b"u";
 
 const PASSWORD: &[u8] = b"p";
 
-const MAILBOX: &[u8] = b"INBOX";
+pub(crate) const MAILBOX: &[u8] = b"INBOX";
 
 /// A server with this mailbox, as its INBOX. `NoWorld`: it has a message that cannot be sent.
 pub(crate) fn server_with(alloc: Global, far: Mailbox) -> Result<Server, Failure>
@@ -60,6 +61,16 @@ pub(crate) trait TrialLink: Link {
 }
 
 impl TrialLink for MemLink {
+    fn stops(&self) -> usize {
+        self.stops()
+    }
+
+    fn server(&self) -> &Server {
+        self.server()
+    }
+}
+
+impl TrialLink for VisitedLink {
     fn stops(&self) -> usize {
         self.stops()
     }

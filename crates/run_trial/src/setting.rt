@@ -15,6 +15,7 @@ use maildir::mem_folder::MemFolder;
 use mem_link::schedule::Schedule;
 use rules::state::SyncState;
 use std::alloc::Global;
+use trial::arrival::Arrivals;
 use trial::folder::folder_with;
 use trial::shelf::shelf_with;
 use trial::stop::LinkStop;
@@ -29,6 +30,8 @@ pub(crate) struct Setting {
     pub(crate) shelf: MemShelf,
     /// The state that the shelf holds.
     pub(crate) state: SyncState,
+    /// What others add meanwhile.
+    pub(crate) arrivals: Arrivals,
 }
 
 /// The server, and where the link to it stops.
@@ -65,6 +68,7 @@ pub(crate) fn setting_of(alloc: Global, trial: Trial) -> Result<Setting, Failure
     let Course {
         journal,
         stops,
+        arrivals,
         tries: _,
     } = course;
     // Their ranges are known from these.
@@ -84,5 +88,6 @@ pub(crate) fn setting_of(alloc: Global, trial: Trial) -> Result<Setting, Failure
         folder: folder?,
         shelf: shelf?,
         state,
+        arrivals,
     })
 }

@@ -26,12 +26,15 @@ impl<'b> BytesLink<'b> {
 
 impl Link for BytesLink<'_> {
     ghost use Rattle.imap_client.specs.Nowhere.{no_line};
+    ghost use Rattle.imap_link.specs.Sending.{anybody};
 
     ghost honest = { λ _. ⊥ };
 
     ghost line = { λ _. no_line };
 
     ghost stops = { λ l. l.stops };
+
+    ghost visitors = { anybody };
 
     ghost sound = { λ l kept. absurd kept };
 

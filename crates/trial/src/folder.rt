@@ -21,6 +21,9 @@ use worlds::world::WaitingFile;
 /// How many digits the name of a waiting file has.
 const DIGITS: u32 = 20;
 
+/// How many digits the name of a file that others add has.
+const ARRIVAL_DIGITS: u32 = 8;
+
 /// A folder with this mailbox: a message of UID 7 stands in `cur` as `m,U=7:2,LETTERS`, a waiting file behind which nine files stand
 /// already as `w00000000000000000009:2,LETTERS`, and there is a meta file. Its calls stop as the schedule says.
 pub fn folder_with(
@@ -99,6 +102,18 @@ fn waiting_name(alloc: Global, number: usize, flags: Flags) -> Result<Vec<u8>, A
 {
     let mut base = Vec::from_slice(alloc, b"w")?;
     push_digits(&mut base, number, DIGITS)?;
+    let letters = letters_with(alloc, b"", flags)?;
+    spell(alloc, &base, None, Some(&letters))
+}
+
+/// The name of the file that others add by the line of this number: `a`, the number in eight digits, and the letters.
+pub(crate) fn arrival_name(
+    alloc: Global,
+    number: usize,
+    flags: Flags,
+) -> Result<Vec<u8>, AllocError> {
+    let mut base = Vec::from_slice(alloc, b"a")?;
+    push_digits(&mut base, number, ARRIVAL_DIGITS)?;
     let letters = letters_with(alloc, b"", flags)?;
     spell(alloc, &base, None, Some(&letters))
 }

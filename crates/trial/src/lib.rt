@@ -2,6 +2,7 @@
 //! the devices that it says, and what is told of it.
 #![tactic(auto)]
 
+pub mod arrival;
 pub mod attempts;
 pub mod count;
 pub mod folder;

@@ -3,6 +3,7 @@
 ghost use Rattle.std.specs.Prelude.{◌≡◌, ◌+◌, ◌≤◌, ◌<◌, IfErr, IfOk};
 ghost use Rattle.worlds.specs.Lines.{IsOf, IsUpTo, line_count, line_ends};
 
+use crate::arrival::Arrivals;
 use crate::count::read_ordinal;
 use crate::stop::{DeviceStop, Stops, read_cut, read_stop};
 use crate::trial::{Course, Trial};
@@ -34,6 +35,7 @@ fn read_course(alloc: Global, lines: &mut Lines<'_>) -> Result<Course, WorldFaul
         tries: take_tries(lines)?,
         journal: None,
         stops: Stops::new(alloc),
+        arrivals: Arrivals::new(alloc),
     };
     match take_course(alloc, &mut course, lines) {
         Ok(()) => Ok(course),
@@ -69,12 +71,15 @@ fn take_course(alloc: Global, course: &mut Course, lines: &mut Lines<'_>) -> Res
     }
 }
 
-/// Adds what a line says: the journal, or a stop.
+/// Adds what a line says: the journal, what others add, or a stop.
 fn add_line(alloc: Global, course: &mut Course, line: Line<'_>) -> Result<(), WorldFault>
     ensures { IfErr result (IsOf line.entry.number) }
 {
     if let Some(text) = line.text.strip_prefix(b"journal ") {
         return add_journal(alloc, course, text, line);
+    }
+    if let Some(text) = line.text.strip_prefix(b"arrive ") {
+        return course.arrivals.add(alloc, text, line);
     }
     match stop_of(line.text) {
         Some(stop) => Ok(course.stops.push(stop)?),

@@ -149,11 +149,10 @@ impl<'a> Halt<'a> {
         if matches!(self.moment, Moment::Part(_)) {
             return None;
         }
+        if let Some(call) = folder_call_of(self.call) {
+            return Some(DeviceStop::Folder(self.of(call)));
+        }
         let stop = match self.call {
-            b"folder.write_tmp" => DeviceStop::Folder(self.of(FolderCall::WriteTmp)),
-            b"folder.rename" => DeviceStop::Folder(self.of(FolderCall::Rename)),
-            b"folder.remove" => DeviceStop::Folder(self.of(FolderCall::Remove)),
-            b"folder.replace_meta" => DeviceStop::Folder(self.of(FolderCall::ReplaceMeta)),
             b"shelf.replace" => DeviceStop::Shelf(self.of(ShelfCall::Replace)),
             b"shelf.remove" => DeviceStop::Shelf(self.of(ShelfCall::Remove)),
             name => DeviceStop::Link(LinkStop::Command(self.of(command_of(name)?))),
@@ -181,7 +180,19 @@ pub fn read_cut(text: &[u8]) -> Option<DeviceStop> {
     Some(DeviceStop::Link(LinkStop::Append(number, cut)))
 }
 
-fn command_of(name: &[u8]) -> Option<Command> {
+/// The call of the near mailbox's folder that has this name.
+pub fn folder_call_of(name: &[u8]) -> Option<FolderCall> {
+    match name {
+        b"folder.write_tmp" => Some(FolderCall::WriteTmp),
+        b"folder.rename" => Some(FolderCall::Rename),
+        b"folder.remove" => Some(FolderCall::Remove),
+        b"folder.replace_meta" => Some(FolderCall::ReplaceMeta),
+        _ => None,
+    }
+}
+
+/// The command that has this name.
+pub fn command_of(name: &[u8]) -> Option<Command> {
     match name {
         b"SELECT" => Some(Command::Select),
         b"FETCH" => Some(Command::Fetch),

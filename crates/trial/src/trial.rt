@@ -2,6 +2,7 @@
 
 ghost use Rattle.std.specs.Prelude.{◌<◌};
 
+use crate::arrival::Arrivals;
 use crate::stop::Stops;
 use worlds::world::World;
 
@@ -23,4 +24,6 @@ pub struct Course {
     pub journal: Option<Vec<u8>>,
     /// Which calls stop.
     pub stops: Stops,
+    /// What others add meanwhile.
+    pub arrivals: Arrivals,
 }

@@ -74,7 +74,7 @@ fn split_message(text: &[u8]) -> Option<(Uid, Flags, &[u8])> {
 }
 
 /// Whether a far mailbox may store these bytes: not too many, and no NUL (RFC 9051, section 9, `CHAR8`).
-fn is_far(bytes: &[u8]) -> bool {
+pub fn is_far(bytes: &[u8]) -> bool {
     bytes.len() <= FAR_BYTES_MAX && memchr(0, bytes).is_none()
 }
 

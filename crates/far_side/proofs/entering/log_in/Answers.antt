@@ -1,4 +1,5 @@
 use Rattle.imap_client.specs.Sessions.{server_of, state_of}
+use Rattle.imap_session.specs.Visits.{Among}
 use Rattle.far_side.specs.FarStops.{Ends}
 use Rattle.far_side.proofs.Endings.{ends_behind, ends_of, ends_unmade}
 use Rattle.far_side.proofs.Joined.{LoginEnds, before_login, connected, handed, unconnected}
@@ -18,7 +19,7 @@ returns-in_err-reconnect-clause-outcome g c h =
     let user = c.args.user.now in
     let password = c.args.password.now in
     let e = c.in_err-reconnect.field-0.0 in
-    handed (λ r. LoginEnds user password r old new) e c.from_residual.result c.from_residual.ensures.1 (unconnected user password old new new e (c.in_err-reconnect.ensures.outcome h))
+    handed (λ r. Among g.L.Link.visitors (LoginEnds user password r) old new) e c.from_residual.result c.from_residual.ensures.1 (unconnected g.L.Link.visitors user password old new new e (c.in_err-reconnect.ensures.outcome h))
 
 pub returns-clause-ends : goal.returns-clause-ends
 returns-clause-ends g c =
@@ -36,4 +37,4 @@ returns-clause-outcome g c h =
     let user = c.args.user.now in
     let password = c.args.password.now in
     let restarted = c.in_ok-reconnect.ensures.outcome (c.login.ensures.was_honest h) in
-    connected user password old mid new restarted c.login.result (c.login.ensures.outcome h (before_login user password old mid new restarted))
+    connected g.L.Link.visitors user password old mid new restarted c.login.result (c.login.ensures.outcome h (before_login g.L.Link.visitors user password old mid restarted))

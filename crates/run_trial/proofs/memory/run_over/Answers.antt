@@ -4,7 +4,7 @@ use Rattle.std.specs.Prelude.{IfErr}
 use Rattle.outside.specs.Calls.{Seen}
 use Rattle.outside.specs.Devices.{Device}
 use Rattle.pair.specs.Pairs.{seen_of}
-use Rattle.near_side.specs.NearSides.{every}
+use Rattle.maildir.specs.Gains.{nobody}
 use Rattle.underway.specs.Conditions.{Underway}
 use Rattle.alike_laws.specs.Beginnings.{Begins, opening_of}
 use Rattle.runner.specs.Faults.{LeavesRun}
@@ -21,7 +21,7 @@ returns-clause-done c = λ start named begins.
 pub returns-clause-left : goal.returns-clause-left
 returns-clause-left c = λ start named begins.
     let same = setting_seen c.args.setting _ _ c.new.ensures.server c.in_ok-outside.ensures in
-    subst (λ (s : Seen). IfErr c.settle_all.result.1 (λ fault. LeavesRun (Underway every true (opening_of start c.args.options.now)) fault s (seen_of c.settle_all.result.0))) same
+    subst (λ (s : Seen). IfErr c.settle_all.result.1 (λ fault. LeavesRun (Underway nobody.ours nobody.alone (opening_of start c.args.options.now)) fault s (seen_of c.settle_all.result.0))) same
     (c.settle_all.ensures.left start named (tt, refl, refl) (λ mark. refl) (subst (λ (s : Seen). Begins start s.device) (sym same) begins))
 
 pub returns-clause-greatest : goal.returns-clause-greatest

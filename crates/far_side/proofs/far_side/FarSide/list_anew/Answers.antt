@@ -1,10 +1,15 @@
-use Rattle.std.proofs.Common.{◌∙◌, ℕ, List, ap}
+use Rattle.std.proofs.Common.{◌∙◌, ℕ, List, ap, arith, refl, sym}
+use Rattle.mailcore.specs.declared.listing.Listing.{Listing}
+use Rattle.visitors.specs.Visitors.{Visitors}
+use Rattle.imap_session.specs.Visits.{Among}
+use Rattle.imap_link.specs.Outcomes.{Outcome, Never}
 use Rattle.mailcore.specs.Stores.{Store}
 use Rattle.imap_client.specs.Sessions.{server_of, state_of}
-use Rattle.far_side.specs.Chosen.{store_at}
+use Rattle.far_side.specs.Chosen.{IsChosen, KeepsMailboxes, ListsAll, store_at}
 use Rattle.far_side.specs.FarStops.{Ends}
 use Rattle.far_side.proofs.Endings.{ends_behind, ends_of}
-use Rattle.far_side.proofs.Joined.{handed, listed}
+use Rattle.far_side.proofs.Joined.{err_so, handed, listed}
+use Rattle.far_side.proofs.Visited.{found_then, next_then, range_then, stocked, store_then, visits_between}
 use Rattle.far_side.proofs.Mailboxes.{selected_is, sound_there, store_is}
 use Rattle.far_side.proofs.OpenCalls.{chosen_in}
 use Rattle.far_side.proofs.far_side.FarSide.list_anew.Goals as goal
@@ -23,19 +28,51 @@ returns-clause-ends g c =
     let went = c.in_ok-refresh.ensures.ends in
     ends_behind old mid new c.list.result went.1 (ends_of 1 mid new c.list.result went.0 c.list.ensures.counts c.list.ensures.ends)
 
+pub returns-in_err-refresh-clause-outcome : goal.returns-in_err-refresh-clause-outcome
+returns-in_err-refresh-clause-outcome g c h =
+    let name = c.args.self.now.account.mailbox.items in
+    let v = g.L.Link.visitors in
+    let old = server_of c.args.self.now.far.session in
+    let new = server_of c.refresh.new.self.far.session in
+    let known = (store_at name old.mailboxes).next in
+    let e = c.in_err-refresh.field-0.0 in
+    let a = c.in_err-refresh.ensures.outcome h in
+    handed (λ r. Among v (Outcome (ListsAll v.alone known name) Never KeepsMailboxes r) old new) e c.from_residual.result c.from_residual.ensures.1
+    (record {
+      mid = a.mid;
+      visits = a.visits;
+      then = err_so Never Never KeepsMailboxes a.mid a.mid new refl (λ k. k) (λ u. absurd u) (Unit {0}) Listing (λ _. KeepsMailboxes) (ListsAll v.alone known name) e a.then;
+    })
+
 pub returns-clause-outcome : goal.returns-clause-outcome
 returns-clause-outcome g c h =
     let name = c.args.self.now.account.mailbox.items in
+    let v : Visitors = g.L.Link.visitors in
     let side = c.refresh.new.self in
     let refreshed = c.in_ok-refresh.ensures in
     let old = server_of c.args.self.now.far.session in
     let mid = server_of side.far.session in
     let new = server_of c.list.new.self.session in
     let was = c.list.ensures.was_honest h in
+    let first = refreshed.outcome was in
     let chosen = chosen_in name side.far (λ s. side.named s ∙ refreshed.mailbox) refreshed.selected refreshed.ends.0 was in
-    let at = selected_is name mid chosen in
     let sound = sound_there name mid chosen (g.met.L.Link.sound side.far.session.wire.link was) in
-    let next = side.fresh refreshed.fresh was ∙ ap (λ (n : List ℕ). (store_at n mid.mailboxes).next) refreshed.mailbox ∙ ap (λ (s : Store). s.next) (store_is name mid chosen) in
-    listed name old mid new side.far.next chosen (refreshed.outcome was) c.list.result
-    (c.list.ensures.shows h refreshed.selected chosen.mailbox at sound.store sound.range.messages next)
-    (c.list.ensures.outcome h refreshed.selected chosen.mailbox at sound.store sound.range.messages)
+    let next = side.fresh refreshed.fresh was ∙ ap (λ (n : List ℕ). (store_at n mid.mailboxes).next) refreshed.mailbox in
+    let a = c.list.ensures.outcome h refreshed.selected in
+    let found = found_then v name mid a.mid a.visits chosen.mailbox chosen.there in
+    let late : IsChosen name a.mid = record { condition = a.visits.condition ∙ chosen.condition; mailbox = found.mailbox; there = found.is } in
+    let store = store_then v chosen.mailbox.store found.mailbox.store found.gains sound.store in
+    let range = range_then v chosen.mailbox.store found.mailbox.store found.gains sound.range.messages in
+    let before = next_then v name old first.mid first.visits in
+    let kept = ap (λ ms. (store_at name ms).next) first.then in
+    let later = next_then v name mid a.mid a.visits in
+    let last = ap (λ (s : Store). s.next) (store_is name a.mid late) in
+    record {
+      mid = stocked v old a.mid.mailboxes;
+      visits = visits_between v old first.mid mid a.mid first.visits first.then a.visits;
+      then =
+          listed v.alone (store_at name old.mailboxes).next name (stocked v old a.mid.mailboxes) a.mid new side.far.next late refl store
+          (omega (arith, before, kept, next)) (omega (arith, next, later, last))
+          (λ alone. next ∙ sym (ap (λ ms. (store_at name ms).next) (a.visits.nobody alone)) ∙ last) c.list.result
+          (a.then found.mailbox (selected_is name a.mid late) store range);
+    }

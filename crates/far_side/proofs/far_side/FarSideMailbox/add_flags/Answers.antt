@@ -2,7 +2,6 @@ use Rattle.std.proofs.lemmas.Bool.{false≢true}
 use Rattle.imap_commands.specs.declared.command.StoreMode.TheVariants as modes
 use Rattle.imap_session.specs.NamedMessages.{flags_changed, stored}
 use Rattle.imap_client.specs.Boxes.{one_uid}
-use Rattle.imap_client.specs.Sessions.{server_of}
 use Rattle.far_side.proofs.OpenCalls.{Called, still_logged_in, still_named, turns}
 use Rattle.far_side.proofs.Operations.{stored_same}
 use Rattle.far_side.proofs.far_side.FarSideMailbox.add_flags.Goals as goal
@@ -40,4 +39,4 @@ returns-clause-call g c =
       counts = said.counts;
     } in
     rw c.told_by.ensures (turns k g.met.L.Link.sound 1 (stored modes.Add c.args.flags (one_uid c.args.uid)) (flags_changed modes.Add c.args.uid c.args.flags) c.add_flags.result said.ends
-    (stored_same s.account.mailbox.items (server_of s.far.session) modes.Add c.args.uid c.args.flags) said.outcome)
+    (λ x. stored_same s.account.mailbox.items x modes.Add c.args.uid c.args.flags) said.outcome)

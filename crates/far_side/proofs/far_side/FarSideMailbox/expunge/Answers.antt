@@ -3,7 +3,6 @@ use Rattle.std.proofs.lemmas.Bool.{false≢true}
 use Rattle.mailcore.specs.declared.side.Side.TheVariants.{Far}
 use Rattle.imap_session.specs.NamedMessages.{swept}
 use Rattle.imap_client.specs.Calls.{each_one}
-use Rattle.imap_client.specs.Sessions.{server_of}
 use Rattle.mailbox.specs.Operations.{removed}
 use Rattle.far_side.proofs.OpenCalls.{Called, still_logged_in, still_named, turns}
 use Rattle.far_side.proofs.Operations.{swept_same}
@@ -42,4 +41,4 @@ returns-clause-call g c =
       counts = said.counts;
     } in
     rw c.told_by.ensures (turns k g.met.L.Link.sound 1 (swept (each_one (c.args.uid ∷ []))) (removed Far c.args.uid) c.expunge.result said.ends
-    (swept_same s.account.mailbox.items (server_of s.far.session) c.args.uid) said.outcome)
+    (λ x. swept_same s.account.mailbox.items x c.args.uid) said.outcome)

@@ -1,6 +1,7 @@
+use Rattle.std.proofs.lemmas.Bool.{false≢true}
 use Rattle.mailbox.specs.Operations.{Finds}
 use Rattle.far_side.specs.Chosen.{settled}
-use Rattle.far_side.proofs.OpenCalls.{Called, reads, still_fresh, still_logged_in, still_named}
+use Rattle.far_side.proofs.OpenCalls.{Called, reads, still_logged_in, still_named}
 use Rattle.far_side.proofs.far_side.FarSideMailbox.find_mark.Goals as goal
 
 pub invariant_of-self : goal.invariant_of-self
@@ -19,7 +20,7 @@ invariant_of-self g c =
     record {
       named = λ selected. still_named k said.same.0 selected;
       logged_in = λ reached ready h. still_logged_in k said.same.0 ready h;
-      fresh = λ e h. still_fresh k said.same.2 said.remains (s.fresh e) h;
+      fresh = λ e. absurd (false≢true e);
     }
 
 pub returns-clause-call : goal.returns-clause-call

@@ -1,8 +1,9 @@
+use Rattle.std.proofs.lemmas.Bool.{false≢true}
 use Rattle.std.proofs.Common.{◌≡◌, Some, None}
 use Rattle.std.specs.Prelude.{if◌then◌else◌}
 use Rattle.mailcore.specs.Operations.{bytes_of}
 use Rattle.mailbox.specs.Operations.{Loads}
-use Rattle.far_side.proofs.OpenCalls.{Called, loaded, reads, still_fresh, still_logged_in, still_named}
+use Rattle.far_side.proofs.OpenCalls.{Called, loaded, reads, still_logged_in, still_named}
 use Rattle.far_side.proofs.far_side.FarSideMailbox.load.Goals as goal
 
 pub invariant_of-self : goal.invariant_of-self
@@ -21,7 +22,7 @@ invariant_of-self g c =
     record {
       named = λ selected. still_named k said.same.0 selected;
       logged_in = λ reached ready h. still_logged_in k said.same.0 ready h;
-      fresh = λ e h. still_fresh k said.same.2 said.remains (s.fresh e) h;
+      fresh = λ e. absurd (false≢true e);
     }
 
 pub returns-clause-call : goal.returns-clause-call

@@ -12,6 +12,7 @@ use Rattle.imap_client.specs.Logins.{Remains}
 use Rattle.imap_answers.specs.Readings.{Tells}
 use Rattle.imap_client.proofs.Changed.{state_of_parts, outcome_err}
 use Rattle.imap_client.proofs.Staying.{stays, lists_so, shows_so}
+use Rattle.imap_client.proofs.Visited.{selected_then}
 use Rattle.imap_client.proofs.far_box.FarBox.list.Goals as goal
 
 pub invariant_of-self : goal.invariant_of-self
@@ -20,39 +21,59 @@ invariant_of-self g c = record {
   selected = λ is_selected ready honest.
       let was = c.args.self.now.session in
       let now = c.items.new.self in
+      let a = c.items.ensures.remains honest in
       stays c.args.self.now.name.items c.args.self.now.validity c.args.self.now.next
       (state_of_parts was.is_ready was.tags (g.L.Link.stops was.wire.link) was.wire.heard.items) (state_of_parts now.is_ready now.tags (g.L.Link.stops now.wire.link) now.wire.heard.items)
-      (told_server (g.L.Link.line was.wire.link)) (told_server (g.L.Link.line now.wire.link)) ready
-      (λ before. c.args.self.now.selected is_selected before (c.items.ensures.was_honest honest))
-      (λ m is. c.items.ensures.remains honest m is) (List Item) 1 c.items.result c.items.ensures.ends;
+      a.mid (told_server (g.L.Link.line now.wire.link)) ready
+      (λ before. selected_then g.L.Link.visitors c.args.self.now.name.items c.args.self.now.validity c.args.self.now.next (told_server (g.L.Link.line was.wire.link)) a.mid a.visits (c.args.self.now.selected is_selected before (c.items.ensures.was_honest honest)))
+      (λ m is. a.then m is) (List Item) 1 c.items.result c.items.ensures.ends;
   numbers = c.args.self.now.numbers;
 }
 
 pub returns-in_err-items-clause-outcome : goal.returns-in_err-items-clause-outcome
-returns-in_err-items-clause-outcome g c honest is_selected m is store range =
+returns-in_err-items-clause-outcome g c honest is_selected =
     let p = err_from_is_err_and c.from_residual.result c.from_residual.ensures.1 in
     let f = c.in_err-items.field-0.0 in
     let known = c.args.self.now.next in
-    let old = (told_server (g.L.Link.line c.args.self.now.session.wire.link)) in
     let new = (told_server (g.L.Link.line c.items.new.self.wire.link)) in
-    subst (λ (r : Result Listing FarFault). Outcome (Tells (ListsFrom known m.store)) Never Remains r old new) (sym (p.1 ∙ ap Err p.2))
-    (outcome_err (List Item) Listing (Tells (λ items. items ≡ map (item_of Far) m.store.messages)) (Tells (ListsFrom known m.store)) Never Remains old new f (c.in_err-items.ensures.outcome honest m is store range))
+    let a = c.in_err-items.ensures.outcome honest in
+    record {
+      mid = a.mid;
+      visits = a.visits;
+      then = λ m is store range.
+          subst (λ (r : Result Listing FarFault). Outcome (Tells (ListsFrom known m.store)) Never Remains r a.mid new) (sym (p.1 ∙ ap Err p.2))
+          (outcome_err (List Item) Listing (Tells (λ items. items ≡ map (item_of Far) m.store.messages)) (Tells (ListsFrom known m.store)) Never Remains a.mid new f (a.then m is store range));
+    }
 
 pub returns-clause-outcome : goal.returns-clause-outcome
-returns-clause-outcome g c honest is_selected m is store range =
+returns-clause-outcome g c honest is_selected =
     let box = c.args.self.now in
     let old = (told_server (g.L.Link.line box.session.wire.link)) in
     let listing : Listing = record { validity = box.validity; next = c.next_above-next.result; items = c.in_ok-items.items } in
-    let told = c.in_ok-items.ensures.outcome honest m is store range in (
-      lists_so box.name.items box.validity box.next old m is (box.selected is_selected c.in_ok-items.ensures.ends.was_ready (c.items.ensures.was_honest honest)) listing refl (c.next_above-next.ensures.next ∙ ap (next_above box.next) c.as_slice.ensures.all) told.0,
-      told.1,
-    )
+    let a = c.in_ok-items.ensures.outcome honest in
+    let was = box.selected is_selected c.in_ok-items.ensures.ends.was_ready (c.items.ensures.was_honest honest) in
+    let selected = selected_then g.L.Link.visitors box.name.items box.validity box.next old a.mid a.visits was in
+    record {
+      mid = a.mid;
+      visits = a.visits;
+      then = λ m is store range.
+          let told = a.then m is store range in
+          (lists_so box.name.items box.validity box.next a.mid m is selected listing refl (c.next_above-next.ensures.next ∙ ap (next_above box.next) c.as_slice.ensures.all) told.0, told.1);
+    }
 
 pub returns-clause-shows : goal.returns-clause-shows
-returns-clause-shows g c honest is_selected m is store range e =
+returns-clause-shows g c honest is_selected =
     let box = c.args.self.now in
     let old = (told_server (g.L.Link.line box.session.wire.link)) in
     let listing : Listing = record { validity = box.validity; next = c.next_above-next.result; items = c.in_ok-items.items } in
-    let told = c.in_ok-items.ensures.outcome honest m is store range in
-    shows_so box.next m.store listing store e
-    (lists_so box.name.items box.validity box.next old m is (box.selected is_selected c.in_ok-items.ensures.ends.was_ready (c.items.ensures.was_honest honest)) listing refl (c.next_above-next.ensures.next ∙ ap (next_above box.next) c.as_slice.ensures.all) told.0)
+    let a = c.in_ok-items.ensures.outcome honest in
+    let was = box.selected is_selected c.in_ok-items.ensures.ends.was_ready (c.items.ensures.was_honest honest) in
+    let selected = selected_then g.L.Link.visitors box.name.items box.validity box.next old a.mid a.visits was in
+    record {
+      mid = a.mid;
+      visits = a.visits;
+      then = λ m is store range e.
+          let told = a.then m is store range in
+          shows_so box.next m.store listing store e
+          (lists_so box.name.items box.validity box.next a.mid m is selected listing refl (c.next_above-next.ensures.next ∙ ap (next_above box.next) c.as_slice.ensures.all) told.0);
+    }

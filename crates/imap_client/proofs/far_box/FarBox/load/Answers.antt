@@ -11,6 +11,7 @@ use Rattle.imap_client.specs.Logins.{Remains}
 use Rattle.imap_answers.specs.Readings.{Tells}
 use Rattle.imap_client.proofs.Changed.{state_of_parts, outcome_err}
 use Rattle.imap_client.proofs.Staying.{stays}
+use Rattle.imap_client.proofs.Visited.{selected_then}
 use Rattle.imap_client.proofs.far_box.FarBox.load.Goals as goal
 
 pub invariant_of-self : goal.invariant_of-self
@@ -19,11 +20,12 @@ invariant_of-self g c = record {
   selected = λ is_selected ready honest.
       let was = c.args.self.now.session in
       let now = c.body.new.self in
+      let a = c.body.ensures.remains honest in
       stays c.args.self.now.name.items c.args.self.now.validity c.args.self.now.next
       (state_of_parts was.is_ready was.tags (g.L.Link.stops was.wire.link) was.wire.heard.items) (state_of_parts now.is_ready now.tags (g.L.Link.stops now.wire.link) now.wire.heard.items)
-      (told_server (g.L.Link.line was.wire.link)) (told_server (g.L.Link.line now.wire.link)) ready
-      (λ before. c.args.self.now.selected is_selected before (c.body.ensures.was_honest honest))
-      (λ m is. c.body.ensures.remains honest m is) (Option (Vec ℕ Global)) 1 c.body.result c.body.ensures.ends;
+      a.mid (told_server (g.L.Link.line now.wire.link)) ready
+      (λ before. selected_then g.L.Link.visitors c.args.self.now.name.items c.args.self.now.validity c.args.self.now.next (told_server (g.L.Link.line was.wire.link)) a.mid a.visits (c.args.self.now.selected is_selected before (c.body.ensures.was_honest honest)))
+      (λ m is. a.then m is) (Option (Vec ℕ Global)) 1 c.body.result c.body.ensures.ends;
   numbers = c.args.self.now.numbers;
 }
 
@@ -33,11 +35,12 @@ invariant_of-self-in-Some g c = record {
   selected = λ is_selected ready honest.
       let was = c.args.self.now.session in
       let now = c.body.new.self in
+      let a = c.body.ensures.remains honest in
       stays c.args.self.now.name.items c.args.self.now.validity c.args.self.now.next
       (state_of_parts was.is_ready was.tags (g.L.Link.stops was.wire.link) was.wire.heard.items) (state_of_parts now.is_ready now.tags (g.L.Link.stops now.wire.link) now.wire.heard.items)
-      (told_server (g.L.Link.line was.wire.link)) (told_server (g.L.Link.line now.wire.link)) ready
-      (λ before. c.args.self.now.selected is_selected before (c.body.ensures.was_honest honest))
-      (λ m is. c.body.ensures.remains honest m is) (Option (Vec ℕ Global)) 1 c.body.result c.body.ensures.ends;
+      a.mid (told_server (g.L.Link.line now.wire.link)) ready
+      (λ before. selected_then g.L.Link.visitors c.args.self.now.name.items c.args.self.now.validity c.args.self.now.next (told_server (g.L.Link.line was.wire.link)) a.mid a.visits (c.args.self.now.selected is_selected before (c.body.ensures.was_honest honest)))
+      (λ m is. a.then m is) (Option (Vec ℕ Global)) 1 c.body.result c.body.ensures.ends;
   numbers = c.args.self.now.numbers;
 }
 
@@ -47,31 +50,37 @@ invariant_of-self-in-None g c = record {
   selected = λ is_selected ready honest.
       let was = c.args.self.now.session in
       let now = c.body.new.self in
+      let a = c.body.ensures.remains honest in
       stays c.args.self.now.name.items c.args.self.now.validity c.args.self.now.next
       (state_of_parts was.is_ready was.tags (g.L.Link.stops was.wire.link) was.wire.heard.items) (state_of_parts now.is_ready now.tags (g.L.Link.stops now.wire.link) now.wire.heard.items)
-      (told_server (g.L.Link.line was.wire.link)) (told_server (g.L.Link.line now.wire.link)) ready
-      (λ before. c.args.self.now.selected is_selected before (c.body.ensures.was_honest honest))
-      (λ m is. c.body.ensures.remains honest m is) (Option (Vec ℕ Global)) 1 c.body.result c.body.ensures.ends;
+      a.mid (told_server (g.L.Link.line now.wire.link)) ready
+      (λ before. selected_then g.L.Link.visitors c.args.self.now.name.items c.args.self.now.validity c.args.self.now.next (told_server (g.L.Link.line was.wire.link)) a.mid a.visits (c.args.self.now.selected is_selected before (c.body.ensures.was_honest honest)))
+      (λ m is. a.then m is) (Option (Vec ℕ Global)) 1 c.body.result c.body.ensures.ends;
   numbers = c.args.self.now.numbers;
 }
 
 pub returns-in_err-found-clause-outcome : goal.returns-in_err-found-clause-outcome
-returns-in_err-found-clause-outcome g c honest m is store range =
+returns-in_err-found-clause-outcome g c honest =
     let p = err_from_is_err_and c.from_residual.result c.from_residual.ensures.1 in
     let f = c.in_err-found.field-0.0 in
     let bytes = c.args.self.now.body.items in
-    let old = (told_server (g.L.Link.line c.args.self.now.session.wire.link)) in
     let new = (told_server (g.L.Link.line c.body.new.self.wire.link)) in
-    let so = λ (is_there : Bool). (if is_there then Some bytes else None) ≡ bytes_of c.args.uid m.store in
-    subst (λ (r : Result Bool FarFault). Outcome (Tells so) Never Remains r old new) (sym (p.1 ∙ ap Err p.2))
-    (outcome_err (Option (Vec ℕ Global)) Bool (Tells (λ found. text_of found ≡ bytes_of c.args.uid m.store)) (Tells so) Never Remains old new f (c.in_err-found.ensures.outcome honest m is store range))
+    let a = c.in_err-found.ensures.outcome honest in
+    record {
+      mid = a.mid;
+      visits = a.visits;
+      then = λ m is store range.
+          let so = λ (is_there : Bool). (if is_there then Some bytes else None) ≡ bytes_of c.args.uid m.store in
+          subst (λ (r : Result Bool FarFault). Outcome (Tells so) Never Remains r a.mid new) (sym (p.1 ∙ ap Err p.2))
+          (outcome_err (Option (Vec ℕ Global)) Bool (Tells (λ found. text_of found ≡ bytes_of c.args.uid m.store)) (Tells so) Never Remains a.mid new f (a.then m is store range));
+    }
 
 pub returns-in-Some-clause-outcome : goal.returns-in-Some-clause-outcome
-returns-in-Some-clause-outcome g c honest m is store range =
-    let told = c.in_ok-found.ensures.outcome honest m is store range in
-    (sym (ap text_of c.in-Some.is) ∙ told.0, told.1)
+returns-in-Some-clause-outcome g c honest =
+    let a = c.in_ok-found.ensures.outcome honest in
+    record { mid = a.mid; visits = a.visits; then = λ m is store range. let told = a.then m is store range in (sym (ap text_of c.in-Some.is) ∙ told.0, told.1) }
 
 pub returns-in-None-clause-outcome : goal.returns-in-None-clause-outcome
-returns-in-None-clause-outcome g c honest m is store range =
-    let told = c.in_ok-found.ensures.outcome honest m is store range in
-    (sym (ap text_of c.in-None.is) ∙ told.0, told.1)
+returns-in-None-clause-outcome g c honest =
+    let a = c.in_ok-found.ensures.outcome honest in
+    record { mid = a.mid; visits = a.visits; then = λ m is store range. let told = a.then m is store range in (sym (ap text_of c.in-None.is) ∙ told.0, told.1) }

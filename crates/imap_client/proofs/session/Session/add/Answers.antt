@@ -13,23 +13,30 @@ use Rattle.imap_client.specs.States.{EndsSo}
 use Rattle.imap_client.proofs.Adding.{AddedSo, add_exchanged, some_of, told_so, adds_so, never_protocol, told_fails}
 use Rattle.imap_client.proofs.Changed.{outcome_err, state_of_parts}
 use Rattle.imap_client.proofs.Selecting.{speaks_of}
+use Rattle.imap_session.specs.Visits.{Among}
 use Rattle.imap_client.proofs.session.Session.add.Goals as goal
 
 pub given-requires-clause-speaks : goal.given-requires-clause-speaks
 given-requires-clause-speaks g c = speaks_of (tag_text c.ask_to_add.new.self.tags) statuses.Ok _ c.in_ok-len.ensures.answer.1
 
 pub returns-in_err-len-clause-outcome : goal.returns-in_err-len-clause-outcome
-returns-in_err-len-clause-outcome g c honest sel m is =
-    let p = err_from_is_err_and c.from_residual.result c.from_residual.ensures.1 in
-    let f = c.in_err-len.field-0.0 in
-    let a = c.args.addition.now in
-    let n = c.args.self.now.tags + 1 in
-    let old = (told_server (g.L.Link.line c.args.self.now.wire.link)) in
-    let new = (told_server (g.L.Link.line c.ask_to_add.new.self.wire.link)) in
-    let heard = c.ask_to_add.new.self.wire.heard.items in
-    subst (λ (r : Result (Option ℕ) FarFault). Outcome (Adds m a.flags a.bytes.now) (NoUidLeft m) (AddsSome m a.flags a.bytes.now) r old new) (sym (p.1 ∙ ap Err p.2))
-    (outcome_err ℕ (Option ℕ) (λ len. AddedSo n a.name.now m a.flags a.bytes.now (take len heard)) (Adds m a.flags a.bytes.now) (NoUidLeft m) (AddsSome m a.flags a.bytes.now) old new f
-    (add_exchanged n a.name.now a.flags a.bytes.now old m sel.0 is (Err f) heard new (c.in_err-len.ensures.outcome honest)))
+returns-in_err-len-clause-outcome g c honest =
+    let w = c.in_err-len.ensures.outcome honest in
+    record {
+      mid = w.mid;
+      visits = w.visits;
+      then = λ sel m is.
+          let p = err_from_is_err_and c.from_residual.result c.from_residual.ensures.1 in
+          let f = c.in_err-len.field-0.0 in
+          let a = c.args.addition.now in
+          let n = c.args.self.now.tags + 1 in
+          let old = w.mid in
+          let new = (told_server (g.L.Link.line c.ask_to_add.new.self.wire.link)) in
+          let heard = c.ask_to_add.new.self.wire.heard.items in
+          subst (λ (r : Result (Option ℕ) FarFault). Outcome (Adds m a.flags a.bytes.now) (NoUidLeft m) (AddsSome m a.flags a.bytes.now) r old new) (sym (p.1 ∙ ap Err p.2))
+          (outcome_err ℕ (Option ℕ) (λ len. AddedSo n a.name.now m a.flags a.bytes.now (take len heard)) (Adds m a.flags a.bytes.now) (NoUidLeft m) (AddsSome m a.flags a.bytes.now) old new f
+          (add_exchanged n a.name.now a.flags a.bytes.now old m sel.0 is (Err f) heard new w.then));
+    }
 
 pub returns-in_err-given-clause-ends : goal.returns-in_err-given-clause-ends
 returns-in_err-given-clause-ends g c =
@@ -41,16 +48,22 @@ returns-in_err-given-clause-ends g c =
     (record { was_ready = c.in_ok-len.ensures.asked.was_ready; is_ready = c.in_ok-len.ensures.asked.begun })
 
 pub returns-in_err-given-clause-outcome : goal.returns-in_err-given-clause-outcome
-returns-in_err-given-clause-outcome g c honest sel m is =
-    let p = err_from_is_err_and c.from_residual-in_err-given.result c.from_residual-in_err-given.ensures.1 in
-    let a = c.args.addition.now in
-    let n = c.args.self.now.tags + 1 in
-    let old = (told_server (g.L.Link.line c.args.self.now.wire.link)) in
-    let new = (told_server (g.L.Link.line c.ask_to_add.new.self.wire.link)) in
-    let heard = c.ask_to_add.new.self.wire.heard.items in
-    let done_so = add_exchanged n a.name.now a.flags a.bytes.now old m sel.0 is (Ok c.in_ok-len.len) heard new (c.in_ok-len.ensures.outcome honest) in
-    subst (λ (r : Result (Option ℕ) FarFault). Outcome (Adds m a.flags a.bytes.now) (NoUidLeft m) (AddsSome m a.flags a.bytes.now) r old new) (sym (p.1 ∙ ap Err (p.2 ∙ c.in_err-given.ensures.err)))
-    (inr (some_of n a.name.now a.flags a.bytes.now old m sel.0 is (take c.in_ok-len.len heard) new done_so))
+returns-in_err-given-clause-outcome g c honest =
+    let w = c.in_ok-len.ensures.outcome honest in
+    record {
+      mid = w.mid;
+      visits = w.visits;
+      then = λ sel m is.
+          let p = err_from_is_err_and c.from_residual-in_err-given.result c.from_residual-in_err-given.ensures.1 in
+          let a = c.args.addition.now in
+          let n = c.args.self.now.tags + 1 in
+          let old = w.mid in
+          let new = (told_server (g.L.Link.line c.ask_to_add.new.self.wire.link)) in
+          let heard = c.ask_to_add.new.self.wire.heard.items in
+          let done_so = add_exchanged n a.name.now a.flags a.bytes.now old m sel.0 is (Ok c.in_ok-len.len) heard new w.then in
+          subst (λ (r : Result (Option ℕ) FarFault). Outcome (Adds m a.flags a.bytes.now) (NoUidLeft m) (AddsSome m a.flags a.bytes.now) r old new) (sym (p.1 ∙ ap Err (p.2 ∙ c.in_err-given.ensures.err)))
+          (inr (some_of n a.name.now a.flags a.bytes.now old m sel.0 is (take c.in_ok-len.len heard) new done_so));
+    }
 
 pub returns-in_err-told-clause-ends : goal.returns-in_err-told-clause-ends
 returns-in_err-told-clause-ends g c =
@@ -63,15 +76,21 @@ returns-in_err-told-clause-ends g c =
     (record { was_ready = c.in_ok-len.ensures.asked.was_ready; is_ready = c.in_ok-len.ensures.asked.begun })
 
 pub returns-in_err-told-clause-outcome : goal.returns-in_err-told-clause-outcome
-returns-in_err-told-clause-outcome g c honest sel m is =
-    let a = c.args.addition.now in
-    let n = c.args.self.now.tags + 1 in
-    let old = (told_server (g.L.Link.line c.args.self.now.wire.link)) in
-    let new = (told_server (g.L.Link.line c.ask_to_add.new.self.wire.link)) in
-    let heard = c.ask_to_add.new.self.wire.heard.items in
-    let done_so = add_exchanged n a.name.now a.flags a.bytes.now old m sel.0 is (Ok c.in_ok-len.len) heard new (c.in_ok-len.ensures.outcome honest) in
-    let told = told_so n a.name.now m a.flags a.bytes.now (take c.in_ok-len.len heard) old new c.args.validity c.args.next sel is done_so c.in_ok-given.given c.in_ok-given.ensures.told in
-    absurd (never_protocol done_so.uid _ c.in_err-told.field-0.0 told (sym c.uid_told.ensures ∙ c.in_err-told.was))
+returns-in_err-told-clause-outcome g c honest =
+    let w = c.in_ok-len.ensures.outcome honest in
+    record {
+      mid = w.mid;
+      visits = w.visits;
+      then = λ sel m is.
+          let a = c.args.addition.now in
+          let n = c.args.self.now.tags + 1 in
+          let old = w.mid in
+          let new = (told_server (g.L.Link.line c.ask_to_add.new.self.wire.link)) in
+          let heard = c.ask_to_add.new.self.wire.heard.items in
+          let done_so = add_exchanged n a.name.now a.flags a.bytes.now old m sel.0 is (Ok c.in_ok-len.len) heard new w.then in
+          let told = told_so n a.name.now m a.flags a.bytes.now (take c.in_ok-len.len heard) old new c.args.validity c.args.next sel is done_so c.in_ok-given.given c.in_ok-given.ensures.told in
+          absurd (never_protocol done_so.uid _ c.in_err-told.field-0.0 told (sym c.uid_told.ensures ∙ c.in_err-told.was));
+    }
 
 pub returns-clause-outcome : goal.returns-clause-outcome
 returns-clause-outcome g c =
@@ -79,9 +98,15 @@ returns-clause-outcome g c =
     let n = c.args.self.now.tags + 1 in
     let old = (told_server (g.L.Link.line c.args.self.now.wire.link)) in
     let heard = c.ask_to_add.new.self.wire.heard.items in
-    subst (λ l. g.L.Link.honest l → IsSelected a.name.now c.args.validity c.args.next old → (m : FarMailbox) → selected old ≡ Some m → Adds m a.flags a.bytes.now c.in_ok-told.told old (told_server (g.L.Link.line l))) (sym c.done.ensures.link)
-    (λ honest sel m is.
-    let new = (told_server (g.L.Link.line c.ask_to_add.new.self.wire.link)) in
-    let done_so = add_exchanged n a.name.now a.flags a.bytes.now old m sel.0 is (Ok c.in_ok-len.len) heard new (c.in_ok-len.ensures.outcome honest) in
-    let told = told_so n a.name.now m a.flags a.bytes.now (take c.in_ok-len.len heard) old new c.args.validity c.args.next sel is done_so c.in_ok-given.given c.in_ok-given.ensures.told in
-    adds_so n a.name.now m a.flags a.bytes.now (take c.in_ok-len.len heard) old new _ c.in_ok-told.told done_so told (sym c.uid_told.ensures ∙ c.in_ok-told.was))
+    subst (λ l. g.L.Link.honest l → Among g.L.Link.visitors (λ old new. IsSelected a.name.now c.args.validity c.args.next old → (m : FarMailbox) → selected old ≡ Some m → Adds m a.flags a.bytes.now c.in_ok-told.told old new) old (told_server (g.L.Link.line l))) (sym c.done.ensures.link)
+    (λ honest.
+    let w = c.in_ok-len.ensures.outcome honest in
+    record {
+      mid = w.mid;
+      visits = w.visits;
+      then = λ sel m is.
+          let new = (told_server (g.L.Link.line c.ask_to_add.new.self.wire.link)) in
+          let done_so = add_exchanged n a.name.now a.flags a.bytes.now w.mid m sel.0 is (Ok c.in_ok-len.len) heard new w.then in
+          let told = told_so n a.name.now m a.flags a.bytes.now (take c.in_ok-len.len heard) w.mid new c.args.validity c.args.next sel is done_so c.in_ok-given.given c.in_ok-given.ensures.told in
+          adds_so n a.name.now m a.flags a.bytes.now (take c.in_ok-len.len heard) w.mid new _ c.in_ok-told.told done_so told (sym c.uid_told.ensures ∙ c.in_ok-told.was);
+    })

@@ -14,6 +14,7 @@ use Rattle.imap_client.specs.Tags.{tag_text}
 use Rattle.imap_client.specs.Transcripts.{EndsBy, of_command}
 use Rattle.imap_client.proofs.Exchanging.{state_at, asked_err, judged_asked, exchanged_err, exchanged_of, judged_len}
 use Rattle.imap_client.proofs.Transcribed.{unheard, judged_ends}
+use Rattle.imap_session.specs.Visits.{Among}
 use Rattle.imap_client.proofs.session.Session.ask.Goals as goal
 
 pub returns-in_err-answered-clause-asked : goal.returns-in_err-answered-clause-asked
@@ -27,13 +28,19 @@ returns-in_err-answered-clause-asked g c =
 
 pub returns-in_err-answered-clause-outcome : goal.returns-in_err-answered-clause-outcome
 returns-in_err-answered-clause-outcome g c honest =
-    let p = err_from_is_err_and c.from_residual.result c.from_residual.ensures.1 in
-    let command = command_at (c.args.self.now.tags + 1) (request_of c.args.call.now) in
-    let old = (told_server (g.L.Link.line c.args.self.now.wire.link)) in
-    let new = (told_server (g.L.Link.line c.ask_status.new.self.wire.link)) in
-    let heard = c.ask_status.new.self.wire.heard.items in
-    subst (λ (r : Result ℕ FarFault). Exchanged command r heard old new) (sym (p.1 ∙ ap Err p.2))
-    (exchanged_err command (λ a. Replied command a.status (take a.len heard)) c.in_err-answered.field-0.0 heard old new (c.in_err-answered.ensures.outcome honest))
+    let a = c.in_err-answered.ensures.outcome honest in
+    record {
+      mid = a.mid;
+      visits = a.visits;
+      then =
+          let p = err_from_is_err_and c.from_residual.result c.from_residual.ensures.1 in
+          let command = command_at (c.args.self.now.tags + 1) (request_of c.args.call.now) in
+          let old = a.mid in
+          let new = (told_server (g.L.Link.line c.ask_status.new.self.wire.link)) in
+          let heard = c.ask_status.new.self.wire.heard.items in
+          subst (λ (r : Result ℕ FarFault). Exchanged command r heard old new) (sym (p.1 ∙ ap Err p.2))
+          (exchanged_err command (λ a. Replied command a.status (take a.len heard)) c.in_err-answered.field-0.0 heard old new a.then);
+    }
 
 pub returns-in_err-answered-clause-heard : goal.returns-in_err-answered-clause-heard
 returns-in_err-answered-clause-heard g c =
@@ -67,10 +74,17 @@ pub returns-clause-outcome : goal.returns-clause-outcome
 returns-clause-outcome g c =
     let command = command_at (c.args.self.now.tags + 1) (request_of c.args.call.now) in
     let old = (told_server (g.L.Link.line c.args.self.now.wire.link)) in
-    subst (λ l. g.L.Link.honest l → Exchanged command c.judge.result c.judge.new.self.wire.heard.items old (told_server (g.L.Link.line l))) (sym c.judge.ensures.link)
+    let now = c.judge.new.self.wire.heard.items in
+    subst (λ l. g.L.Link.honest l → Among g.L.Link.visitors (Exchanged command c.judge.result now) old (told_server (g.L.Link.line l))) (sym c.judge.ensures.link)
     (λ honest.
-    exchanged_of command c.in_ok-answered.answered.status c.in_ok-answered.answered.len c.judge.new.self.is_ready c.judge.result c.ask_status.new.self.wire.heard.items c.judge.new.self.wire.heard.items old
-    (told_server (g.L.Link.line c.ask_status.new.self.wire.link)) c.judge.ensures.judged c.judge.ensures.heard (c.in_ok-answered.ensures.outcome honest))
+    let a = c.in_ok-answered.ensures.outcome honest in
+    record {
+      mid = a.mid;
+      visits = a.visits;
+      then =
+          exchanged_of command c.in_ok-answered.answered.status c.in_ok-answered.answered.len c.judge.new.self.is_ready c.judge.result c.ask_status.new.self.wire.heard.items now a.mid
+          (told_server (g.L.Link.line c.ask_status.new.self.wire.link)) c.judge.ensures.judged c.judge.ensures.heard a.then;
+    })
 
 pub returns-clause-idle : goal.returns-clause-idle
 returns-clause-idle g c =

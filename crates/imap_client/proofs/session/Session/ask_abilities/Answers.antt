@@ -13,6 +13,7 @@ use Rattle.imap_client.proofs.LoggingIn.{abilities, ability_exchanged, named_so}
 use Rattle.imap_client.proofs.Transcribed.{command_ends, says_so, answers_ok}
 use Rattle.imap_client.specs.Transcripts.{EndsBy, Hears, Says, of_abilities, NamesRev2, LacksRev2}
 use Rattle.imap_replies.specs.declared.word.Status.TheVariants as statuses
+use Rattle.imap_session.specs.Visits.{Among}
 use Rattle.imap_client.proofs.session.Session.ask_abilities.Goals as goal
 
 pub returns-in_err-len-clause-heard : goal.returns-in_err-len-clause-heard
@@ -49,36 +50,61 @@ returns-clause-heard g c =
 
 pub returns-in_err-len-clause-outcome : goal.returns-in_err-len-clause-outcome
 returns-in_err-len-clause-outcome g c honest =
-    let p = err_from_is_err_and c.from_residual.result c.from_residual.ensures.1 in
-    let f = c.in_err-len.field-0.0 in
-    let old = (told_server (g.L.Link.line c.args.self.now.wire.link)) in
-    let new = (told_server (g.L.Link.line c.ask.new.self.wire.link)) in
-    let n = c.args.self.now.tags + 1 in
-    let heard = c.ask.new.self.wire.heard.items in
-    subst (λ (r : Result (Unit {0}) FarFault). Outcome (λ x. Remains) Never Remains r old new) (sym (p.1 ∙ ap Err p.2))
-    (outcome_err ℕ (Unit {0}) (λ len s t. HeardOf abilities_read (abilities ++ done (tag_text n) ∷ []) (take len heard) × Remains s t) (λ x. Remains) Never Remains old new f
-    (ability_exchanged n old (Err f) heard new (c.in_err-len.ensures.outcome honest)))
+    let a = c.in_err-len.ensures.outcome honest in
+    record {
+      mid = a.mid;
+      visits = a.visits;
+      then =
+          let p = err_from_is_err_and c.from_residual.result c.from_residual.ensures.1 in
+          let f = c.in_err-len.field-0.0 in
+          let old = a.mid in
+          let new = (told_server (g.L.Link.line c.ask.new.self.wire.link)) in
+          let n = c.args.self.now.tags + 1 in
+          let heard = c.ask.new.self.wire.heard.items in
+          subst (λ (r : Result (Unit {0}) FarFault). Outcome (λ x. Remains) Never Remains r old new) (sym (p.1 ∙ ap Err p.2))
+          (outcome_err ℕ (Unit {0}) (λ len s t. HeardOf abilities_read (abilities ++ done (tag_text n) ∷ []) (take len heard) × Remains s t) (λ x. Remains) Never Remains old new f
+          (ability_exchanged n old (Err f) heard new a.then));
+    }
 
 pub returns-then-not-speaks-clause-outcome : goal.returns-then-not-speaks-clause-outcome
 returns-then-not-speaks-clause-outcome g c honest =
-    let old = (told_server (g.L.Link.line c.args.self.now.wire.link)) in
-    let new = (told_server (g.L.Link.line c.ask.new.self.wire.link)) in
-    let n = c.args.self.now.tags + 1 in
-    let done_so = ability_exchanged n old (Ok c.in_ok-len.len) c.ask.new.self.wire.heard.items new (c.in_ok-len.ensures.outcome honest) in
-    let told = named_so (tag_text n) _ c.in_ok-speaks.speaks done_so.0 c.in_ok-speaks.ensures.told in
-    let both : false ≡ true = sym c.if-not-speaks.true ∙ told in
-    cc
+    let a = c.in_ok-len.ensures.outcome honest in
+    record {
+      mid = a.mid;
+      visits = a.visits;
+      then =
+          let old = a.mid in
+          let new = (told_server (g.L.Link.line c.ask.new.self.wire.link)) in
+          let n = c.args.self.now.tags + 1 in
+          let done_so = ability_exchanged n old (Ok c.in_ok-len.len) c.ask.new.self.wire.heard.items new a.then in
+          let told = named_so (tag_text n) _ c.in_ok-speaks.speaks done_so.0 c.in_ok-speaks.ensures.told in
+          let both : false ≡ true = sym c.if-not-speaks.true ∙ told in
+          cc;
+    }
 
 pub returns-in_err-speaks-clause-outcome : goal.returns-in_err-speaks-clause-outcome
 returns-in_err-speaks-clause-outcome g c honest =
-    let p = err_from_is_err_and c.from_residual-in_err-speaks.result c.from_residual-in_err-speaks.ensures.1 in
-    let old = (told_server (g.L.Link.line c.args.self.now.wire.link)) in
-    let new = (told_server (g.L.Link.line c.ask.new.self.wire.link)) in
-    subst (λ (r : Result (Unit {0}) FarFault). Outcome (λ x. Remains) Never Remains r old new) (sym (p.1 ∙ ap Err (p.2 ∙ c.in_err-speaks.ensures.err)))
-    (inr (ability_exchanged (c.args.self.now.tags + 1) old (Ok c.in_ok-len.len) c.ask.new.self.wire.heard.items new (c.in_ok-len.ensures.outcome honest)).1)
+    let a = c.in_ok-len.ensures.outcome honest in
+    record {
+      mid = a.mid;
+      visits = a.visits;
+      then =
+          let p = err_from_is_err_and c.from_residual-in_err-speaks.result c.from_residual-in_err-speaks.ensures.1 in
+          let old = a.mid in
+          let new = (told_server (g.L.Link.line c.ask.new.self.wire.link)) in
+          subst (λ (r : Result (Unit {0}) FarFault). Outcome (λ x. Remains) Never Remains r old new) (sym (p.1 ∙ ap Err (p.2 ∙ c.in_err-speaks.ensures.err)))
+          (inr (ability_exchanged (c.args.self.now.tags + 1) old (Ok c.in_ok-len.len) c.ask.new.self.wire.heard.items new a.then).1);
+    }
 
 pub returns-clause-outcome : goal.returns-clause-outcome
 returns-clause-outcome g c =
     let old = (told_server (g.L.Link.line c.args.self.now.wire.link)) in
-    subst (λ l. g.L.Link.honest l → Remains old (told_server (g.L.Link.line l))) (sym c.done.ensures.link)
-    (λ honest. (ability_exchanged (c.args.self.now.tags + 1) old (Ok c.in_ok-len.len) c.ask.new.self.wire.heard.items (told_server (g.L.Link.line c.ask.new.self.wire.link)) (c.in_ok-len.ensures.outcome honest)).1)
+    subst (λ l. g.L.Link.honest l → Among g.L.Link.visitors (λ old new. Remains old new) old (told_server (g.L.Link.line l))) (sym c.done.ensures.link)
+    (λ honest.
+    let a = c.in_ok-len.ensures.outcome honest in
+    record {
+      mid = a.mid;
+      visits = a.visits;
+      then =
+          (ability_exchanged (c.args.self.now.tags + 1) a.mid (Ok c.in_ok-len.len) c.ask.new.self.wire.heard.items (told_server (g.L.Link.line c.ask.new.self.wire.link)) a.then).1;
+    })

@@ -10,6 +10,8 @@ use Rattle.imap_client.proofs.LoggingIn.{login_exchanged}
 use Rattle.imap_client.proofs.Transcribed.{command_ends, answers_ok}
 use Rattle.imap_client.specs.Transcripts.{EndsBy, Hears, Answers, of_login}
 use Rattle.imap_replies.specs.declared.word.Status.TheVariants as statuses
+use Rattle.imap_session.specs.Visits.{Among}
+use Rattle.imap_session.specs.Servers.{Condition}
 use Rattle.imap_client.proofs.session.Session.authenticate.Goals as goal
 
 pub returns-in_err-len-clause-heard : goal.returns-in_err-len-clause-heard
@@ -30,20 +32,35 @@ returns-clause-heard g c =
 
 pub returns-in_err-len-clause-outcome : goal.returns-in_err-len-clause-outcome
 returns-in_err-len-clause-outcome g c honest before =
-    let p = err_from_is_err_and c.from_residual.result c.from_residual.ensures.1 in
-    let f = c.in_err-len.field-0.0 in
-    let user = c.args.user.now in
-    let password = c.args.password.now in
-    let old = (told_server (g.L.Link.line c.args.self.now.wire.link)) in
-    let new = (told_server (g.L.Link.line c.ask.new.self.wire.link)) in
-    subst (λ (r : Result (Unit {0}) FarFault). Outcome (λ x. Authenticates user password) (Rejects user password) (Authenticates user password) r old new) (sym (p.1 ∙ ap Err p.2))
-    (outcome_err ℕ (Unit {0}) (λ len. Authenticates user password) (λ x. Authenticates user password) (Rejects user password) (Authenticates user password) old new f
-    (login_exchanged (c.args.self.now.tags + 1) user password old before (Err f) c.ask.new.self.wire.heard.items new (c.in_err-len.ensures.outcome honest)))
+    let a = c.in_err-len.ensures.outcome honest in
+    let still = ap (λ (c : Condition). is_before_login c) a.visits.condition ∙ before in
+    record {
+      mid = a.mid;
+      visits = a.visits;
+      then =
+          let p = err_from_is_err_and c.from_residual.result c.from_residual.ensures.1 in
+          let f = c.in_err-len.field-0.0 in
+          let user = c.args.user.now in
+          let password = c.args.password.now in
+          let old = a.mid in
+          let new = (told_server (g.L.Link.line c.ask.new.self.wire.link)) in
+          subst (λ (r : Result (Unit {0}) FarFault). Outcome (λ x. Authenticates user password) (Rejects user password) (Authenticates user password) r old new) (sym (p.1 ∙ ap Err p.2))
+          (outcome_err ℕ (Unit {0}) (λ len. Authenticates user password) (λ x. Authenticates user password) (Rejects user password) (Authenticates user password) old new f
+          (login_exchanged (c.args.self.now.tags + 1) user password old still (Err f) c.ask.new.self.wire.heard.items new a.then));
+    }
 
 pub returns-clause-outcome : goal.returns-clause-outcome
 returns-clause-outcome g c =
     let user = c.args.user.now in
     let password = c.args.password.now in
     let old = (told_server (g.L.Link.line c.args.self.now.wire.link)) in
-    subst (λ l. g.L.Link.honest l → is_before_login old.condition ≡ true → Authenticates user password old (told_server (g.L.Link.line l))) (sym c.done.ensures.link)
-    (λ honest before. login_exchanged (c.args.self.now.tags + 1) user password old before (Ok c.in_ok-len.len) c.ask.new.self.wire.heard.items (told_server (g.L.Link.line c.ask.new.self.wire.link)) (c.in_ok-len.ensures.outcome honest))
+    subst (λ l. g.L.Link.honest l → is_before_login old.condition ≡ true → Among g.L.Link.visitors (Authenticates user password) old (told_server (g.L.Link.line l))) (sym c.done.ensures.link)
+    (λ honest before.
+    let a = c.in_ok-len.ensures.outcome honest in
+    let still = ap (λ (c : Condition). is_before_login c) a.visits.condition ∙ before in
+    record {
+      mid = a.mid;
+      visits = a.visits;
+      then =
+          login_exchanged (c.args.self.now.tags + 1) user password a.mid still (Ok c.in_ok-len.len) c.ask.new.self.wire.heard.items (told_server (g.L.Link.line c.ask.new.self.wire.link)) a.then;
+    })

@@ -21,64 +21,101 @@ use Rattle.imap_answers.specs.Readings.{Tells}
 use Rattle.imap_client.specs.Tags.{tag_text}
 use Rattle.imap_client.proofs.Changed.{outcome_err}
 use Rattle.imap_client.proofs.Fetched.{replies_for, fetch_exchanged, fetch_unchanged, reads_so, reads_err}
+use Rattle.imap_session.specs.Visits.{Among}
 use Rattle.imap_client.proofs.session.Session.body.Goals as goal
 
 pub returns-in_err-len-clause-outcome : goal.returns-in_err-len-clause-outcome
-returns-in_err-len-clause-outcome g c honest m is store range =
-    let p = err_from_is_err_and c.from_residual.result c.from_residual.ensures.1 in
-    let f = c.in_err-len.field-0.0 in
-    let n = c.args.self.now.tags + 1 in
-    let heard = c.ask.new.self.wire.heard.items in
-    let old = (told_server (g.L.Link.line c.args.self.now.wire.link)) in
-    let new = (told_server (g.L.Link.line c.ask.new.self.wire.link)) in
-    let so = λ (found : Option (Vec ℕ Global)). text_of found ≡ bytes_of c.args.uid m.store in
-    subst (λ (r : Result (Option (Vec ℕ Global)) FarFault). Outcome (Tells so) Never Remains r old new) (sym (p.1 ∙ ap Err p.2))
-    (outcome_err ℕ (Option (Vec ℕ Global)) (λ len. Tells (λ x. AreReplies (replies_for m (one_uid c.args.uid) wanted.Body (tag_text n)) (take x heard)) len) (Tells so) Never Remains old new f
-    (fetch_exchanged n old m is (one_uid c.args.uid) wanted.Body (Err f) heard new (c.in_err-len.ensures.outcome honest)))
+returns-in_err-len-clause-outcome g c honest =
+    let a = c.in_err-len.ensures.outcome honest in
+    record {
+      mid = a.mid;
+      visits = a.visits;
+      then = λ m is store range.
+          let p = err_from_is_err_and c.from_residual.result c.from_residual.ensures.1 in
+          let f = c.in_err-len.field-0.0 in
+          let n = c.args.self.now.tags + 1 in
+          let heard = c.ask.new.self.wire.heard.items in
+          let old = a.mid in
+          let new = (told_server (g.L.Link.line c.ask.new.self.wire.link)) in
+          let so = λ (found : Option (Vec ℕ Global)). text_of found ≡ bytes_of c.args.uid m.store in
+          subst (λ (r : Result (Option (Vec ℕ Global)) FarFault). Outcome (Tells so) Never Remains r old new) (sym (p.1 ∙ ap Err p.2))
+          (outcome_err ℕ (Option (Vec ℕ Global)) (λ len. Tells (λ x. AreReplies (replies_for m (one_uid c.args.uid) wanted.Body (tag_text n)) (take x heard)) len) (Tells so) Never Remains old new f
+          (fetch_exchanged n old m is (one_uid c.args.uid) wanted.Body (Err f) heard new a.then));
+    }
 
 pub returns-in_err-body-clause-outcome : goal.returns-in_err-body-clause-outcome
-returns-in_err-body-clause-outcome g c honest m is store range =
-    let p = err_from_is_err_and c.from_residual-in_err-body.result c.from_residual-in_err-body.ensures.1 in
-    let f = c.in_err-body.field-0.0 in
-    let n = c.args.self.now.tags + 1 in
-    let heard = c.ask.new.self.wire.heard.items in
-    let old = (told_server (g.L.Link.line c.args.self.now.wire.link)) in
-    let new = (told_server (g.L.Link.line c.ask.new.self.wire.link)) in
-    let so = λ (found : Option (Vec ℕ Global)). text_of found ≡ bytes_of c.args.uid m.store in
-    let rs = replies_for m (one_uid c.args.uid) wanted.Body (tag_text n) in
-    let told = fetch_exchanged n old m is (one_uid c.args.uid) wanted.Body (Ok c.in_ok-len.len) heard new (c.in_ok-len.ensures.outcome honest) in
-    subst (λ (r : Result (Option (Vec ℕ Global)) FarFault). Outcome (Tells so) Never Remains r old new) (sym (p.1 ∙ ap Err p.2))
-    (reads_err (Option (Vec ℕ Global)) (Option (List ℕ)) text_of (body_told c.args.uid rs) (bytes_of c.args.uid m.store) (tells_body c.args.uid m (tag_text n) store range) old new told.1 f
-    (c.in_err-body.ensures.told rs told.0))
+returns-in_err-body-clause-outcome g c honest =
+    let a = c.in_ok-len.ensures.outcome honest in
+    record {
+      mid = a.mid;
+      visits = a.visits;
+      then = λ m is store range.
+          let p = err_from_is_err_and c.from_residual-in_err-body.result c.from_residual-in_err-body.ensures.1 in
+          let f = c.in_err-body.field-0.0 in
+          let n = c.args.self.now.tags + 1 in
+          let heard = c.ask.new.self.wire.heard.items in
+          let old = a.mid in
+          let new = (told_server (g.L.Link.line c.ask.new.self.wire.link)) in
+          let so = λ (found : Option (Vec ℕ Global)). text_of found ≡ bytes_of c.args.uid m.store in
+          let rs = replies_for m (one_uid c.args.uid) wanted.Body (tag_text n) in
+          let told = fetch_exchanged n old m is (one_uid c.args.uid) wanted.Body (Ok c.in_ok-len.len) heard new a.then in
+          subst (λ (r : Result (Option (Vec ℕ Global)) FarFault). Outcome (Tells so) Never Remains r old new) (sym (p.1 ∙ ap Err p.2))
+          (reads_err (Option (Vec ℕ Global)) (Option (List ℕ)) text_of (body_told c.args.uid rs) (bytes_of c.args.uid m.store) (tells_body c.args.uid m (tag_text n) store range) old new told.1 f
+          (c.in_err-body.ensures.told rs told.0));
+    }
 
 pub returns-clause-outcome : goal.returns-clause-outcome
 returns-clause-outcome g c =
     let n = c.args.self.now.tags + 1 in
     let heard = c.ask.new.self.wire.heard.items in
     let old = (told_server (g.L.Link.line c.args.self.now.wire.link)) in
-    subst (λ l. g.L.Link.honest l → (m : FarMailbox) → selected old ≡ Some m → IsStore m.store → AreInRange m.store.messages → Tells (λ (found : Option (Vec ℕ Global)). text_of found ≡ bytes_of c.args.uid m.store) c.in_ok-body.body old (told_server (g.L.Link.line l))) (sym c.done.ensures.link)
-    (λ honest m is store range.
-    let new = (told_server (g.L.Link.line c.ask.new.self.wire.link)) in
-    let rs = replies_for m (one_uid c.args.uid) wanted.Body (tag_text n) in
-    let told = fetch_exchanged n old m is (one_uid c.args.uid) wanted.Body (Ok c.in_ok-len.len) heard new (c.in_ok-len.ensures.outcome honest) in
-    reads_so (Option (Vec ℕ Global)) (Option (List ℕ)) text_of (body_told c.args.uid rs) (bytes_of c.args.uid m.store) (tells_body c.args.uid m (tag_text n) store range) old new told.1 c.in_ok-body.body
-    (c.in_ok-body.ensures.told rs told.0))
+    subst (λ l. g.L.Link.honest l → Among g.L.Link.visitors (λ old new. (m : FarMailbox) → selected old ≡ Some m → IsStore m.store → AreInRange m.store.messages → Tells (λ (found : Option (Vec ℕ Global)). text_of found ≡ bytes_of c.args.uid m.store) c.in_ok-body.body old new) old (told_server (g.L.Link.line l))) (sym c.done.ensures.link)
+    (λ honest.
+    let a = c.in_ok-len.ensures.outcome honest in
+    record {
+      mid = a.mid;
+      visits = a.visits;
+      then = λ m is store range.
+          let new = (told_server (g.L.Link.line c.ask.new.self.wire.link)) in
+          let rs = replies_for m (one_uid c.args.uid) wanted.Body (tag_text n) in
+          let told = fetch_exchanged n a.mid m is (one_uid c.args.uid) wanted.Body (Ok c.in_ok-len.len) heard new a.then in
+          reads_so (Option (Vec ℕ Global)) (Option (List ℕ)) text_of (body_told c.args.uid rs) (bytes_of c.args.uid m.store) (tells_body c.args.uid m (tag_text n) store range) a.mid new told.1 c.in_ok-body.body
+          (c.in_ok-body.ensures.told rs told.0);
+    })
 
 pub returns-in_err-len-clause-remains : goal.returns-in_err-len-clause-remains
-returns-in_err-len-clause-remains g c honest m is =
-    let n = c.args.self.now.tags + 1 in
-    let heard = c.ask.new.self.wire.heard.items in
-    fetch_unchanged n (told_server (g.L.Link.line c.args.self.now.wire.link)) m is (one_uid c.args.uid) wanted.Body (Err c.in_err-len.field-0.0) heard (told_server (g.L.Link.line c.ask.new.self.wire.link)) (c.in_err-len.ensures.outcome honest)
+returns-in_err-len-clause-remains g c honest =
+    let a = c.in_err-len.ensures.outcome honest in
+    record {
+      mid = a.mid;
+      visits = a.visits;
+      then = λ m is.
+          let n = c.args.self.now.tags + 1 in
+          let heard = c.ask.new.self.wire.heard.items in
+          fetch_unchanged n a.mid m is (one_uid c.args.uid) wanted.Body (Err c.in_err-len.field-0.0) heard (told_server (g.L.Link.line c.ask.new.self.wire.link)) a.then;
+    }
 
 pub returns-in_err-body-clause-remains : goal.returns-in_err-body-clause-remains
-returns-in_err-body-clause-remains g c honest m is =
-    let n = c.args.self.now.tags + 1 in
-    (fetch_exchanged n (told_server (g.L.Link.line c.args.self.now.wire.link)) m is (one_uid c.args.uid) wanted.Body (Ok c.in_ok-len.len) c.ask.new.self.wire.heard.items (told_server (g.L.Link.line c.ask.new.self.wire.link)) (c.in_ok-len.ensures.outcome honest)).1
+returns-in_err-body-clause-remains g c honest =
+    let a = c.in_ok-len.ensures.outcome honest in
+    record {
+      mid = a.mid;
+      visits = a.visits;
+      then = λ m is.
+          let n = c.args.self.now.tags + 1 in
+          (fetch_exchanged n a.mid m is (one_uid c.args.uid) wanted.Body (Ok c.in_ok-len.len) c.ask.new.self.wire.heard.items (told_server (g.L.Link.line c.ask.new.self.wire.link)) a.then).1;
+    }
 
 pub returns-clause-remains : goal.returns-clause-remains
 returns-clause-remains g c =
     let n = c.args.self.now.tags + 1 in
     let old = (told_server (g.L.Link.line c.args.self.now.wire.link)) in
-    subst (λ l. g.L.Link.honest l → (m : FarMailbox) → selected old ≡ Some m → Remains old (told_server (g.L.Link.line l))) (sym c.done.ensures.link)
-    (λ honest m is.
-    (fetch_exchanged n old m is (one_uid c.args.uid) wanted.Body (Ok c.in_ok-len.len) c.ask.new.self.wire.heard.items (told_server (g.L.Link.line c.ask.new.self.wire.link)) (c.in_ok-len.ensures.outcome honest)).1)
+    subst (λ l. g.L.Link.honest l → Among g.L.Link.visitors (λ old new. (m : FarMailbox) → selected old ≡ Some m → Remains old new) old (told_server (g.L.Link.line l))) (sym c.done.ensures.link)
+    (λ honest.
+    let a = c.in_ok-len.ensures.outcome honest in
+    record {
+      mid = a.mid;
+      visits = a.visits;
+      then = λ m is.
+          (fetch_exchanged n a.mid m is (one_uid c.args.uid) wanted.Body (Ok c.in_ok-len.len) c.ask.new.self.wire.heard.items (told_server (g.L.Link.line c.ask.new.self.wire.link)) a.then).1;
+    })

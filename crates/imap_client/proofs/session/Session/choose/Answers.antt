@@ -16,6 +16,8 @@ use Rattle.imap_client.proofs.Transcribed.{command_ends, answers_ok, lacks_next,
 use Rattle.imap_client.specs.Transcripts.{EndsBy, Hears, Says, of_select, opened}
 use Rattle.imap_answers.specs.Openings.{opening_of}
 use Rattle.imap_link.specs.declared.fault.FarFault.TheVariants as faults
+use Rattle.imap_session.specs.Visits.{Among}
+use Rattle.imap_session.specs.Servers.{Condition}
 use Rattle.imap_client.proofs.session.Session.choose.Goals as goal
 
 abbrev told : Chosen → Opening
@@ -70,14 +72,21 @@ opening-requires-clause-speaks g c = speaks_of (tag_text c.ask.new.self.tags) st
 
 pub returns-in_err-len-clause-outcome : goal.returns-in_err-len-clause-outcome
 returns-in_err-len-clause-outcome g c honest logged =
-    let p = err_from_is_err_and c.from_residual.result c.from_residual.ensures.1 in
-    let f = c.in_err-len.field-0.0 in
-    let name = c.args.name.now in
-    let old = (told_server (g.L.Link.line c.args.self.now.wire.link)) in
-    let new = (told_server (g.L.Link.line c.ask.new.self.wire.link)) in
-    subst (λ (r : Result Chosen FarFault). Outcome (λ x. Selects name x.validity x.next) (NoMailbox name) (Chooses name) r old new) (sym (p.1 ∙ ap Err p.2))
-    (outcome_err ℕ Chosen (λ len. ChosenBy name (tag_text (c.args.self.now.tags + 1)) (take len c.ask.new.self.wire.heard.items)) (λ x. Selects name x.validity x.next) (NoMailbox name) (Chooses name) old new f
-    (select_exchanged (c.args.self.now.tags + 1) name old logged (Err f) c.ask.new.self.wire.heard.items new (c.in_err-len.ensures.outcome honest)))
+    let a = c.in_err-len.ensures.outcome honest in
+    let still = ap (λ (c : Condition). is_logged_in c) a.visits.condition ∙ logged in
+    record {
+      mid = a.mid;
+      visits = a.visits;
+      then =
+          let p = err_from_is_err_and c.from_residual.result c.from_residual.ensures.1 in
+          let f = c.in_err-len.field-0.0 in
+          let name = c.args.name.now in
+          let old = a.mid in
+          let new = (told_server (g.L.Link.line c.ask.new.self.wire.link)) in
+          subst (λ (r : Result Chosen FarFault). Outcome (λ x. Selects name x.validity x.next) (NoMailbox name) (Chooses name) r old new) (sym (p.1 ∙ ap Err p.2))
+          (outcome_err ℕ Chosen (λ len. ChosenBy name (tag_text (c.args.self.now.tags + 1)) (take len c.ask.new.self.wire.heard.items)) (λ x. Selects name x.validity x.next) (NoMailbox name) (Chooses name) old new f
+          (select_exchanged (c.args.self.now.tags + 1) name old still (Err f) c.ask.new.self.wire.heard.items new a.then));
+    }
 
 pub returns-in_err-opening-clause-ends : goal.returns-in_err-opening-clause-ends
 returns-in_err-opening-clause-ends g c =
@@ -90,62 +99,103 @@ returns-in_err-opening-clause-ends g c =
 
 pub returns-in_err-opening-clause-outcome : goal.returns-in_err-opening-clause-outcome
 returns-in_err-opening-clause-outcome g c honest logged =
-    let p = err_from_is_err_and c.from_residual-in_err-opening.result c.from_residual-in_err-opening.ensures.1 in
-    let name = c.args.name.now in
-    let old = (told_server (g.L.Link.line c.args.self.now.wire.link)) in
-    let new = (told_server (g.L.Link.line c.ask.new.self.wire.link)) in
-    let chosen = select_exchanged (c.args.self.now.tags + 1) name old logged (Ok c.in_ok-len.len) c.ask.new.self.wire.heard.items new (c.in_ok-len.ensures.outcome honest) in
-    subst (λ (r : Result Chosen FarFault). Outcome (λ x. Selects name x.validity x.next) (NoMailbox name) (Chooses name) r old new) (sym (p.1 ∙ ap Err (p.2 ∙ c.in_err-opening.ensures.err)))
-    (inr (effect_so name _ _ old new chosen))
+    let a = c.in_ok-len.ensures.outcome honest in
+    let still = ap (λ (c : Condition). is_logged_in c) a.visits.condition ∙ logged in
+    record {
+      mid = a.mid;
+      visits = a.visits;
+      then =
+          let p = err_from_is_err_and c.from_residual-in_err-opening.result c.from_residual-in_err-opening.ensures.1 in
+          let name = c.args.name.now in
+          let old = a.mid in
+          let new = (told_server (g.L.Link.line c.ask.new.self.wire.link)) in
+          let chosen = select_exchanged (c.args.self.now.tags + 1) name old still (Ok c.in_ok-len.len) c.ask.new.self.wire.heard.items new a.then in
+          subst (λ (r : Result Chosen FarFault). Outcome (λ x. Selects name x.validity x.next) (NoMailbox name) (Chooses name) r old new) (sym (p.1 ∙ ap Err (p.2 ∙ c.in_err-opening.ensures.err)))
+          (inr (effect_so name _ _ old new chosen));
+    }
 
 pub returns-in_default-clause-outcome : goal.returns-in_default-clause-outcome
 returns-in_default-clause-outcome g c honest logged =
-    let name = c.args.name.now in
-    let old = (told_server (g.L.Link.line c.args.self.now.wire.link)) in
-    let new = (told_server (g.L.Link.line c.ask.new.self.wire.link)) in
-    let chosen = select_exchanged (c.args.self.now.tags + 1) name old logged (Ok c.in_ok-len.len) c.ask.new.self.wire.heard.items new (c.in_ok-len.ensures.outcome honest) in
-    let told = told_so name _ _ old new chosen c.in_ok-opening.opening c.in_ok-opening.ensures.told in
-    c.in_default.not-Some _ (ap (λ (o : Opening). o.next) told)
+    let a = c.in_ok-len.ensures.outcome honest in
+    let still = ap (λ (c : Condition). is_logged_in c) a.visits.condition ∙ logged in
+    record {
+      mid = a.mid;
+      visits = a.visits;
+      then =
+          let name = c.args.name.now in
+          let old = a.mid in
+          let new = (told_server (g.L.Link.line c.ask.new.self.wire.link)) in
+          let chosen = select_exchanged (c.args.self.now.tags + 1) name old still (Ok c.in_ok-len.len) c.ask.new.self.wire.heard.items new a.then in
+          let told = told_so name _ _ old new chosen c.in_ok-opening.opening c.in_ok-opening.ensures.told in
+          c.in_default.not-Some _ (ap (λ (o : Opening). o.next) told);
+    }
 
 pub returns-in_default-validity-clause-outcome : goal.returns-in_default-validity-clause-outcome
 returns-in_default-validity-clause-outcome g c honest logged =
-    let name = c.args.name.now in
-    let old = (told_server (g.L.Link.line c.args.self.now.wire.link)) in
-    let new = (told_server (g.L.Link.line c.ask.new.self.wire.link)) in
-    let chosen = select_exchanged (c.args.self.now.tags + 1) name old logged (Ok c.in_ok-len.len) c.ask.new.self.wire.heard.items new (c.in_ok-len.ensures.outcome honest) in
-    let told = told_so name _ _ old new chosen c.in_ok-opening.opening c.in_ok-opening.ensures.told in
-    c.in_default-validity.not-Some _ (ap (λ (o : Opening). o.validity) told)
+    let a = c.in_ok-len.ensures.outcome honest in
+    let still = ap (λ (c : Condition). is_logged_in c) a.visits.condition ∙ logged in
+    record {
+      mid = a.mid;
+      visits = a.visits;
+      then =
+          let name = c.args.name.now in
+          let old = a.mid in
+          let new = (told_server (g.L.Link.line c.ask.new.self.wire.link)) in
+          let chosen = select_exchanged (c.args.self.now.tags + 1) name old still (Ok c.in_ok-len.len) c.ask.new.self.wire.heard.items new a.then in
+          let told = told_so name _ _ old new chosen c.in_ok-opening.opening c.in_ok-opening.ensures.told in
+          c.in_default-validity.not-Some _ (ap (λ (o : Opening). o.validity) told);
+    }
 
 pub returns-then-opening-clause-outcome : goal.returns-then-opening-clause-outcome
 returns-then-opening-clause-outcome g c =
     let name = c.args.name.now in
     let old = (told_server (g.L.Link.line c.args.self.now.wire.link)) in
-    subst (λ l. g.L.Link.honest l → is_logged_in old.condition ≡ true → ⊥) (sym c.done.ensures.link)
+    subst (λ l. g.L.Link.honest l → is_logged_in old.condition ≡ true → Among g.L.Link.visitors (λ old new. ⊥) old (told_server (g.L.Link.line l))) (sym c.done.ensures.link)
     (λ honest logged.
-    let new = (told_server (g.L.Link.line c.ask.new.self.wire.link)) in
-    let chosen = select_exchanged (c.args.self.now.tags + 1) name old logged (Ok c.in_ok-len.len) c.ask.new.self.wire.heard.items new (c.in_ok-len.ensures.outcome honest) in
-    let told = told_so name _ _ old new chosen c.in_ok-opening.opening c.in_ok-opening.ensures.told in
-    let both : false ≡ true = sym (ap (λ (o : Opening). o.is_read_only) told) ∙ c.if-opening.true in
-    cc)
+    let a = c.in_ok-len.ensures.outcome honest in
+    let still = ap (λ (c : Condition). is_logged_in c) a.visits.condition ∙ logged in
+    record {
+      mid = a.mid;
+      visits = a.visits;
+      then =
+          let new = (told_server (g.L.Link.line c.ask.new.self.wire.link)) in
+          let chosen = select_exchanged (c.args.self.now.tags + 1) name a.mid still (Ok c.in_ok-len.len) c.ask.new.self.wire.heard.items new a.then in
+          let told = told_so name _ _ a.mid new chosen c.in_ok-opening.opening c.in_ok-opening.ensures.told in
+          let both : false ≡ true = sym (ap (λ (o : Opening). o.is_read_only) told) ∙ c.if-opening.true in
+          cc;
+    })
 
 pub returns-clause-chosen : goal.returns-clause-chosen
 returns-clause-chosen g c =
     let name = c.args.name.now in
     let old = (told_server (g.L.Link.line c.args.self.now.wire.link)) in
-    subst (λ l. g.L.Link.honest l → Selects name c.in-Some-validity.validity c.in-Some.next old (told_server (g.L.Link.line l))) (sym c.done.ensures.link)
+    subst (λ l. g.L.Link.honest l → Among g.L.Link.visitors (Selects name c.in-Some-validity.validity c.in-Some.next) old (told_server (g.L.Link.line l))) (sym c.done.ensures.link)
     (λ honest.
-    let new = (told_server (g.L.Link.line c.ask.new.self.wire.link)) in
-    let chosen = ok_chosen (c.args.self.now.tags + 1) name old c.in_ok-len.len c.ask.new.self.wire.heard.items new (c.in_ok-len.ensures.outcome honest) in
-    let told = told_so name _ _ old new chosen c.in_ok-opening.opening c.in_ok-opening.ensures.told in
-    selects_so name _ _ old new chosen c.in-Some-validity.validity c.in-Some.next c.in_ok-opening.opening told c.in-Some-validity.is c.in-Some.is)
+    let a = c.in_ok-len.ensures.outcome honest in
+    record {
+      mid = a.mid;
+      visits = a.visits;
+      then =
+          let new = (told_server (g.L.Link.line c.ask.new.self.wire.link)) in
+          let chosen = ok_chosen (c.args.self.now.tags + 1) name a.mid c.in_ok-len.len c.ask.new.self.wire.heard.items new a.then in
+          let told = told_so name _ _ a.mid new chosen c.in_ok-opening.opening c.in_ok-opening.ensures.told in
+          selects_so name _ _ a.mid new chosen c.in-Some-validity.validity c.in-Some.next c.in_ok-opening.opening told c.in-Some-validity.is c.in-Some.is;
+    })
 
 pub returns-clause-outcome : goal.returns-clause-outcome
 returns-clause-outcome g c =
     let name = c.args.name.now in
     let old = (told_server (g.L.Link.line c.args.self.now.wire.link)) in
-    subst (λ l. g.L.Link.honest l → is_logged_in old.condition ≡ true → Selects name c.in-Some-validity.validity c.in-Some.next old (told_server (g.L.Link.line l))) (sym c.done.ensures.link)
+    subst (λ l. g.L.Link.honest l → is_logged_in old.condition ≡ true → Among g.L.Link.visitors (Selects name c.in-Some-validity.validity c.in-Some.next) old (told_server (g.L.Link.line l))) (sym c.done.ensures.link)
     (λ honest logged.
-    let new = (told_server (g.L.Link.line c.ask.new.self.wire.link)) in
-    let chosen = select_exchanged (c.args.self.now.tags + 1) name old logged (Ok c.in_ok-len.len) c.ask.new.self.wire.heard.items new (c.in_ok-len.ensures.outcome honest) in
-    let told = told_so name _ _ old new chosen c.in_ok-opening.opening c.in_ok-opening.ensures.told in
-    selects_so name _ _ old new chosen c.in-Some-validity.validity c.in-Some.next c.in_ok-opening.opening told c.in-Some-validity.is c.in-Some.is)
+    let a = c.in_ok-len.ensures.outcome honest in
+    let still = ap (λ (c : Condition). is_logged_in c) a.visits.condition ∙ logged in
+    record {
+      mid = a.mid;
+      visits = a.visits;
+      then =
+          let new = (told_server (g.L.Link.line c.ask.new.self.wire.link)) in
+          let chosen = select_exchanged (c.args.self.now.tags + 1) name a.mid still (Ok c.in_ok-len.len) c.ask.new.self.wire.heard.items new a.then in
+          let told = told_so name _ _ a.mid new chosen c.in_ok-opening.opening c.in_ok-opening.ensures.told in
+          selects_so name _ _ a.mid new chosen c.in-Some-validity.validity c.in-Some.next c.in_ok-opening.opening told c.in-Some-validity.is c.in-Some.is;
+    })

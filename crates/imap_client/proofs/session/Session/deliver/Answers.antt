@@ -16,52 +16,79 @@ use Rattle.imap_client.proofs.Changed.{outcome_err}
 use Rattle.imap_client.proofs.Exchanging.{exchanged_err, exchanged_of, judged_len}
 use Rattle.imap_client.proofs.Offering.{completes}
 use Rattle.imap_client.proofs.Still.{still_of}
+use Rattle.imap_session.specs.Servers.{told}
+use Rattle.imap_session.specs.Visits.{Among}
+use Rattle.imap_link.proofs.Visited.{at_then, both_told}
+use Rattle.imap_client.proofs.Visited.{two_visits}
 use Rattle.imap_client.proofs.session.Session.deliver.Goals as goal
 
 pub returns-in_err-offer-clause-outcome : goal.returns-in_err-offer-clause-outcome
 returns-in_err-offer-clause-outcome g c honest command is =
     let p = err_from_is_err_and c.from_residual.result c.from_residual.ensures.1 in
     let f = c.in_err-offer.field-0.0 in
-    let old = (told_server (g.L.Link.line c.args.self.now.wire.link)) in
     let new = (told_server (g.L.Link.line c.offer.new.self.wire.link)) in
     let heard = c.offer.new.self.wire.heard.items in
-    subst (λ (r : Result ℕ FarFault). Exchanged command r heard old new) (sym (p.1 ∙ ap Err p.2))
-    (exchanged_err command (λ a. Never) f heard old new
-    (outcome_err (Unit {0}) Answered (λ a. Never) (λ a. Never) Never (Performs command) old new f (c.in_err-offer.ensures.outcome honest c.args.rest.now command is)))
+    let a = c.in_err-offer.ensures.outcome honest in
+    let old = told a.mid in
+    record {
+      mid = old;
+      visits = both_told g.L.Link.visitors (g.L.Link.line c.args.self.now.wire.link).end.server a.mid a.visits;
+      then =
+          subst (λ (r : Result ℕ FarFault). Exchanged command r heard old new) (sym (p.1 ∙ ap Err p.2))
+          (exchanged_err command (λ a. Never) f heard old new
+          (outcome_err (Unit {0}) Answered (λ a. Never) (λ a. Never) Never (Performs command) old new f (a.then c.args.rest.now command is)));
+    }
 
 pub returns-in_err-answered-clause-outcome : goal.returns-in_err-answered-clause-outcome
 returns-in_err-answered-clause-outcome g c honest command is =
     let p = err_from_is_err_and c.from_residual-in_err-answered.result c.from_residual-in_err-answered.ensures.1 in
     let f = c.in_err-answered.field-0.0 in
-    let old = (told_server (g.L.Link.line c.args.self.now.wire.link)) in
-    let mid = (told_server (g.L.Link.line c.offer.new.self.wire.link)) in
+    let begin = g.L.Link.line c.args.self.now.wire.link in
+    let offered = g.L.Link.line c.offer.new.self.wire.link in
     let new = (told_server (g.L.Link.line c.finish.new.self.link)) in
     let heard = c.finish.new.self.heard.items in
-    let waits = c.in_ok-offer.ensures.outcome (c.in_err-answered.ensures.was_honest honest) c.args.rest.now command is in
-    subst (λ (r : Result ℕ FarFault). Exchanged command r heard old new) (sym (p.1 ∙ ap Err p.2))
-    (subst (λ (s : Server). Exchanged command (Err f) heard s new) waits.0
-    (exchanged_err command (λ a. Replied command a.status (take a.len heard)) f heard mid new
-    (c.in_err-answered.ensures.outcome honest command c.args.front.now (completes command c.args.tag.now c.args.front.now c.args.rest.now is c.answer_alone.result c.answer_alone.ensures) waits.1)))
+    let first = c.in_ok-offer.ensures.outcome (c.in_err-answered.ensures.was_honest honest) in
+    let waits = first.then c.args.rest.now command is in
+    let a = c.in_err-answered.ensures.outcome honest in
+    let mid = told a.mid in
+    record {
+      mid = mid;
+      visits = two_visits g.L.Link.visitors begin offered first.mid a.mid first.visits waits.0 a.visits;
+      then =
+          subst (λ (r : Result ℕ FarFault). Exchanged command r heard mid new) (sym (p.1 ∙ ap Err p.2))
+          (exchanged_err command (λ a. Replied command a.status (take a.len heard)) f heard mid new
+          (a.then command c.args.front.now (completes command c.args.tag.now c.args.front.now c.args.rest.now is c.answer_alone.result c.answer_alone.ensures)
+          (at_then g.L.Link.visitors c.args.front.now offered c.offer.new.self.wire.heard.items a.mid a.visits waits.1)));
+    }
 
 pub judge-requires-clause-idle : goal.judge-requires-clause-idle
 judge-requires-clause-idle g c honest =
     let one = c.requires.parts in
-    let waits = c.in_ok-offer.ensures.outcome (c.in_ok-answered.ensures.was_honest honest) c.args.rest.now one.command one.is in
+    let first = c.in_ok-offer.ensures.outcome (c.in_ok-answered.ensures.was_honest honest) in
+    let waits = first.then c.args.rest.now one.command one.is in
     still_of (ends_of (g.L.Link.line c.finish.new.self.link) (drop c.in_ok-answered.answered.len c.finish.new.self.heard.items))
     (c.in_ok-answered.ensures.idle honest one.command c.args.front.now (completes one.command c.args.tag.now c.args.front.now c.args.rest.now one.is c.answer_alone.result c.answer_alone.ensures) one.is.stays waits.1)
 
 pub returns-clause-outcome : goal.returns-clause-outcome
 returns-clause-outcome g c =
-    let old = (told_server (g.L.Link.line c.args.self.now.wire.link)) in
+    let begin = g.L.Link.line c.args.self.now.wire.link in
     let now = c.judge.new.self.wire.heard.items in
-    subst (λ l. g.L.Link.honest l → (command : Command) → InTwo c.args.tag.now c.args.front.now c.args.rest.now command → Exchanged command c.judge.result now old (told_server (g.L.Link.line l))) (sym c.judge.ensures.link)
+    subst (λ l. g.L.Link.honest l → (command : Command) → InTwo c.args.tag.now c.args.front.now c.args.rest.now command → Among g.L.Link.visitors (Exchanged command c.judge.result now) (told_server begin) (told_server (g.L.Link.line l))) (sym c.judge.ensures.link)
     (λ honest command is.
-    let mid = (told_server (g.L.Link.line c.offer.new.self.wire.link)) in
+    let offered = g.L.Link.line c.offer.new.self.wire.link in
     let new = (told_server (g.L.Link.line c.finish.new.self.link)) in
-    let waits = c.in_ok-offer.ensures.outcome (c.in_ok-answered.ensures.was_honest honest) c.args.rest.now command is in
-    subst (λ (s : Server). Exchanged command c.judge.result now s new) waits.0
-    (exchanged_of command c.in_ok-answered.answered.status c.in_ok-answered.answered.len c.judge.new.self.is_ready c.judge.result c.finish.new.self.heard.items now mid new c.judge.ensures.judged c.judge.ensures.heard
-    (c.in_ok-answered.ensures.outcome honest command c.args.front.now (completes command c.args.tag.now c.args.front.now c.args.rest.now is c.answer_alone.result c.answer_alone.ensures) waits.1)))
+    let first = c.in_ok-offer.ensures.outcome (c.in_ok-answered.ensures.was_honest honest) in
+    let waits = first.then c.args.rest.now command is in
+    let a = c.in_ok-answered.ensures.outcome honest in
+    let mid = told a.mid in
+    record {
+      mid = mid;
+      visits = two_visits g.L.Link.visitors begin offered first.mid a.mid first.visits waits.0 a.visits;
+      then =
+          exchanged_of command c.in_ok-answered.answered.status c.in_ok-answered.answered.len c.judge.new.self.is_ready c.judge.result c.finish.new.self.heard.items now mid new c.judge.ensures.judged c.judge.ensures.heard
+          (a.then command c.args.front.now (completes command c.args.tag.now c.args.front.now c.args.rest.now is c.answer_alone.result c.answer_alone.ensures)
+          (at_then g.L.Link.visitors c.args.front.now offered c.offer.new.self.wire.heard.items a.mid a.visits waits.1));
+    })
 
 pub returns-clause-idle : goal.returns-clause-idle
 returns-clause-idle g c =
@@ -71,7 +98,8 @@ returns-clause-idle g c =
     let was = c.finish.new.self.heard.items in
     subst (λ l. g.L.Link.honest l → IsStill (ends_of (g.L.Link.line l) (drop n c.judge.new.self.wire.heard.items))) (sym c.judge.ensures.link) (λ honest.
     let one = c.requires.parts in
-    let waits = c.in_ok-offer.ensures.outcome (c.in_ok-answered.ensures.was_honest honest) c.args.rest.now one.command one.is in
+    let first = c.in_ok-offer.ensures.outcome (c.in_ok-answered.ensures.was_honest honest) in
+    let waits = first.then c.args.rest.now one.command one.is in
     let still = still_of (ends_of (g.L.Link.line c.finish.new.self.link) (drop c.in_ok-answered.answered.len was))
     (c.in_ok-answered.ensures.idle honest one.command c.args.front.now (completes one.command c.args.tag.now c.args.front.now c.args.rest.now one.is c.answer_alone.result c.answer_alone.ensures) one.is.stays waits.1) in
     subst (λ (b : List ℕ). IsStill (ends_of (g.L.Link.line c.finish.new.self.link) b)) (ap (λ (k : ℕ). drop k was) (sym len) ∙ ap (drop n) (sym heard)) still))

@@ -13,6 +13,8 @@ use Rattle.imap_client.proofs.LoggingIn.{enable_answered, asked_ends}
 use Rattle.imap_client.proofs.Transcribed.{unheard, answers_so, declines_so}
 use Rattle.imap_client.specs.Tags.{tag_text}
 use Rattle.imap_client.specs.Transcripts.{EndsBy, Hears, Answers, of_enable}
+use Rattle.imap_session.specs.Visits.{Among}
+use Rattle.imap_session.specs.Servers.{Condition}
 use Rattle.imap_client.proofs.session.Session.enable.Goals as goal
 
 pub returns-in_err-answered-clause-heard : goal.returns-in_err-answered-clause-heard
@@ -51,25 +53,46 @@ returns-in_err-answered-clause-ends g c =
 
 pub returns-in_err-answered-clause-outcome : goal.returns-in_err-answered-clause-outcome
 returns-in_err-answered-clause-outcome g c honest logged =
-    let p = err_from_is_err_and c.from_residual.result c.from_residual.ensures.1 in
-    let f = c.in_err-answered.field-0.0 in
-    let old = (told_server (g.L.Link.line c.args.self.now.wire.link)) in
-    let new = (told_server (g.L.Link.line c.ask_status.new.self.wire.link)) in
-    subst (λ (r : Result (Unit {0}) FarFault). Outcome (λ x. Remains) Never Remains r old new) (sym (p.1 ∙ ap Err p.2))
-    (outcome_err Answered (Unit {0}) (λ a s t. (a.status ≡ statuses.Ok) × Remains s t) (λ x. Remains) Never Remains old new f
-    (enable_answered (c.args.self.now.tags + 1) old logged (Err f) c.ask_status.new.self.wire.heard.items new (c.in_err-answered.ensures.outcome honest)))
+    let a = c.in_err-answered.ensures.outcome honest in
+    let still = ap (λ (c : Condition). is_logged_in c) a.visits.condition ∙ logged in
+    record {
+      mid = a.mid;
+      visits = a.visits;
+      then =
+          let p = err_from_is_err_and c.from_residual.result c.from_residual.ensures.1 in
+          let f = c.in_err-answered.field-0.0 in
+          let old = a.mid in
+          let new = (told_server (g.L.Link.line c.ask_status.new.self.wire.link)) in
+          subst (λ (r : Result (Unit {0}) FarFault). Outcome (λ x. Remains) Never Remains r old new) (sym (p.1 ∙ ap Err p.2))
+          (outcome_err Answered (Unit {0}) (λ a s t. (a.status ≡ statuses.Ok) × Remains s t) (λ x. Remains) Never Remains old new f
+          (enable_answered (c.args.self.now.tags + 1) old still (Err f) c.ask_status.new.self.wire.heard.items new a.then));
+    }
 
 pub returns-in_default-clause-outcome : goal.returns-in_default-clause-outcome
 returns-in_default-clause-outcome g c honest logged =
-    let old = (told_server (g.L.Link.line c.args.self.now.wire.link)) in
-    let new = (told_server (g.L.Link.line c.ask_status.new.self.wire.link)) in
-    let told = enable_answered (c.args.self.now.tags + 1) old logged (Ok c.in_ok-answered.answered) c.ask_status.new.self.wire.heard.items new (c.in_ok-answered.ensures.outcome honest) in
-    c.in_default.not-Ok told.0
+    let a = c.in_ok-answered.ensures.outcome honest in
+    let still = ap (λ (c : Condition). is_logged_in c) a.visits.condition ∙ logged in
+    record {
+      mid = a.mid;
+      visits = a.visits;
+      then =
+          let old = a.mid in
+          let new = (told_server (g.L.Link.line c.ask_status.new.self.wire.link)) in
+          let told = enable_answered (c.args.self.now.tags + 1) old still (Ok c.in_ok-answered.answered) c.ask_status.new.self.wire.heard.items new a.then in
+          c.in_default.not-Ok told.0;
+    }
 
 pub returns-in-Ok-clause-outcome : goal.returns-in-Ok-clause-outcome
 returns-in-Ok-clause-outcome g c =
     let old = (told_server (g.L.Link.line c.args.self.now.wire.link)) in
-    subst (λ l. g.L.Link.honest l → is_logged_in old.condition ≡ true → Remains old (told_server (g.L.Link.line l))) (sym c.done.ensures.link)
+    subst (λ l. g.L.Link.honest l → is_logged_in old.condition ≡ true → Among g.L.Link.visitors (λ old new. Remains old new) old (told_server (g.L.Link.line l))) (sym c.done.ensures.link)
     (λ honest logged.
-    let told = enable_answered (c.args.self.now.tags + 1) old logged (Ok c.in_ok-answered.answered) c.ask_status.new.self.wire.heard.items (told_server (g.L.Link.line c.ask_status.new.self.wire.link)) (c.in_ok-answered.ensures.outcome honest) in
-    told.1)
+    let a = c.in_ok-answered.ensures.outcome honest in
+    let still = ap (λ (c : Condition). is_logged_in c) a.visits.condition ∙ logged in
+    record {
+      mid = a.mid;
+      visits = a.visits;
+      then =
+          let told = enable_answered (c.args.self.now.tags + 1) a.mid still (Ok c.in_ok-answered.answered) c.ask_status.new.self.wire.heard.items (told_server (g.L.Link.line c.ask_status.new.self.wire.link)) a.then in
+          told.1;
+    })

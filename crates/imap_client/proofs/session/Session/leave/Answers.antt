@@ -12,6 +12,11 @@ use Rattle.imap_client.proofs.Changed.{outcome_err}
 use Rattle.imap_client.proofs.Exchanging.{state_at}
 use Rattle.imap_client.proofs.LoggingOut.{logout_completes, left_answered, left_err, no_is_not, bad_is_not}
 use Rattle.imap_client.proofs.Still.{idle_of}
+use Rattle.imap_session.specs.Servers.{told}
+use Rattle.imap_link.proofs.Visited.{at_then, both_told}
+use Rattle.imap_link.specs.declared.fault.FarFault.TheVariants as faults
+use Rattle.std.proofs.Common.{inl, refl}
+use Rattle.imap_client.proofs.Visited.{unsent}
 use Rattle.imap_client.proofs.session.Session.leave.Goals as goal
 
 pub returns-in_err-answered-clause-left : goal.returns-in_err-answered-clause-left
@@ -29,40 +34,69 @@ returns-in_err-answered-clause-outcome g c honest =
     let p = err_from_is_err_and c.from_residual-in_err-answered.result c.from_residual-in_err-answered.ensures.1 in
     let f = c.in_err-answered.field-0.0 in
     let command = c.args.command.now in
-    let old = (told_server (g.L.Link.line c.args.self.now.wire.link)) in
     let new = (told_server (g.L.Link.line c.finish.new.self.link)) in
     let heard = c.finish.new.self.heard.items in
     let completes = logout_completes command c.requires.logout c.answer_alone.result c.deref.result.now c.answer_alone.ensures (subst (Written command) (sym c.deref.ensures.value) c.in_ok-text.ensures) in
     let at = idle_of (ends_of (g.L.Link.line c.args.self.now.wire.link) c.args.self.now.wire.heard.items) (c.requires.idle (c.in_err-answered.ensures.was_honest honest)) in
-    subst (λ (r : Result (Unit {0}) FarFault). Outcome (λ x. Leaves) Never Leaves r old new) (sym (p.1 ∙ ap Err p.2))
-    (outcome_err Answered (Unit {0}) (λ a s t. (a.status ≡ statuses.Ok) × Leaves s t) (λ x. Leaves) Never Leaves old new f
-    (left_answered command c.requires.logout old (Err f) heard new (c.in_err-answered.ensures.outcome honest command [] completes at)))
+    let a = c.in_err-answered.ensures.outcome honest in
+    let old = told a.mid in
+    record {
+      mid = old;
+      visits = both_told g.L.Link.visitors (g.L.Link.line c.args.self.now.wire.link).end.server a.mid a.visits;
+      then =
+          subst (λ (r : Result (Unit {0}) FarFault). Outcome (λ x. Leaves) Never Leaves r old new) (sym (p.1 ∙ ap Err p.2))
+          (outcome_err Answered (Unit {0}) (λ a s t. (a.status ≡ statuses.Ok) × Leaves s t) (λ x. Leaves) Never Leaves old new f
+          (left_answered command c.requires.logout old (Err f) heard new (a.then command [] completes (at_then g.L.Link.visitors [] (g.L.Link.line c.args.self.now.wire.link) c.args.self.now.wire.heard.items a.mid a.visits at))));
+    }
 
 pub returns-in-Ok-clause-outcome : goal.returns-in-Ok-clause-outcome
 returns-in-Ok-clause-outcome g c honest =
     let command = c.args.command.now in
-    let old = (told_server (g.L.Link.line c.args.self.now.wire.link)) in
     let new = (told_server (g.L.Link.line c.finish.new.self.link)) in
     let completes = logout_completes command c.requires.logout c.answer_alone.result c.deref.result.now c.answer_alone.ensures (subst (Written command) (sym c.deref.ensures.value) c.in_ok-text.ensures) in
     let at = idle_of (ends_of (g.L.Link.line c.args.self.now.wire.link) c.args.self.now.wire.heard.items) (c.requires.idle (c.in_ok-answered.ensures.was_honest honest)) in
-    (left_answered command c.requires.logout old (Ok c.in_ok-answered.answered) c.finish.new.self.heard.items new (c.in_ok-answered.ensures.outcome honest command [] completes at)).1
+    let a = c.in_ok-answered.ensures.outcome honest in
+    let old = told a.mid in
+    record {
+      mid = old;
+      visits = both_told g.L.Link.visitors (g.L.Link.line c.args.self.now.wire.link).end.server a.mid a.visits;
+      then =
+          (left_answered command c.requires.logout old (Ok c.in_ok-answered.answered) c.finish.new.self.heard.items new (a.then command [] completes (at_then g.L.Link.visitors [] (g.L.Link.line c.args.self.now.wire.link) c.args.self.now.wire.heard.items a.mid a.visits at))).1;
+    }
 
 pub returns-in-No-clause-outcome : goal.returns-in-No-clause-outcome
 returns-in-No-clause-outcome g c honest =
     let command = c.args.command.now in
-    let old = (told_server (g.L.Link.line c.args.self.now.wire.link)) in
     let new = (told_server (g.L.Link.line c.finish.new.self.link)) in
     let completes = logout_completes command c.requires.logout c.answer_alone.result c.deref.result.now c.answer_alone.ensures (subst (Written command) (sym c.deref.ensures.value) c.in_ok-text.ensures) in
     let at = idle_of (ends_of (g.L.Link.line c.args.self.now.wire.link) c.args.self.now.wire.heard.items) (c.requires.idle (c.in_ok-answered.ensures.was_honest honest)) in
-    no_is_not c.in_ok-answered.answered.status c.in-No.is
-    (left_answered command c.requires.logout old (Ok c.in_ok-answered.answered) c.finish.new.self.heard.items new (c.in_ok-answered.ensures.outcome honest command [] completes at)).0
+    let a = c.in_ok-answered.ensures.outcome honest in
+    let old = told a.mid in
+    record {
+      mid = old;
+      visits = both_told g.L.Link.visitors (g.L.Link.line c.args.self.now.wire.link).end.server a.mid a.visits;
+      then =
+          no_is_not c.in_ok-answered.answered.status c.in-No.is
+          (left_answered command c.requires.logout old (Ok c.in_ok-answered.answered) c.finish.new.self.heard.items new (a.then command [] completes (at_then g.L.Link.visitors [] (g.L.Link.line c.args.self.now.wire.link) c.args.self.now.wire.heard.items a.mid a.visits at))).0;
+    }
 
 pub returns-clause-outcome : goal.returns-clause-outcome
 returns-clause-outcome g c honest =
     let command = c.args.command.now in
-    let old = (told_server (g.L.Link.line c.args.self.now.wire.link)) in
     let new = (told_server (g.L.Link.line c.finish.new.self.link)) in
     let completes = logout_completes command c.requires.logout c.answer_alone.result c.deref.result.now c.answer_alone.ensures (subst (Written command) (sym c.deref.ensures.value) c.in_ok-text.ensures) in
     let at = idle_of (ends_of (g.L.Link.line c.args.self.now.wire.link) c.args.self.now.wire.heard.items) (c.requires.idle (c.in_ok-answered.ensures.was_honest honest)) in
-    bad_is_not c.in_ok-answered.answered.status c.in-Bad.is
-    (left_answered command c.requires.logout old (Ok c.in_ok-answered.answered) c.finish.new.self.heard.items new (c.in_ok-answered.ensures.outcome honest command [] completes at)).0
+    let a = c.in_ok-answered.ensures.outcome honest in
+    let old = told a.mid in
+    record {
+      mid = old;
+      visits = both_told g.L.Link.visitors (g.L.Link.line c.args.self.now.wire.link).end.server a.mid a.visits;
+      then =
+          bad_is_not c.in_ok-answered.answered.status c.in-Bad.is
+          (left_answered command c.requires.logout old (Ok c.in_ok-answered.answered) c.finish.new.self.heard.items new (a.then command [] completes (at_then g.L.Link.visitors [] (g.L.Link.line c.args.self.now.wire.link) c.args.self.now.wire.heard.items a.mid a.visits at))).0;
+    }
+
+pub returns-in_err-text-clause-outcome : goal.returns-in_err-text-clause-outcome
+returns-in_err-text-clause-outcome g c honest =
+    let p = err_from_is_err_and c.from_residual.result c.from_residual.ensures.1 in
+    unsent g.L.Link.visitors (Outcome {T = Unit {0}} (λ x. Leaves) Never Leaves) c.from_residual.result faults.NoMemory (told_server (g.L.Link.line c.args.self.now.wire.link)) (p.1 ∙ ap Err p.2) (inl refl)

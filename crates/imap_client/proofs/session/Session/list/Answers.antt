@@ -9,6 +9,8 @@ use Rattle.imap_answers.specs.MailboxNames.{TellsNames}
 use Rattle.imap_client.proofs.Changed.{state_of_parts}
 use Rattle.imap_client.proofs.Naming.{told_first, names_exchanged, names_told, not_answered, not_read, not_read_ends}
 use Rattle.imap_client.proofs.Selecting.{speaks_of}
+use Rattle.imap_session.specs.Visits.{Among}
+use Rattle.imap_session.specs.Servers.{Condition}
 use Rattle.imap_client.proofs.session.Session.list.Goals as goal
 
 pub names-requires-clause-speaks : goal.names-requires-clause-speaks
@@ -16,14 +18,21 @@ names-requires-clause-speaks g c = speaks_of (tag_text c.ask.new.self.tags) stat
 
 pub returns-in_err-len-clause-outcome : goal.returns-in_err-len-clause-outcome
 returns-in_err-len-clause-outcome g c honest logged =
-    let p = err_from_is_err_and c.from_residual.result c.from_residual.ensures.1 in
-    let n = c.args.self.now.tags + 1 in
-    let f = c.in_err-len.field-0.0 in
-    let old = (told_server (g.L.Link.line c.args.self.now.wire.link)) in
-    let new = (told_server (g.L.Link.line c.ask.new.self.wire.link)) in
-    let heard = c.ask.new.self.wire.heard.items in
-    not_answered _ c.from_residual.result (λ names. names.items) old new f (told_first old ++ done (tag_text n) ∷ []) heard (p.1 ∙ ap Err p.2)
-    (names_exchanged n old logged (Err f) heard new (c.in_err-len.ensures.outcome honest))
+    let a = c.in_err-len.ensures.outcome honest in
+    let still = ap (λ (c : Condition). is_logged_in c) a.visits.condition ∙ logged in
+    record {
+      mid = a.mid;
+      visits = a.visits;
+      then =
+          let p = err_from_is_err_and c.from_residual.result c.from_residual.ensures.1 in
+          let n = c.args.self.now.tags + 1 in
+          let f = c.in_err-len.field-0.0 in
+          let old = a.mid in
+          let new = (told_server (g.L.Link.line c.ask.new.self.wire.link)) in
+          let heard = c.ask.new.self.wire.heard.items in
+          not_answered _ c.from_residual.result (λ names. names.items) old new f (told_first old ++ done (tag_text n) ∷ []) heard (p.1 ∙ ap Err p.2)
+          (names_exchanged n old still (Err f) heard new a.then);
+    }
 
 pub returns-in_err-names-clause-ends : goal.returns-in_err-names-clause-ends
 returns-in_err-names-clause-ends g c =
@@ -35,19 +44,33 @@ returns-in_err-names-clause-ends g c =
 
 pub returns-in_err-names-clause-outcome : goal.returns-in_err-names-clause-outcome
 returns-in_err-names-clause-outcome g c honest logged =
-    let p = err_from_is_err_and c.from_residual-in_err-names.result c.from_residual-in_err-names.ensures.1 in
-    let n = c.args.self.now.tags + 1 in
-    let old = (told_server (g.L.Link.line c.args.self.now.wire.link)) in
-    let new = (told_server (g.L.Link.line c.ask.new.self.wire.link)) in
-    let said = names_exchanged n old logged (Ok c.in_ok-len.len) c.ask.new.self.wire.heard.items new (c.in_ok-len.ensures.outcome honest) in
-    not_read _ c.from_residual-in_err-names.result (λ names. names.items) old new (p.1 ∙ ap Err (p.2 ∙ c.in_err-names.ensures.err)) said.1
+    let a = c.in_ok-len.ensures.outcome honest in
+    let still = ap (λ (c : Condition). is_logged_in c) a.visits.condition ∙ logged in
+    record {
+      mid = a.mid;
+      visits = a.visits;
+      then =
+          let p = err_from_is_err_and c.from_residual-in_err-names.result c.from_residual-in_err-names.ensures.1 in
+          let n = c.args.self.now.tags + 1 in
+          let old = a.mid in
+          let new = (told_server (g.L.Link.line c.ask.new.self.wire.link)) in
+          let said = names_exchanged n old still (Ok c.in_ok-len.len) c.ask.new.self.wire.heard.items new a.then in
+          not_read _ c.from_residual-in_err-names.result (λ names. names.items) old new (p.1 ∙ ap Err (p.2 ∙ c.in_err-names.ensures.err)) said.1;
+    }
 
 pub returns-clause-outcome : goal.returns-clause-outcome
 returns-clause-outcome g c =
     let n = c.args.self.now.tags + 1 in
     let old = (told_server (g.L.Link.line c.args.self.now.wire.link)) in
     let heard = c.ask.new.self.wire.heard.items in
-    subst (λ l. g.L.Link.honest l → is_logged_in old.condition ≡ true → TellsNames c.in_ok-names.names.items old (told_server (g.L.Link.line l))) (sym c.done.ensures.link)
+    subst (λ l. g.L.Link.honest l → is_logged_in old.condition ≡ true → Among g.L.Link.visitors (TellsNames c.in_ok-names.names.items) old (told_server (g.L.Link.line l))) (sym c.done.ensures.link)
     (λ honest logged.
-    let said = names_exchanged n old logged (Ok c.in_ok-len.len) heard (told_server (g.L.Link.line c.ask.new.self.wire.link)) (c.in_ok-len.ensures.outcome honest) in
-    (names_told (tag_text n) (take c.in_ok-len.len heard) old c.in_ok-names.names.items said.0 c.in_ok-names.ensures.told, said.1))
+    let a = c.in_ok-len.ensures.outcome honest in
+    let still = ap (λ (c : Condition). is_logged_in c) a.visits.condition ∙ logged in
+    record {
+      mid = a.mid;
+      visits = a.visits;
+      then =
+          let said = names_exchanged n a.mid still (Ok c.in_ok-len.len) heard (told_server (g.L.Link.line c.ask.new.self.wire.link)) a.then in
+          (names_told (tag_text n) (take c.in_ok-len.len heard) a.mid c.in_ok-names.names.items said.0 c.in_ok-names.ensures.told, said.1);
+    })

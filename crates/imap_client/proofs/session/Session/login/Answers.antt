@@ -1,15 +1,18 @@
 use Rattle.std.proofs.Common.{◌≡◌, ℕ, ◌+◌, sym, ◌∙◌, ap, subst, arith, Result, Ok, Err}
 use Rattle.std.proofs.lemmas.Result.{err_from_is_err_and}
-use Rattle.imap_session.specs.Servers.{Server, is_before_login, is_logged_in}
+use Rattle.imap_session.specs.Servers.{Condition, Server, is_before_login, is_logged_in}
 use Rattle.imap_session.specs.Lines.{told_server}
 use Rattle.imap_link.specs.declared.fault.FarFault.{FarFault}
 use Rattle.imap_link.specs.Outcomes.{Outcome}
 use Rattle.imap_client.specs.Logins.{Authenticates, Rejects}
 use Rattle.imap_client.specs.States.{EndsSo}
 use Rattle.imap_client.proofs.Changed.{state_of_parts}
-use Rattle.imap_client.proofs.LoggingIn.{not_yet, let_in, then_ends, ends_more}
+use Rattle.imap_client.proofs.LoggingIn.{not_yet, let_in_among, then_ends, ends_more}
 use Rattle.imap_client.proofs.Transcribed.{first_fails, second_fails, third_ends}
 use Rattle.imap_client.specs.Transcripts.{EndsBy, of_login, of_enable, LoginHears}
+use Rattle.imap_session.specs.Visits.{Visits}
+use Rattle.session_laws.proofs.Visiting.{visits_follow}
+use Rattle.imap_client.proofs.Visited.{earlier}
 use Rattle.imap_client.proofs.session.Session.login.Goals as goal
 
 pub returns-in_err-ask_abilities-clause-heard : goal.returns-in_err-ask_abilities-clause-heard
@@ -49,14 +52,20 @@ returns-clause-heard g c =
 
 pub returns-in_err-ask_abilities-clause-outcome : goal.returns-in_err-ask_abilities-clause-outcome
 returns-in_err-ask_abilities-clause-outcome g c honest before =
-    let p = err_from_is_err_and c.from_residual.result c.from_residual.ensures.1 in
-    let f = c.in_err-ask_abilities.field-0.0 in
-    let user = c.args.user.now in
-    let password = c.args.password.now in
-    let old = (told_server (g.L.Link.line c.args.self.now.wire.link)) in
-    let new = (told_server (g.L.Link.line c.ask_abilities.new.self.wire.link)) in
-    subst (λ (r : Result (Unit {0}) FarFault). Outcome (λ x. Authenticates user password) (Rejects user password) (Authenticates user password) r old new) (sym (p.1 ∙ ap Err p.2))
-    (not_yet user password f old new (c.in_err-ask_abilities.ensures.outcome honest))
+    let a = c.in_err-ask_abilities.ensures.outcome honest in
+    record {
+      mid = a.mid;
+      visits = a.visits;
+      then =
+          let p = err_from_is_err_and c.from_residual.result c.from_residual.ensures.1 in
+          let f = c.in_err-ask_abilities.field-0.0 in
+          let user = c.args.user.now in
+          let password = c.args.password.now in
+          let old = a.mid in
+          let new = (told_server (g.L.Link.line c.ask_abilities.new.self.wire.link)) in
+          subst (λ (r : Result (Unit {0}) FarFault). Outcome (λ x. Authenticates user password) (Rejects user password) (Authenticates user password) r old new) (sym (p.1 ∙ ap Err p.2))
+          (not_yet user password f old new a.then);
+    }
 
 pub returns-in_err-ask_abilities-clause-ends : goal.returns-in_err-ask_abilities-clause-ends
 returns-in_err-ask_abilities-clause-ends g c =
@@ -75,12 +84,15 @@ returns-in_err-authenticate-clause-outcome g c honest before =
     let user = c.args.user.now in
     let password = c.args.password.now in
     let old = (told_server (g.L.Link.line c.args.self.now.wire.link)) in
-    let mid = (told_server (g.L.Link.line c.ask_abilities.new.self.wire.link)) in
     let new = (told_server (g.L.Link.line c.authenticate.new.self.wire.link)) in
-    let same = c.in_ok-ask_abilities.ensures.outcome (c.in_err-authenticate.ensures.was_honest honest) in
-    let still = ap (λ (s : Server). is_before_login s.condition) same ∙ before in
-    subst (λ (r : Result (Unit {0}) FarFault). Outcome (λ x. Authenticates user password) (Rejects user password) (Authenticates user password) r old new) (sym (p.1 ∙ ap Err p.2))
-    (subst (λ (s : Server). Outcome {T = Unit {0}} (λ x. Authenticates user password) (Rejects user password) (Authenticates user password) (Err f) s new) same (c.in_err-authenticate.ensures.outcome honest still))
+    let first = c.in_ok-ask_abilities.ensures.outcome (c.in_err-authenticate.ensures.was_honest honest) in
+    let still = ap (λ (s : Server). is_before_login s.condition) first.then ∙ ap (λ (c : Condition). is_before_login c) first.visits.condition ∙ before in
+    let a = c.in_err-authenticate.ensures.outcome honest still in
+    record {
+      mid = a.mid;
+      visits = visits_follow g.L.Link.visitors old first.mid a.mid first.visits (subst (λ (s : Server). Visits g.L.Link.visitors s a.mid) first.then a.visits);
+      then = subst (λ (r : Result (Unit {0}) FarFault). Outcome (λ x. Authenticates user password) (Rejects user password) (Authenticates user password) r a.mid new) (sym (p.1 ∙ ap Err p.2)) a.then;
+    }
 
 pub returns-in_err-authenticate-clause-ends : goal.returns-in_err-authenticate-clause-ends
 returns-in_err-authenticate-clause-ends g c =
@@ -100,15 +112,16 @@ returns-clause-outcome g c honest before =
     let user = c.args.user.now in
     let password = c.args.password.now in
     let old = (told_server (g.L.Link.line c.args.self.now.wire.link)) in
-    let mid = (told_server (g.L.Link.line c.ask_abilities.new.self.wire.link)) in
     let late = (told_server (g.L.Link.line c.authenticate.new.self.wire.link)) in
     let new = (told_server (g.L.Link.line c.enable.new.self.wire.link)) in
     let was = c.enable.ensures.was_honest honest in
-    let same = c.in_ok-ask_abilities.ensures.outcome (c.in_ok-authenticate.ensures.was_honest was) in
-    let still = ap (λ (s : Server). is_before_login s.condition) same ∙ before in
-    let known = subst (λ (s : Server). Authenticates user password s late) same (c.in_ok-authenticate.ensures.outcome was still) in
-    let logged = ap (λ (s : Server). is_logged_in s.condition) known.1 in
-    let_in user password c.enable.result old late new known (c.enable.ensures.outcome honest logged)
+    let first = c.in_ok-ask_abilities.ensures.outcome (c.in_ok-authenticate.ensures.was_honest was) in
+    let still = ap (λ (s : Server). is_before_login s.condition) first.then ∙ ap (λ (c : Condition). is_before_login c) first.visits.condition ∙ before in
+    let known = c.in_ok-authenticate.ensures.outcome was still in
+    let logged = ap (λ (s : Server). is_logged_in s.condition) known.then.1 in
+    earlier g.L.Link.visitors _ old first.mid new first.visits
+    (earlier g.L.Link.visitors _ first.mid known.mid new (subst (λ (s : Server). Visits g.L.Link.visitors s known.mid) first.then known.visits)
+    (let_in_among user password g.L.Link.visitors c.enable.result known.mid late new known.then (c.enable.ensures.outcome honest logged)))
 
 pub returns-clause-ends : goal.returns-clause-ends
 returns-clause-ends g c =

@@ -9,9 +9,9 @@ pub invariant_of-result : goal.invariant_of-result
 invariant_of-result g c = record {
   named = subst IsWord (sym c.in-Ok.ensures.name) c.requires;
   selected = λ is_selected ready honest.
-      let old = (told_server (g.L.Link.line c.args.self.wire.link)) in
+      let a = c.in-Ok.ensures.chosen honest in
       let new = (told_server (g.L.Link.line c.choose.new.self.wire.link)) in
       subst (λ (name : List ℕ). IsSelected name c.in-Ok.chosen.validity c.in-Ok.chosen.next new) (sym c.in-Ok.ensures.name)
-      (selected_so c.args.name.now c.in-Ok.chosen.validity c.in-Ok.chosen.next old new (c.in-Ok.ensures.chosen honest));
+      (selected_so c.args.name.now c.in-Ok.chosen.validity c.in-Ok.chosen.next a.mid new a.then);
   numbers = c.in-Ok.chosen.numbers;
 }

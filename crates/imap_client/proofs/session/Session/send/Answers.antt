@@ -2,6 +2,8 @@ use Rattle.std.proofs.Common.{[], refl, sym, ◌∙◌, ap, subst, Result, Err}
 use Rattle.std.proofs.lemmas.Result.{err_from_is_err_and}
 use Rattle.imap_commands.specs.Writing.{Written}
 use Rattle.imap_session.specs.Lines.{told_server}
+use Rattle.imap_session.specs.Servers.{told}
+use Rattle.imap_link.proofs.Visited.{at_then, both_told}
 use Rattle.exchange_laws.specs.Ends.{ends_of}
 use Rattle.imap_link.specs.declared.fault.FarFault.{FarFault}
 use Rattle.imap_link.specs.declared.wire.Answered.{Answered}
@@ -12,6 +14,9 @@ use Rattle.imap_client.proofs.Completing.{plain_completes}
 use Rattle.imap_client.proofs.Still.{idle_of, still_of}
 use Rattle.imap_client.proofs.Exchanging.{state_at, sent_err}
 use Rattle.imap_client.proofs.Transcribed.{hearing_ends}
+use Rattle.imap_link.specs.declared.fault.FarFault.TheVariants as faults
+use Rattle.std.proofs.Common.{inl}
+use Rattle.imap_client.proofs.Visited.{unsent}
 use Rattle.imap_client.proofs.session.Session.send.Goals as goal
 
 pub returns-in_err-answered-clause-sent : goal.returns-in_err-answered-clause-sent
@@ -31,10 +36,16 @@ returns-in_err-answered-clause-outcome g c honest =
     let written = subst (Written command) (sym c.deref.ensures.value) c.in_ok-text.ensures in
     let completes = plain_completes command c.of.result c.deref.result.now c.of.ensures c.requires.plain written in
     let at = idle_of (ends_of (g.L.Link.line c.args.self.now.wire.link) c.args.self.now.wire.heard.items) (c.requires.idle was) in
-    let old = (told_server (g.L.Link.line c.args.self.now.wire.link)) in
     let new = (told_server (g.L.Link.line c.finish.new.self.link)) in
     let heard = c.finish.new.self.heard.items in
-    subst (λ (r : Result Answered FarFault). AnsweredSo command r heard old new) (sym (p.1 ∙ ap Err p.2)) (c.in_err-answered.ensures.outcome honest command [] completes at)
+    let a = c.in_err-answered.ensures.outcome honest in
+    record {
+      mid = told a.mid;
+      visits = both_told g.L.Link.visitors (g.L.Link.line c.args.self.now.wire.link).end.server a.mid a.visits;
+      then =
+          subst (λ (r : Result Answered FarFault). AnsweredSo command r heard (told a.mid) new) (sym (p.1 ∙ ap Err p.2))
+          (a.then command [] completes (at_then g.L.Link.visitors [] (g.L.Link.line c.args.self.now.wire.link) c.args.self.now.wire.heard.items a.mid a.visits at));
+    }
 
 pub returns-in_err-answered-clause-heard : goal.returns-in_err-answered-clause-heard
 returns-in_err-answered-clause-heard g c =
@@ -51,7 +62,12 @@ returns-clause-outcome g c honest =
     let written = subst (Written command) (sym c.deref.ensures.value) c.in_ok-text.ensures in
     let completes = plain_completes command c.of.result c.deref.result.now c.of.ensures c.requires.plain written in
     let at = idle_of (ends_of (g.L.Link.line c.args.self.now.wire.link) c.args.self.now.wire.heard.items) (c.requires.idle was) in
-    c.in_ok-answered.ensures.outcome honest command [] completes at
+    let a = c.in_ok-answered.ensures.outcome honest in
+    record {
+      mid = told a.mid;
+      visits = both_told g.L.Link.visitors (g.L.Link.line c.args.self.now.wire.link).end.server a.mid a.visits;
+      then = a.then command [] completes (at_then g.L.Link.visitors [] (g.L.Link.line c.args.self.now.wire.link) c.args.self.now.wire.heard.items a.mid a.visits at);
+    }
 
 pub returns-clause-idle : goal.returns-clause-idle
 returns-clause-idle g c honest =
@@ -61,3 +77,8 @@ returns-clause-idle g c honest =
     let completes = plain_completes command c.of.result c.deref.result.now c.of.ensures c.requires.plain written in
     let at = idle_of (ends_of (g.L.Link.line c.args.self.now.wire.link) c.args.self.now.wire.heard.items) (c.requires.idle was) in
     still_of _ (c.in_ok-answered.ensures.idle honest command [] completes c.requires.stays at)
+
+pub returns-in_err-text-clause-outcome : goal.returns-in_err-text-clause-outcome
+returns-in_err-text-clause-outcome g c honest =
+    let p = err_from_is_err_and c.from_residual.result c.from_residual.ensures.1 in
+    unsent g.L.Link.visitors (λ r. AnsweredSo c.args.command.now r c.args.self.now.wire.heard.items) c.from_residual.result faults.NoMemory (told_server (g.L.Link.line c.args.self.now.wire.link)) (p.1 ∙ ap Err p.2) (inl refl)

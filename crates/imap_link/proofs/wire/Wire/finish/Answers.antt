@@ -4,7 +4,10 @@ use Rattle.imap_link.specs.declared.fault.FarFault.{FarFault}
 use Rattle.imap_link.specs.declared.wire.Answered.{Answered}
 use Rattle.imap_link.specs.Faults.{IsStop}
 use Rattle.imap_link.specs.declared.wire.Told.TheVariants as tells
+use Rattle.imap_session.specs.Lines.{Line}
 use Rattle.imap_link.specs.Exchanges.{Exchanges}
+use Rattle.imap_link.specs.Sending.{SendsThen, SomeThen, visited}
+use Rattle.imap_link.proofs.Visited.{at_then}
 use Rattle.imap_link.proofs.Exits.{stop_of}
 use Rattle.imap_link.proofs.Passing.{came_told, bounded_first}
 use Rattle.imap_link.proofs.Finished.{unsent, unheard, replied, idle, no_go}
@@ -12,30 +15,41 @@ use Rattle.imap_link.proofs.wire.Wire.finish.Goals as goal
 
 pub returns-in_err-send-clause-outcome : goal.returns-in_err-send-clause-outcome
 returns-in_err-send-clause-outcome g c honest =
-    let old = g.L.Link.line c.args.self.now.link in
-    let new = g.L.Link.line c.send.new.self in
+    let new : Line = g.L.Link.line c.send.new.self in
     let heard = c.args.self.now.heard.items in
     let p = err_from_is_err_and c.from_residual.result c.from_residual.ensures.1 in
     let stop : IsStop p.0 = subst IsStop (sym p.2) (stop_of c.in_err-send.field-0.0) in
-    subst (λ (r : Result Answered FarFault). Exchanges c.args.uses c.args.tag.now c.args.rest.now r old heard new heard) (sym p.1)
-    (unsent c.args.uses c.args.tag.now c.args.rest.now p.0 old new heard heard stop (c.in_err-send.ensures.err honest))
+    let some : SomeThen g.L.Link.visitors (g.L.Link.line c.args.self.now.link) c.args.rest.now new.end.server = c.in_err-send.ensures.err honest in
+    let old = visited (g.L.Link.line c.args.self.now.link) some.mid in
+    record {
+      mid = some.mid;
+      visits = some.visits;
+      then =
+          subst (λ (r : Result Answered FarFault). Exchanges c.args.uses c.args.tag.now c.args.rest.now r old heard new heard) (sym p.1)
+          (unsent c.args.uses c.args.tag.now c.args.rest.now p.0 old new heard heard stop some.then);
+    }
 
 pub returns-in_err-len-clause-outcome : goal.returns-in_err-len-clause-outcome
 returns-in_err-len-clause-outcome g c honest =
-    let old = g.L.Link.line c.args.self.now.link in
     let mid = g.L.Link.line c.send.new.self in
     let new = g.L.Link.line c.wait.new.self.link in
     let heard = c.args.self.now.heard.items in
     let now = c.wait.new.self.heard.items in
     let p = err_from_is_err_and c.from_residual-in_err-len.result c.from_residual-in_err-len.ensures.1 in
     let was = c.in_err-len.ensures.was_honest honest in
-    subst (λ (r : Result Answered FarFault). Exchanges c.args.uses c.args.tag.now c.args.rest.now r old heard new now) (sym p.1)
-    (unheard c.args.uses c.args.tag.now c.args.rest.now p.0 old mid new heard now (c.in_ok-send.ensures.ok was) (c.in_err-len.ensures.quiet honest)
-    (λ expects. subst IsStop (sym p.2) (c.in_err-len.ensures.fault honest expects)))
+    let first : SendsThen g.L.Link.visitors c.args.rest.now (g.L.Link.line c.args.self.now.link) (g.L.Link.line c.send.new.self) = c.in_ok-send.ensures.ok was in
+    let old = visited (g.L.Link.line c.args.self.now.link) first.mid in
+    record {
+      mid = first.mid;
+      visits = first.visits;
+      then =
+          subst (λ (r : Result Answered FarFault). Exchanges c.args.uses c.args.tag.now c.args.rest.now r old heard new now) (sym p.1)
+          (unheard c.args.uses c.args.tag.now c.args.rest.now p.0 old mid new heard now first.then (c.in_err-len.ensures.quiet honest)
+          (λ expects. subst IsStop (sym p.2) (c.in_err-len.ensures.fault honest expects)));
+    }
 
 pub returns-in-Answer-clause-outcome : goal.returns-in-Answer-clause-outcome
-returns-in-Answer-clause-outcome g c honest command from w at =
-    let old = g.L.Link.line c.args.self.now.link in
+returns-in-Answer-clause-outcome g c honest =
     let mid = g.L.Link.line c.send.new.self in
     let new = g.L.Link.line c.wait.new.self.link in
     let heard = c.args.self.now.heard.items in
@@ -43,11 +57,16 @@ returns-in-Answer-clause-outcome g c honest command from w at =
     let len = c.in-Answer.len in
     let was = c.in_ok-len.ensures.was_honest honest in
     let came = came_told c.args.uses c.args.tag.now _ (tells.Answer len c.in-Answer.status) now (g.L.Link.honest c.wait.new.self.link) mid new heard c.in-Answer.is c.in_ok-len.ensures.came honest in
-    replied command c.args.uses c.args.tag.now from c.args.rest.now w old mid new heard at (c.in_ok-send.ensures.ok was) (take len now) (drop len now) c.in-Answer.status came
+    let first : SendsThen g.L.Link.visitors c.args.rest.now (g.L.Link.line c.args.self.now.link) (g.L.Link.line c.send.new.self) = c.in_ok-send.ensures.ok was in
+    let old = visited (g.L.Link.line c.args.self.now.link) first.mid in
+    record {
+      mid = first.mid;
+      visits = first.visits;
+      then = λ command from w at. replied command c.args.uses c.args.tag.now from c.args.rest.now w old mid new heard at first.then (take len now) (drop len now) c.in-Answer.status came;
+    }
 
 pub returns-in-Answer-clause-idle : goal.returns-in-Answer-clause-idle
 returns-in-Answer-clause-idle g c honest command from w stays at =
-    let old = g.L.Link.line c.args.self.now.link in
     let mid = g.L.Link.line c.send.new.self in
     let new = g.L.Link.line c.wait.new.self.link in
     let heard = c.args.self.now.heard.items in
@@ -55,18 +74,25 @@ returns-in-Answer-clause-idle g c honest command from w stays at =
     let len = c.in-Answer.len in
     let was = c.in_ok-len.ensures.was_honest honest in
     let came = came_told c.args.uses c.args.tag.now _ (tells.Answer len c.in-Answer.status) now (g.L.Link.honest c.wait.new.self.link) mid new heard c.in-Answer.is c.in_ok-len.ensures.came honest in
-    idle command c.args.uses c.args.tag.now from c.args.rest.now w old mid new heard at (c.in_ok-send.ensures.ok was) (take len now) (drop len now) c.in-Answer.status came stays
+    let first : SendsThen g.L.Link.visitors c.args.rest.now (g.L.Link.line c.args.self.now.link) (g.L.Link.line c.send.new.self) = c.in_ok-send.ensures.ok was in
+    let was_at = at_then g.L.Link.visitors from (g.L.Link.line c.args.self.now.link) heard first.mid first.visits at in
+    idle command c.args.uses c.args.tag.now from c.args.rest.now w (visited (g.L.Link.line c.args.self.now.link) first.mid) mid new heard was_at first.then (take len now) (drop len now) c.in-Answer.status came stays
 
 pub returns-in-Go-clause-outcome : goal.returns-in-Go-clause-outcome
-returns-in-Go-clause-outcome g c honest command from w at =
-    let old = g.L.Link.line c.args.self.now.link in
+returns-in-Go-clause-outcome g c honest =
     let mid = g.L.Link.line c.send.new.self in
     let new = g.L.Link.line c.wait.new.self.link in
     let heard = c.args.self.now.heard.items in
     let now = c.wait.new.self.heard.items in
     let was = c.in_ok-len.ensures.was_honest honest in
     let came = came_told c.args.uses c.args.tag.now _ (tells.Go _) now (g.L.Link.honest c.wait.new.self.link) mid new heard c.in-Go.is c.in_ok-len.ensures.came honest in
-    no_go command c.args.uses c.args.tag.now from c.args.rest.now w old mid new heard at (c.in_ok-send.ensures.ok was) _ _ came
+    let first : SendsThen g.L.Link.visitors c.args.rest.now (g.L.Link.line c.args.self.now.link) (g.L.Link.line c.send.new.self) = c.in_ok-send.ensures.ok was in
+    let old = visited (g.L.Link.line c.args.self.now.link) first.mid in
+    record {
+      mid = first.mid;
+      visits = first.visits;
+      then = λ command from w at. no_go command c.args.uses c.args.tag.now from c.args.rest.now w old mid new heard at first.then _ _ came;
+    }
 
 pub returns-in_err-send-clause-bounded : goal.returns-in_err-send-clause-bounded
 returns-in_err-send-clause-bounded g c = bounded_first c.args.uses c.args.self.now.heard.items

@@ -1,0 +1,153 @@
+//! What others add in a trial, as its lines say it.
+
+ghost use Rattle.std.specs.Prelude.{IfErr};
+ghost use Rattle.worlds.specs.Lines.{IsOf};
+
+use crate::count::read_ordinal;
+use crate::folder::arrival_name;
+use crate::stop::{Command, command_of, folder_call_of};
+use mailcore::flags::Flags;
+use mailcore::octets::Octets;
+use mailcore::side::Side;
+use maildir::visited_folder::Arrival;
+use std::alloc::Global;
+use worlds::fault::WorldFault;
+use worlds::line::Line;
+use worlds::read_mailbox::{is_far, read_bytes};
+use worlds::words::{read_flags, split_word};
+
+/// A message that others add to the far mailbox.
+#[derive(Drop)]
+pub struct FarArrival {
+    /// The command before which it comes.
+    pub command: Command,
+    /// Before which command of this name, counted from 1 over the trial.
+    pub number: u64,
+    /// Its flags.
+    pub flags: Flags,
+    /// Its bytes.
+    pub bytes: Octets,
+}
+
+/// What others add in a trial, in the order of the lines.
+#[derive(Drop)]
+pub struct Arrivals {
+    /// The messages that come to the far mailbox.
+    pub far: Vec<FarArrival>,
+    /// The files that come to the folder of the near one.
+    pub near: Vec<Arrival>,
+}
+
+/// When something comes, and what it is: the words of its line.
+#[derive(Clone, Copy)]
+struct Coming<'a> {
+    side: Side,
+    call: &'a [u8],
+    number: u64,
+    flags: Flags,
+    /// The quoted text of its bytes.
+    text: &'a [u8],
+}
+
+impl Arrivals {
+    /// Nothing.
+    pub fn new(alloc: Global) -> Self {
+        Arrivals {
+            far: Vec::new(alloc),
+            near: Vec::new(alloc),
+        }
+    }
+
+    /// Whether nothing comes.
+    pub fn is_empty(&self) -> bool {
+        self.far.is_empty() && self.near.is_empty()
+    }
+
+    /// Adds what a line says behind its word `arrive`: `far before CALL k FLAGS "BYTES"`, CALL a command, or `near` and a call of the
+    /// folder.
+    pub fn add(&mut self, alloc: Global, text: &[u8], line: Line<'_>) -> Result<(), WorldFault>
+        ensures { IfErr result (IsOf line.entry.number) }
+    {
+        let Some(coming) = Coming::read(text) else {
+            return Err(line.fault());
+        };
+        let bytes = read_bytes(alloc, coming.text, line)?;
+        match coming.side {
+            Side::Far => self.add_far(coming, bytes, line),
+            Side::Near => self.add_near(alloc, coming, bytes, line),
+        }
+    }
+
+    fn add_far(
+        &mut self,
+        coming: Coming<'_>,
+        bytes: Vec<u8>,
+        line: Line<'_>,
+    ) -> Result<(), WorldFault>
+        ensures { IfErr result (IsOf line.entry.number) }
+    {
+        let Some(command) = command_of(coming.call) else {
+            return Err(line.fault());
+        };
+        if !is_far(&bytes) {
+            return Err(line.fault());
+        }
+        Ok(
+            self.far.push(FarArrival {
+                command,
+                number: coming.number,
+                flags: coming.flags,
+                bytes: Octets::from_vec(bytes),
+            })?,
+        )
+    }
+
+    // The file of the j-th line has a name of its own, which j stands in.
+    fn add_near(
+        &mut self,
+        alloc: Global,
+        coming: Coming<'_>,
+        bytes: Vec<u8>,
+        line: Line<'_>,
+    ) -> Result<(), WorldFault>
+        ensures { IfErr result (IsOf line.entry.number) }
+    {
+        let Some(call) = folder_call_of(coming.call) else {
+            return Err(line.fault());
+        };
+        let name = arrival_name(alloc, self.near.len().saturating_add(1), coming.flags)?;
+        Ok(
+            self.near.push(Arrival {
+                call,
+                number: coming.number,
+                name: Octets::from_vec(name),
+                bytes: Octets::from_vec(bytes),
+            })?,
+        )
+    }
+}
+
+impl<'a> Coming<'a> {
+    fn read(text: &'a [u8]) -> Option<Coming<'a>> {
+        let (side, text) = split_word(text)?;
+        let (moment, text) = split_word(text)?;
+        let (call, text) = split_word(text)?;
+        let (number, text) = split_word(text)?;
+        let (flags, text) = split_word(text)?;
+        if moment != b"before".as_slice() {
+            return None;
+        }
+        let side = match side {
+            b"far" => Side::Far,
+            b"near" => Side::Near,
+            _ => return None,
+        };
+        Some(Coming {
+            side,
+            call,
+            number: read_ordinal(number)?,
+            flags: read_flags(flags)?,
+            text,
+        })
+    }
+}
