@@ -122,34 +122,23 @@ def named(world, opening):
     return messages, sorted(world["waiting"]), entries, (world["run"], world["far_recorded"], world["near_recorded"]), highest
 
 
-def with_listed(world, arrivals):
-    """The world with these arrivals in it, before its listings."""
+def with_arrivals(world, arrivals, are_read):
+    """The world with these arrivals behind it; near files that are read come before those that wait, each before the last."""
     world = dict(world, far=list(world["far"]), waiting=list(world["waiting"]))
     for side, _, _, letters, data in arrivals:
         if side == "far":
             world["far"].append((world["far_next"], letters, data))
             world["far_next"] += 1
         else:
-            world["waiting"].insert(0, (letters, data))
-    return world
-
-
-def with_later(world, arrivals):
-    """The world with these arrivals behind it."""
-    world = dict(world, far=list(world["far"]), waiting=list(world["waiting"]))
-    for side, _, _, letters, data in arrivals:
-        if side == "far":
-            world["far"].append((world["far_next"], letters, data))
-            world["far_next"] += 1
-        else:
-            world["waiting"].append((letters, data))
+            world["waiting"].insert(0 if are_read else len(world["waiting"]), (letters, data))
     return world
 
 
 def expected(world, arrivals, fates, misread):
     """What is left where these became of the arrivals."""
     fated = lambda fate: [arrival for arrival, became in zip(arrivals, fates) if became == fate]
-    return misread(with_later(outcome(with_listed(world, fated("listed"))), fated("later")), fated("later"))
+    listed = with_arrivals(world, fated("listed"), True)
+    return misread(with_arrivals(outcome(listed), fated("later"), False), fated("later"))
 
 
 # ---- wrong readings
