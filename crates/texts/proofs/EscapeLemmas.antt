@@ -1,7 +1,10 @@
 -- An escaped text is that of one list of bytes alone.
-use Rattle.std.proofs.Common.{◌≡◌, ◌≢◌, ℕ, ◌+◌, ◌/◌, ◌%◌, ◌<◌, Bool, true, false, List, [], ◌∷◌, ◌++◌, length, refl, sym, ap, ◌∙◌, arith, append_assoc, length-append, cond, nat_lt, suc}
+use Rattle.std.proofs.Common.{◌≡◌, ◌≢◌, ℕ, ◌+◌, ◌/◌, ◌%◌, ◌<◌, Bool, true, false, List, [], ◌∷◌, ◌++◌, length, take, None, Some, not, ◌≤◌, refl, subst, sym, ap, ◌∙◌, arith, append_assoc, length-append, cond, nat_lt, suc}
 use Rattle.std.proofs.lemmas.Grind.{common_steps}
-use Rattle.std.specs.List.{All}
+use Rattle.std.proofs.Math.Numerals.{one-add}
+use Rattle.std.proofs.lemmas.List.Sums.{prefix_len-le-length}
+use Rattle.std.specs.List.{All, position, position_or_len}
+use Rattle.std.specs.Option.{unwrap_or}
 use Rattle.texts.specs.Escape.{escape_of, escaped, hex_digit, is_plain}
 
 abbrev AreBytes : List ℕ → Type 0
@@ -61,3 +64,28 @@ none_spelled (a ∷ front) rest some none [] are e =
 none_spelled (a ∷ front) rest some none (b ∷ bytes) are e =
     let same = first_of b a (escaped bytes) (escaped front ++ rest) (e ∙ append_assoc (escape_of a) (escaped front) rest) in
     none_spelled front rest some none bytes (others b bytes are) same.1
+
+-- ---- a run of bytes that stand for themselves
+
+abbrev pub plain_length : List ℕ → ℕ
+plain_length text = position_or_len (λ b. not (is_plain b)) text
+
+plain_cons : (p : Bool) (b n : ℕ) (rest : List ℕ) → is_plain b ≡ p → escaped (take n rest) ≡ take n rest
+    → escaped (take (cond (not (not p)) (1 + n) 0) (b ∷ rest)) ≡ take (cond (not (not p)) (1 + n) 0) (b ∷ rest)
+plain_cons true b n rest is same =
+    let one : escape_of b ≡ b ∷ [] = cc in
+    subst (λ (k : ℕ). escaped (take k (b ∷ rest)) ≡ take k (b ∷ rest)) (sym (one-add n))
+    (ap (λ (x : List ℕ). x ++ escaped (take n rest)) one ∙ ap (λ (x : List ℕ). b ∷ x) same)
+plain_cons false b n rest is same = refl
+
+pub plain_front : (text : List ℕ) → escaped (take (plain_length text) text) ≡ take (plain_length text) text
+plain_front [] = refl
+plain_front (b ∷ rest) = plain_cons (is_plain b) b (plain_length rest) rest refl (plain_front rest)
+
+or_all : (p : Bool) (n size : ℕ) → nat_lt n size ≡ p → n ≤ size → unwrap_or (cond p (Some n) None) size ≡ n
+or_all true n size is within = refl
+or_all false n size is within = grind (arith, common_steps)
+
+-- the first that does not, or else all
+pub plain_by : (text : List ℕ) → unwrap_or (position (λ b. not (is_plain b)) text) (length text) ≡ plain_length text
+plain_by text = or_all (nat_lt (plain_length text) (length text)) (plain_length text) (length text) refl (prefix_len-le-length (λ b. not (not (is_plain b))) text)

@@ -1,27 +1,50 @@
 //! The escaped text of bytes: bytes 32 to 126 except `"` and `\` stand for themselves, and each other byte is `\` and
 //! two lower case hexadecimal digits.
 
-ghost use Rattle.std.specs.Prelude.{◌≡◌, ◌≢◌, ◌<◌, ◌++◌, ℕ, List, ◌∷◌, All, IfOk, OnOk, IsErrOf, MatchOption, string_bytes};
+ghost use Rattle.std.specs.Prelude.{◌≡◌, ◌≢◌, ◌<◌, ◌≤◌, ◌++◌, ℕ, List, ◌∷◌, All, IfOk, OnOk, IsErrOf, MatchOption, length, not, string_bytes};
+ghost use Rattle.std.specs.List.{position_or_len};
 ghost use Rattle.texts.specs.Escape.{escape_of, escaped, hex_digit, is_plain};
 
 use crate::fault::EscapeFault;
 use std::alloc::{AllocError, Global};
 
 /// The bytes whose escaped text this is. `NotEscaped`: there are none.
+///
+/// Memory is taken once, for as many bytes as the text has: there are no more.
 pub fn unescape(alloc: Global, text: &[u8]) -> Result<Vec<u8>, EscapeFault>
     ensures bytes { IfOk result (λ bytes. escaped bytes.items ≡ text.now) }
     ensures not_escaped { IsErrOf result EscapeFault.NotEscaped → (bytes : List ℕ) → All (λ b. b < 256) bytes → escaped bytes ≢ text.now }
 {
-    let mut bytes = Vec::new(alloc);
-    let mut rest = text;
+    let mut bytes = Vec::with_capacity(alloc, text.len())?;
+    let mut rest = push_plain(&mut bytes, text)?;
     while !rest.is_empty() {
         let Some((byte, behind)) = split_first_byte(rest) else {
             return Err(EscapeFault::NotEscaped);
         };
-        bytes.push(byte)?;
-        rest = behind;
+        bytes.push(byte).map_err(AllocError::from)?;
+        rest = push_plain(&mut bytes, behind)?;
     }
     Ok(bytes)
+}
+
+/// Adds the bytes at the begin of a text that stand for themselves, and gives what stands behind them.
+fn push_plain<'a>(bytes: &mut Vec<u8>, text: &'a [u8]) -> Result<&'a [u8], AllocError>
+    ensures text { IfOk result (λ behind. escaped bytes.new.items ++ behind.now ≡ escaped bytes.old.items ++ text.now) }
+    ensures no_longer { IfOk result (λ behind. length behind.now ≤ length text.now) }
+{
+    let (plain, behind) = text.split_at(plain_length(text));
+    bytes.extend_from_slice(plain)?;
+    Ok(behind)
+}
+
+/// How many bytes at the begin of a text stand for themselves.
+fn plain_length(text: &[u8]) -> usize
+    ensures length { result ≡ position_or_len (λ b. not (is_plain b)) text.now }
+    ensures within { result ≤ length text.now }
+{
+    text.iter()
+        .position(|&byte| !is_plain(byte))
+        .unwrap_or(text.len())
 }
 
 /// The first byte of an escaped text and what stands behind it, or none if the text does not begin with a byte.

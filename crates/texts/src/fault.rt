@@ -1,6 +1,6 @@
 //! The fault of an escaped text.
 
-use std::alloc::AllocFailed;
+use std::alloc::AllocError;
 use thiserror::Error;
 
 /// Why bytes were not read from their escaped text.
@@ -14,13 +14,13 @@ pub enum EscapeFault {
     NoMemory,
 }
 
-impl<T: Drop> From<AllocFailed<T>> for EscapeFault {
+impl From<AllocError> for EscapeFault {
     ghost use Rattle.std.specs.Prelude.{◌≡◌};
     ghost use Rattle.texts.specs.declared.fault.EscapeFault.TheVariants.{NoMemory};
 
     ghost from_gives = { λ _ e. e ≡ NoMemory };
 
-    fn from(_fault: AllocFailed<T>) -> EscapeFault {
+    fn from(_fault: AllocError) -> EscapeFault {
         EscapeFault::NoMemory
     }
 }
