@@ -7,7 +7,7 @@ use Rattle.device.specs.Calls.{Read, Seen}
 use Rattle.visitors.specs.Visitors.{Visitors}
 use Rattle.maildir.specs.FolderCalls.{ReadAnew}
 use Rattle.maildir.specs.Folders.{Stored}
-use Rattle.maildir.specs.Gains.{Adds, others}
+use Rattle.maildir.specs.Gains.{Adds}
 use Rattle.maildir.specs.VisitedFolders.{AddsAlone}
 use Rattle.maildir.proofs.GainLemmas.{adds_more, adds_none}
 
@@ -27,30 +27,30 @@ read_anew v tells old new (Err fault) halted = record {
   left = λ honest. record { mid = old.stored; before = adds_none v old.stored; behind = halted.left honest };
 }
 
-pub alone_none : (s : Seen Stored) → AddsAlone s s
-alone_none s = (adds_none others s.stored, refl)
+pub alone_none : (v : Visitors) (s : Seen Stored) → AddsAlone v s s
+alone_none v s = (adds_none v s.stored, refl)
 
-pub alone_same : (old new : Seen Stored) → new ≡ old → AddsAlone old new
-alone_same old new is = subst (AddsAlone old) (sym is) (alone_none old)
+pub alone_same : (v : Visitors) (old new : Seen Stored) → new ≡ old → AddsAlone v old new
+alone_same v old new is = subst (AddsAlone v old) (sym is) (alone_none v old)
 
-pub alone_added : (old new : Seen Stored) (s : Stored) → Adds others old.stored new.stored → new ≡ record old { stored = s } → AddsAlone old new
-alone_added old new s adds is = (adds, is ∙ ap (λ (t : Stored). let y : Seen Stored = record old { stored = t } in y) (sym (ap (λ (x : Seen Stored). x.stored) is)))
+pub alone_added : (v : Visitors) (old new : Seen Stored) (s : Stored) → Adds v old.stored new.stored → new ≡ record old { stored = s } → AddsAlone v old new
+alone_added v old new s adds is = (adds, is ∙ ap (λ (t : Stored). let y : Seen Stored = record old { stored = t } in y) (sym (ap (λ (x : Seen Stored). x.stored) is)))
 
-pub alone_more : (s m n : Seen Stored) → AddsAlone s m → AddsAlone m n → AddsAlone s n
-alone_more s m n g h = (
-  adds_more others s.stored m.stored n.stored g.0 h.0,
+pub alone_more : (v : Visitors) (s m n : Seen Stored) → AddsAlone v s m → AddsAlone v m n → AddsAlone v s n
+alone_more v s m n g h = (
+  adds_more v s.stored m.stored n.stored g.0 h.0,
   h.1 ∙ ap (λ (x : Seen Stored). let y : Seen Stored = record x { stored = n.stored } in y) g.1,
 )
 
 -- a reading of a whole folder before which others have added files
-pub read_behind : {T : Type 0} (tells : T → Stored → Type 0) (old mid new : Seen Stored) (result : Result T DeviceFault) → old.is_broken ≡ false → AddsAlone old mid → Read true tells mid new result → ReadAnew true others tells old new result
-read_behind tells old mid new (Ok answer) whole adds went = record {
+pub read_behind : {T : Type 0} (v : Visitors) (tells : T → Stored → Type 0) (old mid new : Seen Stored) (result : Result T DeviceFault) → old.is_broken ≡ false → AddsAlone v old mid → Read true tells mid new result → ReadAnew true v tells old new result
+read_behind v tells old mid new (Ok answer) whole adds went = record {
   was_whole = whole;
   is_whole = went.is_whole;
   stops = went.stops ∙ ap (λ (x : Seen Stored). x.stops) adds.1;
   effect = λ honest. record { mid = mid.stored; before = adds.0; behind = went.effect honest };
 }
-read_behind tells old mid new (Err fault) whole adds halted = record {
+read_behind v tells old mid new (Err fault) whole adds halted = record {
   is_broken = halted.is_broken;
   counted = λ is_stop. subst (λ (x : Seen Stored). (x.is_broken ≡ true) ⊎ (x.stops < new.stops)) adds.1 (halted.counted is_stop);
   no_less = subst (λ (n : ℕ). n ≤ new.stops) (ap (λ (x : Seen Stored). x.stops) adds.1) halted.no_less;
@@ -59,9 +59,9 @@ read_behind tells old mid new (Err fault) whole adds halted = record {
 }
 
 -- memory ran out before the names were read
-pub lacks_behind : {T : Type 0} (tells : T → Stored → Type 0) (old mid new : Seen Stored) → old.is_broken ≡ false → AddsAlone old mid → new ≡ record mid { is_broken = true }
-    → ReadAnew {T = T} true others tells old new (Err NoMemory)
-lacks_behind tells old mid new whole adds is = record {
+pub lacks_behind : {T : Type 0} (v : Visitors) (tells : T → Stored → Type 0) (old mid new : Seen Stored) → old.is_broken ≡ false → AddsAlone v old mid → new ≡ record mid { is_broken = true }
+    → ReadAnew {T = T} true v tells old new (Err NoMemory)
+lacks_behind v tells old mid new whole adds is = record {
   is_broken = ap (λ (x : Seen Stored). x.is_broken) is;
   counted = λ is_stop. absurd (cc);
   no_less = omega (arith, ap (λ (x : Seen Stored). x.stops) is, ap (λ (x : Seen Stored). x.stops) adds.1);

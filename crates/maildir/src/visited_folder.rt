@@ -26,9 +26,9 @@ pub struct Arrival {
 }
 
 /// A folder in memory to which others add files: each comes before its call. A file comes if its name waits for a UID and no file in
-/// `cur` has it, and if it bears no mark.
+/// `cur` has it. Where there are to be 0 `MARKS`, one that bears a mark does not come, so that each mark is the run's; else none is.
 #[derive(Drop)]
-pub struct VisitedFolder {
+pub struct VisitedFolder<const MARKS: u32> {
     alloc: Global,
     folder: MemFolder,
     // Those that come, and those that have come since the names were read last.
@@ -37,10 +37,10 @@ pub struct VisitedFolder {
     pub ghost is_told: { is_broken ≡ folder.stopping.is_broken },
 }
 
-impl VisitedFolder {
+impl<const MARKS: u32> VisitedFolder<MARKS> {
     ghost use Rattle.maildir.specs.FolderCalls.{ReadAnew};
     ghost use Rattle.maildir.specs.Folders.{Lists, listed};
-    ghost use Rattle.maildir.specs.Gains.{others};
+    ghost use Rattle.visitors.specs.Visitors.{others_with};
     ghost use Rattle.maildir.specs.MemFolders.{seen_of};
     ghost use Rattle.maildir.specs.VisitedFolders.{AddsAlone};
 
@@ -48,6 +48,7 @@ impl VisitedFolder {
     pub fn new(alloc: Global, folder: MemFolder, arrivals: Vec<Arrival>) -> Self
         requires whole { (seen_of folder).is_broken ≡ false }
         ensures folder { result.folder ≡ folder }
+        ensures arrivals { result.arrivals ≡ arrivals }
     {
         VisitedFolder {
             alloc,
@@ -68,7 +69,7 @@ impl VisitedFolder {
     ///
     /// `NoMemory`: memory ran out.
     pub fn into_folder(self) -> Result<MemFolder, DeviceFault>
-        ensures { IfOk result (λ folder. AddsAlone (seen_of self.folder) (seen_of folder)) }
+        ensures { IfOk result (λ folder. AddsAlone (others_with MARKS) (seen_of self.entry.folder) (seen_of folder)) }
     {
         let mut visited = self;
         visited.take_in()?;
@@ -89,7 +90,7 @@ impl VisitedFolder {
 
     // Puts what has come into the folder, behind the other files.
     fn take_in(&mut self) -> Result<(), DeviceFault>
-        ensures adds { AddsAlone (seen_of self.old.folder) (seen_of self.new.folder) }
+        ensures adds { AddsAlone (others_with MARKS) (seen_of self.old.folder) (seen_of self.new.folder) }
         ensures broken { self.new.is_broken ≡ self.old.is_broken }
         ensures synced { self.new.folder.is_synced ≡ self.old.folder.is_synced }
         ensures fault { IfErr result (λ fault. fault ≡ DeviceFault.NoMemory) }
@@ -107,12 +108,12 @@ impl VisitedFolder {
 
     // Puts a file into the folder, if it is one that others may add.
     fn add(&mut self, arrival: Arrival) -> Result<(), DeviceFault>
-        ensures adds { AddsAlone (seen_of self.old.folder) (seen_of self.new.folder) }
+        ensures adds { AddsAlone (others_with MARKS) (seen_of self.old.folder) (seen_of self.new.folder) }
         ensures broken { self.new.is_broken ≡ self.old.is_broken }
         ensures synced { self.new.folder.is_synced ≡ self.old.folder.is_synced }
         ensures fault { IfErr result (λ fault. fault ≡ DeviceFault.NoMemory) }
     {
-        if !may_come(arrival.name.as_slice(), arrival.bytes.as_slice()) {
+        if !may_come(arrival.name.as_slice(), arrival.bytes.as_slice(), MARKS) {
             return Ok(());
         }
         match self.folder.arrive(arrival.name, arrival.bytes) {
@@ -125,7 +126,7 @@ impl VisitedFolder {
     // The names, with what has come.
     fn names_anew(&mut self) -> Result<Option<Vec<FileName>>, DeviceFault>
         requires whole { self.old.is_broken ≡ false }
-        ensures { ReadAnew true others (λ names. Lists (listed names)) (seen_of self.old.folder) (seen_of self.new.folder) result }
+        ensures { ReadAnew true (others_with MARKS) (λ names. Lists (listed names)) (seen_of self.old.folder) (seen_of self.new.folder) result }
     {
         if self.take_in().is_err() {
             self.is_broken = true;
@@ -137,14 +138,14 @@ impl VisitedFolder {
     }
 }
 
-impl Folder for VisitedFolder {
+impl<const MARKS: u32> Folder for VisitedFolder<MARKS> {
     ghost use Rattle.std.specs.Prelude.{true};
-    ghost use Rattle.maildir.specs.Gains.{others};
+    ghost use Rattle.visitors.specs.Visitors.{others_with};
     ghost use Rattle.maildir.specs.MemFolders.{seen_of};
 
     ghost is_honest = { true };
 
-    ghost visitors = { others };
+    ghost visitors = { others_with MARKS };
 
     ghost seen = { λ visited. seen_of visited.folder };
 
@@ -206,9 +207,9 @@ impl Folder for VisitedFolder {
     }
 }
 
-// Whether others may add this file.
-fn may_come(name: &[u8], bytes: &[u8]) -> bool
-    ensures { result ≡ true → (is_waiting name.now ≡ true) × (mark_of bytes.now ≡ None) }
+// Whether others may add this file, if theirs are to bear so many marks.
+fn may_come(name: &[u8], bytes: &[u8], marks: u32) -> bool
+    ensures { result ≡ true → (is_waiting name.now ≡ true) × (marks ≡ 0 → mark_of bytes.now ≡ None) }
 {
-    is_waiting(name) && mark_of(bytes).is_none()
+    is_waiting(name) && (marks > 0 || mark_of(bytes).is_none())
 }

@@ -1,9 +1,10 @@
 -- Who else is at a server in memory: nobody, or others who add messages.
 use Rattle.std.proofs.Common.{◌≡◌, ◌<◌, ◌^◌, ◌∙◌, ℕ, List, Option, None, Some, ap, refl, sym, subst}
-use Rattle.std.specs.Prelude.{All, IfSome, length, slice_index_or}
+use Rattle.std.specs.Prelude.{Result, Ok, Err, OnOk, OnErr, IfSome, length, slice_index_or}
 use Rattle.mailcore.specs.Content.{mark_of}
 use Rattle.mailcore.specs.FlagSet.{FLAGS}
-use Rattle.visitors.specs.Visitors.{IsForeign}
+use Rattle.visitors.specs.Visitors.{Visitors, others_with}
+use Rattle.visitors.proofs.Bearing.{bears_as_said}
 use Rattle.imap_session.specs.Arrivals.{Arrived}
 use Rattle.imap_session.specs.Visits.{Visits}
 use Rattle.imap_session.specs.Servers.{Server}
@@ -11,7 +12,8 @@ use Rattle.imap_session.specs.Serving.{FeedsSome}
 use Rattle.imap_session.specs.Lines.{Line, Sends}
 use Rattle.session_laws.proofs.Visiting.{arrival_visits, nobody_visits}
 use Rattle.mem_link.specs.declared.arrivals.Arrival.{Arrival}
-use Rattle.imap_link.specs.Sending.{anybody, nobody, visited, SendsThen, SomeThen}
+use Rattle.mem_link.specs.Others.{BearAsSaid}
+use Rattle.imap_link.specs.Sending.{nobody, visited, SendsThen, SomeThen}
 
 pub nobody_sends : (bytes : List ℕ) (old new : Line) → Sends bytes old new → SendsThen nobody bytes old new
 nobody_sends bytes old new s = record { mid = old.end.server; visits = nobody_visits nobody old.end.server; then = s }
@@ -22,18 +24,30 @@ nobody_feeds bytes old new s = record { mid = old.end.server; visits = nobody_vi
 -- ---- others are there
 
 -- a message that bears no mark comes, or there is none
-pub comes : (uid : Option ℕ) (name : List ℕ) (flags : ℕ) (message : List ℕ) (old new : Server) → flags < 2 ^ FLAGS → IfSome uid (λ u. 0 < u) → Arrived name flags message uid old new → mark_of message ≡ None → Visits anybody old new
-comes None name flags message old new few is_uid a none = subst (λ (s : Server). Visits anybody old s) (sym a.0) (nobody_visits anybody old)
-comes (Some uid) name flags message old new few is_uid a none = arrival_visits anybody uid name flags message old new is_uid few (subst (λ (mark : Option (List ℕ)). IsForeign anybody.ours mark) (sym none) tt) refl a
+pub comes : (uid : Option ℕ) (name : List ℕ) (flags : ℕ) (message : List ℕ) (old new : Server) → flags < 2 ^ FLAGS → IfSome uid (λ u. 0 < u) → Arrived name flags message uid old new → (marks : ℕ) → (marks ≡ 0 → mark_of message ≡ None) → Visits (others_with marks) old new
+comes None name flags message old new few is_uid a marks none = subst (λ (s : Server). Visits (others_with marks) old s) (sym a.0) (nobody_visits (others_with marks) old)
+comes (Some uid) name flags message old new few is_uid a marks none = arrival_visits (others_with marks) uid name flags message old new is_uid few (bears_as_said marks (mark_of message) none) refl a
 
 -- nothing has come
-pub none_comes : (old new : Server) → new ≡ old → Visits anybody old new
-none_comes old new same = subst (λ (s : Server). Visits anybody old s) (sym same) (nobody_visits anybody old)
+pub none_comes : (marks : ℕ) (old new : Server) → new ≡ old → Visits (others_with marks) old new
+none_comes marks old new same = subst (λ (s : Server). Visits (others_with marks) old s) (sym same) (nobody_visits (others_with marks) old)
 
 -- on one line after the other
 pub line_after : (a b c : Line) → b ≡ visited a b.end.server → c ≡ visited b c.end.server → c ≡ visited a c.end.server
 line_after a b c p q = q ∙ ap (λ (l : Line). visited l c.end.server) p
 
--- one of several messages that bear no mark
-pub unmarked : (arrivals : List Arrival) (i : ℕ) (item : Arrival) (bytes : List ℕ) → i < length arrivals → item ≡ slice_index_or arrivals i item → bytes ≡ item.bytes → All (λ a. mark_of a.bytes ≡ None) arrivals → mark_of bytes ≡ None
-unmarked arrivals i item bytes less is same all = subst (λ (b : List ℕ). mark_of b ≡ None) (sym same) (subst (λ (a : Arrival). mark_of a.bytes ≡ None) (sym is) (all i item less))
+-- one of several messages
+pub as_said : (marks : ℕ) (arrivals : List Arrival) (i : ℕ) (item : Arrival) (bytes : List ℕ) → i < length arrivals → item ≡ slice_index_or arrivals i item → bytes ≡ item.bytes → BearAsSaid marks arrivals → marks ≡ 0 → mark_of bytes ≡ None
+as_said marks arrivals i item bytes less is same all none = subst (λ (b : List ℕ). mark_of b ≡ None) (sym same) (subst (λ (a : Arrival). mark_of a.bytes ≡ None) (sym is) (all none i item less))
+
+-- ---- others were there, and then the bytes are sent
+
+pub sends_among : {T E : Type 0} (v : Visitors) (bytes : List ℕ) (old mid new : Line) (r : Result T E) → mid ≡ visited old mid.end.server → Visits v old.end.server mid.end.server
+    → OnOk r (Sends bytes mid new) → OnOk r (Unit {0} → SendsThen v bytes old new)
+sends_among v bytes old mid new (Ok sent) there visits sends = λ _. record { mid = mid.end.server; visits = visits; then = subst (λ (l : Line). Sends bytes l new) there sends }
+sends_among v bytes old mid new (Err fault) there visits sends = tt
+
+pub feeds_among : {T E : Type 0} (v : Visitors) (bytes : List ℕ) (old mid : Line) (new : Server) (r : Result T E) → mid ≡ visited old mid.end.server → Visits v old.end.server mid.end.server
+    → OnErr r (FeedsSome mid.end bytes new) → OnErr r (Unit {0} → SomeThen v old bytes new)
+feeds_among v bytes old mid new (Ok sent) there visits feeds = tt
+feeds_among v bytes old mid new (Err fault) there visits feeds = λ _. record { mid = mid.end.server; visits = visits; then = subst (λ (l : Line). FeedsSome l.end bytes new) there feeds }

@@ -2,3 +2,4 @@ pub mod MemLines
 pub mod Served
 pub mod Losing
 pub mod MemLinks
+pub mod Others

@@ -1,11 +1,12 @@
 //! A link to a server in memory.
 
-ghost use Rattle.std.specs.Prelude.{◌≡◌, ◌<◌, ◌≤◌, ◌^◌, true, None, length, take, IsOk, IfOk, IfErr, OnOk, OnErr, IsErrOf, IfSome, Ok, Err};
+ghost use Rattle.std.specs.Prelude.{◌≡◌, ◌<◌, ◌≤◌, ◌^◌, ℕ, true, None, length, take, IsOk, IfOk, IfErr, OnOk, OnErr, IsErrOf, IfSome, Ok, Err};
 ghost use Rattle.imap_session.specs.Serving.{FeedsSome};
 ghost use Rattle.imap_session.specs.Servers.{Quiet};
 ghost use Rattle.imap_session.specs.Lines.{Sends, Receives, Starts};
 ghost use Rattle.imap_session.specs.Visits.{Visits};
-ghost use Rattle.imap_link.specs.Sending.{anybody, visited};
+ghost use Rattle.imap_link.specs.Sending.{visited};
+ghost use Rattle.visitors.specs.Visitors.{others_with};
 ghost use Rattle.mailcore.specs.Content.{mark_of};
 ghost use Rattle.imap_server.specs.Boxes.{AreServed};
 ghost use Rattle.std.proofs.Props.{props};
@@ -145,7 +146,8 @@ impl MemLink {
         message: &[u8],
     ) -> Result<(), LinkFault>
         ensures line { OnOk result (line_of self.new ≡ visited (line_of self.old) (line_of self.new).end.server) }
-        ensures visits { mark_of message.now ≡ None → Visits anybody (line_of self.old).end.server (line_of self.new).end.server }
+        ensures visits { (marks : ℕ) → (marks ≡ 0 → mark_of message.now ≡ None)
+            → Visits (others_with marks) (line_of self.old).end.server (line_of self.new).end.server }
         ensures steady { OnOk result (self.new.stops ≡ self.old.stops) }
         ensures counted { result ≡ Err LinkFault.Stopped → self.old.stops < self.new.stops }
         ensures no_less { self.old.stops ≤ self.new.stops }

@@ -1,9 +1,9 @@
 //! A link to a server in memory to which others add messages.
 
-ghost use Rattle.std.specs.Prelude.{◌≡◌, All, None};
-ghost use Rattle.mailcore.specs.Content.{mark_of};
-ghost use Rattle.imap_link.specs.Sending.{anybody};
+ghost use Rattle.std.specs.Prelude.{◌≡◌};
 ghost use Rattle.mem_link.specs.MemLinks.{line_of, stops_of};
+ghost use Rattle.mem_link.specs.Others.{BearAsSaid};
+ghost use Rattle.visitors.specs.Visitors.{others_with};
 
 use crate::arrivals::Arrivals;
 use crate::mem_link::MemLink;
@@ -12,17 +12,20 @@ use imap_server::server::Server;
 
 /// A link to a server in memory, which stops where its schedule says, and to a mailbox of which others add messages.
 ///
-/// It is honest where none of these messages bears a mark.
+/// Where there are to be 0 `MARKS`, none of these messages bears one, and each mark is the run's; else none is.
 #[derive(Drop)]
-pub struct VisitedLink {
+pub struct VisitedLink<const MARKS: u32> {
     link: MemLink,
     arrivals: Arrivals,
+    pub ghost said: { BearAsSaid MARKS arrivals.list.items },
 }
 
-impl VisitedLink {
+impl<const MARKS: u32> VisitedLink<MARKS> {
     /// This link, and what others add.
-    pub fn new(link: MemLink, arrivals: Arrivals) -> VisitedLink
+    pub fn new(link: MemLink, arrivals: Arrivals) -> Self
+        requires said { BearAsSaid MARKS arrivals.list.items }
         ensures link { result.link ≡ link }
+        ensures arrivals { result.arrivals ≡ arrivals }
     {
         VisitedLink { link, arrivals }
     }
@@ -40,16 +43,16 @@ impl VisitedLink {
     }
 }
 
-impl Link for VisitedLink {
+impl<const MARKS: u32> Link for VisitedLink<MARKS> {
     ghost use Rattle.mem_link.specs.Served.{served_are_sound};
 
-    ghost honest = { λ v. All (λ a. mark_of a.bytes ≡ None) v.arrivals.list.items };
+    ghost honest = { λ _. Unit {0} };
 
     ghost line = { λ v. line_of v.link };
 
     ghost stops = { λ v. stops_of v.link };
 
-    ghost visitors = { anybody };
+    ghost visitors = { others_with MARKS };
 
     ghost sound = { λ v _. served_are_sound v.link.server.server.mailboxes v.link.served };
 

@@ -1,2 +1,3 @@
 pub mod RunLemmas
 pub mod MemoryLemmas
+pub mod AmongLemmas

@@ -33,7 +33,7 @@ use Rattle.trial.proofs.ShelfLemmas.{shelf_holds}
 use Rattle.trial.proofs.WorldLemmas.{few_files, near_in_range, waiting_in_sets}
 use Rattle.run_trial.specs.declared.setting.Setting.{Setting}
 use Rattle.run_trial.specs.Memory.{LeavesWorld}
-use Rattle.run_trial.specs.Settings.{IsSettingOf, device_in}
+use Rattle.run_trial.specs.Settings.{IsSettingOf, device_at, device_in}
 
 -- ---- the world stands there
 
@@ -57,11 +57,15 @@ stands trial s w same holds none =
 pub holds_world : (w : World) (d : Device) → IsOpening w → FitsWords w → d ≡ device_of w → HoldsWorld w d
 holds_world w d opening fits same = subst (HoldsWorld w) (sym same) (record { world = refl; files = shelf_holds w opening fits; spares = All-nil _ })
 
--- the outside of a run over a setting, by what was said of its parts
+-- the outside of a run, by what was said of its parts
+pub parts_seen : (server there : Server) (folder : Stored) (shelf : Files) (seen : Seen) → server ≡ there
+    → seen ≡ seen_with (device_at server folder shelf) untouched → seen ≡ seen_with (device_at there folder shelf) untouched
+parts_seen server there folder shelf seen same is = is ∙ ap (λ (v : Server). seen_with (device_at v folder shelf) untouched) same
+
+-- that over a setting
 pub setting_seen : (s : Setting) (server : Server) (seen : Seen) → server ≡ s.far.server.server
-    → seen ≡ seen_with (device_with (box_at (codes "INBOX") server) (near_of 1 (stored_in s.folder)) (files_of s.shelf) []) untouched → seen ≡ seen_with (device_in s) untouched
-setting_seen s server seen same is =
-    is ∙ ap (λ (v : Server). seen_with (device_with (box_at (codes "INBOX") v) (near_of 1 (stored_in s.folder)) (files_of s.shelf) []) untouched) same
+    → seen ≡ seen_with (device_at server (stored_in s.folder) (files_of s.shelf)) untouched → seen ≡ seen_with (device_in s) untouched
+setting_seen s server seen same is = parts_seen server s.far.server.server (stored_in s.folder) (files_of s.shelf) seen same is
 
 -- ---- what is left of it
 

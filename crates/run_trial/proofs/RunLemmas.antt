@@ -7,7 +7,7 @@ use Rattle.rules.specs.Opening.{IsOpening}
 use Rattle.rules.specs.World.{World}
 use Rattle.outside.specs.Calls.{Seen}
 use Rattle.outside.specs.Devices.{Device}
-use Rattle.underway.specs.Conditions.{Underway}
+use Rattle.underway.specs.Conditions.{IsOver, Underway}
 use Rattle.underway.specs.Endings.{IsDone}
 use Rattle.underway.specs.Openings.{world_at}
 use Rattle.alike_laws.specs.Beginnings.{Begins, opening_of}
@@ -34,6 +34,12 @@ module _ (ours : List ℕ → Bool) (alone : Bool) (w : World) (options : Option
   done_from honest old new (Ok settled) from kept nobody are begins = (from kept (asked are) (at_opening old.device begins)).alike nobody begins.sound
   done_from honest old new (Err fault) from kept nobody are begins = tt
 
+  pub over_from : (honest : Type 0) (old new : Seen) (r : Result Settled RunFault)
+      → IfOk r (λ settled. FromOpening honest ours alone (opening_of w options) options trial_stream old.device (IsSettled ours alone (opening_of w options) options trial_stream settled old new))
+      → honest → AreOurs ours → Begins w old.device → OnOk r (IsOver ours alone (opening_of w options) new.device)
+  over_from honest old new (Ok settled) from kept are begins = (from kept (asked are) (at_opening old.device begins)).over
+  over_from honest old new (Err fault) from kept are begins = tt
+
   pub left_from : {T : Type 0} (honest : Type 0) (tries : ℕ) (old new : Seen) (r : Result T RunFault)
       → IfErr r (λ fault. FromOpening honest ours alone (opening_of w options) options trial_stream old.device (IsUnsettled ours alone (opening_of w options) tries trial_stream fault old new))
       → honest → AreOurs ours → Begins w old.device → IfErr r (λ fault. LeavesRun (Underway ours alone (opening_of w options)) fault old new)
@@ -54,6 +60,11 @@ module _ (ours : List ℕ → Bool) (alone : Bool) (w : World) (options : Option
       → (Begins (world_at old state) old → OnOk r (IsDone (world_at old state) options new)) → OnOk r (IsDone w options new)
   done_of state old new r same begins so =
       subst (λ (x : World). Begins x old → OnOk r (IsDone x options new)) (named_so state old same begins) so begins
+
+  pub over_of : {T : Type 0} (state : SyncState) (old new : Device) (r : Result T RunFault) → w.state ≡ state → Begins w old
+      → (Begins (world_at old state) old → OnOk r (IsOver ours alone (opening_of (world_at old state) options) new)) → OnOk r (IsOver ours alone (opening_of w options) new)
+  over_of state old new r same begins so =
+      subst (λ (x : World). Begins x old → OnOk r (IsOver ours alone (opening_of x options) new)) (named_so state old same begins) so begins
 
   pub left_of : {T : Type 0} (state : SyncState) (old new : Seen) (r : Result T RunFault) → w.state ≡ state → Begins w old.device
       → (Begins (world_at old.device state) old.device → IfErr r (λ fault. LeavesRun (Underway ours alone (opening_of (world_at old.device state) options)) fault old new))

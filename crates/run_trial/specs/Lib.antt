@@ -1,3 +1,4 @@
 pub mod Statuses
 pub mod Settings
+pub mod Among
 pub mod Memory

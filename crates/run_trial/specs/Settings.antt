@@ -2,9 +2,11 @@
 use Rattle.std.specs.Prelude.{◌≡◌, List, [], ◌∷◌, map, codes}
 use Rattle.mailcore.specs.declared.mailbox.Mailbox.{Mailbox}
 use Rattle.imap_session.specs.Mailboxes.{FarMailbox}
+use Rattle.imap_session.specs.Servers.{Server}
+use Rattle.maildir.specs.Folders.{Stored}
 use Rattle.maildir.specs.MemFolders.{stored_in}
 use Rattle.book.specs.MemShelves.{files_of}
-use Rattle.book.specs.Shelves.{bytes_of}
+use Rattle.book.specs.Shelves.{Files, bytes_of}
 use Rattle.near_box.specs.Mailboxes.{near_of}
 use Rattle.far_side.specs.Chosen.{box_at}
 use Rattle.outside.specs.Devices.{Device}
@@ -19,9 +21,12 @@ use Rattle.run_trial.specs.declared.setting.Setting.{Setting}
 abbrev pub inbox_of : Mailbox → List FarMailbox
 inbox_of far = record { name = codes "INBOX"; store = store_of far } ∷ []
 
--- what a run over them finds
+-- what a run over a server with this INBOX, a folder and a shelf finds
+abbrev pub device_at : Server → (folder : Stored) → (shelf : Files) → Device
+device_at server folder shelf = device_with (box_at (codes "INBOX") server) (near_of 1 folder) shelf []
+
 abbrev pub device_in : Setting → Device
-device_in s = device_with (box_at (codes "INBOX") s.far.server.server) (near_of 1 (stored_in s.folder)) (files_of s.shelf) []
+device_in s = device_at s.far.server.server (stored_in s.folder) (files_of s.shelf)
 
 -- they hold what the trial says
 pub record IsSettingOf (trial : Trial) (s : Setting) : Type 0 where

@@ -1,20 +1,17 @@
 //! The devices of a trial, and a run over them.
 
-ghost use Rattle.std.specs.Prelude.{◌≡◌, [], IfErr, IfOk, IsErrOf, OnOk, codes, true};
-ghost use Rattle.maildir.specs.MemFolders.{stored_in};
+ghost use Rattle.std.specs.Prelude.{◌≡◌, IfErr, IfOk, IsErrOf, OnOk, true};
 ghost use Rattle.rules.specs.World.{World};
 ghost use Rattle.book.specs.MemShelves.{files_of};
-ghost use Rattle.near_box.specs.Mailboxes.{near_of};
-ghost use Rattle.far_side.specs.Chosen.{box_at};
 ghost use Rattle.pair.specs.Pairs.{seen_of};
-ghost use Rattle.pair.specs.Parts.{device_with};
 ghost use Rattle.pair.specs.Tallies.{seen_with, untouched};
-ghost use Rattle.underway.specs.Conditions.{Underway};
+ghost use Rattle.underway.specs.Conditions.{IsOver, Underway};
 ghost use Rattle.underway.specs.Endings.{IsDone};
 ghost use Rattle.alike_laws.specs.Beginnings.{Begins, opening_of};
 ghost use Rattle.runner.specs.Attempts.{HasNoNext, MetStops};
 ghost use Rattle.runner.specs.Faults.{LeavesRun};
 ghost use Rattle.trial.specs.Openings.{AreOurs};
+ghost use Rattle.run_trial.specs.Settings.{device_at};
 
 use crate::failure::Failure;
 use crate::server::{TrialLink, account_of};
@@ -22,8 +19,10 @@ use book::mem_shelf::MemShelf;
 use both::both::Both;
 use both::sides::Sides;
 use far_side::far_side::FarSide;
+use maildir::folder::Folder;
 use maildir::mem_folder::MemFolder;
 use maildir::meta::Meta;
+use maildir::visited_folder::VisitedFolder;
 use outside::outside::Outside;
 use rules::options::Options;
 use rules::state::SyncState;
@@ -38,9 +37,9 @@ use written_worlds::write::{WrittenMailbox, WrittenWorld, write_parts};
 
 /// Makes one run over an outside whose shelf holds this state, and gives it back beside what the run came to.
 ///
-/// Where the outside has kept its word and nobody else adds messages: from a world that a run may begin with, an answer leaves both
-/// mailboxes and the state alike to the outcome that the rules name for it, and a fault leaves the run underway. Behind the greatest run
-/// number there is no other run. It is told as stopped only where each attempt met a stop.
+/// Where the outside has kept its word: from a world that a run may begin with, where nobody else adds messages, an answer leaves both
+/// mailboxes and the state alike to the outcome that the rules name for it. Where others add messages under no mark of the run, it is
+/// over (docs/GUARANTEES.md). A fault leaves it underway. Behind the greatest run number there is no other run. It is told as stopped only where each attempt met a stop.
 pub(crate) fn settle_all<O: Outside>(
     alloc: Global,
     outside: O,
@@ -50,6 +49,8 @@ pub(crate) fn settle_all<O: Outside>(
 ) -> (O, Result<Settled, RunFault>)
     ensures done { (start : World) → start.state ≡ state.now → O.honest result.0 → O.alone ≡ true → AreOurs O.ours
         → Begins start (O.seen outside).device → OnOk result.1 (IsDone start options.now (O.seen result.0).device) }
+    ensures over { (start : World) → start.state ≡ state.now → O.honest result.0 → AreOurs O.ours → Begins start (O.seen outside).device
+        → OnOk result.1 (IsOver O.ours O.alone (opening_of start options.now) (O.seen result.0).device) }
     ensures left { (start : World) → start.state ≡ state.now → O.honest result.0 → AreOurs O.ours → Begins start (O.seen outside).device
         → IfErr result.1 (λ fault. LeavesRun (Underway O.ours O.alone (opening_of start options.now)) fault (O.seen outside) (O.seen result.0)) }
     ensures greatest { HasNoNext (O.honest result.0) O.alone (O.seen outside).device (O.seen result.0).device result.1 }
@@ -69,6 +70,8 @@ fn settle_from<O: Outside>(
     ghost start: { World }
     ensures done { O.honest result.0 → O.alone ≡ true → AreOurs O.ours → Begins start (O.seen outside).device
         → OnOk result.1 (IsDone start options.now (O.seen result.0).device) }
+    ensures over { O.honest result.0 → AreOurs O.ours → Begins start (O.seen outside).device
+        → OnOk result.1 (IsOver O.ours O.alone (opening_of start options.now) (O.seen result.0).device) }
     ensures left { O.honest result.0 → AreOurs O.ours → Begins start (O.seen outside).device
         → IfErr result.1 (λ fault. LeavesRun (Underway O.ours O.alone (opening_of start options.now)) fault (O.seen outside) (O.seen result.0)) }
     ensures greatest { HasNoNext (O.honest result.0) O.alone (O.seen outside).device (O.seen result.0).device result.1 }
@@ -80,7 +83,25 @@ fn settle_from<O: Outside>(
 }
 
 /// The outside of a run, beside what the run came to.
-pub(crate) type Run<L> = (Both<L, MemFolder, MemShelf>, Result<Settled, RunFault>);
+pub(crate) type Run<L, F> = (Both<L, F, MemShelf>, Result<Settled, RunFault>);
+
+/// The outside of a run over this link, this folder and this shelf. Nothing is open, and no call was made.
+pub(crate) fn together<L: TrialLink + Drop, F: Folder + Drop>(
+    alloc: Global,
+    link: L,
+    folder: F,
+    shelf: MemShelf,
+) -> Result<Both<L, F, MemShelf>, Failure>
+    ensures { IfOk result (λ both. seen_of both ≡ seen_with (device_at (L.line link).end.server (F.seen folder).stored (files_of shelf)) untouched) }
+{
+    let sides = Sides {
+        far: FarSide::new(alloc, account_of(alloc)?, link),
+        folder,
+        shelf,
+    };
+    // The folder of a trial has a meta file, so that this is of no use.
+    Ok(sides.together(alloc, NonZeroU32::MIN))
+}
 
 /// The near mailbox's folder, the shelf, and the far mailbox's link.
 #[derive(Drop)]
@@ -91,20 +112,6 @@ pub(crate) struct Devices<L: TrialLink + Drop> {
 }
 
 impl<L: TrialLink + Drop> Devices<L> {
-    /// The outside of a run over them. Nothing is open, and no call was made.
-    pub(crate) fn together(self, alloc: Global) -> Result<Both<L, MemFolder, MemShelf>, Failure>
-        ensures { IfOk result (λ both. seen_of both ≡ seen_with (device_with (box_at (codes "INBOX") (L.line self.link).end.server)
-            (near_of 1 (stored_in self.folder)) (files_of self.shelf) []) untouched) }
-    {
-        let sides = Sides {
-            far: FarSide::new(alloc, account_of(alloc)?, self.link),
-            folder: self.folder,
-            shelf: self.shelf,
-        };
-        // The folder of a trial has a meta file, so that this is of no use.
-        Ok(sides.together(alloc, NonZeroU32::MIN))
-    }
-
     /// What the outside of a run stands on.
     pub(crate) fn of(outside: Both<L, MemFolder, MemShelf>) -> Self {
         let Sides { far, folder, shelf } = Sides::of(outside);
@@ -113,6 +120,18 @@ impl<L: TrialLink + Drop> Devices<L> {
             folder,
             shelf,
         }
+    }
+
+    /// The same where others add files to the folder: it has all that has come.
+    pub(crate) fn among<const MARKS: u32>(
+        outside: Both<L, VisitedFolder<MARKS>, MemShelf>,
+    ) -> Result<Self, Failure> {
+        let Sides { far, folder, shelf } = Sides::of(outside);
+        Ok(Devices {
+            link: far.into_link(),
+            folder: folder.into_folder()?,
+            shelf,
+        })
     }
 
     /// How many calls have stopped.

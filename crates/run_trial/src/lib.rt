@@ -2,6 +2,7 @@
 //! memory.
 #![tactic(auto)]
 
+mod among;
 mod devices;
 mod failure;
 mod memory;

@@ -12,9 +12,10 @@ ghost use Rattle.trial.specs.Worlds.{device_of, world_of};
 ghost use Rattle.run_trial.specs.Memory.{LeavesWorld};
 ghost use Rattle.run_trial.specs.Settings.{device_in};
 
-use crate::devices::{Devices, Run, settle_all};
+use crate::devices::{Run, settle_all, together};
 use crate::failure::Failure;
 use crate::setting::{FarSetting, Setting, setting_of};
+use maildir::mem_folder::MemFolder;
 use mem_link::mem_link::MemLink;
 use rules::options::Options;
 use runner::fault::RunFault;
@@ -28,7 +29,7 @@ use trial::trial::Trial;
 /// to the outcome that the rules name for that world, and a fault leaves the run underway, whatever the attempts and the stops. Behind
 /// the greatest run number there is no other run: a fault says so, or a call stopped before, and nothing has changed. It is told as
 /// stopped only where as many calls stopped as there were attempts.
-pub(crate) fn run_in_memory(alloc: Global, trial: Trial) -> Result<Run<MemLink>, Failure>
+pub(crate) fn run_in_memory(alloc: Global, trial: Trial) -> Result<Run<MemLink, MemFolder>, Failure>
     ensures done { trial.course.journal ≡ None → IsOpening (world_of trial.world)
         → IfOk result (λ run. OnOk run.1 (IsDone (world_of trial.world) trial.world.options (seen_of run.0).device)) }
     ensures left { trial.course.journal ≡ None → IsOpening (world_of trial.world) → trial.world.state.run + 1 < 2 ^ 64
@@ -50,7 +51,7 @@ fn run_over(
     setting: Setting,
     options: &Options,
     tries: u32,
-) -> Result<Run<MemLink>, Failure>
+) -> Result<Run<MemLink, MemFolder>, Failure>
     requires { AreServed setting.far.server.server.mailboxes }
     ensures done { (start : World) → start.state ≡ setting.state → Begins start (device_in setting)
         → IfOk result (λ run. OnOk run.1 (IsDone start options.now (seen_of run.0).device)) }
@@ -67,11 +68,7 @@ fn run_over(
         arrivals: _,
     } = setting;
     let FarSetting { server, schedule } = far;
-    let devices = Devices {
-        link: MemLink::new(alloc, server, schedule),
-        folder,
-        shelf,
-    };
-    let outside = devices.together(alloc)?;
+    let link = MemLink::new(alloc, server, schedule);
+    let outside = together(alloc, link, folder, shelf)?;
     Ok(settle_all(alloc, outside, options, tries, &state))
 }

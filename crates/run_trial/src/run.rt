@@ -1,20 +1,20 @@
 //! The program `mbtrial`, over readers and writers.
 
 ghost use Rattle.std.specs.Prelude.{◌≡◌, ◌≤◌, IfOk, IsErr};
-ghost use Rattle.imap_server.specs.Boxes.{AreServed};
 
-use crate::devices::Devices;
+use crate::among::run_among;
+use crate::devices::{Devices, settle_all, together};
 use crate::failure::Failure;
 use crate::memory::run_in_memory;
 use crate::server::TrialLink;
-use crate::setting::{FarSetting, setting_of};
-use crate::visited::{VisitedSetting, run_among, visited};
+use crate::setting::setting_of;
+use crate::visited::{NearSetting, VisitedSetting, visited};
 use link_face::face_link::FaceLink;
 use link_face::words::Words;
-use mem_link::arrivals::Arrivals;
 use mem_link::loop_link::LoopLink;
 use mem_link::mem_link::MemLink;
 use mem_link::visited_link::VisitedLink;
+use rules::options::Options;
 use runner::fault::RunFault;
 use runner::pass::Settled;
 use std::alloc::Global;
@@ -114,16 +114,13 @@ fn told_of_trial<R: Net + AllocGlobal + Clone + Drop>(
 fn told_among(alloc: Global, trial: Trial) -> Result<(String, u8), Failure>
     ensures { IfOk result (λ told. told.1 ≤ 1) }
 {
-    let options = trial.world.options;
-    let tries = trial.course.tries;
-    let VisitedSetting {
-        far,
-        arrivals,
-        near,
-    } = visited(alloc, setting_of(alloc, trial)?)?;
-    let link = link_of(alloc, far, arrivals);
-    let (devices, settled) = run_among(alloc, link, near, &options, tries)?;
-    told_of(alloc, devices, settled)
+    if trial.course.arrivals.bear_no_mark() {
+        let (outside, settled) = run_among::<0>(alloc, trial)?;
+        told_of(alloc, Devices::among(outside)?, settled)
+    } else {
+        let (outside, settled) = run_among::<1>(alloc, trial)?;
+        told_of(alloc, Devices::among(outside)?, settled)
+    }
 }
 
 /// What is told of this trial behind a face.
@@ -132,15 +129,20 @@ fn told_over_face(alloc: Global, trial: Trial) -> Result<(String, u8), Failure>
 {
     let options = trial.world.options;
     let tries = trial.course.tries;
-    let VisitedSetting {
+    let VisitedSetting::<1> {
         far,
         arrivals,
         near,
     } = visited(alloc, setting_of(alloc, trial)?)?;
     let words = Rc::new(alloc, Words::new(alloc))?;
-    let link = FaceLink::new(alloc, link_of(alloc, far, arrivals), words);
-    let (devices, settled) = run_among(alloc, link, near, &options, tries)?;
-    told_of(alloc, devices, settled)
+    let link = VisitedLink::<1>::new(MemLink::new(alloc, far.server, far.schedule), arrivals);
+    told_over(
+        alloc,
+        FaceLink::new(alloc, link, words),
+        near,
+        &options,
+        tries,
+    )
 }
 
 /// What is told of this trial over a loopback connection.
@@ -159,15 +161,27 @@ fn told_over_loopback<R: Net + AllocGlobal + Clone + Drop>(
         near,
     } = visited(alloc, setting_of(alloc, trial)?)?;
     let link = LoopLink::new(rt, far.server, far.schedule).among(arrivals);
-    let (devices, settled) = run_among(alloc, link, near, &options, tries)?;
-    told_of(alloc, devices, settled)
+    told_over(alloc, link, near, &options, tries)
 }
 
-/// A link in memory to this server, to which others add these messages.
-fn link_of(alloc: Global, far: FarSetting, arrivals: Arrivals) -> VisitedLink
-    requires { AreServed far.server.server.mailboxes }
+/// What is told of a run over this link and what stands near, while others add files to the folder.
+fn told_over<L: TrialLink + Drop>(
+    alloc: Global,
+    link: L,
+    near: NearSetting<1>,
+    options: &Options,
+    tries: u32,
+) -> Result<(String, u8), Failure>
+    ensures { IfOk result (λ told. told.1 ≤ 1) }
 {
-    VisitedLink::new(MemLink::new(alloc, far.server, far.schedule), arrivals)
+    let NearSetting {
+        folder,
+        shelf,
+        state,
+    } = near;
+    let outside = together(alloc, link, folder, shelf)?;
+    let (outside, settled) = settle_all(alloc, outside, options, tries, &state);
+    told_of(alloc, Devices::among(outside)?, settled)
 }
 
 /// What is told of a run, by what it left, and the exit status.

@@ -1,5 +1,8 @@
 //! Where the link of a trial stops.
 
+ghost use Rattle.std.specs.Prelude.{◌≡◌};
+ghost use Rattle.run_trial.specs.Among.{name_of};
+
 use device::schedule::{Moment, Stop};
 use mem_link::command::{CommandName, Nth};
 use mem_link::schedule as link;
@@ -45,7 +48,9 @@ fn command_stop(stop: Stop<Command>) -> Option<link::LinkStop> {
 }
 
 /// The name of this command, as a link says it.
-pub(crate) fn name_of(command: Command) -> CommandName {
+pub(crate) fn name_of(command: Command) -> CommandName
+    ensures { result ≡ name_of command }
+{
     match command {
         Command::Select => CommandName::Select,
         Command::Fetch => CommandName::Fetch,

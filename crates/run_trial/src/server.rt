@@ -70,7 +70,7 @@ impl TrialLink for MemLink {
     }
 }
 
-impl TrialLink for VisitedLink {
+impl<const MARKS: u32> TrialLink for VisitedLink<MARKS> {
     fn stops(&self) -> usize {
         self.stops()
     }

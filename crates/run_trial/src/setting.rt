@@ -55,6 +55,7 @@ fn far_with(alloc: Global, far: Mailbox, stops: &[LinkStop]) -> Result<FarSettin
 pub(crate) fn setting_of(alloc: Global, trial: Trial) -> Result<Setting, Failure>
     ensures served { IfOk result (λ setting. AreServed setting.far.server.server.mailboxes) }
     ensures holds { IfOk result (λ setting. IsSettingOf trial setting) }
+    ensures arrivals { IfOk result (λ setting. setting.arrivals ≡ trial.course.arrivals) }
     ensures fits { IfOk result (λ _. FitsWords (world_of trial.world)) }
 {
     let Trial { world, course } = trial;

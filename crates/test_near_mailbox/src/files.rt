@@ -60,7 +60,7 @@ impl OpenFolder for MemFolder {
     }
 }
 
-impl OpenFolder for VisitedFolder {
+impl OpenFolder for VisitedFolder<0> {
     fn stop_count(&self) -> usize {
         self.folder().stops()
     }

@@ -17,7 +17,7 @@ use test_scripts::words::Words;
 #[derive(Drop)]
 pub struct Visited {
     arrivals: Vec<Arrival>,
-    seat: Seat<VisitedFolder>,
+    seat: Seat<VisitedFolder<0>>,
 }
 
 impl Visited {
@@ -84,6 +84,6 @@ impl Visited {
 }
 
 /// An empty folder to which these files come.
-fn folder_with(alloc: Global, arrivals: Vec<Arrival>) -> VisitedFolder {
+fn folder_with(alloc: Global, arrivals: Vec<Arrival>) -> VisitedFolder<0> {
     VisitedFolder::new(alloc, MemFolder::new(alloc, Vec::new(alloc)), arrivals)
 }

@@ -4,3 +4,4 @@ pub mod FolderLemmas
 pub mod ShelfLemmas
 pub mod WorldLemmas
 pub mod PutFiles
+pub mod UnmarkedLemmas

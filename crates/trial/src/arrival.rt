@@ -1,11 +1,13 @@
 //! What others add in a trial, as its lines say it.
 
-ghost use Rattle.std.specs.Prelude.{IfErr};
+ghost use Rattle.std.specs.Prelude.{◌≡◌, All, IfErr, None, true};
+ghost use Rattle.mailcore.specs.Content.{mark_of};
 ghost use Rattle.worlds.specs.Lines.{IsOf};
 
 use crate::count::read_ordinal;
 use crate::folder::arrival_name;
 use crate::stop::{Command, command_of, folder_call_of};
+use mailcore::copies::mark_of;
 use mailcore::flags::Flags;
 use mailcore::octets::Octets;
 use mailcore::side::Side;
@@ -61,6 +63,21 @@ impl Arrivals {
     /// Whether nothing comes.
     pub fn is_empty(&self) -> bool {
         self.far.is_empty() && self.near.is_empty()
+    }
+
+    /// Whether none of the messages and files bears a mark.
+    pub fn bear_no_mark(&self) -> bool
+        ensures { result ≡ true → All (λ a. mark_of a.bytes ≡ None) self.now.far.items }
+    {
+        let far = self
+            .far
+            .iter()
+            .all(|arrival| mark_of(arrival.bytes.as_slice()).is_none());
+        let near = self
+            .near
+            .iter()
+            .all(|arrival| mark_of(arrival.bytes.as_slice()).is_none());
+        far && near
     }
 
     /// Adds what a line says behind its word `arrive`: `far before CALL k FLAGS "BYTES"`, CALL a command, or `near` and a call of the

@@ -1,0 +1,52 @@
+-- What is left where others write no mark, by how many marks theirs bear.
+use Rattle.std.proofs.Common.{◌≡◌, ◌∙◌, ℕ, Bool, List, map, true, false, None, refl, sym, ap, subst}
+use Rattle.std.specs.Prelude.{All, Result, IfErr, IfOk, OnOk}
+use Rattle.std.proofs.lemmas.List.Elements.{All-map}
+use Rattle.mailcore.specs.Content.{mark_of}
+use Rattle.imap_session.specs.Servers.{Server}
+use Rattle.maildir.specs.Folders.{Stored}
+use Rattle.maildir.specs.MemFolders.{stored_in}
+use Rattle.book.specs.MemShelves.{files_of}
+use Rattle.book.specs.Shelves.{Files}
+use Rattle.mem_link.specs.declared.arrivals.Arrival.{Arrival}
+use Rattle.mem_link.specs.Others.{BearAsSaid}
+use Rattle.trial.specs.declared.arrival.FarArrival.{FarArrival}
+use Rattle.run_trial.specs.declared.setting.Setting.{Setting}
+use Rattle.run_trial.specs.Settings.{device_at, device_in}
+use Rattle.rules.specs.declared.options.Options.{Options}
+use Rattle.rules.specs.World.{World}
+use Rattle.visitors.specs.Visitors.{others_with}
+use Rattle.outside.specs.Calls.{Seen}
+use Rattle.outside.specs.Devices.{Device}
+use Rattle.pair.specs.Parts.{both}
+use Rattle.underway.specs.Conditions.{IsOver, Underway}
+use Rattle.alike_laws.specs.Beginnings.{opening_of}
+use Rattle.runner.specs.declared.fault.RunFault.{RunFault}
+use Rattle.runner.specs.Faults.{LeavesRun}
+use Rattle.trial.specs.Openings.{AreOurs}
+use Rattle.run_trial.specs.Among.{IsOverAmong, arrival_of}
+use Rattle.imap_link.specs.Sending.{anybody}
+
+module _ (marks : ℕ) (none : marks ≡ 0) where
+  abbrev pub ours : ℕ → List ℕ → Bool
+  ours n = both (others_with n).ours (others_with n).ours
+
+  pub are_ours : AreOurs (ours marks)
+  are_ours mark = subst (λ (n : ℕ). ours n mark ≡ true) (sym none) refl
+
+  pub over_among : {T : Type 0} (w : World) (options : Options) (d : Device) (r : Result T RunFault) → OnOk r (IsOver (ours marks) false (opening_of w options) d) → OnOk r (IsOverAmong w options d)
+  over_among w options d r = subst (λ (n : ℕ). OnOk r (IsOver (ours n) false (opening_of w options) d)) none
+
+  pub left_among : {T : Type 0} (w : World) (options : Options) (old new : Seen) (r : Result T RunFault) → IfErr r (λ fault. LeavesRun (Underway (ours marks) false (opening_of w options)) fault old new)
+      → IfErr r (λ fault. LeavesRun (Underway anybody.ours anybody.alone (opening_of w options)) fault old new)
+  left_among w options old new r = subst (λ (n : ℕ). IfErr r (λ fault. LeavesRun (Underway (ours n) false (opening_of w options)) fault old new)) none
+
+-- ---- what is taken over of a setting
+
+pub device_kept : (s : Setting) (server : Server) (folder : Stored) (shelf : Files) → server ≡ s.far.server.server → folder ≡ stored_in s.folder → shelf ≡ files_of s.shelf → device_at server folder shelf ≡ device_in s
+device_kept s server folder shelf there files kept =
+    ap (λ (x : Server). device_at x folder shelf) there ∙ ap (λ (x : Stored). device_at s.far.server.server x shelf) files ∙ ap (λ (x : Files). device_at s.far.server.server (stored_in s.folder) x) kept
+
+pub bear_none : (marks : ℕ) (lines : List FarArrival) (there : List FarArrival) (list : List Arrival) → there ≡ lines → list ≡ map arrival_of there → (marks ≡ 0 → All (λ a. mark_of a.bytes ≡ None) lines) → BearAsSaid marks list
+bear_none marks lines there list same taken said = λ none.
+    subst (λ (list : List Arrival). All (λ a. mark_of a.bytes ≡ None) list) (sym (taken ∙ ap (map arrival_of) same)) (All-map (λ (a : Arrival). mark_of a.bytes ≡ None) arrival_of lines (said none))

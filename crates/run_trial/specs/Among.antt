@@ -1,0 +1,50 @@
+-- A run to which others add messages: what they add, and what it leaves of a world.
+use Rattle.std.specs.Prelude.{◌≡◌, ℕ}
+use Rattle.mem_link.specs.declared.command.CommandName.{CommandName}
+use Rattle.mem_link.specs.declared.command.CommandName.TheVariants as link
+use Rattle.mem_link.specs.declared.arrivals.Arrival.{Arrival}
+use Rattle.book.specs.declared.mem_shelf.MemShelf.{MemShelf}
+use Rattle.book.specs.MemShelves.{files_of}
+use Rattle.imap_link.specs.Sending.{anybody}
+use Rattle.rules.specs.declared.options.Options.{Options}
+use Rattle.rules.specs.declared.state.SyncState.{SyncState}
+use Rattle.rules.specs.World.{World}
+use Rattle.outside.specs.Calls.{Seen}
+use Rattle.outside.specs.Devices.{Device}
+use Rattle.pair.specs.Tallies.{seen_with, untouched}
+use Rattle.underway.specs.Conditions.{IsOver, Underway}
+use Rattle.alike_laws.specs.Beginnings.{opening_of}
+use Rattle.runner.specs.declared.fault.RunFault.{RunFault}
+use Rattle.runner.specs.Faults.{LeavesRun}
+use Rattle.trial.specs.declared.arrival.FarArrival.{FarArrival}
+use Rattle.trial.specs.declared.stop.Command.{Command}
+use Rattle.trial.specs.declared.stop.Command.TheVariants as trial
+use Rattle.run_trial.specs.declared.setting.Setting.{Setting}
+
+-- ---- what comes
+
+-- a command by the name that a link has for it
+abbrev pub name_of : Command → CommandName
+name_of trial.Select = link.Select
+name_of trial.Fetch = link.Fetch
+name_of trial.Store = link.Store
+name_of trial.Expunge = link.Expunge
+name_of trial.Append = link.Append
+
+-- a message that a line of a trial adds comes before the command that the line names
+abbrev pub arrival_of : FarArrival → Arrival
+arrival_of a = record { at = record { name = name_of a.command; number = a.number }; flags = a.flags; bytes = a.bytes }
+
+-- the shelf and the state of a setting
+abbrev pub AreKept : Setting → MemShelf → SyncState → Type 0
+AreKept setting shelf state = (files_of shelf ≡ files_of setting.shelf) × (state ≡ setting.state)
+
+-- ---- what it leaves
+
+-- the run that began with this world is over, whatever others added under no mark
+abbrev pub IsOverAmong : World → Options → Device → Type 0
+IsOverAmong w options d = IsOver anybody.ours anybody.alone (opening_of w options) d
+
+-- the run that began with this world, on this device, is underway still
+abbrev pub LeavesAmong : World → Options → Device → RunFault → Seen → Type 0
+LeavesAmong w options d fault new = LeavesRun (Underway anybody.ours anybody.alone (opening_of w options)) fault (seen_with d untouched) new
