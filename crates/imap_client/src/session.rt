@@ -24,7 +24,7 @@ use imap_commands::command::{Command, Request};
 use imap_link::fault::FarFault;
 use imap_link::link::Link;
 use imap_link::uses::Uses;
-use imap_link::wire::{Answered, Wire};
+use imap_link::wire::{Answered, PIECE, Wire};
 use imap_replies::word::Status;
 use std::alloc::Global;
 use wire_tokens::tag::Tag;
@@ -60,6 +60,7 @@ impl<L: Link> Session<L> {
             wire: Wire {
                 link,
                 heard: Vec::new(alloc),
+                piece: [0; PIECE],
                 alloc,
             },
             tags: 0,

@@ -21,8 +21,8 @@ use imap_replies::word::Status;
 use std::alloc::Global;
 use wire_tokens::tag::Tag;
 
-/// The number of bytes that are asked of a link at once.
-const PIECE: usize = 4096;
+/// At most so many bytes are asked of a link at once.
+pub const PIECE: usize = 4096;
 
 /// What a sender waits for, at the front of the buffer behind replies that are passed over. The length counts them in.
 #[derive(Clone, Copy, PartialEq, Eq)]
@@ -53,6 +53,8 @@ pub struct Wire<L: Link> {
     pub link: L,
     /// What came.
     pub heard: Vec<u8>,
+    /// Where the link writes what comes next, so that it need not be cleared each time.
+    pub piece: [u8; PIECE],
     /// Where the buffer grows.
     pub alloc: Global,
 }
@@ -70,12 +72,11 @@ impl<L: Link> Wire<L> {
         ensures fault { IfErr result IsStop }
         ensures stopped { IsErrOf result FarFault.Stopped → L.stops self.old.link < L.stops self.new.link }
     {
-        let mut piece = [0u8; PIECE];
-        let count = self.link.recv(&mut piece)?;
+        let count = self.link.recv(&mut self.piece)?;
         if count == 0 {
             return Err(FarFault::Stopped);
         }
-        self.heard.extend_from_slice(&piece[..count])?;
+        self.heard.extend_from_slice(&self.piece[..count])?;
         Ok(())
     }
 

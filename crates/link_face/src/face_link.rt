@@ -14,7 +14,7 @@ use std::alloc::{AllocError, Global};
 use std::rc::Rc;
 
 /// At most so many bytes are asked of the link at once.
-const PIECE_BYTES: usize = 4096;
+const PIECE_BYTES: usize = 16_384;
 
 /// A link over another, from which a client hears only replies of the profile that it reads.
 ///

@@ -33,6 +33,7 @@ pub mod Folds
 pub mod Fronts
 pub mod Decisive
 pub mod Written
+pub mod Plain
 pub mod Scanned
 pub mod Positions
 pub mod Feeds

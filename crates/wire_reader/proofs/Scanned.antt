@@ -1,16 +1,17 @@
 -- What is scanned in parts.
-use Rattle.std.proofs.Common.{◌≡◌, ◌≢◌, ℕ, zero, suc, ◌+◌, ◌-◌, ◌<◌, Bool, true, false, cond, List, [], ◌∷◌, ◌++◌, length, take, drop, get_or, All, Option, Some, None, refl, sym, ap, subst, ◌∙◌, append_assoc, inl, inr, arith}
+use Rattle.std.proofs.Common.{◌≡◌, ◌≢◌, ℕ, zero, suc, ◌+◌, ◌-◌, ◌<◌, ◌≤◌, Bool, true, false, cond, List, [], ◌∷◌, ◌++◌, length, take, drop, get_or, All, Option, Some, None, refl, sym, ap, subst, ◌∙◌, append_assoc, inl, inr, arith}
 use Rattle.std.proofs.Math.Seq.{split_at, take-add}
 use Rattle.std.proofs.lemmas.Bool.{cases_Bool, ne_eqb, eqb-true, eq-eqb, lt-leb}
 use Rattle.std.proofs.lemmas.List.{get_or-take, take-append-drop, take_all, drop-drop, length-drop, length-append, take_at, length-take, length-take-le}
+use Rattle.std.proofs.lemmas.Grind.{common_steps}
 use Rattle.std.proofs.lemmas.List.Elements.{All-head, All-tail, All-from_get_or}
 use Rattle.memchr.specs.Find.{IsFirstByte, is_byte}
 use Rattle.wire_reader.specs.declared.lexical.Phase.{Phase}
 use Rattle.wire_reader.specs.declared.lexical.Phase.TheVariants.{Plain, In}
 use Rattle.wire_reader.specs.declared.scanner.Scanner.{Scanner}
 use Rattle.wire_reader.specs.Lexical.{next}
-use Rattle.wire_reader.specs.Scanning.{after, scanned, is_place, place_from}
-use Rattle.wire_reader.specs.Advancing.{Before, Advances, Nul}
+use Rattle.wire_reader.specs.Scanning.{after, one_more, scanned, is_place, place_from}
+use Rattle.wire_reader.specs.Advancing.{Before, Advances, Nul, is_plain}
 
 -- ---- one part and then another
 
@@ -124,6 +125,51 @@ skip_nul bytes n count c more b =
 pub skipped : (bytes : List ℕ) (n count : ℕ) (found : ℕ × Bool) → 1 < n → 0 < length bytes → Nul (take (n - 1) bytes) found → Advances (among n count) bytes found (among (n - found.0) count)
 skipped bytes n count (c, true) more some h = skip_nul bytes n count c more h
 skipped bytes n count (c, false) more some h = skip_clean bytes n count c more some h.0 h.1
+
+-- ---- bytes outside literals, none of which is a LF or begins a length
+
+abbrev plainly : ℕ → Scanner
+plainly count = record { phase = Plain; outside = count }
+
+plain_next : (b : ℕ) → is_plain b ≡ true → next Plain b ≡ Plain
+plain_next b is = grind (arith, common_steps, is)
+
+plain_place : (b count : ℕ) → is_plain b ≡ true → count < 65536 → is_place (plainly count) b ≡ false
+plain_place b count is lt = grind (arith, common_steps, is, lt)
+
+plain_after : (b count : ℕ) → is_plain b ≡ true → count < 65536 → after (plainly count) b ≡ plainly (count + 1)
+plain_after b count is lt =
+    let more : one_more count ≡ count + 1 = grind (arith, common_steps, lt) in
+    ap (λ (p : Phase). let s : Scanner = record { phase = p; outside = one_more count } in s) (plain_next b is) ∙ ap plainly more
+
+plain-scanned : (xs : List ℕ) (count : ℕ) → count + length xs ≤ 65536 → All (λ b. is_plain b ≡ true) xs → scanned (plainly count) xs ≡ plainly (count + length xs)
+plain-scanned [] count fits plain = ap plainly (omega arith)
+plain-scanned (b ∷ bs) count fits plain =
+    ap (λ (s : Scanner). scanned s bs) (plain_after b count (All-head (λ x. is_plain x ≡ true) b bs plain) (omega (arith, fits)))
+    ∙ plain-scanned bs (count + 1) (omega (arith, fits)) (All-tail (λ x. is_plain x ≡ true) b bs plain) ∙ ap plainly (omega arith)
+
+plain-quiet : (xs : List ℕ) (count at : ℕ) → count + length xs ≤ 65536 → All (λ b. is_plain b ≡ true) xs → place_from at (plainly count) xs ≡ None
+plain-quiet [] count at fits plain = refl
+plain-quiet (b ∷ bs) count at fits plain =
+    let is = All-head (λ x. is_plain x ≡ true) b bs plain in
+    ap (place_case at (plainly count) b bs) (plain_place b count is (omega (arith, fits)))
+    ∙ ap (λ (s : Scanner). place_from (suc at) s bs) (plain_after b count is (omega (arith, fits)))
+    ∙ plain-quiet bs (count + 1) (suc at) (omega (arith, fits)) (All-tail (λ x. is_plain x ≡ true) b bs plain)
+
+pub plain_skipped : (bytes : List ℕ) (count c : ℕ) → 0 < c → c ≤ length bytes → count + c ≤ 65536 → All (λ b. is_plain b ≡ true) (take c bytes) → Advances (plainly count) bytes (c, false) (plainly (count + c))
+plain_skipped bytes count c some within fits plain =
+    let long : length (take c bytes) ≡ c = length-take-le c bytes within in
+    let room : count + length (take c bytes) ≤ 65536 = omega (arith, long, fits) in
+    record {
+      some = some;
+      within = within;
+      moves = sym (plain-scanned (take c bytes) count room plain ∙ ap (λ (k : ℕ). plainly (count + k)) long);
+      place = λ at.
+          ap (place_from at (plainly count)) (sym (take-append-drop c bytes))
+          ∙ place-append (take c bytes) at (plainly count) (drop c bytes) (plain-quiet (take c bytes) count at room plain)
+          ∙ ap (λ (s : Scanner). place_from (at + length (take c bytes)) s (drop c bytes)) (plain-scanned (take c bytes) count room plain)
+          ∙ ap (λ (k : ℕ). place_from (at + k) (plainly (count + k)) (drop c bytes)) long;
+    }
 
 -- ---- one part behind another
 

@@ -1,5 +1,5 @@
 -- Parts of the scanner.
-use Rattle.std.specs.Prelude.{◌≡◌, ◌≢◌, ◌<◌, ◌≤◌, ◌+◌, ℕ, Bool, true, false, List, ◌++◌, ◌∷◌, Some, length, take, drop, All, if◌then◌else◌}
+use Rattle.std.specs.Prelude.{◌≡◌, ◌≢◌, ◌<◌, ◌≤◌, ◌+◌, ℕ, Bool, true, false, not, ◌&&◌, ◌==◌, List, ◌++◌, ◌∷◌, Some, length, take, drop, All, if◌then◌else◌}
 use Rattle.wire_reader.specs.declared.scanner.Scanner.{Scanner}
 use Rattle.wire_reader.specs.Scanning.{scanned, place_from}
 
@@ -9,6 +9,10 @@ pub record Advances (old : Scanner) (bytes : List ℕ) (found : ℕ × Bool) (ne
   pub within : found.0 ≤ length bytes
   pub moves : new ≡ scanned old (take found.0 bytes)
   pub place : (at : ℕ) → place_from at old bytes ≡ (if found.1 then Some (at + found.0) else place_from (at + found.0) new (drop found.0 bytes))
+
+-- a byte outside literals that is no LF and begins no length of one
+abbrev pub is_plain : ℕ → Bool
+is_plain b = not (b == 10) && not (b == 123)
 
 -- before the first 0
 pub record Before (octets : List ℕ) (count : ℕ) : Type 0 where

@@ -1,10 +1,8 @@
 -- Items with a separator between, folded as they are read: from b on, with f.
-use Rattle.std.specs.Prelude.{◌≡◌, ℕ, zero, suc, List, [], ◌∷◌, length, None, Result, Ok, Err, ◌==◌, if◌then◌else◌}
-use Rattle.std.specs.List.{fold}
+use Rattle.std.specs.Prelude.{ℕ, zero, suc, List, [], ◌∷◌, length, None, Result, Ok, Err, ◌==◌, if◌then◌else◌}
 use Rattle.wire_reader.specs.declared.stop.Stop.{Stop}
 use Rattle.wire_reader.specs.declared.stop.Stop.TheVariants.{Ends}
 use Rattle.wire_reader.specs.Reading.{◌>>=◌}
-use Rattle.wire_reader.specs.Spelling.{ItemsText}
 
 -- behind an item: the next ones where the separator stands, else what the items so far gave
 abbrev pub fold_on : {B : Type 0} → ℕ → B → (List ℕ → Result (B × List ℕ) Stop) → List ℕ → Result (B × List ℕ) Stop

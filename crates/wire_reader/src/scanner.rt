@@ -1,9 +1,9 @@
 //! Where the answer of a reader on a growing text can change, found in one pass over its bytes.
 
-ghost use Rattle.std.specs.Prelude.{◌≡◌, ◌<◌, ◌≤◌, ◌≢◌, ◌++◌, ◌∷◌, All, MatchOption, length, take};
-ghost use Rattle.wire_reader.specs.declared.lexical.Phase.TheVariants.{In};
+ghost use Rattle.std.specs.Prelude.{◌≡◌, ◌<◌, ◌≤◌, ◌≢◌, ◌++◌, ◌∷◌, All, MatchOption, length, take, true};
+ghost use Rattle.wire_reader.specs.declared.lexical.Phase.TheVariants.{In, Plain};
 ghost use Rattle.wire_reader.specs.Scanning.{start, after, scanned, is_place, first_place, up_to, owed_in, is_over};
-ghost use Rattle.wire_reader.specs.Advancing.{Advances, Nul};
+ghost use Rattle.wire_reader.specs.Advancing.{Advances, Nul, is_plain};
 
 use crate::answer::front;
 use crate::lexical::{Phase, is_in, next};
@@ -72,8 +72,24 @@ impl Scanner {
     {
         match self.phase {
             Phase::In(n) if n > 1 => self.skip_octets(n, bytes),
+            Phase::Plain if self.outside < 65536 => self.skip_plain(bytes),
             _ => (1, self.step(bytes[0])),
         }
+    }
+
+    /// Scans bytes outside literals, up to the first at which a line or a length of a literal may end or begin; that one where it stands first.
+    fn skip_plain(&mut self, bytes: &[u8]) -> (usize, bool)
+        requires some { 0 < length bytes.now }
+        requires plain { self.old.phase ≡ Plain }
+        requires room { self.old.outside < 65536 }
+        ensures { Advances self.old bytes.now result self.new }
+    {
+        let count = plain_length(front(65536 - self.outside as usize, bytes));
+        if count == 0 {
+            return (1, self.step(bytes[0]));
+        }
+        self.outside += count as u32;
+        (count, false)
     }
 
     /// Scans octets of a literal of which so many are still to come, but not the last of them.
@@ -105,6 +121,24 @@ impl Scanner {
             b == b'\n' || is_full
         }
     }
+}
+
+/// How many of these bytes stand before the first LF and the first `{`.
+fn plain_length(bytes: &[u8]) -> usize
+    ensures within { result ≤ length bytes.now }
+    ensures plain { All (λ b. is_plain b ≡ true) (take result bytes.now) }
+{
+    bytes
+        .iter()
+        .position(|&b| !is_plain(b))
+        .unwrap_or(bytes.len())
+}
+
+/// Whether a byte outside literals is no LF and begins no length of one.
+fn is_plain(b: u8) -> bool
+    ensures { result ≡ is_plain b }
+{
+    b != b'\n' && b != b'{'
 }
 
 /// The number of these octets up to and with the first that is 0, and that there is one; or the number of all.
