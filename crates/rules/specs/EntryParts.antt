@@ -1,10 +1,12 @@
 -- When an entry may stand behind others in order: what is asked of the last alone, and of all.
-use Rattle.std.specs.Prelude.{ℕ, Bool, true, not, ◌&&◌, ◌||◌, ◌==◌, nat_lt, ◌≡◌, List, Option, Some, None, is_none}
+use Rattle.std.specs.Prelude.{ℕ, Bool, true, false, not, ◌<◌, ◌&&◌, ◌||◌, ◌==◌, nat_lt, ◌≡◌, List, Option, Some, None, is_none}
 use Rattle.std.specs.List.{list_any}
 use Rattle.std.specs.Ordering.{nat_cmp}
-use Rattle.std.specs.BTreeSet.{BTreeSet, contains}
+use Rattle.std.specs.BTreeSet.{contains}
 use Rattle.mailcore.specs.declared.side.Side.TheVariants.{Far, Near}
 use Rattle.rules.specs.declared.entry.Entry.{Entry}
+use Rattle.rules.specs.declared.near_uids.NearUids.{NearUids}
+use Rattle.rules.specs.declared.near_uids.NearUids.TheVariants.{Unknown, UpTo, Known}
 use Rattle.rules.specs.Entries.{uid_of, is_same}
 
 -- in order behind another, and with another far UID
@@ -23,7 +25,8 @@ abbrev pub is_near_free : Option ℕ → List Entry → Bool
 is_near_free None entries = true
 is_near_free (Some uid) entries = not (list_any (λ e. is_same e.near (Some uid)) entries)
 
--- the near UIDs of these entries, where they are kept
-abbrev pub KnowsNear : Option (BTreeSet ℕ) → List Entry → Type 0
-KnowsNear None entries = Unit {0}
-KnowsNear (Some known) entries = (uid : ℕ) → contains nat_cmp known uid ≡ list_any (λ e. is_same e.near (Some uid)) entries
+-- what is known of the near UIDs of these entries
+abbrev pub KnowsNear : NearUids → List Entry → Type 0
+KnowsNear Unknown entries = Unit {0}
+KnowsNear (UpTo most alloc) entries = (uid : ℕ) → most < uid → list_any (λ e. is_same e.near (Some uid)) entries ≡ false
+KnowsNear (Known known) entries = (uid : ℕ) → contains nat_cmp known uid ≡ list_any (λ e. is_same e.near (Some uid)) entries

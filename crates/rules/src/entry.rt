@@ -5,12 +5,12 @@ ghost use Rattle.std.specs.List.{list_all, list_any, slice_get};
 ghost use Rattle.rules.specs.Entries.{ArePairs, follows, has_a_side, is_full, is_same, may_end, uid_of, uid_on, uids_of};
 ghost use Rattle.rules.specs.EntryParts.{KnowsNear, is_above, is_above_last, is_near_free};
 
+use crate::near_uids::NearUids;
 use mailcore::fault::PushFault;
 use mailcore::flags::Flags;
 use mailcore::side::Side;
 use mailcore::uid::Uid;
 use std::alloc::{AllocError, Global};
-use std::collections::BTreeSet;
 use std::marker::Model;
 
 /// A pair of messages that an earlier run made, with the flags that both had then. A side with no UID has vanished,
@@ -81,8 +81,8 @@ pub struct ListedPair {
 #[derive(Drop)]
 pub struct Entries {
     list: Vec<Entry>,
-    // The near UIDs of the list, so that `push` need not go over it. There are none behind `from_vec`, which takes no memory.
-    near: Option<BTreeSet<u32>>,
+    // What is known of the near UIDs of the list, so that `push` need not go over it: nothing behind `from_vec`, which takes no memory.
+    near: NearUids,
 }
 
 impl Model for Entries {
@@ -106,7 +106,7 @@ impl Entries {
     {
         Entries {
             list: Vec::new(alloc),
-            near: Some(BTreeSet::new(alloc)),
+            near: NearUids::none(alloc),
         }
     }
 
@@ -115,7 +115,10 @@ impl Entries {
         requires { ArePairs list.items }
         ensures { result ≡ list.items }
     {
-        Entries { list, near: None }
+        Entries {
+            near: NearUids::Unknown,
+            list,
+        }
     }
 
     /// All of them.
@@ -147,7 +150,7 @@ impl Entries {
             return Err(PushFault::OutOfOrder);
         }
         self.list.push(entry)?;
-        match remember(&mut self.near, entry.near) {
+        match self.near.add(&self.list, entry.near) {
             Ok(()) => Ok(()),
             Err(refused) => {
                 self.list.pop();
@@ -157,7 +160,7 @@ impl Entries {
     }
 }
 
-fn may_stand_last(known: &Option<BTreeSet<u32>>, entries: &[Entry], entry: &Entry) -> bool
+fn may_stand_last(known: &NearUids, entries: &[Entry], entry: &Entry) -> bool
     requires pairs { ArePairs entries.now }
     requires known { KnowsNear known.now entries.now }
     ensures { result ≡ may_end entry.now entries.now }
@@ -166,12 +169,12 @@ fn may_stand_last(known: &Option<BTreeSet<u32>>, entries: &[Entry], entry: &Entr
 }
 
 /// In order behind others: they rise, so that the last one stands for all but their near UIDs.
-fn follows_all(known: &Option<BTreeSet<u32>>, entries: &[Entry], entry: &Entry) -> bool
+fn follows_all(known: &NearUids, entries: &[Entry], entry: &Entry) -> bool
     requires pairs { ArePairs entries.now }
     requires known { KnowsNear known.now entries.now }
     ensures { result ≡ list_all (λ a. follows a entry.now) entries.now }
 {
-    is_above_last(entries, entry) && is_near_free(known, entries, entry.near)
+    is_above_last(entries, entry) && known.is_free(entries, entry.near)
 }
 
 fn is_above_last(entries: &[Entry], entry: &Entry) -> bool
@@ -193,41 +196,4 @@ fn is_above(other: &Entry, entry: &Entry) -> bool
     let (next_far, next_near) = (entry.number(Side::Far), entry.number(Side::Near));
     (far < next_far || (far == next_far && near < next_near))
         && (other.far != entry.far || other.far.is_none())
-}
-
-fn is_near_free(known: &Option<BTreeSet<u32>>, entries: &[Entry], near: Option<Uid>) -> bool
-    requires { KnowsNear known.now entries.now }
-    ensures { result ≡ is_near_free near entries.now }
-{
-    let Some(uid) = near else {
-        return true;
-    };
-    match known {
-        Some(uids) => !uids.contains(&uid.get()),
-        None => !has_near_uid(entries, uid),
-    }
-}
-
-fn has_near_uid(entries: &[Entry], uid: Uid) -> bool
-    ensures { result ≡ list_any (λ e. is_same e.near (Some uid)) entries.now }
-{
-    entries.iter().any(|entry| is_near(entry, uid))
-}
-
-fn is_near(entry: &Entry, uid: Uid) -> bool
-    ensures { result ≡ is_same entry.now.near (Some uid) }
-{
-    entry.near == Some(uid)
-}
-
-/// Keeps one more near UID.
-fn remember(known: &mut Option<BTreeSet<u32>>, near: Option<Uid>) -> Result<(), PushFault>
-    ensures ok { OnOk result ((es : List Entry) (e : Entry) → e.near ≡ near → KnowsNear known.old es → KnowsNear known.new (es ++ e ∷ [])) }
-    ensures err { OnErr result ((es : List Entry) → KnowsNear known.old es → KnowsNear known.new es) }
-    ensures no_memory { OnErr result (result ≡ Err PushFault.NoMemory) }
-{
-    if let (Some(uids), Some(uid)) = (known, near) {
-        uids.insert(uid.get())?;
-    }
-    Ok(())
 }

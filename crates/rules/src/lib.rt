@@ -3,6 +3,7 @@
 
 pub mod entry;
 pub mod flag_rule;
+mod near_uids;
 pub mod options;
 pub mod plan;
 pub mod state;
