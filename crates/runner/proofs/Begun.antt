@@ -23,7 +23,7 @@ use Rattle.underway.proofs.Admitting.{drop_whole, grows_numbered}
 use Rattle.underway.proofs.Growth.{files_same, since_map, unplanned_arrives, unplanned_filed}
 use Rattle.underway.proofs.Listings.{grows_next, listed_arrives, listed_grows, listed_here, listed_world, names_below, plan_written as written_midway}
 use Rattle.underway.proofs.Moves.{spares_more}
-use Rattle.runner.specs.Before.{AreShown, BothListed, FarListed, IsClear, IsMade}
+use Rattle.runner.specs.Before.{AreOld, AreShown, BothListed, FarListed, IsClear, IsMade}
 use Rattle.runner.specs.Going.{AtReady}
 
 module _ (ours : List ℕ → Bool) (alone : Bool) (opening : Opening) where
@@ -83,19 +83,19 @@ module _ (ours : List ℕ → Bool) (alone : Bool) (opening : Opening) where
       let g = c.grows in
       rw is (record { clear = clear_arrives opened true d m a c; lists = lists_since alone d.far.next opening.world.far.next far m.far g.far_next l })
 
-  pub near_listed : (opened : Option Opened) (far near : Listing) (from : ℕ) (d m d' : Device) → from ≡ opening.world.state.max_pushed → Arrives ours alone d m → FarListed alone opening opened far d → d' ≡ m → ShowsAbove NearSide from m.near.store near → BothListed ours alone opening opened far near d'
-  near_listed opened far near from d m d' pushed a f is l =
+  pub near_listed : (opened : Option Opened) (far near : Listing) (from : ℕ) (d m d' : Device) → AreOld opening.world.state.max_pushed opening.world.state.entries from → Arrives ours alone d m → FarListed alone opening opened far d → d' ≡ m → ShowsAbove NearSide from m.near.store near → BothListed ours alone opening opened far near d'
+  near_listed opened far near from d m d' old a f is l =
       let c = clear_arrives opened true d m a f.clear in
       let s = opening.world.state in
       let told = f.lists.next in
       let grows = listed_grows alone opening.world s far d m f.clear.grows c.grows told in
       let most = told_most alone opening.world.far.next far d.far told in
-      let since : Since alone opening (λ w. AreShown w.state.max_pushed w far near × Listed ours alone w m) = record {
+      let since : Since alone opening (λ w. AreShown w far near × Listed ours alone w m) = record {
         world = listed_world s far.next d m;
         grows = grows;
         admitted = λ e. c.admitted refl e;
         below = names_below alone opening.world (listed_world s far.next d m) grows c.below;
-        holds = (record { far_is = f.lists.shows; near_is = subst (λ (x : ℕ). ShowsAbove NearSide x m.near.store near) pushed l }, listed_here ours alone opening.world s far.next d m grows most (λ e. c.admitted refl e) a c.files (spares_more opening.world (listed_world s far.next d m) m (grows_next alone opening.world (listed_world s far.next d m) grows) c.spares));
+        holds = (record { far_is = f.lists.shows; from = from; old = old; near_is = l }, listed_here ours alone opening.world s far.next d m grows most (λ e. c.admitted refl e) a c.files (spares_more opening.world (listed_world s far.next d m) m (grows_next alone opening.world (listed_world s far.next d m) grows) c.spares));
       } in
       rw is (record { clear = c; since = since })
 

@@ -1,5 +1,5 @@
--- A plan is the same where near messages up to the highest one that was pushed are said to be fit.
-use Rattle.std.proofs.Common.{◌≡◌, ◌≤◌, ◌+◌, ◌&&◌, ◌||◌, not, ℕ, Bool, true, false, cond, eqb, leb, ltb, List, [], ◌∷◌, ◌++◌, map, length, Option, None, Some, refl, sym, ap, ◌∙◌, arith}
+-- A plan is the same where near messages are said to be fit up to a UID up to which none can be new.
+use Rattle.std.proofs.Common.{◌≡◌, ◌+◌, ◌&&◌, ◌||◌, not, ℕ, Bool, true, false, cond, eqb, leb, ltb, List, [], ◌∷◌, ◌++◌, map, length, Option, None, Some, refl, sym, ap, ◌∙◌, arith, inl, inr}
 use Rattle.std.specs.Prelude.{filter, find}
 use Rattle.std.specs.List.{filter_map}
 use Rattle.std.specs.Option.{option_map}
@@ -23,6 +23,7 @@ use Rattle.rules.specs.Scene.{Scene, items, highest, flags_at, is_listed, is_pai
 use Rattle.rules.specs.Called.{is_new, is_unfit, is_gone, pair_of, pair_between, flags_with, flags_by, flags_after, is_deleted_then, is_expunged, vanishes}
 use Rattle.rules.specs.Outcome.{count_new, greatest, highest_after, news}
 use Rattle.rules.proofs.WorldLemmas.{wanted}
+use Rattle.runner.specs.Before.{AreOld}
 use Rattle.planner.specs.Written.{all_notes, all_steps, all_unfit, drop_note, expunge_step, expunge_steps, flags_by_pair, flags_step, flags_steps, gone_by, gone_step, gone_steps, record_by_pair, record_note, record_notes, unfit_uids}
 
 -- ---- walks over two lists
@@ -49,11 +50,20 @@ greatest_above : (from : ℕ) (messages : List Message) → greatest (map (item_
 greatest_above from [] = refl
 greatest_above from (m ∷ messages) = rw (greatest_above from messages) refl
 
+-- each message up to this UID is not above the highest one that was pushed, or is in an entry
+abbrev IsOld : Scene → ℕ → Type 0
+IsOld s from = AreOld s.max_pushed s.entries from
+
+blocked_paired : (a b d x : Bool) → (a && b && false && d && x) ≡ false
+blocked_paired true true d x = refl
+blocked_paired true false d x = refl
+blocked_paired false b d x = refl
+
 blocked : (a c d x : Bool) → (a && false && c && d && x) ≡ false
 blocked true c d x = refl
 blocked false c d x = refl
 
-module _ (s : Scene) (from : ℕ) (messages : List Message) (most : from ≤ highest Push s) where
+module _ (s : Scene) (from : ℕ) (messages : List Message) (most : IsOld s from) where
   abbrev pub above : Scene
   above = record s { near = map (item_above Near from) messages }
 
@@ -106,18 +116,22 @@ module _ (s : Scene) (from : ℕ) (messages : List Message) (most : from ≤ hig
     where
       by_test : (b : Bool) → leb m.uid from ≡ b
           → cond (one_new m (b || fit Near m.bytes)) (record { uid = m.uid; flags = m.flags; fit = b || fit Near m.bytes } ∷ xs) xs ≡ cond (one_new m (fit Near m.bytes)) (item_of Near m ∷ ys) ys
-      by_test true is =
-          let low : ltb (highest Push s) m.uid ≡ false = grind (arith, nat_tests) in
-          rw (low, blocked (goes s.options.cells.new Push) (not (is_paired s Near m.uid)) (not (has m.flags DELETED && covers s.options.expunge Near)) true, blocked (goes s.options.cells.new Push) (not (is_paired s Near m.uid)) (not (has m.flags DELETED && covers s.options.expunge Near)) (fit Near m.bytes)) e
+      by_test true is = elim (most m.uid (grind (arith, nat_tests))) [
+        | inl low_enough ↦
+            let low : ltb (highest Push s) m.uid ≡ false = grind (arith, nat_tests) in
+            rw (low, blocked (goes s.options.cells.new Push) (not (is_paired s Near m.uid)) (not (has m.flags DELETED && covers s.options.expunge Near)) true, blocked (goes s.options.cells.new Push) (not (is_paired s Near m.uid)) (not (has m.flags DELETED && covers s.options.expunge Near)) (fit Near m.bytes)) e
+        | inr paired ↦
+            rw (paired, blocked_paired (goes s.options.cells.new Push) (ltb (highest Push s) m.uid) (not (has m.flags DELETED && covers s.options.expunge Near)) true, blocked_paired (goes s.options.cells.new Push) (ltb (highest Push s) m.uid) (not (has m.flags DELETED && covers s.options.expunge Near)) (fit Near m.bytes)) e
+      ]
       by_test false is = rw e refl
 
-new_list : (s : Scene) (from : ℕ) (ms : List Message) → from ≤ highest Push s → filter (is_new s Push) (map (item_above Near from) ms) ≡ filter (is_new s Push) (map (item_of Near) ms)
+new_list : (s : Scene) (from : ℕ) (ms : List Message) → IsOld s from → filter (is_new s Push) (map (item_above Near from) ms) ≡ filter (is_new s Push) (map (item_of Near) ms)
 new_list s from [] most = refl
 new_list s from (m ∷ ms) most = new_one s from (m ∷ ms) most m _ _ (new_list s from ms most)
 
 -- ---- messages that want fitness
 
-module _ (s : Scene) (from : ℕ) (most : from ≤ highest Push s) where
+module _ (s : Scene) (from : ℕ) (most : IsOld s from) where
   abbrev one_unfit : Message → Bool → Bool
   one_unfit m b = goes s.options.cells.new Push && ltb (highest Push s) m.uid && not (is_paired s Near m.uid) && not (has m.flags DELETED && covers s.options.expunge Near) && not b
 
@@ -126,9 +140,13 @@ module _ (s : Scene) (from : ℕ) (most : from ≤ highest Push s) where
     where
       by_test : (b : Bool) → leb m.uid from ≡ b
           → cond (one_unfit m (b || fit Near m.bytes)) (record { uid = m.uid; flags = m.flags; fit = b || fit Near m.bytes } ∷ xs) xs ≡ cond (one_unfit m (fit Near m.bytes)) (item_of Near m ∷ ys) ys
-      by_test true is =
-          let low : ltb (highest Push s) m.uid ≡ false = grind (arith, nat_tests) in
-          rw (low, blocked (goes s.options.cells.new Push) (not (is_paired s Near m.uid)) (not (has m.flags DELETED && covers s.options.expunge Near)) false, blocked (goes s.options.cells.new Push) (not (is_paired s Near m.uid)) (not (has m.flags DELETED && covers s.options.expunge Near)) (not (fit Near m.bytes))) e
+      by_test true is = elim (most m.uid (grind (arith, nat_tests))) [
+        | inl low_enough ↦
+            let low : ltb (highest Push s) m.uid ≡ false = grind (arith, nat_tests) in
+            rw (low, blocked (goes s.options.cells.new Push) (not (is_paired s Near m.uid)) (not (has m.flags DELETED && covers s.options.expunge Near)) false, blocked (goes s.options.cells.new Push) (not (is_paired s Near m.uid)) (not (has m.flags DELETED && covers s.options.expunge Near)) (not (fit Near m.bytes))) e
+        | inr paired ↦
+            rw (paired, blocked_paired (goes s.options.cells.new Push) (ltb (highest Push s) m.uid) (not (has m.flags DELETED && covers s.options.expunge Near)) false, blocked_paired (goes s.options.cells.new Push) (ltb (highest Push s) m.uid) (not (has m.flags DELETED && covers s.options.expunge Near)) (not (fit Near m.bytes))) e
+      ]
       by_test false is = rw e refl
 
   unfit_list : (ms : List Message) → filter (is_unfit s Push) (map (item_above Near from) ms) ≡ filter (is_unfit s Push) (map (item_of Near) ms)
@@ -137,7 +155,7 @@ module _ (s : Scene) (from : ℕ) (most : from ≤ highest Push s) where
 
 -- ---- the plan
 
-module _ (s : Scene) (from : ℕ) (messages : List Message) (most : from ≤ highest Push s) where
+module _ (s : Scene) (from : ℕ) (messages : List Message) (most : IsOld s from) where
   abbrev one : Scene
   one = above s from messages most
 

@@ -19,3 +19,4 @@ pub mod Ends
 pub mod Finding
 pub mod PassTells
 pub mod Sourced
+pub mod Old

@@ -250,7 +250,7 @@ module _ (ours : List ℕ → Bool) (alone : Bool) (opening : Opening) where
   -- ---- the plan of two listings
 
   pub plan_made : (opened : Option Opened) (options : Options) (stream : Stream) (far near : Listing) (plan : Plan) → IsDrawn opened stream far near options plan.steps
-      → ((w : World) → IsInOrder w → state_of opened ≡ Some w.state → AreShown w.state.max_pushed w far near → All (λ mark. ours mark ≡ true) (marks_of plan.steps) → IsPlanned ours w options plan)
+      → ((w : World) → IsInOrder w → state_of opened ≡ Some w.state → AreShown w far near → All (λ mark. ours mark ≡ true) (marks_of plan.steps) → IsPlanned ours w options plan)
       → (d : Device) → IsAsked ours opening options stream → BothListed ours alone opening opened far near d → IsMade ours alone opening opened plan d
   plan_made None options stream far near plan drawn is d asked both = absurd drawn
   plan_made (Some o) options stream far near plan drawn is d asked both =
@@ -264,7 +264,7 @@ module _ (ours : List ℕ → Bool) (alone : Bool) (opening : Opening) where
 
   -- it is that of the world that was listed, and so are the messages that were passed over
   pub passed_by : (opened : Option Opened) (options : Options) (stream : Stream) (far near : Listing) (plan : Plan) (unfit : List (Side × ℕ)) → IsDrawn opened stream far near options plan.steps
-      → ((w : World) → IsInOrder w → state_of opened ≡ Some w.state → AreShown w.state.max_pushed w far near → All (λ mark. ours mark ≡ true) (marks_of plan.steps) → IsPlanned ours w options plan)
+      → ((w : World) → IsInOrder w → state_of opened ≡ Some w.state → AreShown w far near → All (λ mark. ours mark ≡ true) (marks_of plan.steps) → IsPlanned ours w options plan)
       → AreUnfit opened far near options unfit → (d : Device) → IsAsked ours opening options stream → BothListed ours alone opening opened far near d → PassedOver ours alone opening plan unfit
   passed_by None options stream far near plan unfit drawn is are d asked both = absurd drawn
   passed_by (Some o) options stream far near plan unfit drawn is are d asked both =

@@ -25,7 +25,7 @@ use Rattle.mailbox.specs.Operations.{HasNumbers}
 use Rattle.outside.specs.Opened.{IsRead, Opened, TakesPlan, state_of}
 use Rattle.underway.specs.Plans.{IsPlanned, first_uid}
 use Rattle.runner.specs.Answers.{AreDrawn, Moves, RepeatsFor, RepeatsIn, run_of}
-use Rattle.runner.specs.Before.{AreShown, HasNoJournal}
+use Rattle.runner.specs.Before.{AreOld, AreShown, HasNoJournal}
 use Rattle.runner.proofs.Fitness.{count_same, highest_same, notes_same, steps_same, unfit_same}
 
 -- ---- it may be begun
@@ -70,28 +70,28 @@ repeats_in (Some o) s stream far near options e k = let same : o.state ≡ s = c
 
 -- ---- it is the plan of the world that the listings show
 
-module _ (ours : List ℕ → Bool) (w : World) (s : SyncState) (options : Options) (far near : Listing) (state : s ≡ w.state) (shown : AreShown w.state.max_pushed w far near) where
+module _ (ours : List ℕ → Bool) (w : World) (s : SyncState) (options : Options) (far near : Listing) (state : s ≡ w.state) (shown : AreShown w far near) where
   abbrev listed : Scene
   listed = scene far near s options
 
-  above_is : listed ≡ record (scene_of w options) { near = map (item_above Near w.state.max_pushed) w.near.messages }
+  above_is : listed ≡ record (scene_of w options) { near = map (item_above Near shown.from) w.near.messages }
   above_is = rw (state, shown.far_is.items, shown.near_is.items) refl
 
-  least : w.state.max_pushed ≤ w.state.max_pushed
-  least = omega arith
+  least : AreOld w.state.max_pushed w.state.entries shown.from
+  least = shown.old
 
   pub unfit_by : (unfit : List (Side × ℕ)) → unfit ≡ all_unfit listed → unfit ≡ all_unfit (scene_of w options)
-  unfit_by unfit e = e ∙ ap (λ (x : Scene). all_unfit x) above_is ∙ unfit_same (scene_of w options) w.state.max_pushed w.near.messages least
+  unfit_by unfit e = e ∙ ap (λ (x : Scene). all_unfit x) above_is ∙ unfit_same (scene_of w options) shown.from w.near.messages least
 
   pub count_is : count_new listed ≡ count_new (scene_of w options)
-  count_is = ap (λ (x : Scene). count_new x) above_is ∙ count_same (scene_of w options) w.state.max_pushed w.near.messages least
+  count_is = ap (λ (x : Scene). count_new x) above_is ∙ count_same (scene_of w options) shown.from w.near.messages least
 
   pub planned_by : (plan : Plan) (stream : Stream) → AreDrawn stream far near s options (marks_of plan.steps) → All (λ mark. ours mark ≡ true) (marks_of plan.steps) → plan.run ≡ s.run + 1
       → plan.far ≡ side_with far (highest_after listed Pull) → plan.near ≡ side_with near (highest_after listed Push) → plan.steps ≡ all_steps listed (marks_of plan.steps) → plan.notes ≡ all_notes listed → IsPlanned ours w options plan
   planned_by plan stream drawn mine run far_side near_side steps notes =
       let marks = marks_of plan.steps in
       let base : Scene = scene_of w options in
-      let from = w.state.max_pushed in
+      let from = shown.from in
       let each : length marks ≡ count_new base = (let d = drawn.drawn in d.are_all) ∙ count_is in
       record {
         marks = marks;

@@ -1,9 +1,12 @@
 -- What is so before the steps of a plan: the shelf was read, the journal is cleared away, both mailboxes are listed, the plan is made.
-use Rattle.std.specs.Prelude.{◌≡◌, ℕ, Bool, true, List, [], Option, None, Some}
+use Rattle.std.specs.Prelude.{◌≡◌, ◌⊎◌, ◌≤◌, ◌==◌, ℕ, Bool, true, List, [], Option, None, Some}
+use Rattle.std.specs.List.{list_any}
 use Rattle.mailcore.specs.declared.side.Side.TheVariants.{Far, Near}
 use Rattle.mailcore.specs.declared.listing.Listing.{Listing}
 use Rattle.mailcore.specs.Operations.{Shows, ShowsAbove}
+use Rattle.rules.specs.declared.entry.Entry.{Entry}
 use Rattle.rules.specs.declared.plan.Plan.{Plan}
+use Rattle.rules.specs.Entries.{uid_of}
 use Rattle.rules.specs.World.{World, NamesBelow}
 use Rattle.book.specs.Books.{Holds, IsPlanned as HasPlanned}
 use Rattle.book.specs.declared.book.Pending.TheVariants.{Missing}
@@ -65,14 +68,20 @@ pub record FarListed (alone : Bool) (opening : Opening) (opened : Option Opened)
   pub clear : IsClear alone opening opened true d
   pub lists : ListsFar alone opening.world.far.next far d
 
--- both listings are those of this world, but that near messages up to this UID are said to be fit
-pub record AreShown (from : ℕ) (w : World) (far near : Listing) : Type 0 where
+-- no near message up to this UID can be new: it is not above the highest one that was pushed, or an entry names it
+abbrev pub AreOld : (pushed : ℕ) → List Entry → (from : ℕ) → Type 0
+AreOld pushed entries from = (uid : ℕ) → uid ≤ from → (uid ≤ pushed) ⊎ (list_any (λ e. uid_of Near e == uid) entries ≡ true)
+
+-- both listings are those of this world, but that near messages which cannot be new are said to be fit
+pub record AreShown (w : World) (far near : Listing) : Type 0 where
   pub far_is : Shows Far w.far far
+  pub from : ℕ
+  pub old : AreOld w.state.max_pushed w.state.entries from
   pub near_is : ShowsAbove Near from w.near near
 
 pub record BothListed (ours : List ℕ → Bool) (alone : Bool) (opening : Opening) (opened : Option Opened) (far near : Listing) (d : Device) : Type 0 where
   pub clear : IsClear alone opening opened true d
-  pub since : Since alone opening (λ w. AreShown w.state.max_pushed w far near × Listed ours alone w d)
+  pub since : Since alone opening (λ w. AreShown w far near × Listed ours alone w d)
 
 -- the plan of that world is made
 pub record IsMade (ours : List ℕ → Bool) (alone : Bool) (opening : Opening) (opened : Option Opened) (plan : Plan) (d : Device) : Type 0 where

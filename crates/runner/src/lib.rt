@@ -4,6 +4,7 @@
 pub mod changing;
 pub mod copying;
 pub mod fault;
+mod old_messages;
 pub mod opening;
 pub mod pass;
 pub mod pending;

@@ -16,6 +16,7 @@ ghost use Rattle.runner.specs.Finding.{FindsSame};
 ghost use Rattle.runner.specs.Before.{BothListed, FarListed, HasNoJournal, HasNoPlan, HasNone, HasPlan, IsClear, IsEmptied, IsKnown, IsMade, IsTakenUp};
 
 use crate::fault::{RunFault, call_fault};
+use crate::old_messages::old_up_to;
 use mailcore::listing::Listing;
 use mailcore::side::Side;
 use outside::outside::Outside;
@@ -144,7 +145,7 @@ fn list_far<O: Outside>(outside: &mut O) -> Result<Listing, RunFault>
     }
 }
 
-/// Lists the near mailbox, after the far one. Messages that were pushed before are not read.
+/// Lists the near mailbox, after the far one. Messages that were pushed before are not read, nor are the copies of the last pull.
 fn list_near<O: Outside>(outside: &mut O, far: &Listing) -> Result<Listing, RunFault>
     ghost opening: { Opening }
     requires read { IsRead (O.opened outside.old) }
@@ -158,8 +159,8 @@ fn list_near<O: Outside>(outside: &mut O, far: &Listing) -> Result<Listing, RunF
         (λ _. 0) (λ near. BothListed O.ours O.alone opening (O.opened outside.old) far.now near) (O.seen outside.old) (O.seen outside.new)
         result }
 {
-    let pushed = outside.state().max_pushed;
-    match outside.list_near(pushed) {
+    let from = old_up_to(outside.state());
+    match outside.list_near(from) {
         Ok(near) => Ok(near),
         Err(fault) => Err(call_fault(fault)),
     }

@@ -67,7 +67,7 @@ pub(crate) fn make_plan<O: Outside, R: Rng>(
     ensures takes { IfOk result (λ p. TakesPlan (O.opened outside.now) p) }
     ensures drawn { IfOk result (λ p. IsDrawn (O.opened outside.now) (R.stream rng.old) both.now.far both.now.near options.now p.steps) }
     ensures plan { IfOk result (λ p. (w : World) → IsInOrder w → state_of (O.opened outside.now) ≡ Some w.state → AreShown
-        w.state.max_pushed w both.now.far both.now.near
+        w both.now.far both.now.near
         → All (λ mark. O.ours mark ≡ true) (marks_of p.steps) → IsPlanned O.ours w options.now p) }
     ensures moved { Moves (R.stream rng.old) (R.stream rng.new) }
     ensures fault { IfErr result IsPlanFault }
