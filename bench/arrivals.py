@@ -13,10 +13,8 @@ there. Then the world that is left is given to mbtrial again, alone, and what th
 fit arrival is copied then. Each trial that differs is told with its seed. At the end stands how many arrivals were listed, came later or
 did not come, and status 1 if a trial differs. `--self-test` reads four rules of arrivals wrongly in turn, each of which some trial has to
 tell."""
-import argparse
 import importlib
 import itertools
-import os
 import random
 import re
 import subprocess
@@ -28,7 +26,6 @@ from plan_model import LETTERS, escaped, text_of
 
 worlds = importlib.import_module("random-trials")
 
-TOP = os.path.dirname(os.path.dirname(os.path.abspath(__file__)))
 COMMANDS = ("SELECT", "FETCH", "STORE", "EXPUNGE", "APPEND")
 FOLDER = ("folder.write_tmp", "folder.rename", "folder.remove", "folder.replace_meta")
 SHELF = ("shelf.append", "shelf.replace", "shelf.remove")
@@ -248,13 +245,7 @@ def self_test(asked):
 
 
 def main():
-    words = argparse.ArgumentParser(description="Compares mbtrial with the rules where others add messages.")
-    words.add_argument("program", nargs="?", default=os.path.join(TOP, "crates", "mbtrial", "out", "mbtrial"))
-    words.add_argument("--count", type=int, default=2000)
-    words.add_argument("--seed", type=int, default=1)
-    words.add_argument("--tcp", action="store_true")
-    words.add_argument("--self-test", action="store_true")
-    asked = words.parse_args()
+    asked = worlds.words_of("Compares mbtrial with the rules where others add messages.").parse_args()
     if asked.self_test:
         sys.exit(self_test(asked))
     runs = Runs(asked.program, ["--tcp"] if asked.tcp else [])

@@ -199,15 +199,25 @@ def is_as_told(program, arguments, world):
     return (ran.returncode, ran.stdout.decode()) == (status, output)
 
 
-def main():
-    words = argparse.ArgumentParser(description="Compares mbtrial on random worlds with the rules.")
-    built = lambda name: os.path.join(TOP, "crates", name, "out", name)
+def built(name):
+    """Where the program of a crate stands once it is built."""
+    return os.path.join(TOP, "crates", name, "out", name)
+
+
+def words_of(description):
+    """The words of a script that runs mbtrial on worlds, each from a seed of its own."""
+    words = argparse.ArgumentParser(description=description)
     words.add_argument("program", nargs="?", default=built("mbtrial"))
-    words.add_argument("--planner", default=built("mbplan") if os.access(built("mbplan"), os.X_OK) else None)
     words.add_argument("--count", type=int, default=2000)
     words.add_argument("--seed", type=int, default=1)
     words.add_argument("--tcp", action="store_true")
     words.add_argument("--self-test", action="store_true")
+    return words
+
+
+def main():
+    words = words_of("Compares mbtrial on random worlds with the rules.")
+    words.add_argument("--planner", default=built("mbplan") if os.access(built("mbplan"), os.X_OK) else None)
     asked = words.parse_args()
     if asked.self_test:
         sys.exit(1 if self_test(asked.program, ["--tcp"] if asked.tcp else [], range(asked.seed, asked.seed + asked.count)) else 0)

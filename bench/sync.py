@@ -3,8 +3,8 @@
 
     bench/sync.py [--program PROGRAM] [--isync PROGRAM] [--most N]
 
-A mailbox of 10,000 messages of 3 KB is pulled into an empty folder. The run behind that reads each copy once, to see whether it is fit;
-then come a run with nothing to do, and one before which 1% of the far messages got a flag. Each has its seconds, on the clock and of
+A mailbox of 10,000 messages of 3 KB is pulled into an empty folder. Then come the run behind that, a run with nothing to do, and one
+before which 1% of the far messages got a flag. Each has its seconds, on the clock and of
 the processor, and its greatest memory; in separate runs over 1,000 messages strace counts syncs and system calls a message. Then
 mbsync alone shows how this grows, at 1,000, 10,000 and 100,000 messages, or up to N.
 

@@ -1,5 +1,5 @@
 -- The near mailbox of a run as the clauses of its calls name it.
-use Rattle.std.specs.Prelude.{◌≡◌, ◌⊎◌, ℕ, Bool, true, false, not, Result}
+use Rattle.std.specs.Prelude.{◌≡◌, ◌⊎◌, ℕ, Bool, true, false, length, not, Result}
 use Rattle.std.specs.Int.NonZero.{non_zero_u32_get}
 use Rattle.device.specs.Calls.{Effect}
 use Rattle.mailcore.specs.declared.side.Side.TheVariants as side
@@ -15,6 +15,7 @@ use Rattle.mailbox.specs.declared.fault.BoxFault.{BoxFault}
 use Rattle.mailbox.specs.declared.fault.BoxFault.TheVariants.{Stopped, Refused, Own, NoMemory}
 use Rattle.mailbox.specs.Arrivals.{Arrives}
 use Rattle.mailbox.specs.Calls.{Call, Seen}
+use Rattle.mailbox.specs.Operations.{Admits, AdmitsPart, NoRoom}
 use Rattle.near_side.specs.declared.near_side.NearSide.{NearSide}
 
 -- whether a call has failed: of an open mailbox its box, of a closed one its folder
@@ -48,3 +49,8 @@ module _ {F : Type 0} {folders : folder.Ghosts F} where
       → (old new : NearSide F folders) → Result T BoxFault → Type 0
   Calls because does part old new result =
       Call (folders.is_honest ≡ true) ⊥ (Arrives side.Near folders.visitors.ours folders.visitors.alone) because does part (seen_of old) (seen_of new) result
+
+  -- the waiting files that were read have their UIDs, or some of them, or there is no room for all that wait
+  abbrev pub CallsAdmit : (old new : NearSide F folders) → Result (Unit {0}) BoxFault → Type 0
+  CallsAdmit old new result =
+      Calls {T = Unit {0}} (NoRoom side.Near (λ b. length b.waiting)) (λ _. Admits folders.visitors.alone) (AdmitsPart folders.visitors.alone) old new result

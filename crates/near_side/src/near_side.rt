@@ -62,8 +62,8 @@ impl<F: Folder + Drop> Mailbox for NearSide<F> {
     ghost use Rattle.near_box.specs.Mailboxes.{IsMailbox};
     ghost use Rattle.mailcore.specs.Mailboxes.{SetsAside};
     ghost use Rattle.mailbox.specs.Calls.{IsPlain, Never};
-    ghost use Rattle.mailbox.specs.Operations.{Admits, AdmitsPart, Answers, Appends, IsCopyText, IsFull, NoRoom, TellsValidity};
-    ghost use Rattle.near_side.specs.NearSides.{Calls, Unfit, seen_of};
+    ghost use Rattle.mailbox.specs.Operations.{Answers, Appends, IsCopyText, IsFull, NoRoom, TellsValidity};
+    ghost use Rattle.near_side.specs.NearSides.{Calls, CallsAdmit, Unfit, seen_of};
 
     ghost side = { Near };
 
@@ -149,7 +149,7 @@ impl<F: Folder + Drop> Mailbox for NearSide<F> {
         ensures open { self.new.is_open ≡ true }
         ensures full { F.is_honest ≡ true → (let b = (seen_of self.old).stored in IsFull (length b.waiting) b)
             → IsErrOf result (BoxFault.Own 5) }
-        ensures call { Calls {T = Unit {0}} (NoRoom Near (λ b. length b.waiting)) (λ _. Admits F.visitors.alone) (AdmitsPart F.visitors.alone) self.old self.new result }
+        ensures call { CallsAdmit self.old self.new result }
     {
         told_by(self.near.admit())
     }

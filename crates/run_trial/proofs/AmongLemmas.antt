@@ -1,6 +1,6 @@
 -- What is left where others write no mark, by how many marks theirs bear.
 use Rattle.std.proofs.Common.{◌≡◌, ◌∙◌, ℕ, Bool, List, map, true, false, None, refl, sym, ap, subst}
-use Rattle.std.specs.Prelude.{All, Result, IfErr, IfOk, OnOk}
+use Rattle.std.specs.Prelude.{All, Result, IfErr, OnOk}
 use Rattle.std.proofs.lemmas.List.Elements.{All-map}
 use Rattle.mailcore.specs.Content.{mark_of}
 use Rattle.imap_session.specs.Servers.{Server}

@@ -1,6 +1,6 @@
 -- The setting of a trial holds its world, and what a run over it leaves.
-use Rattle.std.proofs.Common.{◌≡◌, ℕ, ◌+◌, ◌-◌, ◌<◌, ◌≤◌, ◌^◌, true, List, [], length, map, Option, None, refl, sym, ap, subst, ◌∙◌, ⊎_elim, arith}
-use Rattle.std.specs.Prelude.{Result, Ok, Err, OnOk, IfOk, IfErr, IsErrAnd, codes, Vec}
+use Rattle.std.proofs.Common.{◌≡◌, ℕ, ◌+◌, ◌-◌, ◌<◌, ◌≤◌, ◌^◌, true, List, [], Option, None, refl, sym, ap, subst, ◌∙◌, ⊎_elim, arith}
+use Rattle.std.specs.Prelude.{Result, Ok, Err, OnOk, IfOk, IsErrAnd, codes, Vec}
 use Rattle.std.specs.Global.{Global}
 use Rattle.std.proofs.lemmas.Bool.{cases_lt}
 use Rattle.std.proofs.lemmas.List.Elements.{All-nil}
@@ -16,7 +16,7 @@ use Rattle.book.specs.MemShelves.{files_of}
 use Rattle.book.specs.Shelves.{Files, bytes_of}
 use Rattle.near_box.specs.Mailboxes.{near_of}
 use Rattle.imap_session.specs.Servers.{Server}
-use Rattle.far_side.specs.Chosen.{box_at, settled, store_at}
+use Rattle.far_side.specs.Chosen.{settled, store_at}
 use Rattle.outside.specs.Calls.{Seen}
 use Rattle.outside.specs.Devices.{Device}
 use Rattle.pair.specs.Parts.{device_with}
@@ -27,12 +27,11 @@ use Rattle.runner.specs.declared.fault.RunFault.{RunFault}
 use Rattle.runner.specs.Attempts.{HasNoNext, TellsNoNext}
 use Rattle.trial.specs.declared.trial.Trial.{Trial}
 use Rattle.trial.specs.Shelves.{shelf_of}
-use Rattle.trial.specs.Worlds.{FitsWords, device_of, store_of, waiting_of, world_of}
+use Rattle.trial.specs.Worlds.{FitsWords, device_of, world_of}
 use Rattle.trial.proofs.FolderLemmas.{folder_holds}
 use Rattle.trial.proofs.ShelfLemmas.{shelf_holds}
 use Rattle.trial.proofs.WorldLemmas.{few_files, near_in_range, waiting_in_sets}
 use Rattle.run_trial.specs.declared.setting.Setting.{Setting}
-use Rattle.run_trial.specs.Memory.{LeavesWorld}
 use Rattle.run_trial.specs.Settings.{IsSettingOf, device_at, device_in}
 
 -- ---- the world stands there

@@ -1,9 +1,8 @@
 -- What a run leaves that began with a world, of what it leaves that began with an opening.
-use Rattle.std.proofs.Common.{◌≡◌, ℕ, Bool, true, List, All, inl, refl, sym, ap, subst, ◌∙◌}
+use Rattle.std.proofs.Common.{◌≡◌, ℕ, Bool, true, List, inl, refl, sym, ap, subst, ◌∙◌}
 use Rattle.std.specs.Prelude.{Result, Ok, Err, OnOk, IfErr, IfOk, IsErrOf, get_or}
 use Rattle.rules.specs.declared.options.Options.{Options}
 use Rattle.rules.specs.declared.state.SyncState.{SyncState}
-use Rattle.rules.specs.Opening.{IsOpening}
 use Rattle.rules.specs.World.{World}
 use Rattle.outside.specs.Calls.{Seen}
 use Rattle.outside.specs.Devices.{Device}

@@ -1,5 +1,5 @@
 -- A run to which others add messages: what they add, and what it leaves of a world.
-use Rattle.std.specs.Prelude.{◌≡◌, ℕ}
+use Rattle.std.specs.Prelude.{◌≡◌}
 use Rattle.mem_link.specs.declared.command.CommandName.{CommandName}
 use Rattle.mem_link.specs.declared.command.CommandName.TheVariants as link
 use Rattle.mem_link.specs.declared.arrivals.Arrival.{Arrival}

@@ -1,5 +1,4 @@
 -- What a run of a trial leaves in memory, where every mark is its own and nobody else adds messages.
-use Rattle.std.specs.Prelude.{true}
 use Rattle.maildir.specs.Gains.{nobody}
 use Rattle.rules.specs.declared.options.Options.{Options}
 use Rattle.rules.specs.World.{World}

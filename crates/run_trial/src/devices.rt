@@ -39,7 +39,8 @@ use written_worlds::write::{WrittenMailbox, WrittenWorld, write_parts};
 ///
 /// Where the outside has kept its word: from a world that a run may begin with, where nobody else adds messages, an answer leaves both
 /// mailboxes and the state alike to the outcome that the rules name for it. Where others add messages under no mark of the run, it is
-/// over (docs/GUARANTEES.md). A fault leaves it underway. Behind the greatest run number there is no other run. It is told as stopped only where each attempt met a stop.
+/// over (docs/GUARANTEES.md). A fault leaves it underway. Behind the greatest run number there is no other run. It is told as stopped
+/// only where each attempt met a stop.
 pub(crate) fn settle_all<O: Outside>(
     alloc: Global,
     outside: O,

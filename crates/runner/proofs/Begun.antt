@@ -1,5 +1,5 @@
 -- Admission, two listings and the writing of the plan.
-use Rattle.std.proofs.Common.{◌≡◌, ◌⊎◌, inl, inr, ℕ, Bool, true, false, List, ◌++◌, length, Option, Some, None, refl, ◌∙◌, ap, subst}
+use Rattle.std.proofs.Common.{◌≡◌, ◌⊎◌, inl, inr, ℕ, Bool, true, false, List, ◌++◌, length, Option, Some, None, refl, ◌∙◌, ap}
 use Rattle.std.proofs.lemmas.Bool.{both_ways}
 use Rattle.mailcore.specs.declared.side.Side.TheVariants.{Near as NearSide}
 use Rattle.mailcore.specs.declared.listing.Listing.{Listing}

@@ -1,5 +1,5 @@
 -- What the planner's clauses say of the plan of two listings.
-use Rattle.std.proofs.Common.{◌≡◌, ◌≤◌, ◌<◌, ◌+◌, ◌-◌, ◌^◌, ℕ, zero, suc, Bool, true, List, All, map, min, length, Option, Some, None, refl, sym, ap, ◌∙◌, subst, arith}
+use Rattle.std.proofs.Common.{◌≡◌, ◌<◌, ◌+◌, ◌-◌, ◌^◌, ℕ, zero, suc, Bool, true, List, All, map, min, length, Option, Some, None, refl, sym, ap, ◌∙◌, subst, arith}
 use Rattle.mailcore.specs.declared.listing.Listing.{Listing}
 use Rattle.mailcore.specs.declared.side.Side.{Side}
 use Rattle.mailcore.specs.declared.side.Side.TheVariants.{Far, Near}

@@ -1,6 +1,7 @@
 //! What others add in a trial, as its lines say it.
 
-ghost use Rattle.std.specs.Prelude.{◌≡◌, All, IfErr, None, true};
+ghost use Rattle.std.specs.Prelude.{◌≡◌, ◌&&◌, All, IfErr, None, is_none, true};
+ghost use Rattle.std.specs.List.{list_all};
 ghost use Rattle.mailcore.specs.Content.{mark_of};
 ghost use Rattle.worlds.specs.Lines.{IsOf};
 
@@ -67,7 +68,9 @@ impl Arrivals {
 
     /// Whether none of the messages and files bears a mark.
     pub fn bear_no_mark(&self) -> bool
-        ensures { result ≡ true → All (λ a. mark_of a.bytes ≡ None) self.now.far.items }
+        ensures exact { result ≡ (list_all (λ a. is_none (mark_of a.bytes)) self.now.far.items
+            && list_all (λ a. is_none (mark_of a.bytes)) self.now.near.items) }
+        ensures unmarked { result ≡ true → All (λ a. mark_of a.bytes ≡ None) self.now.far.items }
     {
         let far = self
             .far

@@ -1,4 +1,4 @@
-use Rattle.std.proofs.Common.{◌≡◌, ◌∙◌, All, None, refl}
+use Rattle.std.proofs.Common.{◌∙◌, refl}
 use Rattle.session_laws.proofs.Visiting.{nobody_visits, visits_follow}
 use Rattle.visitors.specs.Visitors.{others_with}
 use Rattle.mem_link.specs.MemLinks.{line_of}

@@ -1,8 +1,7 @@
-use Rattle.std.proofs.Common.{◌≡◌, ◌∙◌, refl, sym, ap, subst, arith}
+use Rattle.std.proofs.Common.{◌∙◌, refl, sym, ap, subst, arith}
 use Rattle.std.specs.Prelude.{IfErr, IfOk}
 use Rattle.maildir.specs.MemFolders.{stored_in}
 use Rattle.book.specs.MemShelves.{files_of}
-use Rattle.imap_session.specs.Servers.{Server}
 use Rattle.outside.specs.Devices.{Device}
 use Rattle.pair.specs.Pairs.{seen_of}
 use Rattle.rules.specs.World.{World}

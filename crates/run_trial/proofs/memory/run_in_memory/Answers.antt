@@ -1,4 +1,4 @@
-use Rattle.std.proofs.Common.{◌≡◌, refl, sym, subst}
+use Rattle.std.proofs.Common.{refl, sym, subst}
 use Rattle.std.specs.Prelude.{IfErr, IfOk}
 use Rattle.outside.specs.Devices.{Device}
 use Rattle.pair.specs.Pairs.{seen_of}

@@ -1,8 +1,7 @@
 -- Link, folder and shelf in memory always keep their word, and nobody else writes a mark.
-use Rattle.std.proofs.Common.{◌≡◌, true, List, refl, sym, ap, subst}
+use Rattle.std.proofs.Common.{refl, sym, ap, subst}
 use Rattle.std.specs.Prelude.{IfErr}
 use Rattle.outside.specs.Calls.{Seen}
-use Rattle.outside.specs.Devices.{Device}
 use Rattle.pair.specs.Pairs.{seen_of}
 use Rattle.maildir.specs.Gains.{nobody}
 use Rattle.underway.specs.Conditions.{Underway}

@@ -1,4 +1,4 @@
-use Rattle.std.proofs.Common.{◌∙◌, ◌<◌, ◌^◌, ℕ, Option, None, Some, Err, ap, subst, sym}
+use Rattle.std.proofs.Common.{◌∙◌, ◌<◌, ◌^◌, ℕ, Option, Err, ap, subst, sym}
 use Rattle.std.specs.Prelude.{IfSome}
 use Rattle.mailcore.specs.FlagSet.{FLAGS}
 use Rattle.imap_server.specs.Taking.{Host}
