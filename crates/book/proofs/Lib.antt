@@ -13,9 +13,9 @@ pub mod EntryPairLemmas
 pub mod FreshAgreement
 pub mod GoParts
 pub mod HeldBooks
-pub mod HighestLemmas
 pub mod KnownBooks
 pub mod LogAgreement
 pub mod LoggedLemmas
 pub mod PlacedLemmas
+pub mod TakenLemmas
 pub mod TurnLemmas

@@ -15,11 +15,11 @@ use Rattle.book.specs.declared.book.Pending.{Pending}
 use Rattle.book.specs.declared.book.Pending.TheVariants.{Missing, Useless, Planned}
 use Rattle.rules.specs.declared.plan.Plan.{Plan}
 use Rattle.sync_state.specs.Words.{IsUidOrNone}
-use Rattle.std.specs.Prelude.{Option, None, Some, ℕ}
+use Rattle.std.specs.Prelude.{◌≡◌, Bool, true, Option, None, Some, ℕ}
 use Rattle.sync_state.specs.JournalText.{IsStep, IsNote, IsPlan, LogsNew, LogsOther, FitsStep, IsLog, HasJournal}
 use Rattle.book.specs.Books.{Fits, IsSound}
-use Rattle.book.specs.Highest.{Bounds}
-use Rattle.book.specs.declared.highest.Highest.{Highest}
+use Rattle.book.specs.TakenUids.{Knows}
+use Rattle.book.specs.declared.taken.Taken.{Taken}
 
 IsStep-prop : (s : Step) → IsProp (IsStep s)
 IsStep-prop (step.New direction uid flags mark) = Prim.hlevel props
@@ -80,7 +80,10 @@ HasText-prop state = Prim.hlevel (IsEntry-prop, props)
 pub IsSound-prop : (state : SyncState) → IsProp (IsSound state)
 IsSound-prop state = Prim.hlevel (HasText-prop, props)
 
-pub Bounds-prop : (entries : List Entry) (pending : Pending) (highest : Highest) → IsProp (Bounds entries pending highest)
-Bounds-prop entries Missing highest = Prim.hlevel props
-Bounds-prop entries Useless highest = Prim.hlevel props
-Bounds-prop entries (Planned written) highest = Prim.hlevel props
+Taken-prop : (entries : List Entry) (pending : Pending) (taken : Taken) → IsProp (Knows entries pending taken)
+Taken-prop entries Missing taken = Prim.hlevel props
+Taken-prop entries Useless taken = Prim.hlevel props
+Taken-prop entries (Planned written) taken = Prim.hlevel props
+
+pub Knows-prop : (is_ready : Bool) (entries : List Entry) (pending : Pending) (taken : Taken) → IsProp (is_ready ≡ true → Knows entries pending taken)
+Knows-prop is_ready entries pending taken = Prim.hlevel (Taken-prop entries pending taken)

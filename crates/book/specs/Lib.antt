@@ -9,8 +9,8 @@ pub mod Commits
 pub mod Committed
 pub mod DiskShelves
 pub mod EntryOrders
-pub mod Highest
 pub mod MemShelves
 pub mod PlacedLists
 pub mod Shelves
 pub mod Standings
+pub mod TakenUids

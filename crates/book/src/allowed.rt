@@ -1,6 +1,6 @@
 //! Whether a book's journal may be begun, and a step of it logged: the tests of what these calls ask for.
 
-ghost use Rattle.std.specs.Prelude.{◌≡◌, ◌+◌, ◌↔◌, true, false, length};
+ghost use Rattle.std.specs.Prelude.{◌≡◌, ◌+◌, ◌↔◌, Ok, true, false, length};
 ghost use Rattle.sync_state.specs.JournalText.{FitsStep, IsPlan};
 ghost use Rattle.sync_state.specs.JournalReading.{FitsAt};
 ghost use Rattle.book.specs.Agreement.{Agrees};
@@ -10,29 +10,30 @@ use crate::agreement::plan_agrees;
 use crate::book::{Book, Pending};
 use crate::shelf::Shelf;
 use rules::plan::{Plan, Step};
+use std::alloc::AllocError;
 use sync_state::has_text::has_text;
 use sync_state::journal::{Journal, Logged};
 
 impl<S: Shelf> Book<S> {
     /// Whether `begin` may be called with this plan: there is no journal, the plan has a text and is of the next run, and
-    /// each of its steps and notes agrees with the state.
-    pub fn may_begin(&self, plan: &Plan) -> bool
-        ensures missing { result ≡ true → self.now.pending ≡ Pending.Missing }
-        ensures has_text { result ≡ true → IsPlan plan.now }
-        ensures next { result ≡ true → plan.now.run ≡ self.now.state.run + 1 }
-        ensures agrees { result ≡ true → Agrees self.now.state.entries (fresh plan.now) }
-        ensures refused { result ≡ false → ¬ MayBegin self.now.state self.now.pending plan.now }
+    /// each of its steps and notes agrees with the state. `AllocError`: memory ran out.
+    pub fn may_begin(&self, plan: &Plan) -> Result<bool, AllocError>
+        ensures missing { result ≡ Ok true → self.now.pending ≡ Pending.Missing }
+        ensures has_text { result ≡ Ok true → IsPlan plan.now }
+        ensures next { result ≡ Ok true → plan.now.run ≡ self.now.state.run + 1 }
+        ensures agrees { result ≡ Ok true → Agrees self.now.state.entries (fresh plan.now) }
+        ensures refused { result ≡ Ok false → ¬ MayBegin self.now.state self.now.pending plan.now }
     {
         let Pending::Missing = self.pending else {
-            return false;
+            return Ok(false);
         };
         if plan.run <= self.state.run || plan.run - self.state.run != 1 {
-            return false;
+            return Ok(false);
         }
         if !has_text(plan) {
-            return false;
+            return Ok(false);
         }
-        plan_agrees(&self.state.entries, plan)
+        plan_agrees(self.alloc, &self.state.entries, plan)
     }
 
     /// Whether the step of this number, counted from 1, may be logged so: it is the first that is not logged, a new message

@@ -4,12 +4,12 @@ ghost use Rattle.std.specs.Prelude.{◌≡◌, false, true, Some, Ok, IfOk, IfEr
 ghost use Rattle.sync_state.specs.declared.journal.WrittenJournal.{WrittenJournal};
 ghost use Rattle.book.specs.Books.{Holds, HoldsState, HoldsJournal, IsPlanned, IsSound, IsUnstopped, Fits, Ends, mended};
 ghost use Rattle.book.specs.Books.{TellsOpen, TellsStateFile, TellsJournalFile, TellsPending, StopsTold};
-ghost use Rattle.book.specs.BookLaws.{Bounds-prop, Fits-prop, IsSound-prop};
-ghost use Rattle.book.specs.Highest.{Bounds};
+ghost use Rattle.book.specs.BookLaws.{Fits-prop, IsSound-prop, Knows-prop};
+ghost use Rattle.book.specs.TakenUids.{Knows};
 
 use crate::agreement::disagreement;
-use crate::highest::Highest;
 use crate::shelf::{File, Shelf};
+use crate::taken::Taken;
 use rules::state::SyncState;
 use std::alloc::Global;
 use sync_state::fault::BookFault;
@@ -77,17 +77,21 @@ fn read_pending(alloc: Global, text: &[u8], state: &SyncState) -> Result<Pending
     if written.journal.plan.run - 1 > state.run {
         return Err(BookFault::BadJournal(2));
     }
-    match disagreement(&state.entries, &written.journal) {
+    match disagreement(alloc, &state.entries, &written.journal)? {
         Some(line) => Err(BookFault::BadJournal(line)),
         None => Ok(Pending::Planned(written)),
     }
 }
 
-/// What both files hold.
-fn read_files<S: Shelf>(alloc: Global, shelf: &mut S) -> Result<(SyncState, Pending), BookFault>
+/// What both files hold, and what is taken then.
+fn read_files<S: Shelf>(
+    alloc: Global,
+    shelf: &mut S,
+) -> Result<(SyncState, Pending, Taken), BookFault>
     ensures holds { IfOk result (λ held. S.is_honest ≡ true → Holds (S.seen shelf.new).stored held.0 held.1) }
     ensures fits { IfOk result (λ held. Fits held.0 held.1) }
     ensures sound { IfOk result (λ held. IsSound held.0) }
+    ensures knows { IfOk result (λ held. Knows held.0.entries held.1 held.2) }
     ensures unstopped { OnOk result (IsUnstopped (S.seen shelf.old) (S.seen shelf.new)) }
     ensures files { S.is_honest ≡ true → (S.seen shelf.new).stored ≡ (S.seen shelf.old).stored }
     ensures refused { IfErr result (λ fault. S.is_honest ≡ true → TellsOpen (S.seen shelf.new).stored fault) }
@@ -95,7 +99,8 @@ fn read_files<S: Shelf>(alloc: Global, shelf: &mut S) -> Result<(SyncState, Pend
 {
     let state = read_state_file(alloc, shelf)?;
     let pending = read_journal_file(alloc, shelf, &state)?;
-    Ok((state, pending))
+    let taken = Taken::of(alloc, state.entries.as_slice(), &pending)?;
+    Ok((state, pending, taken))
 }
 
 /// Why a book was not opened, and the shelf.
@@ -116,14 +121,14 @@ pub struct Book<S: Shelf> {
     pub(crate) shelf: S,
     pub(crate) state: SyncState,
     pub(crate) pending: Pending,
-    // Above it each UID is free, so that a copy's UID, which is the highest as a rule, need not be sought.
-    pub(crate) highest: Highest,
+    // What is taken while a plan is pending.
+    pub(crate) taken: Taken,
     pub(crate) is_ready: bool,
     pub ghost is_whole: { is_ready ≡ true → (S.seen shelf).is_broken ≡ false },
     pub ghost holds: { is_ready ≡ true → S.is_honest ≡ true → Holds (S.seen shelf).stored state pending },
     pub ghost fits: { Fits state pending } by { Fits-prop state pending },
     pub ghost sound: { IsSound state } by { IsSound-prop state },
-    pub ghost bounded: { Bounds state.entries pending highest } by { Bounds-prop state.entries pending highest },
+    pub ghost knows: { is_ready ≡ true → Knows state.entries pending taken } by { Knows-prop is_ready state.entries pending taken },
 }
 
 impl<S: Shelf> Book<S> {
@@ -143,17 +148,14 @@ impl<S: Shelf> Book<S> {
     {
         let mut shelf = shelf;
         match read_files(alloc, &mut shelf) {
-            Ok((state, pending)) => {
-                let highest = Highest::taken(state.entries.as_slice(), &pending);
-                Ok(Book {
-                    alloc,
-                    shelf,
-                    state,
-                    pending,
-                    highest,
-                    is_ready: true,
-                })
-            }
+            Ok((state, pending, taken)) => Ok(Book {
+                alloc,
+                shelf,
+                state,
+                pending,
+                taken,
+                is_ready: true,
+            }),
             Err(fault) => Err(OpenFault { shelf, fault }),
         }
     }
@@ -163,20 +165,18 @@ impl<S: Shelf> Book<S> {
         ensures shelf { result.shelf ≡ shelf }
         ensures closed { result.is_ready ≡ false }
     {
-        let state = SyncState::none(alloc);
-        let pending = Pending::Missing;
-        let highest = Highest::taken(state.entries.as_slice(), &pending);
         Book {
             alloc,
             shelf,
-            state,
-            pending,
-            highest,
+            state: SyncState::none(alloc),
+            pending: Pending::Missing,
+            taken: Taken::none(alloc),
             is_ready: false,
         }
     }
 
-    /// Opens the book, anew where it is open: reads both files and changes nothing. The faults are those of `open`.
+    /// Opens the book: reads both files and changes nothing. A book that is open stays so, and nothing is called. The faults are those
+    /// of `open`.
     pub fn enter(&mut self) -> Result<(), BookFault>
         ensures files { S.is_honest ≡ true → (S.seen self.new.shelf).stored ≡ (S.seen self.old.shelf).stored }
         ensures ready { OnOk result (self.new.is_ready ≡ true) }
@@ -186,11 +186,13 @@ impl<S: Shelf> Book<S> {
         ensures refused { IfErr result (λ fault. S.is_honest ≡ true → TellsOpen (S.seen self.new.shelf).stored fault) }
         ensures told { IfErr result (λ fault. StopsTold fault (S.seen self.old.shelf) (S.seen self.new.shelf)) }
     {
-        self.is_ready = false;
-        let (state, pending) = read_files(self.alloc, &mut self.shelf)?;
-        self.highest = Highest::taken(state.entries.as_slice(), &pending);
+        if self.is_ready {
+            return Ok(());
+        }
+        let (state, pending, taken) = read_files(self.alloc, &mut self.shelf)?;
         self.state = state;
         self.pending = pending;
+        self.taken = taken;
         self.is_ready = true;
         Ok(())
     }
@@ -234,7 +236,7 @@ impl<S: Shelf> Book<S> {
             shelf,
             state: _,
             pending: _,
-            highest: _,
+            taken: _,
             is_ready: _,
         } = self;
         shelf

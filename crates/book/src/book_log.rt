@@ -1,20 +1,18 @@
 //! How the journal of a book is begun, and how its steps are logged.
 
-ghost use Rattle.std.specs.Prelude.{◌≡◌, ◌+◌, ◌++◌, ◌∷◌, [], not, false, true, IfOk, OnOk, OnErr};
-ghost use Rattle.book.specs.Agreement.{Agrees, copies_of, is_taken};
+ghost use Rattle.std.specs.Prelude.{◌≡◌, ◌+◌, ◌++◌, ◌∷◌, [], List, false, true, IfOk, OnOk, OnErr};
+ghost use Rattle.rules.specs.declared.entry.Entry.{Entry};
+ghost use Rattle.book.specs.Agreement.{Agrees, copies_of};
 ghost use Rattle.sync_state.specs.JournalText.{IsPlan, log_line};
 ghost use Rattle.book.specs.Books.{Ends, torn};
-ghost use Rattle.book.specs.Highest.{BoundsSide, on};
-ghost use Rattle.book.specs.BookLogs.{fresh, begun, as_done, logged_more, is_free, is_free_for, is_refused, MayLog};
+ghost use Rattle.book.specs.BookLogs.{fresh, begun, as_done, logged_more, is_free, is_refused, MayLog};
+ghost use Rattle.book.specs.TakenUids.{KnowsTaken};
 
-use crate::agreement::is_taken;
 use crate::book::{Book, Pending};
-use crate::highest::Highest;
 use crate::shelf::{File, Shelf};
-use mailcore::side::Side;
+use crate::taken::Taken;
 use mailcore::uid::Uid;
-use rules::entry::Entry;
-use rules::plan::{Plan, Step};
+use rules::plan::Plan;
 use std::alloc::{AllocError, Global};
 use sync_state::fault::BookFault;
 use sync_state::journal::{Journal, Log, Logged, WrittenJournal};
@@ -42,13 +40,15 @@ impl<S: Shelf> Book<S> {
         }
         self.is_ready = false;
         let text = write_plan(self.alloc, &plan)?;
+        let entries = self.state.entries.as_slice();
+        let taken = Taken::planned(self.alloc, entries, plan.steps.as_slice())?;
         self.shelf.append(File::Journal, &text)?;
         let log = Log::from_vec(Vec::new(self.alloc));
         self.pending = Pending::Planned(WrittenJournal {
             journal: Journal { plan, log },
             is_torn: false,
         });
-        self.highest = Highest::taken(self.state.entries.as_slice(), &self.pending);
+        self.taken = taken;
         self.is_ready = true;
         Ok(())
     }
@@ -106,22 +106,18 @@ impl<S: Shelf> Book<S> {
         self.is_ready = false;
         let line = line_of(self.alloc, step, &logged)?;
         self.shelf.append(File::Journal, &line)?;
-        let highest = self.highest.behind(&self.pending, logged);
+        self.taken.add_next(&self.pending, logged)?;
         log_pending(&mut self.pending, logged)?;
-        self.highest = highest;
         self.is_ready = true;
         Ok(())
     }
 
     /// Whether the copy of the next step has a UID that is taken.
     fn refuses(&self, logged: &Logged) -> bool
-        ensures { result ≡ is_refused self.now.state.entries self.now.pending logged.now }
+        ensures { self.now.is_ready ≡ true → result ≡ is_refused self.now.state.entries self.now.pending logged.now }
     {
         match &self.pending {
-            Pending::Planned(written) => {
-                let entries = self.state.entries.as_slice();
-                !is_free(entries, &written.journal, self.highest, logged)
-            }
+            Pending::Planned(written) => !is_free(&self.taken, &written.journal, *logged),
             Pending::Missing | Pending::Useless => false,
         }
     }
@@ -156,38 +152,11 @@ fn log_pending(pending: &mut Pending, logged: Logged) -> Result<(), AllocError>
 }
 
 /// Whether the copy of the next step, if it made one, has a UID that is not taken.
-fn is_free(entries: &[Entry], journal: &Journal, highest: Highest, logged: &Logged) -> bool
-    requires { (side : Side) → BoundsSide entries.now journal.now side (on side highest) }
-    ensures { result ≡ is_free entries.now journal.now logged.now }
+fn is_free(taken: &Taken, journal: &Journal, logged: Logged) -> bool
+    ensures { (entries : List Entry) → KnowsTaken entries journal.now.plan.steps (copies_of journal.now.plan.steps journal.now.log) taken.now
+        → result ≡ is_free entries journal.now logged }
 {
     let steps = journal.plan.steps.as_slice();
     let count = journal.log.as_slice().len();
-    count >= steps.len() || is_free_for(entries, journal, highest, &steps[count], logged)
-}
-
-/// Whether the copy that this step made, if it made one, has a UID that is not taken.
-fn is_free_for(
-    entries: &[Entry],
-    journal: &Journal,
-    highest: Highest,
-    step: &Step,
-    logged: &Logged,
-) -> bool
-    requires { (side : Side) → BoundsSide entries.now journal.now side (on side highest) }
-    ensures { result ≡ is_free_for entries.now journal.now step.now logged.now }
-{
-    match (step, logged) {
-        (Step::New { direction, .. }, Logged::Copied(uid)) => {
-            is_free_on(entries, journal, highest, direction.target(), *uid)
-        }
-        _ => true,
-    }
-}
-
-/// Whether a UID is not taken on this side. Only one that is not above the highest is sought.
-fn is_free_on(entries: &[Entry], journal: &Journal, highest: Highest, side: Side, uid: Uid) -> bool
-    requires { BoundsSide entries.now journal.now side (on side highest) }
-    ensures { result ≡ not (is_taken entries.now journal.now.plan.steps (copies_of journal.now.plan.steps journal.now.log) (side, uid)) }
-{
-    uid.get() > highest.on(side) || !is_taken(entries, journal, side, uid)
+    count >= steps.len() || taken.is_free(&steps[count], logged)
 }

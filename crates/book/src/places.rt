@@ -4,10 +4,8 @@ ghost use Rattle.std.specs.Prelude.{◌≡◌, true, map};
 ghost use Rattle.rules.specs.Entries.{ArePairs};
 ghost use Rattle.sync_state.specs.JournalText.{bottom, note_place, rises, step_place};
 ghost use Rattle.sync_state.specs.Places.{place_at};
-ghost use Rattle.book.specs.Agreement.{is_named};
 ghost use Rattle.book.specs.PlacedLists.{entry_place, Stands};
 
-use mailcore::side::Side;
 use mailcore::uid::Uid;
 use rules::entry::Entry;
 use rules::plan::{Note, Step};
@@ -47,18 +45,6 @@ pub(crate) fn entry_at(entries: &[Entry], far: Option<Uid>, near: Option<Uid>) -
     match entries.get(at) {
         Some(entry) => Some(*entry),
         None => None,
-    }
-}
-
-/// Whether an entry, of entries in order, names this far UID.
-pub(crate) fn is_far_uid(entries: &[Entry], uid: Uid) -> bool
-    requires { ArePairs entries.now }
-    ensures { result ≡ is_named entries.now Side.Far uid }
-{
-    let at = entries.partition_point(|entry| entry.number(Side::Far) < uid.get());
-    match entries.get(at) {
-        Some(entry) => entry.number(Side::Far) == uid.get(),
-        None => false,
     }
 }
 

@@ -35,7 +35,7 @@ pub fn make_call<S: Shelf>(
 }
 
 fn begin<S: Shelf>(book: &mut Book<S>, plan: Plan) -> Result<Answer, Failure> {
-    if book.may_begin(&plan) {
+    if book.may_begin(&plan)? {
         Answer::of(book.begin(plan))
     } else {
         Ok(Answer::MayNot)

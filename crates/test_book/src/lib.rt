@@ -22,7 +22,6 @@
 //! read state                 what is read of the file, and whether it is written so again; read journal alike
 //! beginnings state           the same of each beginning of it
 //! disagreement               the first line of the journal that does not agree with the state
-//! taken near 7               whether the UID is taken
 //! has_text                   whether the plan has a text
 //! stops open                 what is left where the opening of a book stops at a call of its shelf, and how it is taken up
 //!                            again; stops and a call of a book alike

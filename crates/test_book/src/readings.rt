@@ -1,10 +1,8 @@
 //! How the texts of a state and a journal are read, and what is said of both.
 
 use crate::runs::{Place, Runs};
-use book::agreement::{disagreement, is_taken};
+use book::agreement::disagreement;
 use book::shelf::File;
-use mailcore::side::Side;
-use mailcore::uid::Uid;
 use rules::state::SyncState;
 use std::alloc::Global;
 use sync_state::fault::BookFault;
@@ -145,7 +143,7 @@ pub fn tell_disagreement(
 ) -> Result<(), Failure> {
     let (state, journal) = read_both(alloc, state, journal)?;
     told.begin();
-    match disagreement(&state.entries, &journal) {
+    match disagreement(alloc, &state.entries, &journal)? {
         Some(line) => {
             told.text("line ");
             told.shown(&line);
@@ -154,20 +152,5 @@ pub fn tell_disagreement(
         None => told.text("each line agrees"),
     }
     told.end();
-    Ok(())
-}
-
-/// Tells whether a UID is taken on a side.
-pub fn tell_taken(
-    alloc: Global,
-    told: &mut Told,
-    state: &[u8],
-    journal: &[u8],
-    side: Side,
-    uid: Uid,
-) -> Result<(), Failure> {
-    let (state, journal) = read_both(alloc, state, journal)?;
-    let is_taken = is_taken(state.entries.as_slice(), &journal, side, uid);
-    told.answer(if is_taken { "taken" } else { "free" });
     Ok(())
 }

@@ -4,7 +4,7 @@ use crate::desk::Desk;
 use crate::files::{read_file, shelf_with, tell_file, tell_files};
 use crate::folder;
 use crate::plan_text::Draft;
-use crate::readings::{tell_beginnings, tell_disagreement, tell_reading, tell_taken};
+use crate::readings::{tell_beginnings, tell_disagreement, tell_reading};
 use crate::stops::Trial;
 use book::disk_shelf::DiskShelf;
 use book::mem_shelf::{MemShelf, ShelfCall};
@@ -194,7 +194,7 @@ impl<'a> Stage<'a> {
                 let file = read_file(line);
                 tell_beginnings(self.rt.alloc(), told, file, self.text(file, line))
             }
-            "disagreement" | "taken" => self.tell_both(word, line, told),
+            "disagreement" => self.tell_both(line, told),
             "has_text" => self.tell_has_text(line, told),
             "stops" => self.tell_stops(line, told),
             _ => {
@@ -227,16 +227,11 @@ impl<'a> Stage<'a> {
         is_told
     }
 
-    fn tell_both(&self, word: &str, line: &mut Words<'_>, told: &mut Told) -> Result<(), Failure> {
+    fn tell_both(&self, line: &mut Words<'_>, told: &mut Told) -> Result<(), Failure> {
         let alloc = self.rt.alloc();
         let state = self.text(File::State, line);
         let journal = self.text(File::Journal, line);
-        if word == "disagreement" {
-            return tell_disagreement(alloc, told, state, journal);
-        }
-        let side = line.side();
-        let uid = line.uid();
-        tell_taken(alloc, told, state, journal, side, uid)
+        tell_disagreement(alloc, told, state, journal)
     }
 
     fn tell_has_text(&self, line: &mut Words<'_>, told: &mut Told) -> Result<(), Failure> {

@@ -21,21 +21,11 @@ returns-in-Some-bad_note-clause-first c =
     let note : bad_note entries j ≡ Some i = search rules in
     ap (λ (s : List Step). Some (length s + i + 5)) c.as_slice-steps.ensures ∙ in_note entries j i step note
 
-pub returns-in_err-i-clause-first : goal.returns-in_err-i-clause-first
-returns-in_err-i-clause-first c =
+pub returns-in-Some-2-clause-first : goal.returns-in-Some-2-clause-first
+returns-in-Some-2-clause-first c =
     let entries = c.args.entries.now in
     let j = c.args.journal.now in
-    let step : bad_step entries j ≡ None = search rules in
-    let note : bad_note entries j ≡ None = search rules in
-    let copy : bad_copy entries j ≡ None = search rules in
-    let none : c.from_residual.result ≡ None = search rules in
-    none ∙ nowhere entries j step note copy
-
-pub returns-clause-first : goal.returns-clause-first
-returns-clause-first c =
-    let entries = c.args.entries.now in
-    let j = c.args.journal.now in
-    let i = c.in_ok-i.i in
+    let i = c.in-Some-2.i in
     let step : bad_step entries j ≡ None = search rules in
     let note : bad_note entries j ≡ None = search rules in
     let copy : bad_copy entries j ≡ Some i = search rules in
@@ -43,5 +33,14 @@ returns-clause-first c =
     ∙ ap (λ (n : List Note). Some (length j.plan.steps + length n + i + 6)) c.as_slice-notes.ensures
     ∙ in_copy entries j i step note copy
 
-pub returns-in_err-i-clause-agreed : goal.returns-in_err-i-clause-agreed
-returns-in_err-i-clause-agreed c = agreed_if_none c.args.entries.now c.args.journal.now c.from_residual.result (returns-in_err-i-clause-first c)
+pub returns-in-None-clause-first : goal.returns-in-None-clause-first
+returns-in-None-clause-first c =
+    let entries = c.args.entries.now in
+    let j = c.args.journal.now in
+    let step : bad_step entries j ≡ None = search rules in
+    let note : bad_note entries j ≡ None = search rules in
+    let copy : bad_copy entries j ≡ None = search rules in
+    nowhere entries j step note copy
+
+pub returns-in-None-clause-agreed : goal.returns-in-None-clause-agreed
+returns-in-None-clause-agreed c = agreed_if_none c.args.entries.now c.args.journal.now None (returns-in-None-clause-first c)

@@ -14,15 +14,15 @@ pub returns-then-is_some : goal.returns-then-is_some
 returns-then-is_some c =
     let entries = c.args.entries.now in
     let plan = c.args.plan.now in
-    let step : c.bad_step.result ≡ bad_step entries (fresh plan) = c.bad_step.ensures ∙ ap (λ (x : List Step). position (λ s. not (step_agrees entries s)) x) c.as_slice.ensures in
-    let bad : is_some c.bad_step.result ≡ true = sym c.is_some.ensures ∙ c.if-is_some.true in
-    (λ a. absurd (step_disagrees entries plan c.bad_step.result step bad a), λ e. absurd (false≢true e))
+    let step : c.in_ok-bad_step.field-0 ≡ bad_step entries (fresh plan) = c.in_ok-bad_step.ensures ∙ ap (λ (x : List Step). position (λ s. not (step_agrees entries s)) x) c.as_slice.ensures in
+    let bad : is_some c.in_ok-bad_step.field-0 ≡ true = sym c.is_some.ensures ∙ c.if-is_some.true in
+    (λ a. absurd (step_disagrees entries plan c.in_ok-bad_step.field-0 step bad a), λ e. absurd (false≢true e))
 
 pub returns : goal.returns
 returns c =
     let entries = c.args.entries.now in
     let plan = c.args.plan.now in
-    let step : c.bad_step.result ≡ bad_step entries (fresh plan) = c.bad_step.ensures ∙ ap (λ (x : List Step). position (λ s. not (step_agrees entries s)) x) c.as_slice.ensures in
-    let good : is_some c.bad_step.result ≡ false = sym c.is_some.ensures ∙ c.if-is_some.false in
+    let step : c.in_ok-bad_step.field-0 ≡ bad_step entries (fresh plan) = c.in_ok-bad_step.ensures ∙ ap (λ (x : List Step). position (λ s. not (step_agrees entries s)) x) c.as_slice.ensures in
+    let good : is_some c.in_ok-bad_step.field-0 ≡ false = sym c.is_some.ensures ∙ c.if-is_some.false in
     let note : c.bad_note.result ≡ bad_note entries (fresh plan) = c.bad_note.ensures ∙ ap (λ (x : List Note). position (λ n. not (note_agrees entries n)) x) c.as_slice-2.ensures in
-    agrees_by_notes entries plan c.bad_step.result c.bad_note.result c.is_none.result step good note c.is_none.ensures
+    agrees_by_notes entries plan c.in_ok-bad_step.field-0 c.bad_note.result c.is_none.result step good note c.is_none.ensures

@@ -5,13 +5,13 @@ use Rattle.book.specs.declared.book.Pending.TheVariants.{Planned}
 use Rattle.book.proofs.BookLemmas.{holding_fits}
 use Rattle.book.proofs.book.read_pending.Goals as goal
 
-pub returns-in-Some-disagreement-clause-refused : goal.returns-in-Some-disagreement-clause-refused
-returns-in-Some-disagreement-clause-refused c =
+pub returns-in-Some-2-clause-refused : goal.returns-in-Some-2-clause-refused
+returns-in-Some-2-clause-refused c =
     let written = c.in-Some.written in
     let is : IsWritten written c.args.text.now = search rules in
     let next : written.journal.plan.run ≡ c.args.state.now.run + 1 = omega (arith, c.if-written-state.false, c.if-written-state-2.false) in
-    let line : disagreement c.args.state.now.entries written.journal ≡ Some c.in-Some-disagreement.line =
-    sym c.disagreement.ensures.first ∙ c.in-Some-disagreement.is in
+    let line : disagreement c.args.state.now.entries written.journal ≡ Some c.in-Some-2.line =
+    sym c.in_ok-line.ensures.first ∙ c.in-Some-2.is in
     inr (inr (record { written = written; is_next = record { written_is = is; next = next }; disagrees = line }))
 
 pub returns-in-None-clause-holds : goal.returns-in-None-clause-holds
@@ -20,7 +20,7 @@ returns-in-None-clause-holds c =
     let is : IsWritten written c.args.text.now = search rules in
     let next : written.journal.plan.run ≡ c.args.state.now.run + 1 = omega (arith, c.if-written-state.false, c.if-written-state-2.false) in
     let agrees : Agrees c.args.state.now.entries written.journal =
-    sym c.disagreement.ensures.first ∙ c.in-None.is in
+    sym c.in_ok-line.ensures.first ∙ c.in-None.is in
     record { is_next = record { written_is = is; next = next }; agrees = agrees }
 
 pub returns-in-None-clause-fits : goal.returns-in-None-clause-fits

@@ -2,7 +2,7 @@ use Rattle.std.proofs.Common.{arith}
 use Rattle.book.proofs.book.Book.closed.Goals as goal
 
 pub invariant_of-result : goal.invariant_of-result
-invariant_of-result g c = let first = c.none-state.ensures in record {
+invariant_of-result g c = let first = c.none.ensures in record {
   is_whole = λ is. absurd (cc);
   holds = λ is. absurd (cc);
   fits = tt;
@@ -17,5 +17,5 @@ invariant_of-result g c = let first = c.none-state.ensures in record {
       entries = first.entries;
     };
   };
-  bounded = tt;
+  knows = λ is. absurd (cc);
 }

@@ -61,5 +61,5 @@ returns-clause-leaves g c = λ honest.
     committed_to old new book.state book.pending (book.holds ready honest)
     (subst (λ (p : Pending). HoldsMade p book.state new) (sym c.in-Planned.is) made)
 
-pub invariant_of-self-2-clause-bounded : goal.invariant_of-self-2-clause-bounded
-invariant_of-self-2-clause-bounded g c = tt
+pub invariant_of-self-2-clause-knows : goal.invariant_of-self-2-clause-knows
+invariant_of-self-2-clause-knows g c = λ _. tt

@@ -25,7 +25,7 @@ invariant_of-self-2 g c =
       holds = λ _ honest. journal_put None (g.S.Shelf.seen book.shelf).stored (g.S.Shelf.seen c.remove.new.self).stored book.state book.pending Missing
           (c.in_ok-remove.ensures.effect honest) (λ _. tt) (book.holds ready honest);
       fits = tt;
-      bounded = tt;
+      knows = λ _. tt;
     }
 
 pub returns-clause-leaves : goal.returns-clause-leaves

@@ -6,5 +6,5 @@ invariant_of-self-2 g c = let read = c.in_ok-state.ensures in record {
   holds = λ _ honest. read.holds honest;
   fits = read.fits;
   sound = read.sound;
-  bounded = rw c.as_slice.ensures.all at c.taken-self.ensures;
+  knows = λ _. read.knows;
 }

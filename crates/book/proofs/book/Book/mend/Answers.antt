@@ -3,8 +3,8 @@ use Rattle.std.proofs.lemmas.Result.{err_from_is_err_and}
 use Rattle.book.specs.declared.book.Pending.{Pending}
 use Rattle.book.specs.Books.{Holds, Fits, mended}
 use Rattle.book.proofs.BookLemmas.{journal_put, journal_put_or_not, pending_mended, mended_fits, already_mended, none_to_mend}
-use Rattle.book.specs.Highest.{Bounds}
-use Rattle.book.proofs.HighestLemmas.{mended_bounds}
+use Rattle.book.specs.TakenUids.{Knows}
+use Rattle.book.proofs.TakenLemmas.{mended_known}
 use Rattle.book.proofs.TurnLemmas.{turned, turned_or_half}
 use Rattle.book.proofs.book.Book.mend.Goals as goal
 
@@ -44,7 +44,7 @@ invariant_of-self-2 g c =
           (c.in_ok-replace.ensures.effect honest)
           (pending_mended book.state (g.S.Shelf.seen book.shelf).stored.journal book.pending c.in-Planned.written c.deref.result.now c.in-Planned.is text)
           (book.holds ready honest));
-      bounded = subst (λ (q : Pending). Bounds book.state.entries q book.highest) (sym c.mend_pending.ensures) (mended_bounds book.state.entries book.pending book.highest book.bounded);
+      knows = λ _. subst (λ (q : Pending). Knows book.state.entries q book.taken) (sym c.mend_pending.ensures) (mended_known book.state.entries book.pending book.taken (book.knows ready));
       fits = subst (λ (q : Pending). Fits book.state q) (sym c.mend_pending.ensures) (mended_fits book.state book.pending book.fits);
     }
 
