@@ -1,10 +1,8 @@
 -- An escaped text is that of one list of bytes alone.
-use Rattle.std.proofs.Common.{◌≡◌, ◌≢◌, ℕ, ◌+◌, ◌/◌, ◌%◌, ◌<◌, Bool, true, false, List, [], ◌∷◌, ◌++◌, length, take, None, Some, not, ◌≤◌, refl, subst, sym, ap, ◌∙◌, arith, append_assoc, length-append, cond, nat_lt, suc}
-use Rattle.std.proofs.lemmas.Grind.{common_steps}
-use Rattle.std.proofs.Math.Numerals.{one-add}
-use Rattle.std.proofs.lemmas.List.Sums.{prefix_len-le-length}
-use Rattle.std.specs.List.{All, position, position_or_len}
-use Rattle.std.specs.Option.{unwrap_or}
+use Rattle.std.proofs.Common.{◌≡◌, ◌≢◌, ℕ, ◌+◌, ◌/◌, ◌%◌, ◌<◌, Bool, true, false, List, [], ◌∷◌, ◌++◌, length, refl, sym, ap, ◌∙◌, arith, append_assoc, length-append, cond, nat_lt, suc, eqb, ◌||◌, ◌&&◌, fold}
+use Rattle.std.proofs.lemmas.Grind.{common_steps, flat_map-append}
+use Rattle.std.specs.List.{All, list_all}
+use Rattle.std.proofs.lemmas.List.Folds.{list_all-append}
 use Rattle.texts.specs.Escape.{escape_of, escaped, hex_digit, is_plain}
 
 abbrev AreBytes : List ℕ → Type 0
@@ -65,27 +63,78 @@ none_spelled (a ∷ front) rest some none (b ∷ bytes) are e =
     let same = first_of b a (escaped bytes) (escaped front ++ rest) (e ∙ append_assoc (escape_of a) (escaped front) rest) in
     none_spelled front rest some none bytes (others b bytes are) same.1
 
--- ---- a run of bytes that stand for themselves
+-- ---- the bytes of an escaped text
 
-abbrev pub plain_length : List ℕ → ℕ
-plain_length text = position_or_len (λ b. not (is_plain b)) text
+abbrev pub is_text : ℕ → Bool
+is_text b = is_plain b || eqb b 92
 
-plain_cons : (p : Bool) (b n : ℕ) (rest : List ℕ) → is_plain b ≡ p → escaped (take n rest) ≡ take n rest
-    → escaped (take (cond (not (not p)) (1 + n) 0) (b ∷ rest)) ≡ take (cond (not (not p)) (1 + n) 0) (b ∷ rest)
-plain_cons true b n rest is same =
-    let one : escape_of b ≡ b ∷ [] = cc in
-    subst (λ (k : ℕ). escaped (take k (b ∷ rest)) ≡ take k (b ∷ rest)) (sym (one-add n))
-    (ap (λ (x : List ℕ). x ++ escaped (take n rest)) one ∙ ap (λ (x : List ℕ). b ∷ x) same)
-plain_cons false b n rest is same = refl
+all_by : (p : ℕ → Bool) (all : Bool) (bytes : List ℕ) → fold (λ a b. a && p b) all bytes ≡ (all && list_all p bytes)
+all_by p true [] = refl
+all_by p false [] = refl
+all_by p true (b ∷ bytes) = all_by p (p b) bytes
+all_by p false (b ∷ bytes) = all_by p false bytes
 
-pub plain_front : (text : List ℕ) → escaped (take (plain_length text) text) ≡ take (plain_length text) text
-plain_front [] = refl
-plain_front (b ∷ rest) = plain_cons (is_plain b) b (plain_length rest) rest refl (plain_front rest)
+-- a test that goes on behind a byte that fails is the same test
+pub all_by_fold : (p : ℕ → Bool) (bytes : List ℕ) → fold (λ a b. a && p b) true bytes ≡ list_all p bytes
+all_by_fold p bytes = all_by p true bytes
 
-or_all : (p : Bool) (n size : ℕ) → nat_lt n size ≡ p → n ≤ size → unwrap_or (cond p (Some n) None) size ≡ n
-or_all true n size is within = refl
-or_all false n size is within = grind (arith, common_steps)
+digit_text_by : (p : Bool) (d : ℕ) → nat_lt d 10 ≡ p → d < 16 → is_text (cond p (48 + d) (87 + d)) ≡ true
+digit_text_by true d is small = grind (arith, common_steps)
+digit_text_by false d is small = grind (arith, common_steps)
 
--- the first that does not, or else all
-pub plain_by : (text : List ℕ) → unwrap_or (position (λ b. not (is_plain b)) text) (length text) ≡ plain_length text
-plain_by text = or_all (nat_lt (plain_length text) (length text)) (plain_length text) (length text) refl (prefix_len-le-length (λ b. not (not (is_plain b))) text)
+digit_text : (d : ℕ) → d < 16 → is_text (hex_digit d) ≡ true
+digit_text d small = digit_text_by (nat_lt d 10) d refl small
+
+escape_text_by : (p : Bool) (b : ℕ) → is_plain b ≡ p → b < 256
+    → list_all is_text (cond p (b ∷ []) (92 ∷ hex_digit (b / 16) ∷ hex_digit (b % 16) ∷ [])) ≡ true
+escape_text_by true b is small = grind (arith, common_steps)
+escape_text_by false b is small =
+    let high = digit_text (b / 16) (omega arith) in
+    let low = digit_text (b % 16) (omega arith) in
+    grind (arith, common_steps)
+
+escape_text : (b : ℕ) → b < 256 → list_all is_text (escape_of b) ≡ true
+escape_text b small = escape_text_by (is_plain b) b refl small
+
+pub escaped_text : (bytes : List ℕ) → AreBytes bytes → list_all is_text (escaped bytes) ≡ true
+escaped_text [] are = refl
+escaped_text (b ∷ bytes) are =
+    let one = escape_text b (are 0 0 (omega arith)) in
+    let more = escaped_text bytes (others b bytes are) in
+    rw (list_all-append is_text (escape_of b) (escaped bytes)) (rw (one, more) refl)
+
+and_true : (p q : Bool) → (p && q) ≡ true → (p ≡ true) × (q ≡ true)
+and_true true q both = (refl, both)
+and_true false q both = cc
+
+plain_by : (p : Bool) (b : ℕ) → is_plain b ≡ p → b ≢ 92 → (p || eqb b 92) ≡ true → escape_of b ≡ b ∷ []
+plain_by true b is other text = cc
+plain_by false b is other text = absurd (other (grind (arith, common_steps)))
+
+-- those other than `\` stand for themselves
+pub plain_run : (run : List ℕ) → list_all is_text run ≡ true → All (λ b. b ≢ 92) run → escaped run ≡ run
+plain_run [] text other = refl
+plain_run (b ∷ rest) text other =
+    let parts = and_true (is_text b) (list_all is_text rest) text in
+    let one = plain_by (is_plain b) b refl (other 0 0 (omega arith)) parts.0 in
+    ap (λ (x : List ℕ). x ++ escaped rest) one ∙ ap (λ (x : List ℕ). b ∷ x) (plain_run rest parts.1 (λ k d h. other (suc k) d (omega arith)))
+
+text_behind : (front rest text : List ℕ) → list_all is_text text ≡ true → front ++ rest ≡ text → list_all is_text rest ≡ true
+text_behind front rest text all e =
+    (and_true (list_all is_text front) (list_all is_text rest) (sym (list_all-append is_text front rest) ∙ ap (λ (t : List ℕ). list_all is_text t) e ∙ all)).1
+
+run_added : (bytes run : List ℕ) → list_all is_text run ≡ true → All (λ b. b ≢ 92) run → escaped (bytes ++ run) ≡ escaped bytes ++ run
+run_added bytes run text other = flat_map-append escape_of bytes run ∙ ap (λ (x : List ℕ). escaped bytes ++ x) (plain_run run text other)
+
+-- what stands in front of the next `\` is read
+pub front_read : (bytes run tail rest text : List ℕ) → list_all is_text text ≡ true → escaped bytes ++ rest ≡ text
+    → rest ≡ run ++ tail → All (λ b. b ≢ 92) run → escaped (bytes ++ run) ++ tail ≡ text
+front_read bytes run tail rest text all e cut other =
+    let back = text_behind (escaped bytes) rest text all e in
+    let front = and_true (list_all is_text run) (list_all is_text tail) (sym (list_all-append is_text run tail) ∙ ap (λ (t : List ℕ). list_all is_text t) (sym cut) ∙ back) in
+    ap (λ (x : List ℕ). x ++ tail) (run_added bytes run front.0 other) ∙ append_assoc (escaped bytes) run tail
+    ∙ ap (λ (x : List ℕ). escaped bytes ++ x) (sym cut) ∙ e
+
+-- what stands behind the last escape is read
+pub end_read : (bytes rest text : List ℕ) → list_all is_text text ≡ true → escaped bytes ++ rest ≡ text → All (λ b. b ≢ 92) rest → escaped (bytes ++ rest) ≡ text
+end_read bytes rest text all e other = run_added bytes rest (text_behind (escaped bytes) rest text all e) other ∙ e

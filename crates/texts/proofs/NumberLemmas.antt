@@ -1,10 +1,8 @@
--- A number has one decimal text, which is the text that std reads unless a plus or a zero stands in front.
+-- A number has one decimal text, which is the text that is read as it unless a plus or a zero stands in front.
 use Rattle.std.proofs.Common.{◌≡◌, ◌≢◌, ℕ, zero, suc, ◌<◌, ◌≤◌, ◌^◌, true, false, ◌&&◌, ◌||◌, eqb, ltb, List, length, get_or, Result, Ok, refl, sym, ap, ◌∙◌, subst, arith}
 use Rattle.std.specs.Fmt.{decimal}
-use Rattle.std.specs.Str.{IsUtf8}
 use Rattle.std.specs.Str.Parse.{AllDigits, digits_value, ParsesUnsigned}
-use Rattle.std.proofs.lemmas.Fmt.{first_decimal, decimal_digit, IsAscii-decimal, decimal-digits_value}
-use Rattle.std.proofs.lemmas.Str.{IsUtf8-from_ascii}
+use Rattle.std.proofs.lemmas.Fmt.{first_decimal, decimal_digit, decimal-digits_value}
 use Rattle.std.proofs.lemmas.Str.Parse.{IsNumeralModel, numerals_by_value, tells_digits, parse_plain}
 use Rattle.std.proofs.lemmas.Grind.{common_steps}
 use Rattle.texts.specs.Number.{has_sign_or_leading_zero}
@@ -33,18 +31,12 @@ not_decimal n bytes small either e =
     let is : has_sign_or_leading_zero (decimal n) ≡ true = subst P (sym e) either in
     sign_or_zero (get_or (decimal n) 0 0) (length (decimal n)) is (first_is_digit n small) (zero_alone n small)
 
--- a number's text is a text
-pub decimal_is_text : (n : ℕ) (bytes : List ℕ) → n < 2 ^ 64 → decimal n ≡ bytes → IsUtf8 bytes
-decimal_is_text n bytes small e = let P : List ℕ → Type 0 = λ t. IsUtf8 t in subst P e (IsUtf8-from_ascii (decimal n) (IsAscii-decimal n small))
-
--- what std reads otherwise is spelled so
-pub parsed_is_decimal : {E : Type 0} (bytes text : List ℕ) (r : Result ℕ E) (number : ℕ)
-    → has_sign_or_leading_zero bytes ≡ false → text ≡ bytes → r ≡ Ok number → ParsesUnsigned 64 10 text r → decimal number ≡ bytes
-parsed_is_decimal {E} bytes text r number neither same ok parses =
+-- what is read otherwise is spelled so
+pub parsed_is_decimal : {E : Type 0} (bytes : List ℕ) (r : Result ℕ E) (number : ℕ)
+    → has_sign_or_leading_zero bytes ≡ false → r ≡ Ok number → ParsesUnsigned 64 10 bytes r → decimal number ≡ bytes
+parsed_is_decimal {E} bytes r number neither ok parses =
     let facts = no_sign_or_zero bytes neither in
-    let P : List ℕ → Type 0 = λ t. ParsesUnsigned 64 10 t r in
     let Q : Result ℕ E → Type 0 = λ s. ParsesUnsigned 64 10 bytes s in
-    let given : ParsesUnsigned {E = E} 64 10 bytes (Ok number) = subst Q ok (subst P same parses) in
-    let plain = parse_plain numerals {E = E} 64 bytes (Ok number) given facts.0 in
+    let plain = parse_plain numerals {E = E} 64 bytes (Ok number) (subst Q ok parses) facts.0 in
     ap (λ (n : ℕ). decimal n) plain.1
     ∙ decimal-digits_value numerals bytes plain.0.0 plain.0.1 (λ z. let one = facts.1 z in omega (arith, plain.0.1)) plain.0.2

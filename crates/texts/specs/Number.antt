@@ -1,4 +1,4 @@
--- What std reads as a number, and this crate does not.
+-- What `fast_float` reads as a number, as std does, and this crate does not.
 use Rattle.std.specs.Prelude.{ℕ, Bool, ◌&&◌, ◌||◌, ◌==◌, nat_lt, List, length, slice_index}
 
 -- a plus stands first, or a zero before something else

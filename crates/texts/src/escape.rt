@@ -1,10 +1,11 @@
 //! The escaped text of bytes: bytes 32 to 126 except `"` and `\` stand for themselves, and each other byte is `\` and
 //! two lower case hexadecimal digits.
 
-ghost use Rattle.std.specs.Prelude.{◌≡◌, ◌≢◌, ◌<◌, ◌≤◌, ◌++◌, ℕ, List, ◌∷◌, All, IfOk, OnOk, IsErrOf, MatchOption, length, not, string_bytes};
-ghost use Rattle.std.specs.List.{position_or_len};
+ghost use Rattle.std.specs.Prelude.{◌≡◌, ◌≢◌, ◌<◌, ◌==◌, ◌||◌, ◌++◌, ℕ, List, ◌∷◌, All, IfOk, OnOk, IsErrOf, MatchOption, length, string_bytes};
+ghost use Rattle.std.specs.List.{list_all};
 ghost use Rattle.texts.specs.Escape.{escape_of, escaped, hex_digit, is_plain};
 
+use crate::cut::cut;
 use crate::fault::EscapeFault;
 use std::alloc::{AllocError, Global};
 
@@ -15,57 +16,61 @@ pub fn unescape(alloc: Global, text: &[u8]) -> Result<Vec<u8>, EscapeFault>
     ensures bytes { IfOk result (λ bytes. escaped bytes.items ≡ text.now) }
     ensures not_escaped { IsErrOf result EscapeFault.NotEscaped → (bytes : List ℕ) → All (λ b. b < 256) bytes → escaped bytes ≢ text.now }
 {
-    let mut bytes = Vec::with_capacity(alloc, text.len())?;
-    let mut rest = push_plain(&mut bytes, text)?;
-    while !rest.is_empty() {
-        let Some((byte, behind)) = split_first_byte(rest) else {
-            return Err(EscapeFault::NotEscaped);
-        };
-        bytes.push(byte).map_err(AllocError::from)?;
-        rest = push_plain(&mut bytes, behind)?;
+    if !has_only_text_bytes(text) {
+        return Err(EscapeFault::NotEscaped);
     }
+    let mut bytes = Vec::with_capacity(alloc, text.len())?;
+    let mut rest = text;
+    while let Some((plain, escape)) = cut(rest, b'\\') {
+        bytes.extend_from_slice(plain)?;
+        rest = push_escape(&mut bytes, escape)?;
+    }
+    bytes.extend_from_slice(rest)?;
     Ok(bytes)
 }
 
-/// Adds the bytes at the begin of a text that stand for themselves, and gives what stands behind them.
-fn push_plain<'a>(bytes: &mut Vec<u8>, text: &'a [u8]) -> Result<&'a [u8], AllocError>
-    ensures text { IfOk result (λ behind. escaped bytes.new.items ++ behind.now ≡ escaped bytes.old.items ++ text.now) }
-    ensures no_longer { IfOk result (λ behind. length behind.now ≤ length text.now) }
+/// Whether each byte of a text stands for itself or is `\`, as in an escaped text.
+fn has_only_text_bytes(text: &[u8]) -> bool
+    ensures { result ≡ list_all (λ b. is_plain b || b == 92) text.now }
 {
-    let (plain, behind) = text.split_at(plain_length(text));
-    bytes.extend_from_slice(plain)?;
+    // With no early exit, many bytes are tested at a time.
+    text.iter().fold(true, |all, &byte| {
+        all & (is_plain(byte) || byte == b'\\')
+    })
+}
+
+/// Adds the byte of the escape whose `\` stands in front of this text, and gives what stands behind the escape.
+/// `NotEscaped`: no escape stands there.
+fn push_escape<'a>(bytes: &mut Vec<u8>, text: &'a [u8]) -> Result<&'a [u8], EscapeFault>
+    ensures text { IfOk result (λ behind. escaped bytes.new.items ++ behind.now ≡ escaped bytes.old.items ++ 92 ∷ text.now) }
+    ensures shorter { IfOk result (λ behind. length behind.now < length text.now) }
+    ensures not_escaped { IsErrOf result EscapeFault.NotEscaped → (b : ℕ) → b < 256 → (rest : List ℕ) → escape_of b ++ rest ≢ 92 ∷ text.now }
+{
+    // Most escapes end a line of mail: both are taken at once.
+    if let Some(behind) = text.strip_prefix(b"0d\\0a") {
+        bytes.extend_from_slice(b"\r\n")?;
+        return Ok(behind);
+    }
+    let Some((byte, behind)) = split_escape(text) else {
+        return Err(EscapeFault::NotEscaped);
+    };
+    bytes.push(byte).map_err(AllocError::from)?;
     Ok(behind)
 }
 
-/// How many bytes at the begin of a text stand for themselves.
-fn plain_length(text: &[u8]) -> usize
-    ensures length { result ≡ position_or_len (λ b. not (is_plain b)) text.now }
-    ensures within { result ≤ length text.now }
+/// The byte of the escape whose `\` stands in front of this text, and what stands behind the escape, or none if no
+/// escape stands there.
+fn split_escape(text: &[u8]) -> Option<(u8, &[u8])>
+    ensures { MatchOption result ((b : ℕ) → b < 256 → (rest : List ℕ) → escape_of b ++ rest ≢ 92 ∷ text.now)
+        (λ first. escape_of first.0 ++ first.1.now ≡ 92 ∷ text.now) }
 {
-    text.iter()
-        .position(|&byte| !is_plain(byte))
-        .unwrap_or(text.len())
-}
-
-/// The first byte of an escaped text and what stands behind it, or none if the text does not begin with a byte.
-fn split_first_byte(text: &[u8]) -> Option<(u8, &[u8])>
-    ensures { MatchOption result ((b : ℕ) → b < 256 → (rest : List ℕ) → escape_of b ++ rest ≢ text.now)
-        (λ first. escape_of first.0 ++ first.1.now ≡ text.now) }
-{
-    let (&first, rest) = text.split_first()?;
-    if first == b'\\' {
-        let (&high, rest) = rest.split_first()?;
-        let (&low, rest) = rest.split_first()?;
-        let byte = hex_value(high)? * 16 + hex_value(low)?;
-        if is_plain(byte) {
-            None
-        } else {
-            Some((byte, rest))
-        }
-    } else if is_plain(first) {
-        Some((first, rest))
-    } else {
+    let (&high, rest) = text.split_first()?;
+    let (&low, rest) = rest.split_first()?;
+    let byte = hex_value(high)? * 16 + hex_value(low)?;
+    if is_plain(byte) {
         None
+    } else {
+        Some((byte, rest))
     }
 }
 

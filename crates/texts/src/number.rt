@@ -3,6 +3,7 @@
 ghost use Rattle.std.specs.Prelude.{◌≡◌, ◌≤◌, ◌++◌, ℕ, Some, IfSome, OnOk, OnErr, decimal};
 ghost use Rattle.texts.specs.Number.{has_sign_or_leading_zero};
 
+use fast_float::parse_u64;
 use itoa::Buffer;
 use std::alloc::AllocError;
 
@@ -14,10 +15,7 @@ pub fn read_number(bytes: &[u8], limit: u64) -> Option<u64>
     if has_sign_or_leading_zero(bytes) {
         return None;
     }
-    let Ok(text) = str::from_utf8(bytes) else {
-        return None;
-    };
-    let Ok(number) = text.parse::<u64>() else {
+    let Ok(number) = parse_u64(bytes) else {
         return None;
     };
     if number <= limit { Some(number) } else { None }
@@ -32,7 +30,7 @@ pub fn read_u32(bytes: &[u8], limit: u32) -> Option<u32>
     u32::try_from(number).ok()
 }
 
-/// Whether std reads more here than a number: a plus, or zeros before a digit.
+/// Whether `parse_u64` reads more here than a number: a plus, or zeros before a digit.
 fn has_sign_or_leading_zero(bytes: &[u8]) -> bool
     ensures { result ≡ has_sign_or_leading_zero bytes.now }
 {

@@ -2,8 +2,8 @@ use Rattle.std.proofs.Common.{◌≡◌, ◌++◌, length}
 use Rattle.texts.specs.Escape.{escaped}
 use Rattle.texts.proofs.escape.unescape.Given as goal
 
-abbrev pub invariant-loop-rest : goal.invariant-loop-rest
-invariant-loop-rest l = escaped l.bytes.items ++ l.rest ≡ l.fn.text
+abbrev pub invariant-loop-plain : goal.invariant-loop-plain
+invariant-loop-plain l = escaped l.bytes.items ++ l.rest ≡ l.fn.text
 
-abbrev pub decreases-loop-rest : goal.decreases-loop-rest
-decreases-loop-rest l = length l.rest
+abbrev pub decreases-loop-plain : goal.decreases-loop-plain
+decreases-loop-plain l = length l.rest
