@@ -11,19 +11,57 @@ use wire_tokens::appending::append;
 use wire_tokens::flag_writing::write_flags;
 use wire_tokens::number::write_number;
 
-/// The items of a FETCH reply. Of two of a name the first counts.
+/// The items of a FETCH reply that commands ask for, each from its value on. Of two of a name the first counts.
 #[derive(Clone, Copy)]
 pub(crate) struct Row<'a> {
-    /// What stands behind the first bracket.
-    items: &'a [u8],
+    uid: Option<&'a [u8]>,
+    flags: Option<&'a [u8]>,
+    size: Option<&'a [u8]>,
+    body: Option<&'a [u8]>,
+    head: Option<&'a [u8]>,
 }
 
 impl<'a> Row<'a> {
     /// The items that stand behind FETCH. None: these are none of RFC 9051.
     pub(crate) fn read(bytes: &'a [u8]) -> Option<Row<'a>> {
         let items = bytes.strip_prefix(b" (")?;
-        let _ = find_item(items, b"")?;
-        Some(Row { items })
+        let mut row = Row {
+            uid: None,
+            flags: None,
+            size: None,
+            body: None,
+            head: None,
+        };
+        let mut rest = items;
+        for _ in 0..items.len() {
+            if rest.starts_with(b")") {
+                return Some(row);
+            }
+            let (name, value) = read_name(behind_space(rest))?;
+            row.take(name, value);
+            rest = skip_value(value)?;
+        }
+        None
+    }
+
+    /// Takes in the item of this name, if it is the first one of a name that commands ask for.
+    fn take(&mut self, name: &[u8], value: &'a [u8]) {
+        let place = if name.eq_ignore_ascii_case(b"UID") {
+            &mut self.uid
+        } else if name.eq_ignore_ascii_case(b"FLAGS") {
+            &mut self.flags
+        } else if name.eq_ignore_ascii_case(b"RFC822.SIZE") {
+            &mut self.size
+        } else if name.eq_ignore_ascii_case(b"BODY[]") {
+            &mut self.body
+        } else if name.eq_ignore_ascii_case(b"BODY[]<0>") {
+            &mut self.head
+        } else {
+            return;
+        };
+        if place.is_none() {
+            *place = Some(value);
+        }
     }
 
     /// The reply to one of the commands of a client that has these items, or none where some are missing.
@@ -34,7 +72,7 @@ impl<'a> Row<'a> {
         alloc: Global,
         number: &[u8],
     ) -> Result<Option<Vec<u8>>, AllocError> {
-        let Some(uid) = self.number(b"UID") else {
+        let Some(uid) = number_at(self.uid) else {
             return Ok(None);
         };
         let mut out = Vec::new(alloc);
@@ -49,12 +87,12 @@ impl<'a> Row<'a> {
 
     /// Appends the items behind UID, and tells whether these are all that one of the commands asks for.
     fn append_items(&self, alloc: Global, out: &mut Vec<u8>) -> Result<bool, AllocError> {
-        if let Some(body) = self.value(b"BODY[]") {
+        if let Some(body) = self.body {
             append(b" BODY[] ", out)?;
             append_octets(alloc, body, out)?;
             return Ok(true);
         }
-        if let Some(head) = self.value(b"BODY[]<0>") {
+        if let Some(head) = self.head {
             append(b" BODY[]<0> ", out)?;
             append_octets(alloc, head, out)?;
             return Ok(true);
@@ -64,7 +102,7 @@ impl<'a> Row<'a> {
 
     /// Appends the items of a listing, and tells whether both are there.
     fn append_listing(&self, out: &mut Vec<u8>) -> Result<bool, AllocError> {
-        let (Some(words), Some(size)) = (self.value(b"FLAGS"), self.number(b"RFC822.SIZE")) else {
+        let (Some(words), Some(size)) = (self.flags, number_at(self.size)) else {
             return Ok(false);
         };
         let Some((words, _)) = read_list(words) else {
@@ -76,46 +114,32 @@ impl<'a> Row<'a> {
         write_number(size, out)?;
         Ok(true)
     }
-
-    /// The bytes from the value of the item of this name on.
-    fn value(&self, name: &[u8]) -> Option<&'a [u8]> {
-        find_item(self.items, name)?
-    }
-
-    /// The number that is the value of the item of this name.
-    fn number(&self, name: &[u8]) -> Option<u32> {
-        match read_token(self.value(name)?)? {
-            (Token::Word(word), _) => number_of(word),
-            _ => None,
-        }
-    }
 }
 
-/// The bytes from the value of the item of this name on, if there is one. None: these are no items up to a bracket.
-fn find_item<'a>(items: &'a [u8], wanted: &[u8]) -> Option<Option<&'a [u8]>> {
-    let mut rest = items;
-    for _ in 0..items.len() {
-        if rest.starts_with(b")") {
-            return Some(None);
-        }
-        let (name, value) = read_name(behind_space(rest))?;
-        if name.eq_ignore_ascii_case(wanted) {
-            return Some(Some(value));
-        }
-        rest = skip_value(value)?;
+/// The number that is the value of an item.
+fn number_at(value: Option<&[u8]>) -> Option<u32> {
+    match read_token(value?)? {
+        (Token::Word(word), _) => number_of(word),
+        _ => None,
     }
-    None
 }
 
 /// Reads the name of an item, and the space behind it; a section in brackets may hold spaces and brackets.
 fn read_name(bytes: &[u8]) -> Option<(&[u8], &[u8])> {
-    let (name, rest) = bytes.split_at_checked(memchr(b' ', bytes)?)?;
-    if memchr(b'[', name).is_none() || memchr(b']', name).is_some() {
-        return Some((name, rest.strip_prefix(b" ")?));
-    }
-    let (_, section) = rest.split_at_checked(memchr(b']', rest)?)?;
-    let (_, rest) = section.split_at_checked(memchr(b' ', section)?)?;
+    let end = name_length(bytes)?;
+    let (name, rest) = bytes.split_at_checked(end)?;
     Some((name, rest.strip_prefix(b" ")?))
+}
+
+/// How many bytes the name of an item has: up to the first space, or to the first one behind a section.
+fn name_length(bytes: &[u8]) -> Option<usize> {
+    let end = bytes.iter().position(|b| matches!(*b, b' ' | b'['))?;
+    if bytes[end] == b' ' {
+        return Some(end);
+    }
+    let section = memchr(b']', &bytes[end..])?;
+    let behind = memchr(b' ', &bytes[end + section..])?;
+    Some(end + section + behind)
 }
 
 /// Those of the six flags that these words name.
