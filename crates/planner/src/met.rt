@@ -64,7 +64,7 @@ pub fn meet(
     ensures least { OnOk result (turns.old + length items.now ≤ turns.new) }
     ensures most { turns.new ≤ turns.old + length items.now + length places.now }
 {
-    let mut met = Vec::new(alloc);
+    let mut met = Vec::with_capacity(alloc, items.len())?;
     let mut at = 0;
     for item in items {
         turns.tick();

@@ -33,7 +33,7 @@ pub fn places(
     ensures turns { OnOk result (turns.new ≡ turns.old + length entries.now) }
     ensures most { turns.new ≤ turns.old + length entries.now }
 {
-    let mut places = Vec::new(alloc);
+    let mut places = Vec::with_capacity(alloc, entries.len())?;
     for (at, entry) in entries.iter().enumerate() {
         turns.tick();
         places.push(Place {

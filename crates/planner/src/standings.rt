@@ -41,7 +41,7 @@ pub fn standings(
     ensures turns { OnOk result (turns.new ≡ turns.old + length entries.now) }
     ensures most { turns.new ≤ turns.old + length entries.now }
 {
-    let mut standings = Vec::new(alloc);
+    let mut standings = Vec::with_capacity(alloc, entries.len())?;
     for (i, entry) in entries.iter().enumerate() {
         turns.tick();
         standings.push(Standing {

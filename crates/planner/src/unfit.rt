@@ -1,6 +1,7 @@
 //! Messages that are passed over, since they are not fit to be copied.
 
 ghost use Rattle.std.specs.Prelude.{◌≡◌, ◌++◌, OnOk, IfOk};
+ghost use Rattle.std.specs.List.{list_all};
 ghost use Rattle.mailcore.specs.Sides.{source};
 ghost use Rattle.rules.specs.Scene.{scene};
 ghost use Rattle.planner.specs.Scenes.{IsMet};
@@ -13,7 +14,7 @@ use crate::lists::Lists;
 use crate::merged::merge_all;
 use crate::met::Met;
 use crate::turns::Turns;
-use mailcore::listing::Listing;
+use mailcore::listing::{Item, Listing};
 use mailcore::side::{Direction, Side};
 use mailcore::uid::Uid;
 use rules::options::Options;
@@ -21,7 +22,7 @@ use rules::state::SyncState;
 use std::alloc::{AllocError, Global};
 
 /// The messages that would be new but for their fitness: those of the far side and then those of the near side, each
-/// in the order of their UIDs.
+/// in the order of their UIDs. Where all are fit, none is looked up.
 ///
 /// `AllocError`: memory ran out.
 pub fn unfit(
@@ -35,6 +36,9 @@ pub fn unfit(
 {
     let entries = state.entries.as_slice();
     let (far_items, near_items) = (far.items.as_slice(), near.items.as_slice());
+    if are_fit(far_items) && are_fit(near_items) {
+        return Ok(Vec::new(alloc));
+    }
     few_items(far_items);
     few_items(near_items);
     few_entries(entries);
@@ -44,6 +48,13 @@ pub fn unfit(
     lists.push_unfit(Direction::Pull, &mut found)?;
     lists.push_unfit(Direction::Push, &mut found)?;
     Ok(found)
+}
+
+/// Whether all of these messages are fit to be copied.
+fn are_fit(items: &[Item]) -> bool
+    ensures { result ≡ list_all (λ i. i.fit) items.now }
+{
+    items.iter().all(|item| item.fit)
 }
 
 impl Lists<'_> {

@@ -3,6 +3,7 @@
 use crate::drawn_worlds::{DrawnWorld, Numbers};
 use crate::generator::Generator;
 use crate::plain_plan::Plain;
+use crate::turns::Bounds;
 use mailcore::fault::CoreFault;
 use mailcore::marks::draw_marks;
 use mailcore::side::Side;
@@ -83,7 +84,7 @@ fn compare(alloc: Global, world: &DrawnWorld, met: Met) -> Result<Met, Failure> 
             let is_same = plan.steps.as_slice() == steps.as_slice()
                 && plan.notes.as_slice() == notes.as_slice();
             let met = met.with_plan(steps.len(), notes.len());
-            Ok(met.judged(is_same, is_within(world, &turns)))
+            Ok(met.judged(is_same, Bounds::of(far, near, state).hold(&turns)))
         }
         Err(PlanFault::NoMemory) => Err(Failure::NoMemory),
         Err(PlanFault::ValidityChanged(side)) => {
@@ -147,18 +148,6 @@ impl Met {
         }
         met
     }
-}
-
-/// Whether there were as many turns as messages and entries, and at most twenty times as many.
-fn is_within(world: &DrawnWorld, turns: &Turns) -> bool {
-    let least = world
-        .far
-        .items
-        .as_slice()
-        .len()
-        .saturating_add(world.near.items.as_slice().len())
-        .saturating_add(world.state.entries.as_slice().len()) as u64;
-    least <= turns.count() && turns.count() <= least.saturating_mul(20)
 }
 
 /// The side whose UIDVALIDITY is not the recorded one.

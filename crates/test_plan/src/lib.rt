@@ -19,6 +19,7 @@
 //! | `written`, `written from far`, `written from far admitted` | how the last world, its part from `far` on, or this part with its waiting files admitted is written |
 //! | `written line N "BYTES"` | line N of the last world as it is written, once it is read with these bytes |
 //! | `news`, `unfit`, `plan MARK ..` | what these calls of the planner answer on the last world |
+//! | `turns MARK ..` | from how many to how many turns the planner takes on it at most, or `none` |
 //! | `compare COUNT` | on how many of so many drawn worlds the planner answers otherwise than one that walks over whole lists |
 //!
 //! Words of mail:
@@ -46,4 +47,5 @@ mod plain_plan;
 mod planner_calls;
 pub mod play;
 mod runs;
+mod turns;
 mod written;

@@ -8,6 +8,7 @@ use crate::mail::{tell_of_message, tell_of_side};
 use crate::marks::tell_drawn;
 use crate::planner_calls::tell_planned;
 use crate::runs::{tell_beginnings, tell_run};
+use crate::turns::tell_turns;
 use crate::written::tell_written;
 use mailcore::uid::Uid;
 use std::alloc::Global;
@@ -79,6 +80,7 @@ impl LastWorld {
             }
             "written" => tell_written(alloc, told, world, line),
             "news" | "unfit" | "plan" => tell_planned(alloc, told, world, word, line),
+            "turns" => tell_turns(alloc, told, world, line),
             "compare" => tell_compared(alloc, told, line),
             _ => ask_mail(alloc, word, line, told),
         }
