@@ -1,6 +1,7 @@
 -- What is kept of the UIDs that are taken, once one more is taken in.
-use Rattle.std.proofs.Common.{◌≡◌, ◌∙◌, ◌≤◌, ◌<◌, ◌+◌, ℕ, zero, suc, List, [], ◌∷◌, ◌++◌, length, min, get_or, take, refl, sym, ap, subst, arith, append_assoc}
+use Rattle.std.proofs.Common.{◌≡◌, ◌∙◌, ◌≤◌, ◌<◌, ◌+◌, ℕ, zero, suc, Bool, true, false, ◌||◌, List, [], ◌∷◌, ◌++◌, length, min, get_or, take, refl, sym, ap, subst, arith, append_assoc}
 use Rattle.std.specs.Prelude.{Result, Ok, Err, OnOk}
+use Rattle.std.specs.List.{list_any}
 use Rattle.std.proofs.lemmas.List.{append-nil}
 use Rattle.rules.specs.declared.entry.Entry.{Entry}
 use Rattle.rules.specs.declared.plan.Step.{Step}
@@ -12,7 +13,7 @@ use Rattle.book.specs.declared.taken.Taken.{Taken}
 use Rattle.book.specs.Agreement.{Copy, copy_of, copies_of}
 use Rattle.book.specs.Books.{mended}
 use Rattle.book.specs.BookLogs.{logged_more}
-use Rattle.book.specs.TakenUids.{Knows, KnowsTaken, next_copies}
+use Rattle.book.specs.TakenUids.{Knows, KnowsTaken, copies_one, next_copies}
 use Rattle.book.proofs.AgreementLemmas.{copies_more, no_copies}
 
 pub on_ok : {T E A B : Type 0} (r : Result T E) → (A → B) → OnOk r A → OnOk r B
@@ -45,12 +46,24 @@ next_nowhere (s ∷ steps) zero l h = absurd (omega arith)
 next_nowhere (s ∷ steps) (suc k) l h = next_nowhere steps k l (omega arith)
 
 pub more_known : (es : List Entry) (p : Pending) (w : WrittenJournal) (l : Logged) (t : Taken) → p ≡ Planned w
-    → KnowsTaken es w.journal.plan.steps (copies_of w.journal.plan.steps w.journal.log ++ next_copies w.journal.plan.steps (length w.journal.log) l) t
+    → (list_any copies_one w.journal.plan.steps ≡ true
+    → KnowsTaken es w.journal.plan.steps (copies_of w.journal.plan.steps w.journal.log ++ next_copies w.journal.plan.steps (length w.journal.log) l) t)
     → Knows es (logged_more p l) t
 more_known es p w l t is knows =
     let here : Knows es (logged_more (Planned w) l) t =
-    subst (λ (cs : List Copy). KnowsTaken es w.journal.plan.steps cs t) (sym (copies_push w.journal.plan.steps w.journal.log l)) knows in
+    λ some. subst (λ (cs : List Copy). KnowsTaken es w.journal.plan.steps cs t) (sym (copies_push w.journal.plan.steps w.journal.log l)) (knows some) in
     subst (λ (q : Pending). Knows es (logged_more q l) t) (sym is) here
+
+-- ---- a step that makes a copy
+
+some_behind : (a b : Bool) → b ≡ true → (a || b) ≡ true
+some_behind true b h = refl
+some_behind false b h = h
+
+pub one_copies : (steps : List Step) (k : ℕ) (s : Step) → k < length steps → s ≡ get_or steps k s → copies_one s ≡ true → list_any copies_one steps ≡ true
+one_copies [] k s h e is = absurd (omega arith)
+one_copies (x ∷ steps) zero s h e is = ap (λ (b : Bool). b || list_any copies_one steps) (subst (λ (y : Step). copies_one y ≡ true) e is)
+one_copies (x ∷ steps) (suc k) s h e is = some_behind (copies_one x) (list_any copies_one steps) (one_copies steps k s (omega arith) e is)
 
 -- ---- the first steps of a log
 

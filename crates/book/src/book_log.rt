@@ -1,12 +1,13 @@
 //! How the journal of a book is begun, and how its steps are logged.
 
 ghost use Rattle.std.specs.Prelude.{◌≡◌, ◌+◌, ◌++◌, ◌∷◌, [], List, false, true, IfOk, OnOk, OnErr};
+ghost use Rattle.std.specs.List.{list_any};
 ghost use Rattle.rules.specs.declared.entry.Entry.{Entry};
 ghost use Rattle.book.specs.Agreement.{Agrees, copies_of};
 ghost use Rattle.sync_state.specs.JournalText.{IsPlan, log_line};
 ghost use Rattle.book.specs.Books.{Ends, torn};
 ghost use Rattle.book.specs.BookLogs.{fresh, begun, as_done, logged_more, is_free, is_refused, MayLog};
-ghost use Rattle.book.specs.TakenUids.{KnowsTaken};
+ghost use Rattle.book.specs.TakenUids.{KnowsTaken, copies_one};
 
 use crate::book::{Book, Pending};
 use crate::shelf::{File, Shelf};
@@ -41,7 +42,7 @@ impl<S: Shelf> Book<S> {
         self.is_ready = false;
         let text = write_plan(self.alloc, &plan)?;
         let entries = self.state.entries.as_slice();
-        let taken = Taken::planned(self.alloc, entries, plan.steps.as_slice())?;
+        let taken = Taken::begun(self.alloc, entries, plan.steps.as_slice())?;
         self.shelf.append(File::Journal, &text)?;
         let log = Log::from_vec(Vec::new(self.alloc));
         self.pending = Pending::Planned(WrittenJournal {
@@ -153,7 +154,8 @@ fn log_pending(pending: &mut Pending, logged: Logged) -> Result<(), AllocError>
 
 /// Whether the copy of the next step, if it made one, has a UID that is not taken.
 fn is_free(taken: &Taken, journal: &Journal, logged: Logged) -> bool
-    ensures { (entries : List Entry) → KnowsTaken entries journal.now.plan.steps (copies_of journal.now.plan.steps journal.now.log) taken.now
+    ensures { (entries : List Entry) → (list_any copies_one journal.now.plan.steps ≡ true
+        → KnowsTaken entries journal.now.plan.steps (copies_of journal.now.plan.steps journal.now.log) taken.now)
         → result ≡ is_free entries journal.now logged }
 {
     let steps = journal.plan.steps.as_slice();

@@ -1,13 +1,13 @@
 //! The UIDs that are taken on each side while a plan is pending, so that the UID of a new copy need not be sought in entries, steps and
 //! log.
 
-ghost use Rattle.std.specs.Prelude.{◌≡◌, ◌++◌, ◌∷◌, [], IfOk, List, OnOk, length, not};
-ghost use Rattle.std.specs.List.{list_all};
+ghost use Rattle.std.specs.Prelude.{◌≡◌, ◌++◌, ◌∷◌, [], IfOk, List, OnOk, length, not, true};
+ghost use Rattle.std.specs.List.{list_all, list_any};
 ghost use Rattle.rules.specs.declared.entry.Entry.{Entry};
 ghost use Rattle.rules.specs.declared.plan.Step.{Step};
 ghost use Rattle.book.specs.Agreement.{Copy, copies_of, copy_of, is_taken};
 ghost use Rattle.book.specs.BookLogs.{logged_more};
-ghost use Rattle.book.specs.TakenUids.{Adds, Knows, KnowsTaken, has, next_copies};
+ghost use Rattle.book.specs.TakenUids.{Adds, Knows, KnowsTaken, copies_one, has, next_copies};
 
 use crate::book::Pending;
 use mailcore::side::Side;
@@ -47,9 +47,25 @@ impl Taken {
             return Ok(Taken::none(alloc));
         };
         let steps = written.journal.plan.steps.as_slice();
-        let mut taken = Taken::planned(alloc, entries, steps)?;
+        let mut taken = Taken::begun(alloc, entries, steps)?;
         taken.add_copies(steps, written.journal.log.as_slice())?;
         Ok(taken)
+    }
+
+    /// What is taken by these entries and by a plan with these steps of which none is logged. Where no step makes a copy nobody asks, and
+    /// nothing is kept.
+    pub(crate) fn begun(
+        alloc: Global,
+        entries: &[Entry],
+        steps: &[Step],
+    ) -> Result<Taken, AllocError>
+        ensures { IfOk result (λ taken. list_any copies_one steps.now ≡ true → KnowsTaken entries.now steps.now [] taken) }
+    {
+        if copy_one(steps) {
+            Taken::planned(alloc, entries, steps)
+        } else {
+            Ok(Taken::none(alloc))
+        }
     }
 
     /// What is taken by these entries and by the sources of these steps, before one is logged.
@@ -90,7 +106,8 @@ impl Taken {
 
     /// Whether the copy that this step made, if it made one, has a UID that is not taken.
     pub(crate) fn is_free(&self, step: &Step, logged: Logged) -> bool
-        ensures { (entries : List Entry) (steps : List Step) (copies : List Copy) → KnowsTaken entries steps copies self.now
+        ensures { (entries : List Entry) (steps : List Step) (copies : List Copy)
+            → (copies_one step.now ≡ true → KnowsTaken entries steps copies self.now)
             → result ≡ list_all (λ c. not (is_taken entries steps copies c)) (copy_of step.now logged) }
     {
         match (step, logged) {
@@ -175,4 +192,18 @@ impl Taken {
         };
         Ok(())
     }
+}
+
+/// Whether one of these steps copies a new message.
+fn copy_one(steps: &[Step]) -> bool
+    ensures { result ≡ list_any copies_one steps.now }
+{
+    steps.iter().any(|step| copies_one(step))
+}
+
+/// Whether a step copies a new message.
+fn copies_one(step: &Step) -> bool
+    ensures { result ≡ copies_one step.now }
+{
+    matches!(step, Step::New { .. })
 }

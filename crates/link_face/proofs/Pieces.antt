@@ -15,3 +15,10 @@ took bytes lent piece now given n is same copied =
     sym is
     ∙ sym (ap (λ (l : List ℕ). l ++ drop n (drop given bytes)) from ∙ take-append-drop n (drop given bytes))
     ∙ ap (λ (l : List ℕ). take n piece ++ l) (drop-drop n given bytes)
+
+-- a copy of the front was taken out
+pub front_and_rest : (bytes now front : List ℕ) (taken n : ℕ) → drop taken bytes ≡ now → front ≡ take n now → now ≡ front ++ drop (taken + n) bytes
+front_and_rest bytes now front taken n view is =
+    sym (ap (λ (l : List ℕ). l ++ drop (taken + n) bytes) is
+    ∙ ap (λ (l : List ℕ). take n now ++ l) (sym (drop-drop n taken bytes) ∙ ap (drop n) view)
+    ∙ take-append-drop n now)

@@ -1,6 +1,6 @@
 //! What came over a link and was not turned yet.
 
-ghost use Rattle.std.specs.Prelude.{◌≡◌, ◌≤◌, ◌++◌, [], length, take, IfOk, OnOk, OnErr};
+ghost use Rattle.std.specs.Prelude.{◌≡◌, ◌≤◌, ◌++◌, [], drop, length, take, IfOk, OnOk, OnErr};
 ghost use Rattle.link_face.specs.Extents.{IsWithin};
 
 use crate::extent::{Extent, Search};
@@ -12,17 +12,19 @@ use std::mem;
 #[derive(Drop)]
 pub(crate) struct Incoming {
     bytes: Vec<u8>,
+    /// How many of them were taken out: they go once more come, so that what is behind them is not moved for each reply.
+    taken: usize,
     search: Search,
 }
 
 impl Model for Incoming {
-    ghost use Rattle.std.specs.Prelude.{ℕ, List, ◌≤◌, length};
+    ghost use Rattle.std.specs.Prelude.{ℕ, List, ◌≤◌, ◌+◌, drop, length};
 
     ghost Value = { List ℕ };
 
-    ghost view = { λ i. i.bytes.items };
+    ghost view = { λ i. drop i.taken i.bytes.items };
 
-    ghost invariant = { λ i. i.search.scanned ≤ length i.bytes.items };
+    ghost invariant = { λ i. i.taken + i.search.scanned ≤ length i.bytes.items };
 }
 
 impl Incoming {
@@ -32,6 +34,7 @@ impl Incoming {
     {
         Incoming {
             bytes: Vec::new(alloc),
+            taken: 0,
             search: Search::new(),
         }
     }
@@ -40,7 +43,7 @@ impl Incoming {
     pub(crate) fn len(&self) -> usize
         ensures { result ≡ length self.now }
     {
-        self.bytes.len()
+        self.bytes.len() - self.taken
     }
 
     /// They are none.
@@ -48,6 +51,7 @@ impl Incoming {
         ensures { self.new ≡ [] }
     {
         self.bytes.clear();
+        self.taken = 0;
         self.search = Search::new();
     }
 
@@ -56,6 +60,8 @@ impl Incoming {
         ensures ok { OnOk result (self.new ≡ self.old ++ bytes.now) }
         ensures err { OnErr result (self.new ≡ self.old) }
     {
+        drop_front(&mut self.bytes, self.taken);
+        self.taken = 0;
         self.bytes.extend_from_slice(bytes)
     }
 
@@ -64,7 +70,7 @@ impl Incoming {
         ensures same { self.new ≡ self.old }
         ensures within { IsWithin self.old result }
     {
-        self.search.look(&self.bytes)
+        self.search.look(&self.bytes[self.taken..])
     }
 
     /// The first so many bytes.
@@ -72,12 +78,12 @@ impl Incoming {
         requires { len ≤ length self.now }
         ensures { result.now ≡ take len self.now }
     {
-        &self.bytes[..len]
+        &self.bytes[self.taken..self.taken + len]
     }
 
     /// The first bytes, so many at most.
     pub(crate) fn first(&self, most: usize) -> &[u8] {
-        self.bytes.get(..most).unwrap_or(&self.bytes)
+        self.front(self.len().min(most))
     }
 
     /// Takes the first so many bytes out. `AllocError`: memory ran out, and they stay.
@@ -87,11 +93,40 @@ impl Incoming {
         ensures ok { IfOk result (λ front. self.old ≡ front.items ++ self.new) }
         ensures err { OnErr result (self.new ≡ self.old) }
     {
+        if len > self.len() - len {
+            return self.take_most(len);
+        }
+        let front = Vec::from_slice(*self.bytes.allocator(), self.front(len))?;
         self.search = Search::new();
-        let alloc = *self.bytes.allocator();
-        let rest = Vec::from_slice(alloc, &self.bytes[len..])?;
+        self.taken += len;
+        Ok(front)
+    }
+
+    /// The same of more than half of the bytes: those that are left are moved.
+    fn take_most(&mut self, len: usize) -> Result<Vec<u8>, AllocError>
+        requires { len ≤ length self.old }
+        ensures front { IfOk result (λ front. front.items ≡ take len self.old) }
+        ensures ok { IfOk result (λ front. self.old ≡ front.items ++ self.new) }
+        ensures err { OnErr result (self.new ≡ self.old) }
+    {
+        drop_front(&mut self.bytes, self.taken);
+        self.taken = 0;
+        let rest = Vec::from_slice(*self.bytes.allocator(), &self.bytes[len..])?;
         let mut front = mem::replace(&mut self.bytes, rest);
         front.truncate(len);
+        self.search = Search::new();
         Ok(front)
+    }
+}
+
+/// Lets go of the first so many bytes.
+fn drop_front(bytes: &mut Vec<u8>, count: usize)
+    requires { count ≤ length bytes.old.items }
+    ensures { bytes.new.items ≡ drop count bytes.old.items }
+{
+    if count > 0 {
+        let left = bytes.len() - count;
+        bytes.copy_within(count.., 0);
+        bytes.truncate(left);
     }
 }

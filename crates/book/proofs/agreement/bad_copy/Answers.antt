@@ -19,7 +19,7 @@ returns-then-not-is_free-clause-first c =
     let i = c.loop-i.i in
     let in_steps : i < length steps = search rules in
     let in_log : i < length log = search rules in
-    let free = c.is_free.ensures entries steps (copies_of steps (take i log)) c.loop-i.invariant.knows in
+    let free = c.is_free.ensures entries steps (copies_of steps (take i log)) (λ _. c.loop-i.invariant.knows) in
     let bad : agrees_at entries steps log i c.index-steps-i.result c.index-log-i.result ≡ false = sym free ∙ c.if-not-is_free.true in
     let here = bad_here entries steps log i c.index-steps-i.result c.index-log-i.result in_steps in_log c.index-steps-i.is c.index-log-i.is bad in
     sym (place_from_zero not (log_agrees entries steps [] steps log) ∙ c.loop-i.invariant.first ∙ here)
@@ -33,7 +33,7 @@ loop-i-preserved c =
     let in_steps : i < length steps = search rules in
     let in_log : i < length log = search rules in
     let copies = copies_of steps (take i log) in
-    let free = c.is_free.ensures entries steps copies c.loop-i.invariant.knows in
+    let free = c.is_free.ensures entries steps copies (λ _. c.loop-i.invariant.knows) in
     let good : agrees_at entries steps log i c.index-steps-i.result c.index-log-i.result ≡ true = sym free ∙ c.if-not-is_free.false in
     let later = bad_later entries steps log i c.index-steps-i.result c.index-log-i.result in_steps in_log c.index-steps-i.is c.index-log-i.is good in
     record {

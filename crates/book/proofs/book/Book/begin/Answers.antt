@@ -1,4 +1,5 @@
 use Rattle.std.proofs.Common.{◌≡◌, ◌∙◌, true, false, List, [], ap, sym, subst, rules}
+use Rattle.std.specs.List.{list_any}
 use Rattle.std.proofs.lemmas.Result.{err_from_is_err_and}
 use Rattle.book.specs.declared.book.Pending.{Pending}
 use Rattle.book.specs.declared.book.Pending.TheVariants.{Missing, Useless, Planned}
@@ -8,7 +9,7 @@ use Rattle.rules.specs.declared.entry.Entry.{Entry}
 use Rattle.book.specs.BookLogs.{begun}
 use Rattle.rules.specs.declared.plan.Step.{Step}
 use Rattle.book.specs.Agreement.{Copy, copies_of}
-use Rattle.book.specs.TakenUids.{KnowsTaken}
+use Rattle.book.specs.TakenUids.{KnowsTaken, copies_one}
 use Rattle.book.proofs.AgreementLemmas.{no_copies}
 use Rattle.book.proofs.BookLemmas.{journal_put}
 use Rattle.book.proofs.BeginLemmas.{plan_behind_nothing, begun_or_not, begun_fits}
@@ -46,8 +47,9 @@ invariant_of-self-2 g c =
           subst (λ (p : Pending). Holds new book.state p) (sym now)
           (journal_put _ old new book.state Missing (begun plan) (c.in_ok-append.ensures.effect honest)
           (plan_behind_nothing book.state old.journal plan c.deref.result.now c.requires.has_text c.requires.next c.requires.agrees text) held);
-      knows = λ _.
-          let entries = subst (λ (es : List Entry). KnowsTaken es c.as_slice.result.now [] c.in_ok-taken.taken) c.as_slice-entries.ensures.all c.in_ok-taken.ensures in
+      knows = λ _ some.
+          let some_as_read = subst (λ (s : List Step). list_any copies_one s ≡ true) (sym c.as_slice.ensures) some in
+          let entries = subst (λ (es : List Entry). KnowsTaken es c.as_slice.result.now [] c.in_ok-taken.taken) c.as_slice-entries.ensures.all (c.in_ok-taken.ensures some_as_read) in
           let steps = subst (λ (s : List Step). KnowsTaken book.state.entries s [] c.in_ok-taken.taken) c.as_slice.ensures entries in
           subst (λ (cs : List Copy). KnowsTaken book.state.entries plan.steps cs c.in_ok-taken.taken)
           (sym (ap (λ (l : List Logged). copies_of plan.steps l) (c.from_vec-log.ensures ∙ c.new.ensures.items) ∙ no_copies plan.steps)) steps;

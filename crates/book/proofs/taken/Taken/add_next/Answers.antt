@@ -10,4 +10,4 @@ returns-in-Planned c =
     let w = c.in-Planned.written in
     on_ok c.add_logged.result (λ added entries knows.
     more_known entries c.args.pending.now w c.args.logged c.add_logged.new.self c.in-Planned.is
-    (added entries (copies_of w.journal.plan.steps w.journal.log) (subst (λ (p : Pending). Knows entries p c.args.self.now) c.in-Planned.is knows))) c.add_logged.ensures
+    (λ some. added entries (copies_of w.journal.plan.steps w.journal.log) (subst (λ (p : Pending). Knows entries p c.args.self.now) c.in-Planned.is knows some))) c.add_logged.ensures
