@@ -60,15 +60,15 @@ module _ {L : Type 0} {links : link.Ghosts L} (old new : FarSide L links) (same 
             (λ validity t. t) (λ k. k) (λ refused. unfit a.mid a.visits refused) r a.then;
       })
 
-  pub lists : (known from : ℕ) (r : Result Listing FarFault) → OnOk r (new.far.is_selected ≡ true) → Ends (state_of old.far.session) (state_of new.far.session) r
+  pub lists : (known : ℕ) (spared : ℕ → Bool) (r : Result Listing FarFault) → OnOk r (new.far.is_selected ≡ true) → Ends (state_of old.far.session) (state_of new.far.session) r
       → (honest_of new → Among links.visitors (Outcome (ListsAll links.visitors.alone known name) Unrefused KeepsMailboxes r) (server_at old) (server_at new))
-      → Says Never (ops.Answers (ops.Lists Far links.visitors.alone known from)) new.account.mailbox.items r
-  lists known from r selected ends outcome =
-      says Never (ops.Answers (ops.Lists Far links.visitors.alone known from)) r selected ends
+      → Says Never (ops.Answers (ops.Lists Far links.visitors.alone known spared)) new.account.mailbox.items r
+  lists known spared r selected ends outcome =
+      says Never (ops.Answers (ops.Lists Far links.visitors.alone known spared)) r selected ends
       (λ h.
       let a = outcome h in
       record {
         mid = a.mid;
         visits = a.visits;
-        then = read_did name a.mid (server_at new) (ListsAll links.visitors.alone known name) Unrefused KeepsMailboxes (ops.Lists Far links.visitors.alone known from) Never (λ listing t. t) (λ k. k) (λ refused. absurd refused) r a.then;
+        then = read_did name a.mid (server_at new) (ListsAll links.visitors.alone known name) Unrefused KeepsMailboxes (ops.Lists Far links.visitors.alone known spared) Never (λ listing t. t) (λ k. k) (λ refused. absurd refused) r a.then;
       })

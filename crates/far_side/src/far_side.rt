@@ -25,6 +25,7 @@ use mailbox::fault::BoxFault;
 use mailbox::mailbox::Mailbox;
 use mailcore::flags::Flags;
 use mailcore::listing::Listing;
+use mailcore::spared::Spared;
 use mailcore::tuid::Tuid;
 use mailcore::uid::Uid;
 use std::alloc::Global;
@@ -255,7 +256,7 @@ impl<L: Link + Drop> Mailbox for FarSide<L> {
         told_by(self.reach())
     }
 
-    fn list(&mut self, _from: u32) -> Result<Listing, BoxFault> {
+    fn list(&mut self, _spared: &Spared) -> Result<Listing, BoxFault> {
         told_by(self.list_anew())
     }
 

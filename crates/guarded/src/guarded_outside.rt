@@ -8,6 +8,7 @@ use mailbox::far_next::FarNext;
 use mailcore::flags::Flags;
 use mailcore::listing::Listing;
 use mailcore::side::{Direction, Side};
+use mailcore::spared::Spared;
 use mailcore::tuid::Tuid;
 use mailcore::uid::Uid;
 use outside::fault::OutsideFault;
@@ -150,8 +151,8 @@ impl<O: Outside + FarNext, G: Guard> Outside for GuardedOutside<O, G> {
         self.outside.list_far()
     }
 
-    fn list_near(&mut self, from: u32) -> Result<Listing, OutsideFault> {
-        self.outside.list_near(from)
+    fn list_near(&mut self, spared: &Spared) -> Result<Listing, OutsideFault> {
+        self.outside.list_near(spared)
     }
 
     fn find_mark(

@@ -1,5 +1,5 @@
--- Whether a message is fit matters for new messages alone, which stand above the highest UID that was taken over.
-use Rattle.std.proofs.Common.{◌≡◌, ℕ, ◌≤◌, Bool, true, false, not, cond, eqb, leb, ltb, List, [], ◌∷◌, map, Option, None, Some, refl, sym, ap, ◌∙◌, arith}
+-- Whether a message is fit matters for new messages alone, which stand above the highest UID that was taken over and in no entry.
+use Rattle.std.proofs.Common.{◌≡◌, ℕ, Bool, true, false, not, cond, eqb, ltb, List, [], ◌∷◌, map, Option, None, Some, refl, sym, ap, ◌∙◌, arith, inl, inr}
 use Rattle.std.specs.Prelude.{◌&&◌, ◌||◌, find}
 use Rattle.std.specs.List.{list_any}
 use Rattle.std.specs.Option.{option_map}
@@ -13,7 +13,7 @@ use Rattle.mailcore.specs.declared.side.Direction.TheVariants.{Pull, Push}
 use Rattle.mailcore.specs.Content.{fit}
 use Rattle.mailcore.specs.FlagSet.{DELETED, has}
 use Rattle.mailcore.specs.Listed.{item_of}
-use Rattle.mailcore.specs.Operations.{item_above}
+use Rattle.mailcore.specs.Operations.{item_sparing}
 use Rattle.mailcore.specs.Sides.{source, target, other}
 use Rattle.rules.specs.declared.entry.Entry.{Entry}
 use Rattle.rules.specs.declared.entry.ListedPair.{ListedPair}
@@ -21,6 +21,7 @@ use Rattle.rules.specs.Entries.{uid_of, uids_of}
 use Rattle.rules.specs.Options.{goes, covers}
 use Rattle.rules.specs.Propagation.{Propagation, New, Gone, Flags, Expunge, Record, Drop}
 use Rattle.rules.specs.Scene.{Scene, items, highest, flags_at, is_listed, is_paired, full_entry}
+use Rattle.laws.specs.Laws.{SparesOld}
 use Rattle.rules.specs.Called.{called, is_new, is_gone, pair_of, pair_between, flags_with, flags_by, flags_after, is_deleted_then, is_expunged, vanishes, is_pair_with, differ_by, before, after, recorded}
 
 -- ---- two lists with the same flags
@@ -90,12 +91,12 @@ module _ (s : Scene) (one two : List Item) (same : (u : ℕ) → flags_at one u 
 
 -- ---- the two listings
 
-flags_above : (from : ℕ) (messages : List Message) (u : ℕ) → flags_at (map (item_above Near from) messages) u ≡ flags_at (map (item_of Near) messages) u
-flags_above from [] u = refl
-flags_above from (m ∷ messages) u = by_test (eqb m.uid u) (flags_above from messages u)
+flags_sparing : (spared : ℕ → Bool) (messages : List Message) (u : ℕ) → flags_at (map (item_sparing Near spared) messages) u ≡ flags_at (map (item_of Near) messages) u
+flags_sparing spared [] u = refl
+flags_sparing spared (m ∷ messages) u = by_test (eqb m.uid u) (flags_sparing spared messages u)
   where
-    by_test : (b : Bool) → flags_at (map (item_above Near from) messages) u ≡ flags_at (map (item_of Near) messages) u
-        → option_map (λ (i : Item). i.flags) (cond b (Some (item_above Near from m)) (find (λ i. eqb i.uid u) (map (item_above Near from) messages)))
+    by_test : (b : Bool) → flags_at (map (item_sparing Near spared) messages) u ≡ flags_at (map (item_of Near) messages) u
+        → option_map (λ (i : Item). i.flags) (cond b (Some (item_sparing Near spared m)) (find (λ i. eqb i.uid u) (map (item_sparing Near spared) messages)))
         ≡ option_map (λ (i : Item). i.flags) (cond b (Some (item_of Near m)) (find (λ i. eqb i.uid u) (map (item_of Near) messages)))
     by_test true more = refl
     by_test false more = more
@@ -108,24 +109,34 @@ blocked : (a c d x : Bool) → (a && false && c && d && x) ≡ false
 blocked true c d x = refl
 blocked false c d x = refl
 
-one_same : (s : Scene) (from : ℕ) → from ≤ highest Push s → (m : Message) → is_new s Push (item_above Near from m) ≡ is_new s Push (item_of Near m)
-one_same s from most m = by_test (leb m.uid from) refl
+blocked_paired : (a b d x : Bool) → (a && b && false && d && x) ≡ false
+blocked_paired true true d x = refl
+blocked_paired true false d x = refl
+blocked_paired false b d x = refl
+
+one_same : (s : Scene) (spared : ℕ → Bool) → SparesOld s spared → (m : Message) → is_new s Push (item_sparing Near spared m) ≡ is_new s Push (item_of Near m)
+one_same s spared old m = by_test (spared m.uid) refl
   where
-    by_test : (b : Bool) → leb m.uid from ≡ b
+    by_test : (b : Bool) → spared m.uid ≡ b
         → (goes s.options.cells.new Push && ltb (highest Push s) m.uid && not (is_paired s Near m.uid) && not (has m.flags DELETED && covers s.options.expunge Near) && (b || fit Near m.bytes))
         ≡ (goes s.options.cells.new Push && ltb (highest Push s) m.uid && not (is_paired s Near m.uid) && not (has m.flags DELETED && covers s.options.expunge Near) && fit Near m.bytes)
-    by_test true e =
-        let low : ltb (highest Push s) m.uid ≡ false = grind (arith, nat_tests) in
-        rw low (blocked (goes s.options.cells.new Push) (not (is_paired s Near m.uid)) (not (has m.flags DELETED && covers s.options.expunge Near)) true
-        ∙ sym (blocked (goes s.options.cells.new Push) (not (is_paired s Near m.uid)) (not (has m.flags DELETED && covers s.options.expunge Near)) (fit Near m.bytes)))
+    by_test true e = elim (old m.uid e) [
+      | inl low_enough ↦
+          let low : ltb (highest Push s) m.uid ≡ false = grind (arith, nat_tests) in
+          rw low (blocked (goes s.options.cells.new Push) (not (is_paired s Near m.uid)) (not (has m.flags DELETED && covers s.options.expunge Near)) true
+          ∙ sym (blocked (goes s.options.cells.new Push) (not (is_paired s Near m.uid)) (not (has m.flags DELETED && covers s.options.expunge Near)) (fit Near m.bytes)))
+      | inr paired ↦
+          rw paired (blocked_paired (goes s.options.cells.new Push) (ltb (highest Push s) m.uid) (not (has m.flags DELETED && covers s.options.expunge Near)) true
+          ∙ sym (blocked_paired (goes s.options.cells.new Push) (ltb (highest Push s) m.uid) (not (has m.flags DELETED && covers s.options.expunge Near)) (fit Near m.bytes)))
+    ]
     by_test false e = refl
 
-pub same_calls : (s : Scene) (from : ℕ) (messages : List Message) (q : Propagation) → from ≤ highest Push s
-    → called (record s { near = map (item_above Near from) messages }) q ≡ called (record s { near = map (item_of Near) messages }) q
-same_calls s from messages q most = others_same s (map (item_above Near from) messages) (map (item_of Near) messages) (flags_above from messages) new q
+pub same_calls : (s : Scene) (spared : ℕ → Bool) (messages : List Message) (q : Propagation) → SparesOld s spared
+    → called (record s { near = map (item_sparing Near spared) messages }) q ≡ called (record s { near = map (item_of Near) messages }) q
+same_calls s spared messages q old = others_same s (map (item_sparing Near spared) messages) (map (item_of Near) messages) (flags_sparing spared messages) new q
   where
-    new : (d : Direction) (u : ℕ) → called (record s { near = map (item_above Near from) messages }) (New d u) ≡ called (record s { near = map (item_of Near) messages }) (New d u)
+    new : (d : Direction) (u : ℕ) → called (record s { near = map (item_sparing Near spared) messages }) (New d u) ≡ called (record s { near = map (item_of Near) messages }) (New d u)
     new Pull u = refl
     new Push u =
-        any_mapped (λ i. eqb i.uid u && is_new s Push i) (item_above Near from) (item_of Near)
-        (λ m. ap (λ (b : Bool). eqb m.uid u && b) (one_same s from most m)) messages
+        any_mapped (λ i. eqb i.uid u && is_new s Push i) (item_sparing Near spared) (item_of Near)
+        (λ m. ap (λ (b : Bool). eqb m.uid u && b) (one_same s spared old m)) messages

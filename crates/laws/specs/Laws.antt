@@ -1,5 +1,5 @@
 -- What the definitions of a run come to, in laws that the functions of `src/lib.rt` show.
-use Rattle.std.specs.Prelude.{ℕ, ◌≤◌, ◌≡◌, ◌⊎◌, ◌↔◌, true, false, List, Contains, length, map}
+use Rattle.std.specs.Prelude.{ℕ, Bool, ◌≤◌, ◌≡◌, ◌⊎◌, ◌↔◌, true, false, List, Contains, length, map}
 use Rattle.mailcore.specs.declared.side.Side.{Side}
 use Rattle.mailcore.specs.declared.side.Side.TheVariants.{Near}
 use Rattle.mailcore.specs.declared.side.Direction.{Direction}
@@ -8,7 +8,7 @@ use Rattle.mailcore.specs.declared.listing.Item.{Item}
 use Rattle.mailcore.specs.declared.mailbox.Message.{Message}
 use Rattle.mailcore.specs.FlagSet.{DELETED, has}
 use Rattle.mailcore.specs.Listed.{item_of}
-use Rattle.mailcore.specs.Operations.{item_above}
+use Rattle.mailcore.specs.Operations.{item_sparing}
 use Rattle.mailcore.specs.Rise.{Rise}
 use Rattle.mailcore.specs.Sides.{source, towards}
 use Rattle.rules.specs.declared.entry.Entry.{Entry}
@@ -34,11 +34,15 @@ NewIsUnpaired = (s : Scene) (d : Direction) (u : ℕ) → called s (New d u) ≡
 
 -- ---- fitness
 
--- a near listing that says fit of every message up to a UID that was taken over calls for the same as the whole listing
-abbrev pub FitnessMattersAbove : Type 0
-FitnessMattersAbove =
-    (s : Scene) (from : ℕ) (messages : List Message) (q : Propagation) → from ≤ highest Push s →
-    called (record s { near = map (item_above Near from) messages }) q ≡ called (record s { near = map (item_of Near) messages }) q
+-- only messages that cannot be new are spared: each is not above the highest UID that was pushed, or an entry names it
+abbrev pub SparesOld : Scene → (spared : ℕ → Bool) → Type 0
+SparesOld s spared = (uid : ℕ) → spared uid ≡ true → (uid ≤ highest Push s) ⊎ (is_paired s Near uid ≡ true)
+
+-- a near listing that says fit of these calls for the same as the whole listing
+abbrev pub FitnessMattersOfNew : Type 0
+FitnessMattersOfNew =
+    (s : Scene) (spared : ℕ → Bool) (messages : List Message) (q : Propagation) → SparesOld s spared →
+    called (record s { near = map (item_sparing Near spared) messages }) q ≡ called (record s { near = map (item_of Near) messages }) q
 
 -- ---- one place, one propagation
 

@@ -10,10 +10,10 @@ pub fn new_is_unpaired()
     ensures called { law.NewIsUnpaired }
 {}
 
-/// Whether a near message is fit matters above the highest UID that was pushed alone: a listing that asks no message up to
-/// it calls for the same.
-pub fn fitness_matters_above()
-    ensures { law.FitnessMattersAbove }
+/// Whether a near message is fit matters of those alone that may be new: a listing calls for the same that asks none up to the highest UID
+/// that was pushed, and none that an entry names.
+pub fn fitness_matters_of_new()
+    ensures { law.FitnessMattersOfNew }
 {}
 
 /// A step of one kind is called for once at most: two propagations that are called for and have one place are equal.

@@ -5,6 +5,7 @@ ghost use Rattle.std.specs.Prelude.{◌≡◌, ℕ, List, Bool, OnOk, IfOk, IfEr
 use crate::fault::BoxFault;
 use mailcore::flags::Flags;
 use mailcore::listing::Listing;
+use mailcore::spared::Spared;
 use mailcore::tuid::Tuid;
 use mailcore::uid::Uid;
 
@@ -16,6 +17,7 @@ pub trait Mailbox {
     ghost use Rattle.device.specs.Calls.{Nothing};
     ghost use Rattle.mailcore.specs.declared.side.Side.{Side};
     ghost use Rattle.mailcore.specs.Operations.{flags_added, flags_removed};
+    ghost use Rattle.mailcore.specs.Spared.{spares};
     ghost use Rattle.mailbox.specs.Operations.{removed, Admits, AdmitsPart, Answers, Appends, AppendsPart, Finds, HasNumbers, IsCopyText, Lists, Loads, NoRoom, TellsValidity, Turns};
     ghost use Rattle.mailbox.specs.declared.fault.BoxFault.{BoxFault};
     ghost use Rattle.mailbox.specs.Arrivals.{Arrives};
@@ -59,15 +61,15 @@ pub trait Mailbox {
         ensures call { Call (honest self.new) (ended self.old self.new) (Arrives side ours alone) (λ fault _. unfit self.old fault)
             (Answers TellsValidity) Nothing (seen self.old) (seen self.new) result };
 
-    /// What it lists. Messages up to this UID may be said to be fit without being read.
-    fn list(&mut self, from: u32) -> Result<Listing, BoxFault>
+    /// What it lists. Near messages that are spared are said to be fit, and are not read.
+    fn list(&mut self, spared: &Spared) -> Result<Listing, BoxFault>
         requires whole { (seen self.old).is_broken ≡ false }
         requires open { is_open self.old ≡ true }
         ensures was_honest { honest self.new → honest self.old }
         ensures open { is_open self.new ≡ true }
         ensures numbers { IfOk result HasNumbers }
         ensures call { Call (honest self.new) (ended self.old self.new) (Arrives side ours alone) Never
-            (Answers (Lists side alone (seen self.old).stored.store.next from)) Nothing (seen self.old) (seen self.new) result };
+            (Answers (Lists side alone (seen self.old).stored.store.next (spares spared.now))) Nothing (seen self.old) (seen self.new) result };
 
     /// The least UID of at least `from` whose message has the mark.
     fn find_mark(&mut self, mark: Tuid, from: u32) -> Result<Option<Uid>, BoxFault>

@@ -10,3 +10,4 @@ pub mod OperationLemmas
 pub mod PairLemmas
 pub mod RiseLemmas
 pub mod Rising
+pub mod SparedLemmas

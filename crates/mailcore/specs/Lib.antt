@@ -12,4 +12,5 @@ pub mod Operations
 pub mod Mailboxes
 pub mod Ranges
 pub mod Sides
+pub mod Spared
 pub mod Stores

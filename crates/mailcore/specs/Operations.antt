@@ -56,14 +56,14 @@ pub record Shows (side : Side) (s : Store) (listing : Listing) : Type 0 where
   pub next : listing.next ≡ s.next
   pub items : listing.items ≡ map (item_of side) s.messages
 
--- the same, where fitness is asked of messages above a UID alone: those up to it are said to be fit
-abbrev pub item_above : Side → (from : ℕ) → Message → Item
-item_above side from m = record { uid = m.uid; flags = m.flags; fit = nat_le m.uid from || fit side m.bytes }
+-- the same, where some messages, by their UIDs, are not asked whether they are fit: these are said to be
+abbrev pub item_sparing : Side → (spared : ℕ → Bool) → Message → Item
+item_sparing side spared m = record { uid = m.uid; flags = m.flags; fit = spared m.uid || fit side m.bytes }
 
-pub record ShowsAbove (side : Side) (from : ℕ) (s : Store) (listing : Listing) : Type 0 where
+pub record ShowsSparing (side : Side) (spared : ℕ → Bool) (s : Store) (listing : Listing) : Type 0 where
   pub validity : listing.validity ≡ s.validity
   pub next : listing.next ≡ s.next
-  pub items : listing.items ≡ map (item_above side from) s.messages
+  pub items : listing.items ≡ map (item_sparing side spared) s.messages
 
 -- the bytes of the message with this UID, or none where it is not there
 abbrev pub bytes_among : (uid : ℕ) → List Message → Option (List ℕ)

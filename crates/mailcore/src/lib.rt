@@ -14,5 +14,6 @@ pub mod mailbox_name;
 pub mod marks;
 pub mod octets;
 pub mod side;
+pub mod spared;
 pub mod tuid;
 pub mod uid;

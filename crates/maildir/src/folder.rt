@@ -1,6 +1,6 @@
 //! A Maildir folder as a device whose calls may stop.
 
-ghost use Rattle.std.specs.Prelude.{◌≡◌, Bool, false, true, OnOk};
+ghost use Rattle.std.specs.Prelude.{◌≡◌, ◌+◌, ℕ, Bool, false, true, OnOk};
 
 use device::DeviceFault;
 use mailcore::octets::Octets;
@@ -98,6 +98,9 @@ pub trait Folder {
     /// What was renamed, removed and replaced so far outlives a loss of power.
     ghost is_synced: { Self → Bool };
 
+    /// How many files were asked for so far.
+    ghost reads: { Self → ℕ };
+
     /// The names of files in `new` and `cur`, in any order, or none where `new`, `cur` or `tmp` is missing. What others have added since
     /// the names were read last is among them.
     fn names(&mut self) -> Result<Option<Vec<FileName>>, DeviceFault>
@@ -105,7 +108,8 @@ pub trait Folder {
 
     /// The bytes of a file, or none where it is missing.
     fn read(&mut self, file: Source<'_>) -> Result<Option<Vec<u8>>, DeviceFault>
-        ensures { Read is_honest (λ bytes s. text_of bytes ≡ bytes_of file.entry s) (seen self.old) (seen self.new) result };
+        ensures counted { is_honest ≡ true → reads self.new ≡ reads self.old + 1 }
+        ensures call { Read is_honest (λ bytes s. text_of bytes ≡ bytes_of file.entry s) (seen self.old) (seen self.new) result };
 
     /// Writes the copy in `tmp`, over one that is there. A stopped one may leave any beginning of its bytes.
     fn write_tmp(&mut self, bytes: &[u8]) -> Result<(), DeviceFault>

@@ -8,6 +8,7 @@ ghost use Rattle.maildir.specs.Folders.{name_of_file, is_there, renamed, bytes_o
 use crate::folder::{File, FileName, Folder, Location, Origin, Place, Source};
 use crate::mem_files::MemFiles;
 use device::DeviceFault;
+use device::history::History;
 use device::schedule::{Moment, Scheduled, Stop};
 use mailcore::octets::Octets;
 use std::alloc::{AllocError, Global};
@@ -41,6 +42,8 @@ pub struct MemFolder {
     meta: Option<Octets>,
     /// Whether nothing was renamed, removed or replaced since the last sync.
     is_synced: bool,
+    // An item for each file that was asked for.
+    reads: History<()>,
     stopping: Scheduled<FolderCall>,
 }
 
@@ -64,6 +67,7 @@ impl MemFolder {
             copy: None,
             meta: None,
             is_synced: true,
+            reads: History::new(),
             stopping: Scheduled::new(schedule),
         }
     }
@@ -244,7 +248,7 @@ impl MemFolder {
 }
 
 impl Folder for MemFolder {
-    ghost use Rattle.std.specs.Prelude.{true};
+    ghost use Rattle.std.specs.Prelude.{true, length};
     ghost use Rattle.maildir.specs.Gains.{nobody};
     ghost use Rattle.maildir.specs.MemFolders.{seen_of};
 
@@ -256,11 +260,14 @@ impl Folder for MemFolder {
 
     ghost is_synced = { λ folder. folder.is_synced };
 
+    ghost reads = { λ folder. length folder.reads.items };
+
     fn names(&mut self) -> Result<Option<Vec<FileName>>, DeviceFault> {
         self.read_names()
     }
 
     fn read(&mut self, file: Source<'_>) -> Result<Option<Vec<u8>>, DeviceFault> {
+        self.reads = self.reads.and(&());
         if self.stopping.begin(FolderCall::Read)?.is_some() {
             return Err(self.stopping.stop());
         }

@@ -139,7 +139,7 @@ impl<const MARKS: u32> VisitedFolder<MARKS> {
 }
 
 impl<const MARKS: u32> Folder for VisitedFolder<MARKS> {
-    ghost use Rattle.std.specs.Prelude.{true};
+    ghost use Rattle.std.specs.Prelude.{true, length};
     ghost use Rattle.visitors.specs.Visitors.{others_with};
     ghost use Rattle.maildir.specs.MemFolders.{seen_of};
 
@@ -150,6 +150,8 @@ impl<const MARKS: u32> Folder for VisitedFolder<MARKS> {
     ghost seen = { λ visited. seen_of visited.folder };
 
     ghost is_synced = { λ visited. visited.folder.is_synced };
+
+    ghost reads = { λ visited. length visited.folder.reads.items };
 
     fn names(&mut self) -> Result<Option<Vec<FileName>>, DeviceFault> {
         self.count(FolderCall::Names);

@@ -116,9 +116,9 @@ added_next side.Near s s' files uid flags bytes next now = record { uid = uid; g
 
 -- ---- what is listed, and what waits
 
-pub lists : (of : Side) (known from : ℕ) (b : Mailbox) (listing : Listing) → ShowsIn of from b.store listing → Lists of true known from listing b
-lists side.Far known from b listing h = lists_all known listing b.store (record { validity = h.validity; next = h.next; items = h.items })
-lists side.Near known from b listing h = record { validity = h.validity; next = h.next; items = h.items }
+pub lists : (of : Side) (known : ℕ) (spared : ℕ → Bool) (b : Mailbox) (listing : Listing) → ShowsIn of spared b.store listing → Lists of true known spared listing b
+lists side.Far known spared b listing h = lists_all known listing b.store (record { validity = h.validity; next = h.next; items = h.items })
+lists side.Near known spared b listing h = record { validity = h.validity; next = h.next; items = h.items }
 
 pub numbered_waiting : (next : ℕ) (files : List Waiting) → map waiting_of (numbered next files) ≡ files
 numbered_waiting next [] = refl

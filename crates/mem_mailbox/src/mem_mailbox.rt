@@ -14,6 +14,7 @@ use mailcore::flags::Flags;
 use mailcore::listing::Listing;
 use mailcore::mailbox::Message;
 use mailcore::side::Side;
+use mailcore::spared::Spared;
 use mailcore::tuid::Tuid;
 use mailcore::uid::Uid;
 use std::alloc::Global;
@@ -171,9 +172,9 @@ impl<K: Kind + Drop> Mailbox for MemMailbox<K> {
         self.condition.end(stops, self.store.validity())
     }
 
-    fn list(&mut self, from: u32) -> Result<Listing, BoxFault> {
+    fn list(&mut self, spared: &Spared) -> Result<Listing, BoxFault> {
         let stops = self.condition.begin(BoxCall::List)?;
-        let Ok(listing) = self.store.list(self.alloc, K::side(), from) else {
+        let Ok(listing) = self.store.list(self.alloc, K::side(), spared) else {
             return Err(self.condition.lack());
         };
         self.condition.end(stops, listing)

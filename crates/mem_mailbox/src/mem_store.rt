@@ -6,6 +6,7 @@ ghost use Rattle.mailcore.specs.Content.{mark_of};
 ghost use Rattle.mailcore.specs.FlagSet.{minus, union};
 ghost use Rattle.mailcore.specs.Listed.{AreBelow};
 ghost use Rattle.mailcore.specs.Operations.{is_mark, marked_among, with_flags};
+ghost use Rattle.mailcore.specs.Spared.{spares};
 ghost use Rattle.mailbox.specs.Operations.{may_go};
 ghost use Rattle.mem_mailbox.specs.Listings.{item_in};
 
@@ -16,6 +17,7 @@ use mailcore::listing::{Item, Items, Listing};
 use mailcore::mailbox::{Message, Messages};
 use mailcore::octets::Octets;
 use mailcore::side::Side;
+use mailcore::spared::Spared;
 use mailcore::tuid::Tuid;
 use mailcore::uid::Uid;
 use std::alloc::{AllocError, Global};
@@ -76,14 +78,19 @@ impl MemStore {
         &self.messages
     }
 
-    /// What a mailbox of this side lists, where near messages up to this UID are said to be fit.
-    pub(crate) fn list(&self, alloc: Global, side: Side, from: u32) -> Result<Listing, Unlisted>
-        ensures shows { IfOk result (ShowsIn side from (store_of self.now)) }
+    /// What a mailbox of this side lists, where near messages that are spared are said to be fit.
+    pub(crate) fn list(
+        &self,
+        alloc: Global,
+        side: Side,
+        spared: &Spared,
+    ) -> Result<Listing, Unlisted>
+        ensures shows { IfOk result (ShowsIn side (spares spared.now) (store_of self.now)) }
         ensures numbers { IfOk result HasNumbers }
     {
         let mut items = Items::new(alloc);
         for message in &self.messages {
-            let item = item_in(side, from, message);
+            let item = item_in(side, spared, message);
             items.push(item).map_err(|_| Unlisted)?;
         }
         Ok(Listing {
@@ -181,14 +188,14 @@ fn message_of(messages: &[Message], uid: Uid) -> Option<&Message>
 }
 
 /// What a mailbox of this side lists of a message.
-fn item_in(side: Side, from: u32, message: &Message) -> Item
-    ensures { result ≡ item_in side from message.now }
+fn item_in(side: Side, spared: &Spared, message: &Message) -> Item
+    ensures { result ≡ item_in side (spares spared.now) message.now }
 {
-    let is_known = side == Side::Near && message.uid.get() <= from;
+    let is_spared = side == Side::Near && spared.has(message.uid);
     Item {
         uid: message.uid,
         flags: message.flags,
-        fit: is_known || fit(side, message.bytes.as_slice()),
+        fit: is_spared || fit(side, message.bytes.as_slice()),
     }
 }
 

@@ -1,5 +1,6 @@
 -- What a survey says of the mailbox that stands in the folder.
-use Rattle.std.proofs.Common.{◌≡◌, ◌<◌, ◌≤◌, ℕ, suc, get_or, Bool, true, false, ltb, List, [], ◌∷◌, map, Option, None, Some, All, refl, sym, ap, subst, ◌∙◌, arith}
+use Rattle.std.specs.Prelude.{filter}
+use Rattle.std.proofs.Common.{◌≡◌, ◌<◌, ◌≤◌, ℕ, suc, get_or, Bool, true, false, ltb, List, [], ◌∷◌, map, Option, None, Some, All, refl, sym, ap, subst, ◌∙◌, arith, length, cond, not, ◌+◌}
 use Rattle.std.specs.Prelude.{find, unwrap_or, Result, Ok, Err, IfOk}
 use Rattle.std.specs.List.{filter_map, cons_option}
 use Rattle.std.specs.Option.{option_map}
@@ -19,14 +20,14 @@ use Rattle.maildir.specs.Folders.{Stored, AreApart, is_at, bytes_at, name_of_fil
 use Rattle.maildir.specs.Names.{uid_in}
 use Rattle.maildir.specs.FlaggedNames.{flags_by_name}
 use Rattle.near_box.specs.Mailboxes.{message_of, messages_in, by_uid, near_of, first_meta}
-use Rattle.mailcore.specs.Operations.{Shows, ShowsAbove, bytes_among, bytes_of, item_above, marked_among, marked_from}
+use Rattle.mailcore.specs.Operations.{Shows, ShowsSparing, bytes_among, bytes_of, item_sparing, marked_among, marked_from}
 use Rattle.near_box.specs.Surveys.{Surveys, entry_of}
 use Rattle.near_box.specs.declared.known_mark.KnownMarks.{KnownMarks}
 use Rattle.near_box.specs.KnownMarks.{AreKnown, AreMarksOf}
-use Rattle.near_box.specs.Entries.{message_at, item_at, AreThere, AreThereAbove, AreRising, NoneAbove}
+use Rattle.near_box.specs.Entries.{message_at, item_at, asked, count_asked, AreSpared, AreThere, AreThereUnless, AreRising}
 use Rattle.near_box.specs.Sorting.{sorted}
 use Rattle.maildir.proofs.FileLemmas.{at_itself, at_true}
-use Rattle.near_box.proofs.ReadLemmas.{there_above}
+use Rattle.near_box.proofs.ReadLemmas.{there_unless}
 use Rattle.near_box.proofs.SortingLemmas.{sorted_map, sorted_permutes}
 
 -- ---- a file is found where it stands
@@ -127,32 +128,54 @@ at_hand survey now fresh s t es surveys same is unchanged =
       messages = ap (λ (u : Stored). map (message_at u) es) unchanged ∙ ap (λ (l : List Entry). map (message_at s) l) entries ∙ sym (near_messages survey fresh s surveys);
     }
 
-items_of_messages : (from : ℕ) (t : Stored) (es : List Entry) → map (item_at from t) es ≡ map (item_above NearSide from) (map (message_at t) es)
-items_of_messages from t [] = refl
-items_of_messages from t (e ∷ es) = ap (λ (l : List Item). item_at from t e ∷ l) (items_of_messages from t es)
+items_of_messages : (spared : ℕ → Bool) (t : Stored) (es : List Entry) → map (item_at spared t) es ≡ map (item_sparing NearSide spared) (map (message_at t) es)
+items_of_messages spared t [] = refl
+items_of_messages spared t (e ∷ es) = ap (λ (l : List Item). item_at spared t e ∷ l) (items_of_messages spared t es)
 
-pub near_shown : (from : ℕ) (survey now : Survey) (fresh : ℕ) (s t : Stored) (es : List Entry) (items : List Item) → Surveys survey fresh s → now ≡ survey → es ≡ now.entries.items → t ≡ s
-    → (AreRising es → AreThereAbove from es t → items ≡ map (item_at from t) es)
-    → (items ≡ map (item_above NearSide from) (near_of fresh s).store.messages) × (now.meta.validity ≡ (near_of fresh s).store.validity) × (now.meta.next ≡ (near_of fresh s).store.next)
-near_shown from survey now fresh s t es items surveys same is unchanged shown =
+pub near_shown : (spared : ℕ → Bool) (survey now : Survey) (fresh : ℕ) (s t : Stored) (es : List Entry) (items : List Item) → Surveys survey fresh s → now ≡ survey → es ≡ now.entries.items → t ≡ s
+    → (AreRising es → AreThereUnless spared es t → items ≡ map (item_at spared t) es)
+    → (items ≡ map (item_sparing NearSide spared) (near_of fresh s).store.messages) × (now.meta.validity ≡ (near_of fresh s).store.validity) × (now.meta.next ≡ (near_of fresh s).store.next)
+near_shown spared survey now fresh s t es items surveys same is unchanged shown =
     let hand = at_hand survey now fresh s t es surveys same is unchanged in (
-      shown hand.rising (there_above from t es hand.there) ∙ items_of_messages from t es ∙ ap (λ (l : List Message). map (item_above NearSide from) l) hand.messages,
+      shown hand.rising (there_unless spared t es hand.there) ∙ items_of_messages spared t es ∙ ap (λ (l : List Message). map (item_sparing NearSide spared) l) hand.messages,
       ap (λ (v : Survey). v.meta.validity) same ∙ sym (near_validity survey fresh s surveys),
       ap (λ (v : Survey). v.meta.next) same ∙ sym (near_next survey fresh s surveys),
     )
 
--- where the mailbox has no message above a UID, the survey has none
-pub near_known : (from : ℕ) (survey now : Survey) (fresh : ℕ) (s : Stored) (es : List Entry) → Surveys survey fresh s → now ≡ survey → es ≡ now.entries.items
-    → All (λ m. m.uid ≤ from) (near_of fresh s).store.messages → NoneAbove from es
-near_known from survey now fresh s es surveys same is none =
-    subst (NoneAbove from) (sym (is ∙ ap (λ (v : Survey). v.entries.items) same))
-    (unmapped survey.entries.items (subst (λ (l : List Message). All (λ m. m.uid ≤ from) l) (near_messages survey fresh s surveys) none))
+-- the messages of entries are asked where these are
+asked_entries : (spared : ℕ → Bool) (t : Stored) (es : List Entry) → length (asked spared (map (message_at t) es)) ≡ count_asked spared es
+asked_entries spared t [] = refl
+asked_entries spared t (e ∷ es) = by_test (not (spared e.uid)) (asked_entries spared t es)
   where
-    unmapped : (es : List Entry) → All (λ m. m.uid ≤ from) (map (message_at s) es) → NoneAbove from es
-    unmapped [] none = All-nil (λ e. e.uid ≤ from)
-    unmapped (e ∷ es) none =
-        All-cons (λ e. e.uid ≤ from) e es (All-head (λ m. m.uid ≤ from) (message_at s e) (map (message_at s) es) none)
-        (unmapped es (All-tail (λ m. m.uid ≤ from) (message_at s e) (map (message_at s) es) none))
+    by_test : (b : Bool) → length (asked spared (map (message_at t) es)) ≡ count_asked spared es
+        → length (cond b (message_at t e ∷ asked spared (map (message_at t) es)) (asked spared (map (message_at t) es)))
+        ≡ length (cond b (e ∷ filter (λ e. not (spared e.uid)) es) (filter (λ e. not (spared e.uid)) es))
+    by_test true more = ap suc more
+    by_test false more = more
+
+pub near_asked : (spared : ℕ → Bool) (survey now : Survey) (fresh : ℕ) (s : Stored) (es : List Entry) → Surveys survey fresh s → now ≡ survey → es ≡ now.entries.items
+    → count_asked spared es ≡ length (asked spared (near_of fresh s).store.messages)
+near_asked spared survey now fresh s es surveys same is =
+    ap (λ (l : List Entry). count_asked spared l) (is ∙ ap (λ (v : Survey). v.entries.items) same)
+    ∙ sym (asked_entries spared s survey.entries.items)
+    ∙ ap (λ (l : List Message). length (asked spared l)) (sym (near_messages survey fresh s surveys))
+
+-- where none is asked, all entries are spared
+pub near_known : (spared : ℕ → Bool) (survey now : Survey) (fresh : ℕ) (s : Stored) (es : List Entry) → Surveys survey fresh s → now ≡ survey → es ≡ now.entries.items
+    → asked spared (near_of fresh s).store.messages ≡ [] → AreSpared spared es
+near_known spared survey now fresh s es surveys same is none =
+    all_spared es (near_asked spared survey now fresh s es surveys same is ∙ ap (λ (l : List Message). length l) none)
+  where
+    head_spared : (b : Bool) (e : Entry) (es : List Entry) → length (cond (not b) (e ∷ filter (λ e. not (spared e.uid)) es) (filter (λ e. not (spared e.uid)) es)) ≡ 0
+        → (b ≡ true) × (count_asked spared es ≡ 0)
+    head_spared true e es none = (refl, none)
+    head_spared false e es none = absurd (omega (arith, none))
+
+    all_spared : (es : List Entry) → count_asked spared es ≡ 0 → AreSpared spared es
+    all_spared [] none = All-nil (λ e. spared e.uid ≡ true)
+    all_spared (e ∷ es) none =
+        let head = head_spared (spared e.uid) e es none in
+        All-cons (λ e. spared e.uid ≡ true) e es head.0 (all_spared es head.1)
 
 pub near_marked : (survey now : Survey) (fresh : ℕ) (s t : Stored) (es : List Entry) (mark : List ℕ) (from : ℕ) (found : Option ℕ) (before after : KnownMarks) → Surveys survey fresh s → now ≡ survey → es ≡ now.entries.items → before ≡ now.marks → t ≡ s
     → (AreThere es t → (next : ℕ) → AreRising es → All (λ e. e.uid < next) es → AreKnown next (map (message_at t) es) before
@@ -192,8 +215,8 @@ near_bytes survey now fresh s t es uid read found is_found surveys same is uncha
     let hand = at_hand survey now fresh s t es surveys same is unchanged in
     sym (says hand.rising hand.there ∙ ap (λ (l : List Message). bytes_among uid l) hand.messages) ∙ is_found
 
--- a listing above 0 shows all
-pub shows_all : (fresh : ℕ) (s : Stored) (r : Result Listing NearFault) → map (item_above NearSide 0) (near_of fresh s).store.messages ≡ map (item_of NearSide) (near_of fresh s).store.messages
-    → IfOk r (λ listing. ShowsAbove NearSide 0 (near_of fresh s).store listing) → IfOk r (λ listing. Shows NearSide (near_of fresh s).store listing)
-shows_all fresh s (Ok listing) same shows = record { validity = shows.validity; next = shows.next; items = shows.items ∙ same }
-shows_all fresh s (Err fault) same shows = tt
+-- a listing that spares none shows all
+pub shows_all : (spared : ℕ → Bool) (fresh : ℕ) (s : Stored) (r : Result Listing NearFault) → map (item_sparing NearSide spared) (near_of fresh s).store.messages ≡ map (item_of NearSide) (near_of fresh s).store.messages
+    → IfOk r (λ listing. ShowsSparing NearSide spared (near_of fresh s).store listing) → IfOk r (λ listing. Shows NearSide (near_of fresh s).store listing)
+shows_all spared fresh s (Ok listing) same shows = record { validity = shows.validity; next = shows.next; items = shows.items ∙ same }
+shows_all spared fresh s (Err fault) same shows = tt

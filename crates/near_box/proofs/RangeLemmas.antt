@@ -11,7 +11,7 @@ use Rattle.mailcore.specs.declared.side.Side.{Side}
 use Rattle.mailcore.specs.FlagNames.{all_flags, letter, place}
 use Rattle.mailcore.specs.FlagSet.{FLAGS, union}
 use Rattle.mailcore.specs.Listed.{item_of}
-use Rattle.mailcore.specs.Operations.{item_above}
+use Rattle.mailcore.specs.Operations.{item_sparing}
 use Rattle.mailcore.specs.Ranges.{IsNumber, IsInRange, AreFlagSets}
 use Rattle.mailcore.proofs.FlagRules.{union-lt}
 use Rattle.maildir.specs.declared.folder.File.{File}
@@ -106,12 +106,10 @@ near_in_range fresh s positive small is =
       };
     }
 
--- ---- a listing above 0 is the whole listing
+-- ---- a listing that spares none is the whole listing
 
-pub items_above_none : (side : Side) (messages : List Message) → All IsGood messages → map (item_above side 0) messages ≡ map (item_of side) messages
-items_above_none side [] good = refl
-items_above_none side (m ∷ messages) good =
-    let first = All-head IsGood m messages good in
-    let positive : 0 < m.uid = first.positive in
-    let above : leb m.uid 0 ≡ false = grind (arith, nat_tests) in
-    rw (above, items_above_none side messages (All-tail IsGood m messages good)) refl
+pub items_sparing_none : (side : Side) (spared : ℕ → Bool) → ((uid : ℕ) → 0 < uid → spared uid ≡ false) → (messages : List Message) → All IsGood messages
+    → map (item_sparing side spared) messages ≡ map (item_of side) messages
+items_sparing_none side spared none [] good = refl
+items_sparing_none side spared none (m ∷ messages) good =
+    rw (none m.uid (All-head IsGood m messages good).positive, items_sparing_none side spared none messages (All-tail IsGood m messages good)) refl

@@ -1,5 +1,6 @@
 -- Messages are read one after another.
-use Rattle.std.proofs.Common.{◌≡◌, ℕ, zero, suc, ◌+◌, ◌<◌, ◌≤◌, Bool, true, false, ltb, leb, eqb, eq-eqb, ◌&&◌, List, [], ◌∷◌, ◌++◌, length, get_or, take, drop, map, add-one, Option, None, Some, All, refl, sym, ap, subst, ◌∙◌, ◌⊎◌, inl, inr, arith}
+use Rattle.std.specs.Prelude.{filter}
+use Rattle.std.proofs.Common.{◌≡◌, ℕ, zero, suc, ◌+◌, ◌<◌, ◌≤◌, Bool, true, false, ltb, leb, eqb, eq-eqb, ◌&&◌, List, [], ◌∷◌, ◌++◌, length, get_or, take, drop, map, add-one, Option, None, Some, All, refl, sym, ap, subst, ◌∙◌, ◌⊎◌, inl, inr, arith, cond, not}
 use Rattle.std.specs.Prelude.{find}
 use Rattle.std.specs.List.{list_all}
 use Rattle.mailcore.specs.declared.mailbox.Message.{Message}
@@ -19,7 +20,7 @@ use Rattle.near_box.specs.declared.survey.Entry.{Entry}
 use Rattle.maildir.specs.Folders.{Stored, bytes_at}
 use Rattle.maildir.specs.FlaggedNames.{flags_by_name}
 use Rattle.mailcore.specs.Operations.{bytes_among, is_mark, marked_among}
-use Rattle.near_box.specs.Entries.{AreRising, AreThere, AreThereAbove, IsThere, IsThereAbove, NoneAbove, message_at, item_at}
+use Rattle.near_box.specs.Entries.{AreRising, AreSpared, AreThere, AreThereUnless, IsThere, IsThereUnless, count_asked, message_at, item_at}
 
 -- what is read of a file that stands in the folder
 pub bytes_there : (s : Stored) (es : List Entry) (i : ℕ) (entry : Entry) → i < length es → entry ≡ get_or es i entry → AreThere es s
@@ -31,19 +32,42 @@ bytes_there s es i entry below is there =
 pub entry_there : (s t : Stored) (es : List Entry) (i : ℕ) (entry : Entry) → i < length es → entry ≡ get_or es i entry → AreThere es s → t ≡ s → IsThere t entry
 entry_there s t es i entry below is there same = subst (λ (u : Stored). IsThere u entry) (sym same) (bytes_there s es i entry below is there)
 
--- and where those above a UID alone are asked
-pub entry_there_above : (from : ℕ) (s t : Stored) (es : List Entry) (i : ℕ) (entry : Entry) → i < length es → entry ≡ get_or es i entry → AreThereAbove from es s → t ≡ s
-    → IsThereAbove from t entry
-entry_there_above from s t es i entry below is there same =
-    subst (λ (u : Stored). IsThereAbove from u entry) (sym same) (subst (λ (e : Entry). IsThereAbove from s e) (sym is) (there i entry below))
+-- and where some are spared
+pub entry_there_unless : (spared : ℕ → Bool) (s t : Stored) (es : List Entry) (i : ℕ) (entry : Entry) → i < length es → entry ≡ get_or es i entry → AreThereUnless spared es s → t ≡ s
+    → IsThereUnless spared t entry
+entry_there_unless spared s t es i entry below is there same =
+    subst (λ (u : Stored). IsThereUnless spared u entry) (sym same) (subst (λ (e : Entry). IsThereUnless spared s e) (sym is) (there i entry below))
 
--- those that are there are there above any UID
-pub there_above : (from : ℕ) (s : Stored) (es : List Entry) → AreThere es s → AreThereAbove from es s
-there_above from s es there = λ i d below above. there i d below
+-- those that are there are there whichever are spared
+pub there_unless : (spared : ℕ → Bool) (s : Stored) (es : List Entry) → AreThere es s → AreThereUnless spared es s
+there_unless spared s es there = λ i d below asked. there i d below
 
--- a message of a list with none above a UID is not above it
-pub none_above : (from : ℕ) (es : List Entry) (i : ℕ) (entry : Entry) → i < length es → entry ≡ get_or es i entry → NoneAbove from es → entry.uid ≤ from
-none_above from es i entry below is none = subst (λ (e : Entry). e.uid ≤ from) (sym is) (none i entry below)
+-- a message of a list of which all are spared is spared
+pub one_spared : (spared : ℕ → Bool) (es : List Entry) (i : ℕ) (entry : Entry) → i < length es → entry ≡ get_or es i entry → AreSpared spared es → spared entry.uid ≡ true
+one_spared spared es i entry below is all = subst (λ (e : Entry). spared e.uid ≡ true) (sym is) (all i entry below)
+
+-- ---- how many are asked
+
+count_after : (spared : ℕ → Bool) (xs : List Entry) (entry : Entry) → count_asked spared (xs ++ entry ∷ []) ≡ count_asked spared xs + count_asked spared (entry ∷ [])
+count_after spared [] entry = omega arith
+count_after spared (x ∷ xs) entry = by_test (not (spared x.uid)) (count_after spared xs entry)
+  where
+    by_test : (b : Bool) → count_asked spared (xs ++ entry ∷ []) ≡ count_asked spared xs + count_asked spared (entry ∷ [])
+        → length (cond b (x ∷ filter (λ e. not (spared e.uid)) (xs ++ entry ∷ [])) (filter (λ e. not (spared e.uid)) (xs ++ entry ∷ [])))
+        ≡ length (cond b (x ∷ filter (λ e. not (spared e.uid)) xs) (filter (λ e. not (spared e.uid)) xs)) + count_asked spared (entry ∷ [])
+    by_test true more = omega (arith, more)
+    by_test false more = more
+
+pub count_more : (spared : ℕ → Bool) (es : List Entry) (i : ℕ) (entry : Entry) → i < length es → entry ≡ get_or es i entry
+    → count_asked spared (take (i + 1) es) ≡ count_asked spared (take i es) + count_asked spared (entry ∷ [])
+count_more spared es i entry below is =
+    ap (λ (l : List Entry). count_asked spared l) (take_more es i entry below)
+    ∙ count_after spared (take i es) (get_or es i entry)
+    ∙ ap (λ (e : Entry). count_asked spared (take i es) + count_asked spared (e ∷ [])) (sym is)
+
+pub count_step : (spared : ℕ → Bool) (before : ℕ) (es : List Entry) (i : ℕ) (entry : Entry) → i < length es → entry ≡ get_or es i entry
+    → before + count_asked spared (take i es) + count_asked spared (entry ∷ []) ≡ before + count_asked spared (take (i + 1) es)
+count_step spared before es i entry below is = omega (arith, count_more spared es i entry below is)
 
 -- ---- a message by its UID
 
@@ -76,21 +100,21 @@ bytes_missing s uid (e ∷ es) other =
 
 -- ---- items
 
-item_more : (from : ℕ) (s : Stored) (es : List Entry) (i : ℕ) (entry : Entry) → i < length es → entry ≡ get_or es i entry
-    → map (item_at from s) (take i es) ++ item_at from s entry ∷ [] ≡ map (item_at from s) (take (i + 1) es)
-item_more from s es i entry below is =
-    ap (λ (e : Entry). map (item_at from s) (take i es) ++ item_at from s e ∷ []) is
-    ∙ sym (map-append (item_at from s) (take i es) (get_or es i entry ∷ []))
-    ∙ ap (λ (l : List Entry). map (item_at from s) l) (sym (take_more es i entry below))
+item_more : (spared : ℕ → Bool) (s : Stored) (es : List Entry) (i : ℕ) (entry : Entry) → i < length es → entry ≡ get_or es i entry
+    → map (item_at spared s) (take i es) ++ item_at spared s entry ∷ [] ≡ map (item_at spared s) (take (i + 1) es)
+item_more spared s es i entry below is =
+    ap (λ (e : Entry). map (item_at spared s) (take i es) ++ item_at spared s e ∷ []) is
+    ∙ sym (map-append (item_at spared s) (take i es) (get_or es i entry ∷ []))
+    ∙ ap (λ (l : List Entry). map (item_at spared s) l) (sym (take_more es i entry below))
 
 below_test : (m n : ℕ) → m < n → ltb m n ≡ true
 below_test m n less = grind (arith, nat_tests)
 
-pub all_below : (from : ℕ) (s : Stored) (es : List Entry) (i : ℕ) (entry : Entry) → i < length es → entry ≡ get_or es i entry → AreRising es
-    → list_all (λ x. ltb x.uid entry.uid) (map (item_at from s) (take i es)) ≡ true
-all_below from s es i entry below is rising =
-    list_all-from_AllPass (λ x. ltb x.uid entry.uid) (map (item_at from s) (take i es))
-    (All-map (λ (x : Item). ltb x.uid entry.uid ≡ true) (item_at from s) (take i es)
+pub all_below : (spared : ℕ → Bool) (s : Stored) (es : List Entry) (i : ℕ) (entry : Entry) → i < length es → entry ≡ get_or es i entry → AreRising es
+    → list_all (λ x. ltb x.uid entry.uid) (map (item_at spared s) (take i es)) ≡ true
+all_below spared s es i entry below is rising =
+    list_all-from_AllPass (λ x. ltb x.uid entry.uid) (map (item_at spared s) (take i es))
+    (All-map (λ (x : Item). ltb x.uid entry.uid ≡ true) (item_at spared s) (take i es)
     (λ k d less. earlier k d (omega (arith, length-take i es)) less))
   where
     earlier : (k : ℕ) (d : Entry) → k < i → k < length (take i es) → ltb (get_or (take i es) k d).uid entry.uid ≡ true
@@ -99,24 +123,24 @@ all_below from s es i entry below is rising =
         (below_test (get_or es k d).uid entry.uid (subst (λ (e : Entry). (get_or es k d).uid < e.uid) (get_or_default es i d entry below ∙ sym is) (rising k i d first below)))
 
 -- what is read makes the item
-pub item_read : (from : ℕ) (s : Stored) (entry : Entry) (flags : ℕ) (is_fit : Bool) → flags ≡ flags_by_name entry.name → is_fit ≡ (item_at from s entry).fit
-    → (let item : Item = record { uid = entry.uid; flags = flags; fit = is_fit } in item) ≡ item_at from s entry
-item_read from s entry flags is_fit same_flags same_fit = rw (same_flags, same_fit) refl
+pub item_read : (spared : ℕ → Bool) (s : Stored) (entry : Entry) (flags : ℕ) (is_fit : Bool) → flags ≡ flags_by_name entry.name → is_fit ≡ (item_at spared s entry).fit
+    → (let item : Item = record { uid = entry.uid; flags = flags; fit = is_fit } in item) ≡ item_at spared s entry
+item_read spared s entry flags is_fit same_flags same_fit = rw (same_flags, same_fit) refl
 
 -- a pushed item stands behind those of the entries before, since their UIDs rise
-pub item_pushed : (from : ℕ) (s : Stored) (es : List Entry) (i : ℕ) (entry : Entry) (before after : List Item) (item : Item)
-    → i < length es → entry ≡ get_or es i entry → before ≡ map (item_at from s) (take i es) → item ≡ item_at from s entry
-    → after ≡ before ++ item ∷ [] → after ≡ map (item_at from s) (take (i + 1) es)
-item_pushed from s es i entry before after item below is so_far same pushed =
-    pushed ∙ ap (λ (l : List Item). l ++ item ∷ []) so_far ∙ ap (λ (x : Item). map (item_at from s) (take i es) ++ x ∷ []) same ∙ item_more from s es i entry below is
+pub item_pushed : (spared : ℕ → Bool) (s : Stored) (es : List Entry) (i : ℕ) (entry : Entry) (before after : List Item) (item : Item)
+    → i < length es → entry ≡ get_or es i entry → before ≡ map (item_at spared s) (take i es) → item ≡ item_at spared s entry
+    → after ≡ before ++ item ∷ [] → after ≡ map (item_at spared s) (take (i + 1) es)
+item_pushed spared s es i entry before after item below is so_far same pushed =
+    pushed ∙ ap (λ (l : List Item). l ++ item ∷ []) so_far ∙ ap (λ (x : Item). map (item_at spared s) (take i es) ++ x ∷ []) same ∙ item_more spared s es i entry below is
 
 -- it may stand there
-pub item_in_order : (from : ℕ) (s : Stored) (es : List Entry) (i : ℕ) (entry : Entry) (before : List Item) (uid : ℕ)
-    → i < length es → entry ≡ get_or es i entry → AreRising es → before ≡ map (item_at from s) (take i es) → uid ≡ entry.uid → list_all (λ x. ltb x.uid uid) before ≡ true
-item_in_order from s es i entry before uid below is rising so_far same =
+pub item_in_order : (spared : ℕ → Bool) (s : Stored) (es : List Entry) (i : ℕ) (entry : Entry) (before : List Item) (uid : ℕ)
+    → i < length es → entry ≡ get_or es i entry → AreRising es → before ≡ map (item_at spared s) (take i es) → uid ≡ entry.uid → list_all (λ x. ltb x.uid uid) before ≡ true
+item_in_order spared s es i entry before uid below is rising so_far same =
     ap (λ (u : ℕ). list_all (λ x. ltb x.uid u) before) same
     ∙ ap (λ (l : List Item). list_all (λ x. ltb x.uid entry.uid) l) so_far
-    ∙ all_below from s es i entry below is rising
+    ∙ all_below spared s es i entry below is rising
 
 -- so nothing is taken for gone
 pub not_gone : (fault : ReadFault) (b : Bool) → b ≡ true → (fault ≡ Device NoMemory) ⊎ ((fault ≡ Gone) × (b ≡ false)) → fault ≡ Gone → ⊥

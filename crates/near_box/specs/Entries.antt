@@ -1,9 +1,9 @@
 -- The messages that a survey names, and the files that wait.
-use Rattle.std.specs.Prelude.{◌≡◌, ◌<◌, ◌≤◌, ℕ, List, [], Some, All, AllPairs, unwrap_or}
+use Rattle.std.specs.Prelude.{◌≡◌, ◌<◌, ℕ, Bool, true, false, not, List, [], Some, All, AllPairs, filter, length, unwrap_or}
 use Rattle.mailcore.specs.declared.mailbox.Message.{Message}
 use Rattle.mailcore.specs.declared.listing.Item.{Item}
 use Rattle.mailcore.specs.declared.side.Side.TheVariants.{Near}
-use Rattle.mailcore.specs.Operations.{item_above}
+use Rattle.mailcore.specs.Operations.{item_sparing}
 use Rattle.mailcore.specs.Stores.{Waiting}
 use Rattle.maildir.specs.declared.folder.FileName.{FileName}
 use Rattle.near_box.specs.declared.survey.Entry.{Entry}
@@ -14,9 +14,17 @@ use Rattle.maildir.specs.FlaggedNames.{flags_by_name}
 abbrev pub message_at : Stored → Entry → Message
 message_at s entry = record { uid = entry.uid; flags = flags_by_name entry.name; bytes = unwrap_or (bytes_at entry.place entry.name s) [] }
 
--- what it lists, where fitness is asked above this UID alone
-abbrev pub item_at : (from : ℕ) → Stored → Entry → Item
-item_at from s entry = item_above Near from (message_at s entry)
+-- what it lists, where some messages are not asked whether they are fit
+abbrev pub item_at : (spared : ℕ → Bool) → Stored → Entry → Item
+item_at spared s entry = item_sparing Near spared (message_at s entry)
+
+-- the messages that are asked
+abbrev pub asked : (spared : ℕ → Bool) → List Message → List Message
+asked spared = filter (λ m. not (spared m.uid))
+
+-- how many messages of entries are asked
+abbrev pub count_asked : (spared : ℕ → Bool) → List Entry → ℕ
+count_asked spared entries = length (filter (λ entry. not (spared entry.uid)) entries)
 
 -- the message in a file that waits
 abbrev pub waiting_at : Stored → FileName → Waiting
@@ -29,16 +37,16 @@ IsThere s entry = bytes_at entry.place entry.name s ≡ Some (message_at s entry
 abbrev pub AreThere : List Entry → Stored → Type 0
 AreThere entries s = All (IsThere s) entries
 
--- the same, asked of those above this UID alone
-abbrev pub IsThereAbove : (from : ℕ) → Stored → Entry → Type 0
-IsThereAbove from s entry = from < entry.uid → IsThere s entry
+-- the same, but of those that are spared
+abbrev pub IsThereUnless : (spared : ℕ → Bool) → Stored → Entry → Type 0
+IsThereUnless spared s entry = spared entry.uid ≡ false → IsThere s entry
 
-abbrev pub AreThereAbove : (from : ℕ) → List Entry → Stored → Type 0
-AreThereAbove from entries s = All (IsThereAbove from s) entries
+abbrev pub AreThereUnless : (spared : ℕ → Bool) → List Entry → Stored → Type 0
+AreThereUnless spared entries s = All (IsThereUnless spared s) entries
 
 abbrev pub AreRising : List Entry → Type 0
 AreRising entries = AllPairs (λ a b. a.uid < b.uid) entries
 
--- none has a UID above this one
-abbrev pub NoneAbove : (from : ℕ) → List Entry → Type 0
-NoneAbove from entries = All (λ entry. entry.uid ≤ from) entries
+-- all are spared
+abbrev pub AreSpared : (spared : ℕ → Bool) → List Entry → Type 0
+AreSpared spared entries = All (λ entry. spared entry.uid ≡ true) entries

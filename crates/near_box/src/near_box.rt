@@ -7,8 +7,9 @@ ghost use Rattle.device.specs.Calls.{Nothing, Reopens};
 ghost use Rattle.std.specs.Int.NonZero.{non_zero_u32_get};
 ghost use Rattle.std.specs.Option.{option_map};
 ghost use Rattle.mailcore.specs.FlagSet.{union, minus};
-ghost use Rattle.mailcore.specs.Operations.{Shows, ShowsAbove, bytes_of, expunged, flagged, flags_added, flags_removed, marked_from};
-ghost use Rattle.near_box.specs.Entries.{NoneAbove};
+ghost use Rattle.mailcore.specs.Operations.{Shows, ShowsSparing, bytes_of, expunged, flagged, flags_added, flags_removed, marked_from};
+ghost use Rattle.mailcore.specs.Spared.{spares};
+ghost use Rattle.near_box.specs.Entries.{AreSpared, asked};
 ghost use Rattle.near_box.specs.FlagChanges.{changed_flags};
 ghost use Rattle.mailcore.specs.Mailboxes.{on_store, delivered, all_admitted, ExpungesSome, SetsAside, AdmitsSome};
 ghost use Rattle.near_box.specs.Mailboxes.{IsMailbox, IsMetaOf, near_of, meta_at, waiting_names};
@@ -32,6 +33,7 @@ use mailcore::flags::Flags;
 use mailcore::listing::Listing;
 use mailcore::octets::Octets;
 use mailcore::side::Side;
+use mailcore::spared::Spared;
 use mailcore::tuid::Tuid;
 use mailcore::uid::Uid;
 use maildir::folder::{FileName, Folder, Location, Origin, Place};
@@ -83,20 +85,23 @@ impl<F: Folder> NearBox<F> {
         ensures keeps { F.is_honest ≡ true → (stored_in self.new ≡ stored_in self.old) × (length self.new.missed.items ≡ length self.old.missed.items) }
         ensures ends { Ends false (box_of self.old) (box_of self.new) result }
     {
-        self.list_above(0)
+        self.list_sparing(&Spared::none(self.alloc))
     }
 
-    /// The same, where those up to this UID are said to be fit and are not read: where there are no others, the folder is not called.
-    pub fn list_above(&mut self, from: u32) -> Result<Listing, NearFault>
-        ensures shows { F.is_honest ≡ true → IfOk result (λ listing. ShowsAbove Side.Near from (mailbox_of self.old).store listing) }
+    /// The same, where those that are spared are said to be fit and are not read: where there are no others, the folder is not called.
+    pub fn list_sparing(&mut self, spared: &Spared) -> Result<Listing, NearFault>
+        ensures shows { F.is_honest ≡ true
+            → IfOk result (λ listing. ShowsSparing Side.Near (spares spared.now) (mailbox_of self.old).store listing) }
         ensures numbers { IfOk result (λ listing. (0 < listing.validity) × (0 < listing.next)) }
         ensures keeps { F.is_honest ≡ true → (stored_in self.new ≡ stored_in self.old) × (length self.new.missed.items ≡ length self.old.missed.items) }
-        ensures untouched { NoneAbove from self.old.survey.entries.items → self.new.folder ≡ self.old.folder }
-        ensures known { F.is_honest ≡ true → All (λ m. m.uid ≤ from) (mailbox_of self.old).store.messages → self.new.folder ≡ self.old.folder }
+        ensures asked { F.is_honest ≡ true → OnOk result (F.reads self.new.folder
+            ≡ F.reads self.old.folder + length (asked (spares spared.now) (mailbox_of self.old).store.messages)) }
+        ensures untouched { AreSpared (spares spared.now) self.old.survey.entries.items → self.new.folder ≡ self.old.folder }
+        ensures known { F.is_honest ≡ true → asked (spares spared.now) (mailbox_of self.old).store.messages ≡ [] → self.new.folder ≡ self.old.folder }
         ensures ends { Ends false (box_of self.old) (box_of self.new) result }
     {
         self.begin()?;
-        let items = match listed(self.alloc, &mut self.folder, &self.survey.entries, from) {
+        let items = match listed(self.alloc, &mut self.folder, &self.survey.entries, spared) {
             Ok(items) => items,
             Err(fault) => return Err(self.failed(fault)),
         };

@@ -1,12 +1,13 @@
 //! What calls of the near mailbox read of the files of its messages. A file that stood there when the mailbox was opened
 //! and is gone is a fault, so that nothing is taken for removed that was renamed.
 
-ghost use Rattle.std.specs.Prelude.{◌≡◌, ◌≢◌, ◌<◌, ◌≤◌, ℕ, List, All, true, false, [], ◌∷◌, ◌++◌, ◌⊎◌, map, nat_lt, IfOk, IfErr, OnOk};
+ghost use Rattle.std.specs.Prelude.{◌≡◌, ◌≢◌, ◌<◌, ◌≤◌, ◌+◌, ℕ, List, All, true, false, [], ◌∷◌, ◌++◌, ◌⊎◌, map, nat_lt, IfOk, IfErr, OnOk};
 ghost use Rattle.std.specs.List.{list_all};
 ghost use Rattle.mailcore.specs.Content.{mark_of};
 ghost use Rattle.mailcore.specs.Operations.{bytes_among, is_mark, marked_among};
+ghost use Rattle.mailcore.specs.Spared.{spares};
 ghost use Rattle.maildir.specs.Folders.{text_of};
-ghost use Rattle.near_box.specs.Entries.{AreRising, AreThere, AreThereAbove, IsThere, IsThereAbove, NoneAbove, message_at, item_at};
+ghost use Rattle.near_box.specs.Entries.{AreRising, AreThere, AreThereUnless, IsThere, IsThereUnless, AreSpared, count_asked, message_at, item_at};
 ghost use Rattle.near_box.specs.KnownMarks.{AreKnown, AreMarksAmong, AreMarksOfFile, IsMarkAmong, mark_at};
 ghost use Rattle.mailcore.specs.declared.mailbox.Message.{Message};
 ghost use Rattle.near_box.specs.NearCalls.{Reads};
@@ -21,6 +22,7 @@ use mailcore::copies::mark_of;
 use mailcore::fault::PushFault;
 use mailcore::listing::{Item, Items};
 use mailcore::side::Side;
+use mailcore::spared::Spared;
 use mailcore::tuid::Tuid;
 use mailcore::uid::Uid;
 use maildir::folder::{Folder, Source};
@@ -30,6 +32,7 @@ use std::alloc::Global;
 pub fn read_message<F: Folder>(folder: &mut F, entry: &Entry) -> Result<Vec<u8>, ReadFault>
     ensures reads { Reads (F.seen folder.old) (F.seen folder.new) result }
     ensures keeps { F.is_honest ≡ true → (F.seen folder.new).stored ≡ (F.seen folder.old).stored }
+    ensures counted { F.is_honest ≡ true → F.reads folder.new ≡ F.reads folder.old + 1 }
     ensures bytes { F.is_honest ≡ true → IsThere (F.seen folder.old).stored entry.now
         → IfOk result (λ bytes. bytes.items ≡ (message_at (F.seen folder.old).stored entry.now).bytes) }
     ensures there { F.is_honest ≡ true → IsThere (F.seen folder.old).stored entry.now → result ≢ Err ReadFault.Gone }
@@ -58,42 +61,47 @@ pub fn find_message<F: Folder>(
     }
 }
 
-/// What the messages list. Those up to this UID are said to be fit, and their files are not read, nor need they be there.
+/// What the messages list. Those that are spared are said to be fit, and their files are not read, nor need they be there; each other one
+/// is read once.
 pub fn listed<F: Folder>(
     alloc: Global,
     folder: &mut F,
     entries: &[Entry],
-    from: u32,
+    spared: &Spared,
 ) -> Result<Items, ReadFault>
     ensures reads { Reads (F.seen folder.old) (F.seen folder.new) result }
     ensures keeps { F.is_honest ≡ true → (F.seen folder.new).stored ≡ (F.seen folder.old).stored }
-    ensures shows { F.is_honest ≡ true → AreRising entries.now → AreThereAbove from entries.now (F.seen folder.old).stored
-        → IfOk result (λ items. items ≡ map (item_at from (F.seen folder.old).stored) entries.now) }
-    ensures there { F.is_honest ≡ true → AreRising entries.now → AreThereAbove from entries.now (F.seen folder.old).stored → result ≢ Err ReadFault.Gone }
-    ensures untouched { NoneAbove from entries.now → folder.new ≡ folder.old }
+    ensures shows { F.is_honest ≡ true → AreRising entries.now → AreThereUnless (spares spared.now) entries.now (F.seen folder.old).stored
+        → IfOk result (λ items. items ≡ map (item_at (spares spared.now) (F.seen folder.old).stored) entries.now) }
+    ensures there { F.is_honest ≡ true → AreRising entries.now → AreThereUnless (spares spared.now) entries.now (F.seen folder.old).stored
+        → result ≢ Err ReadFault.Gone }
+    ensures counted { F.is_honest ≡ true → OnOk result (F.reads folder.new ≡ F.reads folder.old + count_asked (spares spared.now) entries.now) }
+    ensures untouched { AreSpared (spares spared.now) entries.now → folder.new ≡ folder.old }
 {
     let mut items = Items::new(alloc);
     for entry in entries {
         let item = Item {
             uid: entry.uid,
             flags: flags_of(entry),
-            fit: is_fit(folder, entry, from)?,
+            fit: is_fit(folder, entry, spared)?,
         };
         push_item(&mut items, item)?;
     }
     Ok(items)
 }
 
-/// Whether a message is fit to be copied, asked of those above this UID alone.
-fn is_fit<F: Folder>(folder: &mut F, entry: &Entry, from: u32) -> Result<bool, ReadFault>
+/// Whether a message is fit to be copied, asked where it is not spared.
+fn is_fit<F: Folder>(folder: &mut F, entry: &Entry, spared: &Spared) -> Result<bool, ReadFault>
     ensures reads { Reads (F.seen folder.old) (F.seen folder.new) result }
     ensures keeps { F.is_honest ≡ true → (F.seen folder.new).stored ≡ (F.seen folder.old).stored }
-    ensures fit { F.is_honest ≡ true → IsThereAbove from (F.seen folder.old).stored entry.now
-        → IfOk result (λ is. is ≡ (item_at from (F.seen folder.old).stored entry.now).fit) }
-    ensures there { F.is_honest ≡ true → IsThereAbove from (F.seen folder.old).stored entry.now → result ≢ Err ReadFault.Gone }
-    ensures untouched { entry.now.uid ≤ from → folder.new ≡ folder.old }
+    ensures fit { F.is_honest ≡ true → IsThereUnless (spares spared.now) (F.seen folder.old).stored entry.now
+        → IfOk result (λ is. is ≡ (item_at (spares spared.now) (F.seen folder.old).stored entry.now).fit) }
+    ensures there { F.is_honest ≡ true → IsThereUnless (spares spared.now) (F.seen folder.old).stored entry.now
+        → result ≢ Err ReadFault.Gone }
+    ensures counted { F.is_honest ≡ true → F.reads folder.new ≡ F.reads folder.old + count_asked (spares spared.now) (entry.now ∷ []) }
+    ensures untouched { spares spared.now entry.now.uid ≡ true → folder.new ≡ folder.old }
 {
-    if entry.uid.get() <= from {
+    if spared.has(entry.uid) {
         return Ok(true);
     }
     let bytes = read_message(folder, entry)?;

@@ -1,6 +1,6 @@
 //! The near mailbox of a run.
 
-ghost use Rattle.std.specs.Prelude.{◌≡◌, true, false, length, IfErr, IsErrOf, OnOk};
+ghost use Rattle.std.specs.Prelude.{◌≡◌, ◌+◌, true, false, length, IfErr, IfOk, IsErrOf, OnOk};
 ghost use Rattle.std.specs.Int.NonZero.{non_zero_u32_get};
 
 use crate::told::{told, told_by};
@@ -8,6 +8,7 @@ use mailbox::fault::BoxFault;
 use mailbox::mailbox::Mailbox;
 use mailcore::flags::Flags;
 use mailcore::listing::Listing;
+use mailcore::spared::Spared;
 use mailcore::tuid::Tuid;
 use mailcore::uid::Uid;
 use maildir::folder::Folder;
@@ -61,8 +62,10 @@ impl<F: Folder + Drop> Mailbox for NearSide<F> {
     ghost use Rattle.near_box.specs.Boxes.{stored_in};
     ghost use Rattle.near_box.specs.Mailboxes.{IsMailbox};
     ghost use Rattle.mailcore.specs.Mailboxes.{SetsAside};
+    ghost use Rattle.mailcore.specs.Spared.{spares};
+    ghost use Rattle.near_box.specs.Entries.{asked};
     ghost use Rattle.mailbox.specs.Calls.{IsPlain, Never};
-    ghost use Rattle.mailbox.specs.Operations.{Answers, Appends, IsCopyText, IsFull, NoRoom, TellsValidity};
+    ghost use Rattle.mailbox.specs.Operations.{Answers, Appends, HasNumbers, IsCopyText, IsFull, Lists, NoRoom, TellsValidity};
     ghost use Rattle.near_side.specs.NearSides.{Calls, CallsAdmit, Unfit, seen_of};
 
     ghost side = { Near };
@@ -101,8 +104,16 @@ impl<F: Folder + Drop> Mailbox for NearSide<F> {
         }
     }
 
-    fn list(&mut self, from: u32) -> Result<Listing, BoxFault> {
-        told_by(self.near.list_above(from))
+    fn list(&mut self, spared: &Spared) -> Result<Listing, BoxFault>
+        requires whole { (seen_of self.old).is_broken ≡ false }
+        requires open { self.old.is_open ≡ true }
+        ensures open { self.new.is_open ≡ true }
+        ensures numbers { IfOk result HasNumbers }
+        ensures asked { F.is_honest ≡ true → OnOk result (F.reads self.new.near.folder
+            ≡ F.reads self.old.near.folder + length (asked (spares spared.now) (seen_of self.old).stored.store.messages)) }
+        ensures call { Calls Never (Answers (Lists Near F.visitors.alone 0 (spares spared.now))) Nothing self.old self.new result }
+    {
+        told_by(self.near.list_sparing(spared))
     }
 
     fn find_mark(&mut self, mark: Tuid, from: u32) -> Result<Option<Uid>, BoxFault> {

@@ -7,7 +7,7 @@ use Rattle.mailcore.specs.declared.side.Direction.{Direction}
 use Rattle.mailcore.specs.declared.mailbox.Message.{Message}
 use Rattle.mailcore.specs.declared.listing.Listing.{Listing}
 use Rattle.mailcore.specs.Content.{fit}
-use Rattle.mailcore.specs.Operations.{ShowsAbove, bytes_of}
+use Rattle.mailcore.specs.Operations.{ShowsSparing, bytes_of}
 use Rattle.mailcore.specs.Sides.{source, target}
 use Rattle.mailcore.specs.Stores.{Store}
 use Rattle.mailcore.specs.Mailboxes.{Mailbox}
@@ -24,9 +24,9 @@ use Rattle.outside.specs.Devices.{Device, box, naming, on_box}
 abbrev pub ListsFar : (alone : Bool) → (known : ℕ) → Listing → Device → Type 0
 ListsFar alone known listing d = ops.ListsFar alone known listing d.far
 
--- what the near mailbox lists, where fitness is asked of messages above a UID alone
-abbrev pub ListsNear : (from : ℕ) → Listing → Device → Type 0
-ListsNear from listing d = ShowsAbove Near from d.near.store listing
+-- what the near mailbox lists, where some messages are not asked whether they are fit
+abbrev pub ListsNear : (spared : ℕ → Bool) → Listing → Device → Type 0
+ListsNear spared listing d = ShowsSparing Near spared d.near.store listing
 
 -- ---- changes
 

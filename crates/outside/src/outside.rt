@@ -7,6 +7,7 @@ use crate::fault::OutsideFault;
 use mailcore::flags::Flags;
 use mailcore::listing::Listing;
 use mailcore::side::{Direction, Side};
+use mailcore::spared::Spared;
 use mailcore::tuid::Tuid;
 use mailcore::uid::Uid;
 use rules::plan::Plan;
@@ -31,6 +32,7 @@ pub trait Outside {
     ghost use Rattle.device.specs.Calls.{Nothing};
     ghost use Rattle.mailcore.specs.Operations.{flags_added, flags_removed, marked_from};
     ghost use Rattle.mailcore.specs.Sides.{target};
+    ghost use Rattle.mailcore.specs.Spared.{spares};
     ghost use Rattle.sync_state.specs.declared.journal.Logged.TheVariants.{Void};
     ghost use Rattle.book.specs.declared.book.Pending.TheVariants.{Missing, Useless};
     ghost use Rattle.book.specs.Books.{IsSound, mended, torn, Turns as TurnsJournal, TurnsHalf};
@@ -155,13 +157,13 @@ pub trait Outside {
         ensures call { Reads (honest self.new) (Arrives ours alone) (ListsFar alone (seen self.old).device.far.next) (seen self.old)
             (seen self.new) result };
 
-    /// What the near mailbox lists. Messages up to this UID are said to be fit, and are not read.
-    fn list_near(&mut self, from: u32) -> Result<Listing, OutsideFault>
+    /// What the near mailbox lists. Messages that are spared are said to be fit, and are not read.
+    fn list_near(&mut self, spared: &Spared) -> Result<Listing, OutsideFault>
         requires is_open { IsOpen Side.Near (opened self.old) }
         ensures was_honest { honest self.new → honest self.old }
         ensures opened { opened self.new ≡ opened self.old }
         ensures numbers { IfOk result HasNumbers }
-        ensures call { Reads (honest self.new) (Arrives ours alone) (ListsNear from) (seen self.old) (seen self.new) result };
+        ensures call { Reads (honest self.new) (Arrives ours alone) (ListsNear (spares spared.now)) (seen self.old) (seen self.new) result };
 
     /// The least UID of at least `from` whose message has the mark.
     fn find_mark(&mut self, side: Side, mark: Tuid, from: u32) -> Result<Option<Uid>, OutsideFault>

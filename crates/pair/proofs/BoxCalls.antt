@@ -132,11 +132,11 @@ module _ (d : Device) where
   abbrev pub finding : (side : Side) → (mark : List ℕ) → (from : ℕ) → Move side d (Option ℕ)
   finding side mark from = reading side d Never (ops.Finds mark from) (λ found e. found ≡ marked_from mark from (devices.box e side)) (λ found b h. h ∙ sym (ap (λ (s : Store). marked_from mark from s) (box_at side b)))
 
-  abbrev pub listing_far : (alone alone' : Bool) → (alone' ≡ true → alone ≡ true) → (known from : ℕ) → Move Far d Listing
-  listing_far alone alone' lone known from = reading Far d Never (ops.Lists Far alone known from) (ListsFar alone' known) (λ listing b h. lists_weaker alone alone' known listing b.store lone h)
+  abbrev pub listing_far : (alone alone' : Bool) → (alone' ≡ true → alone ≡ true) → (known : ℕ) → (spared : ℕ → Bool) → Move Far d Listing
+  listing_far alone alone' lone known spared = reading Far d Never (ops.Lists Far alone known spared) (ListsFar alone' known) (λ listing b h. lists_weaker alone alone' known listing b.store lone h)
 
-  abbrev pub listing_near : (from : ℕ) → Move Near d Listing
-  listing_near from = reading Near d Never (ops.Lists Near true 0 from) (ListsNear from) (λ listing b h. h)
+  abbrev pub listing_near : (spared : ℕ → Bool) → Move Near d Listing
+  listing_near spared = reading Near d Never (ops.Lists Near true 0 spared) (ListsNear spared) (λ listing b h. h)
 
   pub reading_weaker : (alone alone' : Bool) (read left : List Waiting) (b : Mailbox) → (alone' ≡ true → alone ≡ true) → ops.IsReading alone read left b → ops.IsReading alone' read left b
   reading_weaker alone alone' read left b lone r = record { parts = r.parts; all = λ e. r.all (lone e) }

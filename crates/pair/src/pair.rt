@@ -15,6 +15,7 @@ use mailbox::mailbox::Mailbox;
 use mailcore::flags::Flags;
 use mailcore::listing::Listing;
 use mailcore::side::{Direction, Side};
+use mailcore::spared::Spared;
 use mailcore::tuid::Tuid;
 use mailcore::uid::Uid;
 use outside::fault::OutsideFault;
@@ -99,6 +100,7 @@ impl<F: Mailbox + Drop, N: Mailbox + Drop, S: Shelf + Drop> Outside for Pair<F, 
     ghost use Rattle.std.specs.Prelude.{◌&&◌, List, ℕ, Bool};
     ghost use Rattle.mailcore.specs.Operations.{flags_added, flags_removed, marked_from};
     ghost use Rattle.mailcore.specs.Sides.{target};
+    ghost use Rattle.mailcore.specs.Spared.{spares};
     ghost use Rattle.sync_state.specs.declared.journal.Logged.TheVariants.{Void};
     ghost use Rattle.book.specs.declared.book.Pending.TheVariants.{Missing, Useless};
     ghost use Rattle.book.specs.Books.{mended, torn, Turns as TurnsJournal, TurnsHalf};
@@ -294,23 +296,23 @@ impl<F: Mailbox + Drop, N: Mailbox + Drop, S: Shelf + Drop> Outside for Pair<F, 
         if self.tally.is_broken() {
             return Err(OutsideFault::Stopped);
         }
-        let answer = self.far.list(0);
+        let answer = self.far.list(&Spared::none(self.alloc));
         self.tally.end_at(Side::Far, answer)
     }
 
-    fn list_near(&mut self, from: u32) -> Result<Listing, OutsideFault>
+    fn list_near(&mut self, spared: &Spared) -> Result<Listing, OutsideFault>
         requires is_open { IsOpen Side.Near (opened_of self.old) }
         ensures was_honest { honest_of self.new → honest_of self.old }
         ensures opened { opened_of self.new ≡ opened_of self.old }
         ensures numbers { IfOk result HasNumbers }
-        ensures call { BoxRead (ListsNear from) self.old self.new result }
+        ensures call { BoxRead (ListsNear (spares spared.now)) self.old self.new result }
         ensures why { IfErr result (ByBox Side.Near Never self.old self.new) }
         ensures tallied { Tallied (ended no_copies) result self.old.tally self.new.tally }
     {
         if self.tally.is_broken() {
             return Err(OutsideFault::Stopped);
         }
-        let answer = self.near.list(from);
+        let answer = self.near.list(spared);
         self.tally.end_at(Side::Near, answer)
     }
 

@@ -3,7 +3,7 @@ use Rattle.std.proofs.Common.{◌≡◌, ◌⊎◌, inl, inr, ℕ, Bool, true, f
 use Rattle.std.proofs.lemmas.Bool.{both_ways}
 use Rattle.mailcore.specs.declared.side.Side.TheVariants.{Near as NearSide}
 use Rattle.mailcore.specs.declared.listing.Listing.{Listing}
-use Rattle.mailcore.specs.Operations.{ShowsAbove}
+use Rattle.mailcore.specs.Operations.{ShowsSparing}
 use Rattle.mailcore.specs.Mailboxes.{Mailbox}
 use Rattle.mailcore.specs.Stores.{Waiting}
 use Rattle.rules.specs.declared.plan.Plan.{Plan}
@@ -83,8 +83,8 @@ module _ (ours : List ℕ → Bool) (alone : Bool) (opening : Opening) where
       let g = c.grows in
       rw is (record { clear = clear_arrives opened true d m a c; lists = lists_since alone d.far.next opening.world.far.next far m.far g.far_next l })
 
-  pub near_listed : (opened : Option Opened) (far near : Listing) (from : ℕ) (d m d' : Device) → AreOld opening.world.state.max_pushed opening.world.state.entries from → Arrives ours alone d m → FarListed alone opening opened far d → d' ≡ m → ShowsAbove NearSide from m.near.store near → BothListed ours alone opening opened far near d'
-  near_listed opened far near from d m d' old a f is l =
+  pub near_listed : (opened : Option Opened) (far near : Listing) (spared : ℕ → Bool) (d m d' : Device) → AreOld opening.world.state.max_pushed opening.world.state.entries spared → Arrives ours alone d m → FarListed alone opening opened far d → d' ≡ m → ShowsSparing NearSide spared m.near.store near → BothListed ours alone opening opened far near d'
+  near_listed opened far near spared d m d' old a f is l =
       let c = clear_arrives opened true d m a f.clear in
       let s = opening.world.state in
       let told = f.lists.next in
@@ -95,7 +95,7 @@ module _ (ours : List ℕ → Bool) (alone : Bool) (opening : Opening) where
         grows = grows;
         admitted = λ e. c.admitted refl e;
         below = names_below alone opening.world (listed_world s far.next d m) grows c.below;
-        holds = (record { far_is = f.lists.shows; from = from; old = old; near_is = l }, listed_here ours alone opening.world s far.next d m grows most (λ e. c.admitted refl e) a c.files (spares_more opening.world (listed_world s far.next d m) m (grows_next alone opening.world (listed_world s far.next d m) grows) c.spares));
+        holds = (record { far_is = f.lists.shows; spared = spared; old = old; near_is = l }, listed_here ours alone opening.world s far.next d m grows most (λ e. c.admitted refl e) a c.files (spares_more opening.world (listed_world s far.next d m) m (grows_next alone opening.world (listed_world s far.next d m) grows) c.spares));
       } in
       rw is (record { clear = c; since = since })
 

@@ -19,4 +19,3 @@ pub mod Ends
 pub mod Finding
 pub mod PassTells
 pub mod Sourced
-pub mod Old

@@ -5,7 +5,7 @@ use Rattle.mailcore.specs.declared.side.Side.{Side}
 use Rattle.mailcore.specs.declared.side.Side.TheVariants.{Far, Near}
 use Rattle.mailcore.specs.declared.side.Direction.TheVariants.{Pull, Push}
 use Rattle.mailcore.specs.Draws.{RUN_LENGTH, Repeats, after_pairs}
-use Rattle.mailcore.specs.Operations.{item_above}
+use Rattle.mailcore.specs.Operations.{item_sparing}
 use Rattle.rules.specs.declared.options.Options.{Options}
 use Rattle.rules.specs.declared.plan.Plan.{Plan}
 use Rattle.rules.specs.declared.plan.PlanSide.{PlanSide}
@@ -74,24 +74,24 @@ module _ (ours : List ℕ → Bool) (w : World) (s : SyncState) (options : Optio
   abbrev listed : Scene
   listed = scene far near s options
 
-  above_is : listed ≡ record (scene_of w options) { near = map (item_above Near shown.from) w.near.messages }
+  above_is : listed ≡ record (scene_of w options) { near = map (item_sparing Near shown.spared) w.near.messages }
   above_is = rw (state, shown.far_is.items, shown.near_is.items) refl
 
-  least : AreOld w.state.max_pushed w.state.entries shown.from
+  least : AreOld w.state.max_pushed w.state.entries shown.spared
   least = shown.old
 
   pub unfit_by : (unfit : List (Side × ℕ)) → unfit ≡ all_unfit listed → unfit ≡ all_unfit (scene_of w options)
-  unfit_by unfit e = e ∙ ap (λ (x : Scene). all_unfit x) above_is ∙ unfit_same (scene_of w options) shown.from w.near.messages least
+  unfit_by unfit e = e ∙ ap (λ (x : Scene). all_unfit x) above_is ∙ unfit_same (scene_of w options) shown.spared w.near.messages least
 
   pub count_is : count_new listed ≡ count_new (scene_of w options)
-  count_is = ap (λ (x : Scene). count_new x) above_is ∙ count_same (scene_of w options) shown.from w.near.messages least
+  count_is = ap (λ (x : Scene). count_new x) above_is ∙ count_same (scene_of w options) shown.spared w.near.messages least
 
   pub planned_by : (plan : Plan) (stream : Stream) → AreDrawn stream far near s options (marks_of plan.steps) → All (λ mark. ours mark ≡ true) (marks_of plan.steps) → plan.run ≡ s.run + 1
       → plan.far ≡ side_with far (highest_after listed Pull) → plan.near ≡ side_with near (highest_after listed Push) → plan.steps ≡ all_steps listed (marks_of plan.steps) → plan.notes ≡ all_notes listed → IsPlanned ours w options plan
   planned_by plan stream drawn mine run far_side near_side steps notes =
       let marks = marks_of plan.steps in
       let base : Scene = scene_of w options in
-      let from = shown.from in
+      let spared = shown.spared in
       let each : length marks ≡ count_new base = (let d = drawn.drawn in d.are_all) ∙ count_is in
       record {
         marks = marks;
@@ -102,10 +102,10 @@ module _ (ours : List ℕ → Bool) (w : World) (s : SyncState) (options : Optio
           run = run ∙ ap (λ (x : SyncState). x.run + 1) state;
           far_validity = ap (λ (p : PlanSide). p.validity) far_side ∙ shown.far_is.validity;
           near_validity = ap (λ (p : PlanSide). p.validity) near_side ∙ shown.near_is.validity;
-          far_highest = ap (λ (p : PlanSide). p.highest) far_side ∙ ap (λ (x : Scene). highest_after x Pull) above_is ∙ highest_same base from w.near.messages least Pull;
-          near_highest = ap (λ (p : PlanSide). p.highest) near_side ∙ ap (λ (x : Scene). highest_after x Push) above_is ∙ highest_same base from w.near.messages least Push;
-          steps = steps ∙ ap (λ (x : Scene). all_steps x marks) above_is ∙ steps_same base from w.near.messages least marks;
-          notes = notes ∙ ap (λ (x : Scene). all_notes x) above_is ∙ notes_same base from w.near.messages least;
+          far_highest = ap (λ (p : PlanSide). p.highest) far_side ∙ ap (λ (x : Scene). highest_after x Pull) above_is ∙ highest_same base spared w.near.messages least Pull;
+          near_highest = ap (λ (p : PlanSide). p.highest) near_side ∙ ap (λ (x : Scene). highest_after x Push) above_is ∙ highest_same base spared w.near.messages least Push;
+          steps = steps ∙ ap (λ (x : Scene). all_steps x marks) above_is ∙ steps_same base spared w.near.messages least marks;
+          notes = notes ∙ ap (λ (x : Scene). all_notes x) above_is ∙ notes_same base spared w.near.messages least;
         };
         next = next;
       }

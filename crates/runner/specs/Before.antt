@@ -1,11 +1,12 @@
 -- What is so before the steps of a plan: the shelf was read, the journal is cleared away, both mailboxes are listed, the plan is made.
-use Rattle.std.specs.Prelude.{◌≡◌, ◌⊎◌, ◌≤◌, ◌==◌, ℕ, Bool, true, List, [], Option, None, Some}
+use Rattle.std.specs.Prelude.{◌≡◌, ◌||◌, ◌==◌, nat_le, ℕ, Bool, true, List, [], Option, None, Some}
 use Rattle.std.specs.List.{list_any}
 use Rattle.mailcore.specs.declared.side.Side.TheVariants.{Far, Near}
 use Rattle.mailcore.specs.declared.listing.Listing.{Listing}
-use Rattle.mailcore.specs.Operations.{Shows, ShowsAbove}
+use Rattle.mailcore.specs.Operations.{Shows, ShowsSparing}
 use Rattle.rules.specs.declared.entry.Entry.{Entry}
 use Rattle.rules.specs.declared.plan.Plan.{Plan}
+use Rattle.rules.specs.declared.state.SyncState.{SyncState}
 use Rattle.rules.specs.Entries.{uid_of}
 use Rattle.rules.specs.World.{World, NamesBelow}
 use Rattle.book.specs.Books.{Holds, IsPlanned as HasPlanned}
@@ -68,16 +69,20 @@ pub record FarListed (alone : Bool) (opening : Opening) (opened : Option Opened)
   pub clear : IsClear alone opening opened true d
   pub lists : ListsFar alone opening.world.far.next far d
 
--- no near message up to this UID can be new: it is not above the highest one that was pushed, or an entry names it
-abbrev pub AreOld : (pushed : ℕ) → List Entry → (from : ℕ) → Type 0
-AreOld pushed entries from = (uid : ℕ) → uid ≤ from → (uid ≤ pushed) ⊎ (list_any (λ e. uid_of Near e == uid) entries ≡ true)
+-- spared are those near messages that cannot be new: each is not above the highest one that was pushed, or an entry names it
+abbrev pub AreOld : (pushed : ℕ) → List Entry → (spared : ℕ → Bool) → Type 0
+AreOld pushed entries spared = (uid : ℕ) → spared uid ≡ (nat_le uid pushed || list_any (λ e. uid_of Near e == uid) entries)
 
--- both listings are those of this world, but that near messages which cannot be new are said to be fit
+-- the same, by what was read of the state
+abbrev pub SparesOld : Option Opened → (spared : ℕ → Bool) → Type 0
+SparesOld opened spared = (s : SyncState) → state_of opened ≡ Some s → AreOld s.max_pushed s.entries spared
+
+-- both listings are those of this world, but that near messages which cannot be new are said to be fit, and no others
 pub record AreShown (w : World) (far near : Listing) : Type 0 where
   pub far_is : Shows Far w.far far
-  pub from : ℕ
-  pub old : AreOld w.state.max_pushed w.state.entries from
-  pub near_is : ShowsAbove Near from w.near near
+  pub spared : ℕ → Bool
+  pub old : AreOld w.state.max_pushed w.state.entries spared
+  pub near_is : ShowsSparing Near spared w.near near
 
 pub record BothListed (ours : List ℕ → Bool) (alone : Bool) (opening : Opening) (opened : Option Opened) (far near : Listing) (d : Device) : Type 0 where
   pub clear : IsClear alone opening opened true d

@@ -5,6 +5,7 @@ ghost use Rattle.book.specs.declared.book.Pending.TheVariants.{Missing};
 ghost use Rattle.book.specs.Books.{mended};
 ghost use Rattle.book.specs.BookLogs.{begun};
 ghost use Rattle.mailbox.specs.Operations.{HasNumbers};
+ghost use Rattle.mailcore.specs.Spared.{spares};
 ghost use Rattle.outside.specs.Opened.{IsBook, IsHeld, IsOpen, IsRead, TakesPlan, state_of, turned, with_box};
 ghost use Rattle.underway.specs.Conditions.{Underway};
 ghost use Rattle.underway.specs.Openings.{Opening};
@@ -13,14 +14,16 @@ ghost use Rattle.runner.specs.Parts.{IsStuck, Part, PartOr, Unstepped};
 ghost use Rattle.runner.specs.Validities.{BothSame, HasSame, HaveValidities, IsKept, KeepsValidities, LeavesBoxes, TellsChange, TellsOther, recorded_in};
 ghost use Rattle.runner.specs.Going.{AreOpen, AtReady};
 ghost use Rattle.runner.specs.Finding.{FindsSame};
-ghost use Rattle.runner.specs.Before.{BothListed, FarListed, HasNoJournal, HasNoPlan, HasNone, HasPlan, IsClear, IsEmptied, IsKnown, IsMade, IsTakenUp};
+ghost use Rattle.runner.specs.Before.{BothListed, FarListed, SparesOld, HasNoJournal, HasNoPlan, HasNone, HasPlan, IsClear, IsEmptied, IsKnown, IsMade, IsTakenUp};
 
 use crate::fault::{RunFault, call_fault};
-use crate::old_messages::old_up_to;
+use crate::old_messages::old_messages;
 use mailcore::listing::Listing;
 use mailcore::side::Side;
+use mailcore::spared::Spared;
 use outside::outside::Outside;
 use rules::plan::Plan;
+use std::alloc::Global;
 
 /// Reads the shelf.
 pub(crate) fn recall<O: Outside>(outside: &mut O) -> Result<(), RunFault>
@@ -145,10 +148,14 @@ fn list_far<O: Outside>(outside: &mut O) -> Result<Listing, RunFault>
     }
 }
 
-/// Lists the near mailbox, after the far one. Messages that were pushed before are not read, nor are the copies of the last pull.
-fn list_near<O: Outside>(outside: &mut O, far: &Listing) -> Result<Listing, RunFault>
+/// Lists the near mailbox, after the far one. Messages that are spared, since they cannot be new, are not read.
+fn list_near<O: Outside>(
+    outside: &mut O,
+    far: &Listing,
+    spared: &Spared,
+) -> Result<Listing, RunFault>
     ghost opening: { Opening }
-    requires read { IsRead (O.opened outside.old) }
+    requires spared { SparesOld (O.opened outside.old) (spares spared.now) }
     requires boxes { AreOpen (O.opened outside.old) }
     ensures was_honest { O.honest outside.new → O.honest outside.old }
     ensures opened { O.opened outside.new ≡ O.opened outside.old }
@@ -159,8 +166,7 @@ fn list_near<O: Outside>(outside: &mut O, far: &Listing) -> Result<Listing, RunF
         (λ _. 0) (λ near. BothListed O.ours O.alone opening (O.opened outside.old) far.now near) (O.seen outside.old) (O.seen outside.new)
         result }
 {
-    let from = old_up_to(outside.state());
-    match outside.list_near(from) {
+    match outside.list_near(spared) {
         Ok(near) => Ok(near),
         Err(fault) => Err(call_fault(fault)),
     }
@@ -176,7 +182,7 @@ pub(crate) struct Listings {
 }
 
 /// Lists the far mailbox, and then the near one.
-pub(crate) fn list_both<O: Outside>(outside: &mut O) -> Result<Listings, RunFault>
+pub(crate) fn list_both<O: Outside>(alloc: Global, outside: &mut O) -> Result<Listings, RunFault>
     ghost opening: { Opening }
     requires read { IsRead (O.opened outside.old) }
     requires boxes { AreOpen (O.opened outside.old) }
@@ -190,7 +196,10 @@ pub(crate) fn list_both<O: Outside>(outside: &mut O) -> Result<Listings, RunFaul
         (O.seen outside.new) result }
 {
     let far = list_far(outside)?;
-    let near = list_near(outside, &far)?;
+    let Ok(spared) = old_messages(alloc, outside.state()) else {
+        return Err(RunFault::NoMemory);
+    };
+    let near = list_near(outside, &far, &spared)?;
     Ok(Listings { far, near })
 }
 

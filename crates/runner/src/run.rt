@@ -75,7 +75,7 @@ fn propose<O: Outside, R: Rng>(
         (λ _. AtReady O.ours O.alone opening (O.opened outside.new) false) (O.seen outside.old) (O.seen outside.new) result }
 {
     clear(outside)?;
-    let both = list_both(outside)?;
+    let both = list_both(alloc, outside)?;
     let plan = make_plan(alloc, outside, &both, options, rng)?;
     let unfit = passed_over(alloc, outside, &both, options)?;
     write_plan(outside, plan)?;

@@ -46,7 +46,7 @@
 //! |---|---|
 //! | `open V` | the mailbox is opened, with validity V where there is no meta file: its validity and next UID, or the fault |
 //! | `list` | validity, next UID, and each message with its flags; `unfit` where it is not fit to be copied |
-//! | `count`, `count above UID` | how many messages a listing has that asks all of them whether they are fit, or those above UID alone |
+//! | `count`, `count above UID`, `count above UID except UID,UID` | how many messages a listing has that asks all of them whether they are fit, or those above UID alone, but for some |
 //! | `fetch UID`, `find MARK FROM` | the bytes of a message; the UID of the copy with this mark |
 //! | `find N marks` | how many of the marks `000000000001` to N are found, sought one after another |
 //! | `append FLAGS "BYTES"` | the UID of the new message |

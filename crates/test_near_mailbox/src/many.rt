@@ -1,10 +1,12 @@
 //! Operations on many messages, of which the answer is short.
 
-use crate::operation::{tell_done, tell_fault};
+use crate::operation::{read_uids, tell_done, tell_fault};
 use mailcore::flags::Flags;
+use mailcore::spared::Spared;
 use mailcore::tuid::{TUID_LENGTH, Tuid};
 use maildir::folder::Folder;
 use near_box::{NearBox, NearFault};
+use std::alloc::{AllocError, Global};
 use test_scripts::told::Told;
 use test_scripts::words::Words;
 
@@ -22,26 +24,53 @@ pub fn many(line: &mut Words<'_>, things: &str) -> Option<u32> {
     Some(number)
 }
 
-/// `above UID`, or nothing: how many messages a listing has.
+/// `above UID`, `above UID except UID,UID`, or nothing: how many messages a listing has.
 pub fn count<F: Folder>(
+    alloc: Global,
     near: &mut NearBox<F>,
     line: &mut Words<'_>,
     told: &mut Told,
 ) -> Option<NearFault> {
-    let mut from = 0;
-    if !line.is_over() {
-        if line.word() != "above" {
-            line.refuse();
-        }
-        from = line.number();
-    }
-    match near.list_above(from) {
+    let Ok(spared) = spared(alloc, line) else {
+        return Some(NearFault::NoMemory);
+    };
+    match near.list_sparing(&spared) {
         Ok(listing) => {
             told.number(listing.items.as_slice().len() as u64);
             None
         }
         Err(fault) => tell_fault(told, fault),
     }
+}
+
+/// Which messages are not asked whether they are fit.
+fn spared(alloc: Global, line: &mut Words<'_>) -> Result<Spared, AllocError> {
+    if line.is_over() {
+        return Ok(Spared::none(alloc));
+    }
+    if line.word() != "above" {
+        line.refuse();
+    }
+    let from = line.number();
+    let mut others = Vec::new(alloc);
+    if !line.is_over() {
+        if line.word() != "except" {
+            line.refuse();
+        }
+        others = numbers(alloc, line)?;
+    }
+    Ok(Spared::of(from, others))
+}
+
+/// The UIDs of the next word, as numbers.
+fn numbers(alloc: Global, line: &mut Words<'_>) -> Result<Vec<u32>, AllocError> {
+    let mut uids = Vec::new(alloc);
+    read_uids(line, &mut uids)?;
+    let mut numbers = Vec::new(alloc);
+    for uid in &uids {
+        numbers.push(uid.get())?;
+    }
+    Ok(numbers)
 }
 
 /// Appends so many messages, and syncs the names.

@@ -69,6 +69,8 @@ impl<F: Folder> Folder for NotedFolder<F> {
 
     ghost is_synced = { λ noted. F.is_synced noted.folder };
 
+    ghost reads = { λ noted. F.reads noted.folder };
+
     fn names(&mut self) -> Result<Option<Vec<FileName>>, DeviceFault> {
         self.note(FolderCall::Names);
         self.folder.names()

@@ -23,7 +23,7 @@ pub fn perform<F: Folder>(
     match word {
         "admit" => tell_done(told, near.admit()),
         "list" => tell_listing(told, near.list()),
-        "count" => count(near, line, told),
+        "count" => count(alloc, near, line, told),
         "fetch" => tell_bytes(told, near.fetch(line.uid())),
         "find" => find(near, line, told),
         "append" => append(alloc, near, line, told),
@@ -91,7 +91,7 @@ fn expunge<F: Folder>(
 }
 
 /// Adds UIDs with commas between, or none for `-`.
-fn read_uids(line: &mut Words<'_>, uids: &mut Vec<Uid>) -> Result<(), AllocError> {
+pub fn read_uids(line: &mut Words<'_>, uids: &mut Vec<Uid>) -> Result<(), AllocError> {
     let word = line.word();
     if word == "-" {
         return Ok(());

@@ -1,4 +1,6 @@
-use Rattle.std.proofs.Common.{rules}
+use Rattle.std.proofs.Common.{◌≡◌, ◌∙◌, ℕ, Bool, Some, rules, subst, sym}
+use Rattle.rules.specs.declared.state.SyncState.{SyncState}
+use Rattle.runner.specs.Before.{AreOld}
 use Rattle.std.proofs.lemmas.Result.{err_from_is_err_and}
 use Rattle.runner.proofs.PartCalls.{left_after, passed_after}
 use Rattle.runner.proofs.Validities.{both_validities}
@@ -11,8 +13,17 @@ returns-in_err-near-clause-part g c =
     let rest = rw c.list_far.ensures.opened at c.in_err-near.ensures.part in
     rw (e.1, e.2) (left_after _ _ _ _ _ _ _ _ s1 _ c.in_err-near.ensures.was_honest c.in_ok-far.ensures.part rest)
 
+same_old : (s t : SyncState) (spared : ℕ → Bool) → Some s ≡ Some t → AreOld s.max_pushed s.entries spared → AreOld t.max_pushed t.entries spared
+same_old s t spared e = let k : s ≡ t = cc in subst (λ (x : SyncState). AreOld x.max_pushed x.entries spared) k
+
 pub list_near-requires : goal.list_near-requires
-list_near-requires g c κs within = (search rules, rw c.list_far.ensures.opened (c.requires.1.0, c.requires.1.1))
+list_near-requires g c κs within = (
+  search rules,
+  (
+    (λ s is. same_old c.state.result.now s _ (sym c.state.ensures.state ∙ is) c.in-Ok.ensures),
+    rw c.list_far.ensures.opened c.requires.1.1,
+  ),
+)
 
 pub returns-clause-validities : goal.returns-clause-validities
 returns-clause-validities g c = λ honest. let before = c.in_ok-near.ensures.was_honest honest in both_validities _ _ _ _ _ (c.in_ok-far.ensures.validities before) (c.in_ok-far.ensures.validity before) (c.in_ok-near.ensures.validities honest) (c.in_ok-near.ensures.validity honest)

@@ -1,7 +1,5 @@
-use Rattle.std.proofs.Common.{◌≡◌, ◌∙◌, ℕ, Some, sym, subst, true}
+use Rattle.std.proofs.Common.{true}
 use Rattle.mailcore.specs.declared.side.Side.TheVariants.{Near}
-use Rattle.rules.specs.declared.state.SyncState.{SyncState}
-use Rattle.runner.specs.Before.{AreOld}
 use Rattle.runner.proofs.PartCalls.{from_box, left_call, line_of_box, passed_call}
 use Rattle.runner.proofs.Begun.{clear_arrives, clear_underway, near_listed}
 use Rattle.runner.proofs.Validities.{read_validities}
@@ -10,13 +8,10 @@ use Rattle.runner.proofs.opening.list_near.Goals as goal
 pub list_near-requires : goal.list_near-requires
 list_near-requires g c = record { is_open = c.requires.1.1 Near }
 
-same_old : (s t : SyncState) (from : ℕ) → Some s ≡ Some t → AreOld s.max_pushed s.entries from → AreOld t.max_pushed t.entries from
-same_old s t from e = let k : s ≡ t = cc in subst (λ (x : SyncState). AreOld x.max_pushed x.entries from) k
-
 pub returns-in-Ok-clause-part : goal.returns-in-Ok-clause-part
 returns-in-Ok-clause-part g c =
     let s1 = g.O.Outside.seen c.list_near.new.self in
-    passed_call _ _ _ _ _ _ _ _ _ _ _ c.in-Ok.ensures.call (λ m at a own. near_listed g.O.Outside.ours g.O.Outside.alone g.opening _ _ _ _ _ m s1.device (same_old c.state.result.now g.opening.world.state _ (sym c.state.ensures.state ∙ at.clear.state) c.old_up_to-from.ensures) a at own.0 own.1)
+    passed_call _ _ _ _ _ _ _ _ _ _ _ c.in-Ok.ensures.call (λ m at a own. near_listed g.O.Outside.ours g.O.Outside.alone g.opening _ _ _ _ _ m s1.device (c.requires.1.0 g.opening.world.state at.clear.state) a at own.0 own.1)
 
 pub returns-in-Err-clause-part : goal.returns-in-Err-clause-part
 returns-in-Err-clause-part g c =

@@ -1,6 +1,7 @@
 use Rattle.std.proofs.Common.{◌∙◌, sym, refl}
 use Rattle.std.specs.Prelude.{◌&&◌}
 use Rattle.mailcore.specs.declared.side.Side.TheVariants as side
+use Rattle.mailcore.specs.Spared.{spares}
 use Rattle.mailbox.specs.Operations.{HasNumbers}
 use Rattle.pair.specs.BookParts.{kept_of}
 use Rattle.pair.specs.Pairs.{device_of}
@@ -25,7 +26,7 @@ returns g c =
     let b = c.list-answer in
     let e = c.end_at in
     let whole = sym c.is_broken.ensures ∙ c.if-is_broken.false in
-    let ends = far_ends p (listing_far (device_of p) g.F.Mailbox.alone (g.F.Mailbox.alone && g.N.Mailbox.alone) (alone_left g.F.Mailbox.alone g.N.Mailbox.alone) (g.F.Mailbox.seen p.far).stored.store.next 0) b.new.self e.new.self b.result e.result whole e.ensures.same e.ensures.now (rw p.far_is at b.ensures.call) in
+    let ends = far_ends p (listing_far (device_of p) g.F.Mailbox.alone (g.F.Mailbox.alone && g.N.Mailbox.alone) (alone_left g.F.Mailbox.alone g.N.Mailbox.alone) (g.F.Mailbox.seen p.far).stored.store.next (spares c.none.result)) b.new.self e.new.self b.result e.result whole e.ensures.same e.ensures.now (rw p.far_is at b.ensures.call) in
     record {
       was_honest = λ h. (b.ensures.was_honest h.0, h.1, h.2);
       opened = far_stays _ _ (g.N.Mailbox.is_open p.near) (kept_of p.book) c.requires.is_open b.ensures.open;

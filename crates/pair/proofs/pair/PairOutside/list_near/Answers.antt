@@ -1,5 +1,6 @@
 use Rattle.std.proofs.Common.{◌∙◌, sym, refl}
 use Rattle.mailcore.specs.declared.side.Side.TheVariants as side
+use Rattle.mailcore.specs.Spared.{spares}
 use Rattle.mailbox.specs.Operations.{HasNumbers}
 use Rattle.pair.specs.BookParts.{kept_of}
 use Rattle.pair.specs.Pairs.{device_of}
@@ -23,7 +24,7 @@ returns g c =
     let b = c.list-answer in
     let e = c.end_at in
     let whole = sym c.is_broken.ensures ∙ c.if-is_broken.false in
-    let ends = near_ends p (listing_near (device_of p) c.args.from) b.new.self e.new.self b.result e.result whole e.ensures.same e.ensures.now (rw p.near_is at b.ensures.call) in
+    let ends = near_ends p (listing_near (device_of p) (spares c.args.spared.now)) b.new.self e.new.self b.result e.result whole e.ensures.same e.ensures.now (rw p.near_is at b.ensures.call) in
     record {
       was_honest = λ h. (h.0, b.ensures.was_honest h.1, h.2);
       opened = near_stays (g.F.Mailbox.is_open p.far) _ _ (kept_of p.book) c.requires.is_open b.ensures.open;
