@@ -171,13 +171,18 @@ impl<R: Files + AllocGlobal + Clone + Drop> Disk<R> {
         }
     }
 
-    /// Writes a new file and syncs its bytes. What stood under this name is removed before: a link is never followed.
-    pub fn write_new(&self, part: &str, bytes: &[u8]) -> io::Result<()> {
+    /// Makes a new file, to be written. What stood under this name is removed before: a link is never followed.
+    pub fn new_file(&self, part: &str) -> io::Result<R::File> {
         self.remove_if_there(part)?;
         let path = self.at(part)?;
         let mut options = OpenOptions::new();
         options.write(true).create_new(true).mode(FILE_MODE);
-        let mut file = options.open(&self.rt, path.as_str())?;
+        options.open(&self.rt, path.as_str())
+    }
+
+    // Writes a new file and syncs its bytes.
+    fn write_new(&self, part: &str, bytes: &[u8]) -> io::Result<()> {
+        let mut file = self.new_file(part)?;
         file.write_all(bytes)?;
         OpenFile::sync_all(&file)
     }

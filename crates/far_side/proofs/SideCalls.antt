@@ -1,5 +1,5 @@
 -- From what the far side's own functions say to the clause of the trait.
-use Rattle.std.proofs.Common.{◌≡◌, ℕ, List, true, false, Result, inl, inr, subst, sym}
+use Rattle.std.proofs.Common.{Bool, ◌≡◌, ℕ, List, true, false, Result, inl, inr, subst, sym}
 use Rattle.std.specs.Prelude.{OnOk}
 use Rattle.device.specs.Calls.{Effect, Nothing}
 use Rattle.mailcore.specs.declared.listing.Listing.{Listing}

@@ -23,6 +23,7 @@ use imap_link::link::Link;
 use mailbox::far_next::FarNext;
 use mailbox::fault::BoxFault;
 use mailbox::mailbox::Mailbox;
+use mailcore::copy_pieces::CopyPieces;
 use mailcore::flags::Flags;
 use mailcore::listing::Listing;
 use mailcore::spared::Spared;
@@ -274,9 +275,9 @@ impl<L: Link + Drop> Mailbox for FarSide<L> {
         self.far.body()
     }
 
-    fn append(&mut self, text: &[u8], flags: Flags) -> Result<Option<Uid>, BoxFault> {
+    fn append_copy(&mut self, copy: CopyPieces<'_>, flags: Flags) -> Result<Option<Uid>, BoxFault> {
         self.is_fresh = false;
-        told_by(self.far.append(text, flags))
+        told_by(self.far.append_copy(copy, flags))
     }
 
     fn add_flags(&mut self, uid: Uid, flags: Flags) -> Result<(), BoxFault> {

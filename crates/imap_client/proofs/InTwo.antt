@@ -34,6 +34,7 @@ use Rattle.imap_replies.specs.declared.reply.Reply.{Reply}
 use Rattle.imap_session.specs.Answering.{go}
 use Rattle.imap_session.specs.Portions.{once, goes_from, goes_in}
 use Rattle.session_laws.proofs.Gos.{goes-append}
+use Rattle.mailcore.specs.CopyPieces.{text_left}
 use Rattle.imap_client.specs.declared.addition.Addition.{Addition}
 use Rattle.imap_client.specs.Requests.{IsWord}
 use Rattle.imap_client.specs.Appending.{FrontText, CanAdd, request_to_add, InTwo}
@@ -217,8 +218,7 @@ in_two tag name message front rest flags word is h e =
     })
 
 -- as the code has it
-pub addition_in_two : (tag front front_items rest rest_items : List ℕ) (a : Addition) → CanAdd a → front ≡ front_items → rest ≡ rest_items
-    → FrontText tag a.name.now a.flags (length a.bytes.now) front_items → rest_items ≡ a.bytes.now ++ crlf
-    → InTwo tag front rest (record { tag = tag; request = request_to_add a })
-addition_in_two tag front front_items rest rest_items a can e f h r =
-    in_two tag a.name.now a.bytes.now front rest a.flags can.name can.message (subst (FrontText tag a.name.now a.flags (length a.bytes.now)) (sym e) h) (f ∙ r)
+pub addition_in_two : (tag front front_items : List ℕ) (a : Addition) → CanAdd a → front ≡ front_items
+    → FrontText tag a.name.now a.flags (length (text_left a.octets)) front_items → InTwo tag front (text_left a.octets ++ crlf) (record { tag = tag; request = request_to_add a })
+addition_in_two tag front front_items a can e h =
+    in_two tag a.name.now (text_left a.octets) front (text_left a.octets ++ crlf) a.flags can.name can.message (subst (FrontText tag a.name.now a.flags (length (text_left a.octets))) (sym e) h) refl

@@ -5,6 +5,7 @@ use Rattle.wire_tokens.specs.Atoms.{TagText}
 use Rattle.wire_tokens.specs.FlagWriting.{WrittenFlags}
 use Rattle.wire_tokens.specs.Numbers.{NumberText}
 use Rattle.wire_strings.specs.Quotes.{QuotedText}
+use Rattle.mailcore.specs.CopyPieces.{text_left}
 use Rattle.mailcore.specs.Operations.{added}
 use Rattle.imap_commands.specs.declared.command.Command.{Command}
 use Rattle.imap_commands.specs.declared.command.Request.{Request}
@@ -61,12 +62,12 @@ NoUidLeft m old new = (new ≡ old) × (m.store.next ≡ 4294967295)
 -- ---- what is sent
 
 abbrev pub request_to_add : Addition → Request
-request_to_add a = requests.Append a.name.now a.flags a.bytes.now
+request_to_add a = requests.Append a.name.now a.flags (text_left a.octets)
 
 -- what the caller owes: a name that can be quoted, of at most 1024 bytes; 1 to 16777238 octets, none of them NUL
 pub record CanAdd (a : Addition) : Type 0 where
   pub name : IsWord a.name.now
-  pub message : IsMessage a.bytes.now
+  pub message : IsMessage (text_left a.octets)
 
 -- the command up to where its message is asked for: `tag APPEND "name" (flags) {count}` and a line end
 abbrev pub FrontText : (tag name : List ℕ) (flags count : ℕ) → List ℕ → Type 0

@@ -1,6 +1,8 @@
 //! Messages are added to a far mailbox (RFC 9051, section 6.3.12).
 
-ghost use Rattle.std.specs.Prelude.{◌≡◌, ◌≤◌, ◌+◌, ℕ, List, Some, true, false, length, take, drop, IfOk, IfErr, OnErr};
+ghost use Rattle.std.specs.Prelude.{◌≡◌, ◌≤◌, ◌+◌, ◌++◌, ℕ, List, Some, true, false, length, take, drop, IfOk, IfErr, OnErr};
+ghost use Rattle.mailcore.specs.CopyPieces.{text_left};
+ghost use Rattle.wire_reader.specs.Spelling.{crlf};
 ghost use Rattle.imap_commands.specs.declared.command.Command.{Command};
 ghost use Rattle.imap_commands.specs.Messages.{IsMessage};
 ghost use Rattle.imap_replies.specs.declared.reply.Reply.{Reply};
@@ -31,6 +33,7 @@ use imap_link::fault::FarFault;
 use imap_link::link::Link;
 use imap_link::uses::Uses;
 use imap_link::wire::{Answered, Told};
+use mailcore::copy_pieces::CopyPieces;
 use mailcore::flags::Flags;
 use mailcore::uid::Uid;
 use wire_tokens::tag::Tag;
@@ -63,17 +66,22 @@ impl<L: Link> Session<L> {
         }
     }
 
-    // Sends a command in two parts, the second once it is asked for, and waits for its answer, which stands in the buffer
-    // then.
-    fn deliver(&mut self, tag: &Tag, front: &[u8], rest: &[u8]) -> Result<usize, FarFault>
-        requires parts { IsInTwo tag.now front.now rest.now }
+    // Sends a command in two parts, the second, a message and the line end, once it is asked for, and waits for its answer, which stands
+    // in the buffer then.
+    fn deliver(
+        &mut self,
+        tag: &Tag,
+        front: &[u8],
+        octets: CopyPieces<'_>,
+    ) -> Result<usize, FarFault>
+        requires parts { IsInTwo tag.now front.now (text_left octets ++ crlf) }
         requires begun { self.old.is_ready ≡ false }
         requires idle { L.honest self.old.wire.link → IsStill (ends_of (L.line self.old.wire.link) self.old.wire.heard.items) }
         ensures was_honest { L.honest self.new.wire.link → L.honest self.old.wire.link }
         ensures counts { L.stops self.old.wire.link ≤ L.stops self.new.wire.link }
         ensures tags { self.new.tags ≡ self.old.tags }
         ensures sent { SentSo tag.now (state_of self.old) (state_of self.new) result }
-        ensures outcome { L.honest self.new.wire.link → (c : Command) → InTwo tag.now front.now rest.now c
+        ensures outcome { L.honest self.new.wire.link → (c : Command) → InTwo tag.now front.now (text_left octets.entry ++ crlf) c
             → Among L.visitors (Exchanged c result self.new.wire.heard.items) (server_of self.old) (server_of self.new) }
         ensures idle { IfOk result (λ len. L.honest self.new.wire.link
             → IsStill (ends_of (L.line self.new.wire.link) (drop len self.new.wire.heard.items))) }
@@ -81,7 +89,7 @@ impl<L: Link> Session<L> {
             × IsAnswerText tag.now statuses.Ok (take len self.new.wire.heard.items)) }
     {
         self.offer(tag, front)?;
-        let answered = self.wire.finish(tag, rest, false, Uses::answer_alone())?;
+        let answered = self.wire.finish_copy(tag, octets, Uses::answer_alone())?;
         self.judge(answered)
     }
 
@@ -103,8 +111,7 @@ impl<L: Link> Session<L> {
         self.begin()?;
         let tag = self.next_tag()?;
         let front = addition.front(self.wire.alloc, &tag)?;
-        let rest = addition.rest(self.wire.alloc)?;
-        self.deliver(&tag, &front, &rest)
+        self.deliver(&tag, &front, addition.octets)
     }
 
     // What the replies at the front of the buffer tell of a message that was added.
@@ -131,8 +138,8 @@ impl<L: Link> Session<L> {
         ensures stuck { self.old.is_ready ≡ false → self.new ≡ self.old }
         ensures ends { EndsSo 1 (state_of self.old) (state_of self.new) result }
         ensures outcome { L.honest self.new.wire.link → Among L.visitors (λ s t. IsSelected addition.now.name.now validity next s
-            → (m : FarMailbox) → selected s ≡ Some m → Outcome (Adds m addition.now.flags addition.now.bytes.now) (NoUidLeft m)
-            (AddsSome m addition.now.flags addition.now.bytes.now) result s t) (server_of self.old) (server_of self.new) }
+            → (m : FarMailbox) → selected s ≡ Some m → Outcome (Adds m addition.now.flags (text_left addition.now.octets)) (NoUidLeft m)
+            (AddsSome m addition.now.flags (text_left addition.now.octets)) result s t) (server_of self.old) (server_of self.new) }
     {
         let len = self.ask_to_add(addition)?;
         let given = self.given(len)?;
@@ -165,10 +172,33 @@ impl<L: Link> FarBox<L> {
             → Outcome (Adds m flags bytes.now) (NoUidLeft m) (AddsSome m flags bytes.now) result s t)
             (server_of self.old.session) (server_of self.new.session) }
     {
+        self.append_copy(CopyPieces::whole(bytes), flags)
+    }
+
+    /// Adds a copy as `append` adds a message. Its text is not held whole.
+    pub fn append_copy(
+        &mut self,
+        copy: CopyPieces<'_>,
+        flags: Flags,
+    ) -> Result<Option<Uid>, FarFault>
+        requires { IsMessage (text_left copy) }
+        ensures was_honest { L.honest self.new.session.wire.link → L.honest self.old.session.wire.link }
+        ensures counts { L.stops self.old.session.wire.link ≤ L.stops self.new.session.wire.link }
+        ensures stuck { self.old.session.is_ready ≡ false → self.new.session ≡ self.old.session }
+        ensures ends { EndsSo 1 (state_of self.old.session) (state_of self.new.session) result }
+        ensures same { (self.new.name ≡ self.old.name) × (self.new.validity ≡ self.old.validity)
+            × (self.new.is_selected ≡ self.old.is_selected) }
+        ensures next { IfOk result (λ told. self.new.next ≡ next_known self.old.next told) }
+        ensures unknown { OnErr result (self.new.next ≡ self.old.next) }
+        ensures outcome { L.honest self.new.session.wire.link → self.old.is_selected ≡ true
+            → Among L.visitors (λ s t. (m : FarMailbox) → selected s ≡ Some m
+            → Outcome (Adds m flags (text_left copy.entry)) (NoUidLeft m) (AddsSome m flags (text_left copy.entry)) result s t)
+            (server_of self.old.session) (server_of self.new.session) }
+    {
         let addition = Addition {
             name: &self.name,
             flags,
-            bytes,
+            octets: copy,
         };
         let told = self.session.add(&addition, self.validity, self.next)?;
         if let Some(uid) = told {

@@ -4,9 +4,12 @@ ghost use Rattle.std.specs.Prelude.{◌≡◌, ◌<◌};
 
 use device::stop_count::StopCount;
 use imap_link::link::{Link, LinkFault};
-use std::alloc::AllocError;
+use imap_link::wire::PIECE;
+use mailcore::copy_pieces::CopyPieces;
+use std::alloc::{AllocError, Global};
 use std::cell::Cell;
-use std::io::{ErrorKind, Read, Write};
+use std::io;
+use std::io::{BufWriter, ErrorKind, Read, Write};
 use std::net::{Net, TcpStream};
 use std::rc::Rc;
 
@@ -58,6 +61,16 @@ impl<R: Net + AllocGlobal + Clone + Drop> TcpLink<R> {
     }
 }
 
+/// Writes a copy and a line end through one buffer.
+fn write_copy<W: Write>(alloc: Global, stream: &mut W, copy: CopyPieces<'_>) -> io::Result<()> {
+    let mut writer = BufWriter::with_capacity(alloc, PIECE, stream)?;
+    for piece in copy {
+        writer.write_all(piece)?;
+    }
+    writer.write_all(b"\r\n")?;
+    writer.flush()
+}
+
 impl<R: Net + AllocGlobal + Clone + Drop> Link for TcpLink<R> {
     ghost use Rattle.imap_client.specs.Nowhere.{no_line};
     ghost use Rattle.imap_link.specs.Sending.{anybody};
@@ -78,6 +91,18 @@ impl<R: Net + AllocGlobal + Clone + Drop> Link for TcpLink<R> {
             None => false,
         };
         if sent { Ok(()) } else { Err(self.stopped()) }
+    }
+
+    fn send_copy(&mut self, alloc: Global, copy: CopyPieces<'_>) -> Result<(), LinkFault> {
+        let sent = match &mut self.stream {
+            Some(stream) => write_copy(alloc, stream, copy),
+            None => Err(io::Error::from(ErrorKind::NotConnected)),
+        };
+        match sent {
+            Ok(()) => Ok(()),
+            Err(error) if error.kind() == ErrorKind::OutOfMemory => Err(LinkFault::NoMemory),
+            Err(_) => Err(self.stopped()),
+        }
     }
 
     fn recv(&mut self, piece: &mut [u8]) -> Result<usize, LinkFault> {

@@ -11,4 +11,5 @@ pub mod Performed
 pub mod Finished
 pub mod Asked
 pub mod Greeted
+pub mod Unsent
 pub mod Visited

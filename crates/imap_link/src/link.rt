@@ -1,12 +1,16 @@
 //! A link to a server.
 
-ghost use Rattle.std.specs.Prelude.{◌≡◌, ◌<◌, ◌≤◌, ℕ, length, take, IfOk, OnOk, OnErr, IsErrOf, Ok};
+ghost use Rattle.std.specs.Prelude.{◌≡◌, ◌<◌, ◌≤◌, ◌++◌, ℕ, length, take, IfOk, OnOk, OnErr, IsErrOf, Ok};
 ghost use Rattle.imap_session.specs.Servers.{Quiet};
 ghost use Rattle.imap_session.specs.Lines.{Line, Receives, Starts};
 ghost use Rattle.visitors.specs.Visitors.{Visitors};
+ghost use Rattle.mailcore.specs.CopyPieces.{text_left};
+ghost use Rattle.wire_reader.specs.Spelling.{crlf};
 ghost use Rattle.imap_link.specs.Sending.{SendsThen, SomeThen};
 ghost use Rattle.imap_link.specs.Soundness.{AreSound};
 
+use mailcore::copy_pieces::CopyPieces;
+use std::alloc::{AllocError, Global};
 use thiserror::Error;
 
 /// Why a call of a link has no answer.
@@ -18,6 +22,16 @@ pub enum LinkFault {
     /// A growth was refused.
     #[error("no memory")]
     NoMemory,
+}
+
+/// The text of a copy, and a line end.
+fn text_to_send(alloc: Global, copy: CopyPieces<'_>) -> Result<Vec<u8>, AllocError>
+    ensures { IfOk result (λ text. text.items ≡ text_left copy.entry ++ crlf) }
+{
+    let mut text = Vec::new(alloc);
+    copy.append_to(&mut text)?;
+    text.extend_from_slice(b"\r\n")?;
+    Ok(text)
 }
 
 /// A link to a server, over one connection at a time.
@@ -48,6 +62,23 @@ pub trait Link {
         ensures counts { stops self.old ≤ stops self.new }
         ensures steady { OnOk result (stops self.new ≡ stops self.old) }
         ensures stopped { IsErrOf result LinkFault.Stopped → stops self.old < stops self.new };
+
+    /// Sends the text of a copy, and the line end that ends its command, as `send` does. Where a link has no better way, it takes room for
+    /// them.
+    fn send_copy(&mut self, alloc: Global, copy: CopyPieces<'_>) -> Result<(), LinkFault>
+        ensures was_honest { honest self.new → honest self.old }
+        ensures ok { OnOk result (honest self.new → SendsThen visitors (text_left copy.entry ++ crlf) (line self.old) (line self.new)) }
+        ensures err { OnErr result (honest self.new
+            → SomeThen visitors (line self.old) (text_left copy.entry ++ crlf) (line self.new).end.server) }
+        ensures counts { stops self.old ≤ stops self.new }
+        ensures steady { OnOk result (stops self.new ≡ stops self.old) }
+        ensures stopped { IsErrOf result LinkFault.Stopped → stops self.old < stops self.new }
+    {
+        match text_to_send(alloc, copy) {
+            Ok(text) => self.send(&text),
+            Err(AllocError) => Err(LinkFault::NoMemory),
+        }
+    }
 
     /// Writes the next bytes to the front of the piece, and tells how many; none at their end.
     fn recv(&mut self, piece: &mut [u8]) -> Result<usize, LinkFault>

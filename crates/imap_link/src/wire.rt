@@ -1,6 +1,8 @@
 //! What is heard over a link, kept in a buffer, and commands that are sent over it.
 
 ghost use Rattle.std.specs.Prelude.{◌≡◌, ◌<◌, ◌≤◌, ◌⊎◌, ◌++◌, ℕ, List, [], length, take, drop, max, IfOk, IfErr, OnOk, OnErr, IsErrOf};
+ghost use Rattle.mailcore.specs.CopyPieces.{text_left};
+ghost use Rattle.wire_reader.specs.Spelling.{crlf};
 ghost use Rattle.imap_session.specs.Servers.{Quiet};
 ghost use Rattle.imap_session.specs.Lines.{told_server};
 ghost use Rattle.exchange_laws.specs.Ends.{ends_of, IsIdle};
@@ -18,6 +20,7 @@ use crate::link::Link;
 use crate::place::Search;
 use crate::uses::Uses;
 use imap_replies::word::Status;
+use mailcore::copy_pieces::CopyPieces;
 use std::alloc::Global;
 use wire_tokens::tag::Tag;
 
@@ -176,6 +179,32 @@ impl<L: Link> Wire<L> {
     {
         self.link.send(rest)?;
         match self.wait(tag, ends, uses)? {
+            Told::Answer(len, status) => Ok(Answered { len, status }),
+            Told::Go(_) => Err(FarFault::Protocol),
+        }
+    }
+
+    /// Sends a copy that a command waits for, and the end of the command, and waits for the replies to it, as `finish` does.
+    pub fn finish_copy(
+        &mut self,
+        tag: &Tag,
+        copy: CopyPieces<'_>,
+        uses: Uses,
+    ) -> Result<Answered, FarFault>
+        ensures was_honest { L.honest self.new.link → L.honest self.old.link }
+        ensures counts { L.stops self.old.link ≤ L.stops self.new.link }
+        ensures steady { OnOk result (L.stops self.new.link ≡ L.stops self.old.link) }
+        ensures outcome { L.honest self.new.link → AfterVisits L.visitors (λ line. Exchanges uses tag.now (text_left copy.entry ++ crlf) result
+            line self.old.heard.items (L.line self.new.link) self.new.heard.items) (L.line self.old.link) }
+        ensures idle { IfOk result (λ a. L.honest self.new.link → StaysIdle uses tag.now (text_left copy.entry ++ crlf) a.len
+            (L.line self.old.link) self.old.heard.items (L.line self.new.link) self.new.heard.items) }
+        ensures answer { IfOk result (λ a. (a.len ≤ length self.new.heard.items) × IsAnswerText tag.now a.status (take a.len self.new.heard.items)) }
+        ensures bounded { IsBounded uses (max 4096 (length self.old.heard.items)) self.new.heard.items }
+        ensures known { IfErr result IsHearing }
+        ensures stopped { IsErrOf result FarFault.Stopped → (L.stops self.old.link < L.stops self.new.link) ⊎ SaysBye tag.now self.new.heard.items }
+    {
+        self.link.send_copy(self.alloc, copy)?;
+        match self.wait(tag, false, uses)? {
             Told::Answer(len, status) => Ok(Answered { len, status }),
             Told::Go(_) => Err(FarFault::Protocol),
         }

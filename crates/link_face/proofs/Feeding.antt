@@ -1,22 +1,12 @@
--- Bytes of which none was read, and bytes that are passed on.
+-- Bytes that are passed on.
 use Rattle.std.proofs.Common.{◌≡◌, ℕ, List, [], ◌++◌, refl, sym, ◌∙◌, ap, append_assoc}
 use Rattle.imap_replies.specs.declared.reply.Reply.{Reply}
 use Rattle.visitors.specs.Visitors.{Visitors}
 use Rattle.imap_session.specs.Serving.{End, FeedsSome, ServesSome, Runs}
 use Rattle.imap_session.specs.Servers.{Server}
 use Rattle.imap_session.specs.Lines.{Line, Sends}
-use Rattle.session_laws.proofs.Visiting.{nobody_visits}
 use Rattle.imap_link.specs.Sending.{SendsThen, SomeThen}
 use Rattle.link_face.specs.Faces.{faced}
-
-serves_none : (s : Server) (stream : List ℕ) → ServesSome s stream s
-serves_none s stream = record { replies = []; rest = stream; runs = record { portions = []; read = refl; served = (refl, refl) } }
-
-pub nothing_fed : (end : End) (piece : List ℕ) → FeedsSome end piece end.server
-nothing_fed end piece = record { from = λ unread said holds. serves_none end.server (unread ++ piece) }
-
-pub nothing_sent : (v : Visitors) (line : Line) (bytes : List ℕ) → SomeThen v line bytes line.end.server
-nothing_sent v line bytes = record { mid = line.end.server; visits = nobody_visits v line.end.server; then = nothing_fed line.end bytes }
 
 -- what came before and was not handed out stays
 pub faced_sends : (v : Visitors) (held bytes : List ℕ) (old new : Line) → SendsThen v bytes old new → SendsThen v bytes (faced held old) (faced held new)

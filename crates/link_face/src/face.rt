@@ -1,6 +1,8 @@
 //! What came over a link, turned reply by reply.
 
-ghost use Rattle.std.specs.Prelude.{◌≡◌, ◌<◌, ◌≤◌, false, true, [], None, length, take, Ok, IfOk, OnOk, OnErr, IsErrOf, MatchOption};
+ghost use Rattle.std.specs.Prelude.{◌≡◌, ◌<◌, ◌≤◌, ◌++◌, false, true, [], None, length, take, Ok, IfOk, OnOk, OnErr, IsErrOf, MatchOption};
+ghost use Rattle.mailcore.specs.CopyPieces.{text_left};
+ghost use Rattle.wire_reader.specs.Spelling.{crlf};
 ghost use Rattle.wire_reader.specs.Scanning.{start, scanned, owed_in};
 ghost use Rattle.link_face.specs.Commands.{GoesAsItIs, IsRenamed};
 ghost use Rattle.link_face.specs.Faces.{IsSpelled};
@@ -15,6 +17,7 @@ use crate::turning::{Turn, turned};
 use crate::words::Words;
 use device::stop_count::StopCount;
 use imap_link::link::LinkFault;
+use mailcore::copy_pieces::CopyPieces;
 use std::alloc::{AllocError, Global};
 use std::rc::Rc;
 
@@ -91,6 +94,16 @@ impl Face {
         let turned = with_far_name(self.alloc, bytes)?;
         self.changed = self.changed || turned.is_some();
         Ok(turned)
+    }
+
+    /// The text of a copy and a line end are sent as they are, as the octets of a literal always are.
+    pub(crate) fn note_copy(&mut self, copy: CopyPieces<'_>)
+        ensures sent { self.new.sent.scanner ≡ scanned self.old.sent.scanner (text_left copy.entry ++ crlf) }
+        ensures changed { self.new.changed ≡ self.old.changed }
+        ensures held { held_of self.new ≡ held_of self.old }
+        ensures stops { self.new.stops ≡ self.old.stops }
+    {
+        self.sent.note_copy(copy);
     }
 
     /// Turns replies until one is ready, and tells whether one is: else more has to come.

@@ -10,6 +10,7 @@ ghost use Rattle.link_face.specs.Turning.{Leaves, held_of};
 use crate::face::Face;
 use crate::words::Words;
 use imap_link::link::{Link, LinkFault};
+use mailcore::copy_pieces::CopyPieces;
 use std::alloc::{AllocError, Global};
 use std::rc::Rc;
 
@@ -113,13 +114,18 @@ impl<L: Link> Link for FaceLink<L> {
 
     ghost sound = { λ f kept. L.sound f.link kept.0 };
 
-    #[tactic(auto, using(crate::proofs::Feeding::nothing_sent, crate::proofs::Feeding::faced_sends))]
+    #[tactic(auto, using(imap_link::proofs::Unsent::nothing_sent, crate::proofs::Feeding::faced_sends))]
     fn send(&mut self, bytes: &[u8]) -> Result<(), LinkFault> {
         match self.face.to_send(bytes) {
             Ok(None) => self.link.send(bytes),
             Ok(Some(turned)) => self.link.send(&turned),
             Err(AllocError) => Err(LinkFault::NoMemory),
         }
+    }
+
+    fn send_copy(&mut self, alloc: Global, copy: CopyPieces<'_>) -> Result<(), LinkFault> {
+        self.face.note_copy(copy);
+        self.link.send_copy(alloc, copy)
     }
 
     fn recv(&mut self, piece: &mut [u8]) -> Result<usize, LinkFault> {

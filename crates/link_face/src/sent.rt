@@ -1,8 +1,11 @@
 //! What is sent to a server, as far as literals go (RFC 9051, section 4.3).
 
-ghost use Rattle.std.specs.Prelude.{◌≡◌, ◌<◌, length, nat_lt, MatchOption};
+ghost use Rattle.std.specs.Prelude.{◌≡◌, ◌<◌, ◌++◌, length, nat_lt, MatchOption};
+ghost use Rattle.mailcore.specs.CopyPieces.{text_left};
+ghost use Rattle.wire_reader.specs.Spelling.{crlf};
 ghost use Rattle.wire_reader.specs.Scanning.{start, scanned, owed_in};
 
+use mailcore::copy_pieces::CopyPieces;
 use wire_reader::scanner::Scanner;
 
 /// What was sent over a connection.
@@ -36,6 +39,16 @@ impl Sent {
         while let Some(behind) = self.pass_place(rest) {
             rest = behind;
         }
+    }
+
+    /// The text of a copy and a line end are sent.
+    pub(crate) fn note_copy(&mut self, copy: CopyPieces<'_>)
+        ensures { self.new.scanner ≡ scanned self.old.scanner (text_left copy.entry ++ crlf) }
+    {
+        for piece in copy {
+            self.note(piece);
+        }
+        self.note(b"\r\n");
     }
 
     /// The bytes up to the next place of the scanner are sent, or all if there is none; gives those behind it.

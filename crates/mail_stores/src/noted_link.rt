@@ -3,6 +3,8 @@
 ghost use Rattle.std.specs.Prelude.{◌≡◌};
 
 use imap_link::link::{Link, LinkFault};
+use mailcore::copy_pieces::CopyPieces;
+use std::alloc::Global;
 use std::cell::Cell;
 use std::rc::Rc;
 
@@ -47,6 +49,14 @@ impl<L: Link> Link for NotedLink<L> {
 
     fn send(&mut self, bytes: &[u8]) -> Result<(), LinkFault> {
         let answer = self.link.send(bytes);
+        if answer == Err(LinkFault::Stopped) {
+            self.end.set(Some(LinkEnd::Ended));
+        }
+        answer
+    }
+
+    fn send_copy(&mut self, alloc: Global, copy: CopyPieces<'_>) -> Result<(), LinkFault> {
+        let answer = self.link.send_copy(alloc, copy);
         if answer == Err(LinkFault::Stopped) {
             self.end.set(Some(LinkEnd::Ended));
         }

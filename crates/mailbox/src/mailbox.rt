@@ -3,6 +3,7 @@
 ghost use Rattle.std.specs.Prelude.{◌≡◌, ℕ, List, Bool, OnOk, IfOk, IfErr, true, false, length};
 
 use crate::fault::BoxFault;
+use mailcore::copy_pieces::CopyPieces;
 use mailcore::flags::Flags;
 use mailcore::listing::Listing;
 use mailcore::spared::Spared;
@@ -17,6 +18,7 @@ pub trait Mailbox {
     ghost use Rattle.device.specs.Calls.{Nothing};
     ghost use Rattle.mailcore.specs.declared.side.Side.{Side};
     ghost use Rattle.mailcore.specs.Operations.{flags_added, flags_removed};
+    ghost use Rattle.mailcore.specs.CopyPieces.{text_left};
     ghost use Rattle.mailcore.specs.Spared.{spares};
     ghost use Rattle.mailbox.specs.Operations.{removed, Admits, AdmitsPart, Answers, Appends, AppendsPart, Finds, HasNumbers, IsCopyText, Lists, Loads, NoRoom, TellsValidity, Turns};
     ghost use Rattle.mailbox.specs.declared.fault.BoxFault.{BoxFault};
@@ -95,14 +97,14 @@ pub trait Mailbox {
         ensures { result.now ≡ body self.now };
 
     /// Adds a copy with these flags, and tells its UID, if it is known.
-    fn append(&mut self, text: &[u8], flags: Flags) -> Result<Option<Uid>, BoxFault>
+    fn append_copy(&mut self, copy: CopyPieces<'_>, flags: Flags) -> Result<Option<Uid>, BoxFault>
         requires whole { (seen self.old).is_broken ≡ false }
         requires open { is_open self.old ≡ true }
-        requires copy { IsCopyText side text.now }
+        requires copy { IsCopyText side (text_left copy) }
         ensures was_honest { honest self.new → honest self.old }
         ensures open { is_open self.new ≡ true }
         ensures call { Call (honest self.new) (ended self.old self.new) (Arrives side ours alone) (NoRoom side (λ _. 1))
-            (Appends side text.now flags) (AppendsPart side) (seen self.old) (seen self.new) result };
+            (Appends side (text_left copy.entry) flags) (AppendsPart side) (seen self.old) (seen self.new) result };
 
     /// Sets these flags of a message. Nothing is done where it is not there.
     fn add_flags(&mut self, uid: Uid, flags: Flags) -> Result<(), BoxFault>

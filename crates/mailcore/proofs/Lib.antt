@@ -1,5 +1,6 @@
 pub mod ContentLemmas
 pub mod CopyLemmas
+pub mod PieceLemmas
 pub mod DrawLemmas
 pub mod FlagLetters
 pub mod FlagRules

@@ -1,6 +1,7 @@
 pub mod Content
 pub mod ContentExamples
 pub mod ContentLines
+pub mod CopyPieces
 pub mod Draws
 pub mod FlagNames
 pub mod FlagSet

@@ -21,11 +21,7 @@ pub(crate) fn line_end_bytes(end: LineEnd) -> &'static [u8]
 
 // Puts the content of `message`, with these line ends, behind what `out` holds. After an error a
 // part of it may stand there.
-pub(crate) fn append_content(
-    out: &mut Vec<u8>,
-    message: &[u8],
-    end: LineEnd,
-) -> Result<(), AllocError>
+fn append_content(out: &mut Vec<u8>, message: &[u8], end: LineEnd) -> Result<(), AllocError>
     ensures { OnOk result (out.new.items ≡ out.old.items ++ spec.with_line_ends end (spec.content message.now)) }
 {
     for line in ContentLines::new(message) {

@@ -1,15 +1,17 @@
 //! Copies of messages, and the marks by which they are found again.
 
-ghost use Rattle.std.specs.Prelude.{◌≡◌, IfOk};
+ghost use Rattle.std.specs.Prelude.{◌≡◌, ◌-◌, ◌^◌, ℕ, List, true, length, min, IfOk};
 ghost use Rattle.mailcore.specs.Content as spec;
+ghost use Rattle.mailcore.specs.Mark.{is_mark};
 
-use crate::content::{append_content, line_end_bytes};
+use crate::content::{content_len, line_end_bytes};
+use crate::copy_pieces::{CopyHead, CopyPieces};
 use crate::side::LineEnd;
 use crate::tuid::{TUID_LENGTH, Tuid};
 use std::alloc::{AllocError, Global};
 
 /// What the first line of a copy begins with, before its mark.
-const MARK_FIELD: &[u8; 8] = b"X-TUID: ";
+pub(crate) const MARK_FIELD: &[u8; 8] = b"X-TUID: ";
 
 /// What a store with these line ends keeps as the copy of `message` under `mark`: the line of the mark, and then the
 /// content of the message.
@@ -23,12 +25,19 @@ pub fn copy_text(
 ) -> Result<Vec<u8>, AllocError>
     ensures { IfOk result (λ v. v.items ≡ spec.copy_text mark message.now end) }
 {
+    let head = CopyHead::new(mark, end);
     let mut copy = Vec::with_capacity(alloc, message.len())?;
-    copy.extend_from_slice(MARK_FIELD)?;
-    copy.extend_from_slice(&mark.text())?;
-    copy.extend_from_slice(line_end_bytes(end))?;
-    append_content(&mut copy, message, end)?;
+    CopyPieces::new(&head, message).append_to(&mut copy)?;
     Ok(copy)
+}
+
+/// How many bytes the copy of `message` has in a store with these line ends, under whichever mark; the greatest number where it has more. It
+/// takes no memory.
+pub fn copy_len(message: &[u8], end: LineEnd) -> u64
+    ensures { (mark : List ℕ) → is_mark mark ≡ true → result ≡ min (length (spec.copy_text mark message.now end)) (2 ^ 64 - 1) }
+{
+    let head_len = MARK_FIELD.len() + TUID_LENGTH + line_end_bytes(end).len();
+    (content_len(message, end) as u64).saturating_add(head_len as u64)
 }
 
 /// The mark that a message bears, or none: its first line is `X-TUID: ` and a mark, ended by LF or CR LF. It takes no

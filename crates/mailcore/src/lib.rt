@@ -4,6 +4,7 @@
 pub mod content;
 pub mod content_lines;
 pub mod copies;
+pub mod copy_pieces;
 pub mod fault;
 pub mod flag_laws;
 pub mod flags;

@@ -11,10 +11,12 @@ use crate::sure_names::sure_names;
 use device::DeviceFault;
 use device::disk::Disk;
 use device::trouble::Trouble;
+use mailcore::copy_pieces::CopyPieces;
 use std::alloc::AllocError;
 use std::cell::Cell;
+use std::fs::OpenFile;
 use std::io;
-use std::io::ErrorKind;
+use std::io::{BufWriter, ErrorKind, Write};
 use std::marker::Model;
 use std::path::Path;
 use std::rt::{Clock, Files};
@@ -27,6 +29,9 @@ pub const NEXT_META: &str = ".uidvalidity.new";
 
 /// The copy that is being written.
 pub const COPY: &str = "tmp/mbsync.copy";
+
+/// How many bytes of a copy are gathered before they are written.
+const COPY_BUFFER: usize = 65_536;
 
 /// A Maildir folder on a disk. A call stops where the system fails, and at a message whose name is no UTF-8.
 ///
@@ -97,6 +102,17 @@ impl<R: Files + AllocGlobal + Clone + Drop> DiskFolder<R> {
     /// The files that cannot get a UID, and were left out when the names were listed last.
     pub fn left_out(&self) -> &[FileName] {
         self.left_out.as_slice()
+    }
+
+    // Writes a copy through one buffer, and syncs its bytes.
+    fn write_copy(&self, copy: CopyPieces<'_>) -> io::Result<()> {
+        let file = self.disk.new_file(COPY)?;
+        let mut writer = BufWriter::with_capacity(self.disk.rt().alloc(), COPY_BUFFER, file)?;
+        for piece in copy {
+            writer.write_all(piece)?;
+        }
+        writer.flush()?;
+        OpenFile::sync_all(writer.get_ref())
     }
 
     // Notes that a call stopped there, if one did.
@@ -299,9 +315,9 @@ impl<R: Files + Clock + AllocGlobal + Clone + Drop> Folder for DiskFolder<R> {
         answer
     }
 
-    fn write_tmp(&mut self, bytes: &[u8]) -> Result<(), DeviceFault> {
+    fn write_tmp(&mut self, copy: CopyPieces<'_>) -> Result<(), DeviceFault> {
         self.disk.check()?;
-        let answer = self.disk.write_new(COPY, bytes);
+        let answer = self.write_copy(copy);
         let answer = self.disk.tell(answer);
         self.note(Part::Own(COPY));
         answer

@@ -3,6 +3,7 @@
 ghost use Rattle.std.specs.Prelude.{◌≡◌, ◌+◌, ℕ, Bool, false, true, OnOk};
 
 use device::DeviceFault;
+use mailcore::copy_pieces::CopyPieces;
 use mailcore::octets::Octets;
 
 /// Where the file of a message stands.
@@ -81,6 +82,7 @@ pub enum Origin<'a> {
 /// others add before a call they could as well have added behind it (`laws::others_could_come_behind`).
 pub trait Folder {
     ghost use Rattle.device.specs.Calls.{Seen, Call, Read, Rest, Nothing, Reopens};
+    ghost use Rattle.mailcore.specs.CopyPieces.{text_left};
     ghost use Rattle.visitors.specs.Visitors.{Visitors};
     ghost use Rattle.maildir.specs.FolderCalls.{ReadAnew};
     ghost use Rattle.maildir.specs.Folders.{Stored, Lists, Begins, Removes, Renames, bytes_of, with_copy, with_meta, listed, text_of};
@@ -111,9 +113,10 @@ pub trait Folder {
         ensures counted { is_honest ≡ true → reads self.new ≡ reads self.old + 1 }
         ensures call { Read is_honest (λ bytes s. text_of bytes ≡ bytes_of file.entry s) (seen self.old) (seen self.new) result };
 
-    /// Writes the copy in `tmp`, over one that is there. A stopped one may leave any beginning of its bytes.
-    fn write_tmp(&mut self, bytes: &[u8]) -> Result<(), DeviceFault>
-        ensures { Call is_honest (λ s s'. s' ≡ with_copy bytes.now s) (Begins bytes.now) (seen self.old) (seen self.new) result };
+    /// Writes a copy in `tmp`, over one that is there. A stopped one may leave any beginning of its bytes.
+    fn write_tmp(&mut self, copy: CopyPieces<'_>) -> Result<(), DeviceFault>
+        ensures { Call is_honest (λ s s'. s' ≡ with_copy (text_left copy.entry) s) (Begins (text_left copy.entry)) (seen self.old)
+            (seen self.new) result };
 
     /// Gives a file another name, in `new` or `cur`. A file that has that name already goes.
     fn rename(&mut self, from: Origin<'_>, to: Location<'_>) -> Result<(), DeviceFault>

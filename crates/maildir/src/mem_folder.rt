@@ -3,6 +3,7 @@
 ghost use Rattle.std.specs.Prelude.{◌≡◌, ◌↔◌, ◌<◌, ◌^◌, true, map, IfOk, IsErrOf, OnOk, OnErr, None, false, is_some};
 ghost use Rattle.std.specs.List.{list_any};
 ghost use Rattle.std.specs.Option.{option_map};
+ghost use Rattle.mailcore.specs.CopyPieces.{text_left};
 ghost use Rattle.maildir.specs.Folders.{name_of_file, is_there, renamed, bytes_of, text_of};
 
 use crate::folder::{File, FileName, Folder, Location, Origin, Place, Source};
@@ -10,6 +11,7 @@ use crate::mem_files::MemFiles;
 use device::DeviceFault;
 use device::history::History;
 use device::schedule::{Moment, Scheduled, Stop};
+use mailcore::copy_pieces::CopyPieces;
 use mailcore::octets::Octets;
 use std::alloc::{AllocError, Global};
 
@@ -277,17 +279,18 @@ impl Folder for MemFolder {
         }
     }
 
-    fn write_tmp(&mut self, bytes: &[u8]) -> Result<(), DeviceFault> {
+    fn write_tmp(&mut self, copy: CopyPieces<'_>) -> Result<(), DeviceFault> {
         let moment = self.stopping.begin(FolderCall::WriteTmp)?;
-        let written = match moment {
-            None | Some(Moment::After) => bytes,
-            Some(Moment::Before) => return Err(self.stopping.stop()),
-            Some(Moment::Part(count)) => &bytes[..count.min(bytes.len())],
-        };
-        let Ok(copy) = copy_of(self.alloc, written) else {
+        if moment == Some(Moment::Before) {
+            return Err(self.stopping.stop());
+        }
+        let Ok(mut text) = text_of(self.alloc, copy) else {
             return Err(self.stopping.lack());
         };
-        self.copy = Some(copy);
+        if let Some(Moment::Part(count)) = moment {
+            text.truncate(count);
+        }
+        self.copy = Some(Octets::from_vec(text));
         if moment.is_some() {
             return Err(self.stopping.stop());
         }
@@ -370,6 +373,14 @@ fn names_of(alloc: Global, files: &[File]) -> Result<Vec<FileName>, AllocError>
         })?;
     }
     Ok(names)
+}
+
+fn text_of(alloc: Global, copy: CopyPieces<'_>) -> Result<Vec<u8>, AllocError>
+    ensures { IfOk result (λ text. text.items ≡ text_left copy.entry) }
+{
+    let mut text = Vec::new(alloc);
+    copy.append_to(&mut text)?;
+    Ok(text)
 }
 
 fn copy_of(alloc: Global, bytes: &[u8]) -> Result<Octets, AllocError>

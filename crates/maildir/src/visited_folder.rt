@@ -9,6 +9,7 @@ use crate::found_names::is_waiting;
 use crate::mem_folder::{FolderCall, MemFolder};
 use device::DeviceFault;
 use mailcore::copies::mark_of;
+use mailcore::copy_pieces::CopyPieces;
 use mailcore::octets::Octets;
 use std::alloc::Global;
 
@@ -168,9 +169,9 @@ impl<const MARKS: u32> Folder for VisitedFolder<MARKS> {
         answer
     }
 
-    fn write_tmp(&mut self, bytes: &[u8]) -> Result<(), DeviceFault> {
+    fn write_tmp(&mut self, copy: CopyPieces<'_>) -> Result<(), DeviceFault> {
         self.count(FolderCall::WriteTmp);
-        let answer = self.folder.write_tmp(bytes);
+        let answer = self.folder.write_tmp(copy);
         self.is_broken = answer.is_err();
         answer
     }

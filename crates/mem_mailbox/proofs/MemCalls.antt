@@ -1,5 +1,5 @@
 -- From what a call does to the list to the clause of the trait.
-use Rattle.std.proofs.Common.{◌≡◌, ◌+◌, inl, inr, ap, sym, ◌∙◌, refl, subst, ℕ, true, false, List, [], ◌∷◌, map, Ok, Err, Result, Some, arith}
+use Rattle.std.proofs.Common.{Bool, ◌≡◌, ◌+◌, inl, inr, ap, sym, ◌∙◌, refl, subst, ℕ, true, false, List, [], ◌∷◌, map, Ok, Err, Result, Some, arith}
 use Rattle.std.proofs.lemmas.Bool.{false≢true}
 use Rattle.device.specs.Calls.{Effect, Follows, Went}
 use Rattle.mailcore.specs.declared.listing.Listing.{Listing}

@@ -10,6 +10,7 @@ use crate::kind::{Kind, OfFar, OfNear};
 use crate::mem_store::MemStore;
 use mailbox::fault::BoxFault;
 use mailbox::mailbox::Mailbox;
+use mailcore::copy_pieces::CopyPieces;
 use mailcore::flags::Flags;
 use mailcore::listing::Listing;
 use mailcore::mailbox::Message;
@@ -199,12 +200,12 @@ impl<K: Kind + Drop> Mailbox for MemMailbox<K> {
         &self.body
     }
 
-    fn append(&mut self, text: &[u8], flags: Flags) -> Result<Option<Uid>, BoxFault> {
+    fn append_copy(&mut self, copy: CopyPieces<'_>, flags: Flags) -> Result<Option<Uid>, BoxFault> {
         let stops = self.condition.begin(BoxCall::Append)?;
         let Some(uid) = self.store.next_uid() else {
             return Err(is_full(K::side()));
         };
-        let Ok(()) = self.store.add(self.alloc, uid, flags, text) else {
+        let Ok(()) = self.store.add(self.alloc, uid, flags, copy) else {
             return Err(self.condition.lack());
         };
         self.condition.end(stops, Some(uid))

@@ -12,6 +12,7 @@ ghost use Rattle.mem_mailbox.specs.Listings.{item_in};
 
 use mailcore::content::fit;
 use mailcore::copies::mark_of;
+use mailcore::copy_pieces::CopyPieces;
 use mailcore::flags::{Flag, Flags};
 use mailcore::listing::{Item, Items, Listing};
 use mailcore::mailbox::{Message, Messages};
@@ -38,6 +39,7 @@ pub struct MemStore {
 pub(crate) struct Unlisted;
 
 impl MemStore {
+    ghost use Rattle.mailcore.specs.CopyPieces.{text_left};
     ghost use Rattle.mailcore.specs.Operations.{added, bytes_of, flags_added, flags_removed, marked_from};
     ghost use Rattle.mailbox.specs.Operations.{HasNumbers, removed};
     ghost use Rattle.mem_mailbox.specs.Listings.{ShowsIn};
@@ -124,20 +126,22 @@ impl MemStore {
         Uid::new(self.next)
     }
 
-    /// Adds a message under the next UID.
+    /// Adds a copy under the next UID.
     pub(crate) fn add(
         &mut self,
         alloc: Global,
         uid: Uid,
         flags: Flags,
-        bytes: &[u8],
+        copy: CopyPieces<'_>,
     ) -> Result<(), AllocError>
         requires next { uid ≡ (store_of self.old).next }
-        ensures ok { OnOk result (store_of self.new ≡ added uid flags bytes.now (store_of self.old)) }
+        ensures ok { OnOk result (store_of self.new ≡ added uid flags (text_left copy.entry) (store_of self.old)) }
         ensures unsynced { OnOk result (self.new.is_synced ≡ false) }
         ensures err { OnErr result (store_of self.new ≡ store_of self.old) }
     {
-        let bytes = Octets::from_vec(Vec::from_slice(alloc, bytes)?);
+        let mut text = Vec::new(alloc);
+        copy.append_to(&mut text)?;
+        let bytes = Octets::from_vec(text);
         self.messages.push(Message { uid, flags, bytes })?;
         self.next = uid.get() + 1;
         self.is_synced = false;

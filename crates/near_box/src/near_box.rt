@@ -8,6 +8,7 @@ ghost use Rattle.std.specs.Int.NonZero.{non_zero_u32_get};
 ghost use Rattle.std.specs.Option.{option_map};
 ghost use Rattle.mailcore.specs.FlagSet.{union, minus};
 ghost use Rattle.mailcore.specs.Operations.{Shows, ShowsSparing, bytes_of, expunged, flagged, flags_added, flags_removed, marked_from};
+ghost use Rattle.mailcore.specs.CopyPieces.{text_left};
 ghost use Rattle.mailcore.specs.Spared.{spares};
 ghost use Rattle.near_box.specs.Entries.{AreSpared, asked};
 ghost use Rattle.near_box.specs.FlagChanges.{changed_flags};
@@ -29,6 +30,7 @@ use crate::read_fault::ReadFault;
 use crate::reading::{find_mark, find_message, listed};
 use crate::survey::{Entry, Survey, survey_of};
 use device::history::History;
+use mailcore::copy_pieces::CopyPieces;
 use mailcore::flags::Flags;
 use mailcore::listing::Listing;
 use mailcore::octets::Octets;
@@ -239,16 +241,16 @@ impl<F: Folder> NearBox<F> {
         Ok(())
     }
 
-    /// Adds a message with these bytes and flags, and tells its UID: `write_tmp`, `replace_meta` one UID higher, and `rename` into `cur`.
+    /// Adds a copy with these flags, and tells its UID: `write_tmp`, `replace_meta` one UID higher, and `rename` into `cur`.
     ///
     /// `UidsExhausted`: there is no UID left.
-    pub fn append(&mut self, bytes: &[u8], flags: Flags) -> Result<Uid, NearFault>
+    pub fn append_copy(&mut self, copy: CopyPieces<'_>, flags: Flags) -> Result<Uid, NearFault>
         ensures uid { F.is_honest ≡ true → IfOk result (λ uid. uid ≡ (mailbox_of self.old).store.next) }
         ensures exhausted { F.is_honest ≡ true
             → IsErrOf result NearFault.UidsExhausted ↔ ((self.old.is_ready ≡ true) × ((mailbox_of self.old).store.next + 1 ≡ 2 ^ 32)) }
-        ensures effect { F.is_honest ≡ true → TurnsMailbox (delivered bytes.now flags) SetsAside self.old self.new result }
+        ensures effect { F.is_honest ≡ true → TurnsMailbox (delivered (text_left copy.entry) flags) SetsAside self.old self.new result }
         ensures files { F.is_honest ≡ true → (let meta = meta_at self.old.fresh (stored_in self.old) in
-            TurnsFiles (appended meta bytes.now flags) (AppendsPart meta bytes.now) self.old self.new result) }
+            TurnsFiles (appended meta (text_left copy.entry) flags) (AppendsPart meta (text_left copy.entry)) self.old self.new result) }
         ensures mailbox { F.is_honest ≡ true → IsMailbox self.old.fresh (stored_in self.old) → IsMailbox self.old.fresh (stored_in self.new) }
         ensures ends { Ends true (box_of self.old) (box_of self.new) result }
     {
@@ -258,7 +260,7 @@ impl<F: Folder> NearBox<F> {
             self.is_ready = true;
             return Err(NearFault::UidsExhausted);
         };
-        self.deliver(uid, bytes, flags)?;
+        self.deliver(uid, copy, flags)?;
         self.is_ready = true;
         Ok(uid)
     }
@@ -375,11 +377,11 @@ impl<F: Folder> NearBox<F> {
     }
 
     // Writes a copy and gives it the name of this UID, which is the next one.
-    fn deliver(&mut self, uid: Uid, bytes: &[u8], flags: Flags) -> Result<(), NearFault>
+    fn deliver(&mut self, uid: Uid, copy: CopyPieces<'_>, flags: Flags) -> Result<(), NearFault>
         requires begun { self.old.is_ready ≡ false }
         requires next { uid ≡ self.old.survey.meta.next }
         ensures effect { F.is_honest ≡ true → (let meta = self.old.survey.meta in
-            TurnsFiles (appended meta bytes.now flags) (AppendsPart meta bytes.now) self.old self.new result) }
+            TurnsFiles (appended meta (text_left copy.entry) flags) (AppendsPart meta (text_left copy.entry)) self.old self.new result) }
         ensures survey { OnOk result (let old = self.old.survey in
             Extends (entry_at uid (record { place = Place.Cur; name = copy_name_of old.meta.validity uid flags }) ∷ [])
             old.waiting.items (raised old.meta 1) old self.new.survey) }
@@ -388,7 +390,7 @@ impl<F: Folder> NearBox<F> {
     {
         let name = copy_name(self.alloc, self.survey.meta.validity, uid, flags)?;
         self.survey.entries.reserve(1)?;
-        self.folder.write_tmp(bytes)?;
+        self.folder.write_tmp(copy)?;
         self.raise_next(1)?;
         let to = Location {
             place: Place::Cur,

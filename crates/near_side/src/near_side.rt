@@ -6,6 +6,7 @@ ghost use Rattle.std.specs.Int.NonZero.{non_zero_u32_get};
 use crate::told::{told, told_by};
 use mailbox::fault::BoxFault;
 use mailbox::mailbox::Mailbox;
+use mailcore::copy_pieces::CopyPieces;
 use mailcore::flags::Flags;
 use mailcore::listing::Listing;
 use mailcore::spared::Spared;
@@ -62,6 +63,7 @@ impl<F: Folder + Drop> Mailbox for NearSide<F> {
     ghost use Rattle.near_box.specs.Boxes.{stored_in};
     ghost use Rattle.near_box.specs.Mailboxes.{IsMailbox};
     ghost use Rattle.mailcore.specs.Mailboxes.{SetsAside};
+    ghost use Rattle.mailcore.specs.CopyPieces.{text_left};
     ghost use Rattle.mailcore.specs.Spared.{spares};
     ghost use Rattle.near_box.specs.Entries.{asked};
     ghost use Rattle.mailbox.specs.Calls.{IsPlain, Never};
@@ -128,15 +130,15 @@ impl<F: Folder + Drop> Mailbox for NearSide<F> {
         self.near.body()
     }
 
-    fn append(&mut self, text: &[u8], flags: Flags) -> Result<Option<Uid>, BoxFault>
+    fn append_copy(&mut self, copy: CopyPieces<'_>, flags: Flags) -> Result<Option<Uid>, BoxFault>
         requires whole { (seen_of self.old).is_broken ≡ false }
         requires open { self.old.is_open ≡ true }
-        requires copy { IsCopyText Near text.now }
+        requires copy { IsCopyText Near (text_left copy) }
         ensures open { self.new.is_open ≡ true }
         ensures full { F.is_honest ≡ true → IsFull 1 (seen_of self.old).stored → IsErrOf result (BoxFault.Own 5) }
-        ensures call { Calls (NoRoom Near (λ _. 1)) (Appends Near text.now flags) SetsAside self.old self.new result }
+        ensures call { Calls (NoRoom Near (λ _. 1)) (Appends Near (text_left copy.entry) flags) SetsAside self.old self.new result }
     {
-        match self.near.append(text, flags) {
+        match self.near.append_copy(copy, flags) {
             Ok(uid) => Ok(Some(uid)),
             Err(fault) => Err(told(fault)),
         }

@@ -84,9 +84,10 @@ module _ (a b ours : List ℕ → Bool) (a1 b1 alone : Bool) (la : IsLess a ours
 pub fits_so : {s s' : Side} {message body : List ℕ} {is_fit found : Bool} → is_fit ≡ fit s' message → s' ≡ s → message ≡ body → is_fit ≡ found → fit s body ≡ found
 fits_so {s} {s'} {message} {body} e es em is = ap (λ (x : List ℕ). fit s x) (sym em) ∙ ap (λ (x : Side). fit x message) (sym es) ∙ sym e ∙ is
 
-pub text_so : (mark : List ℕ) {s s' : Side} {n : LineEnd} {message body text copied : List ℕ} → text ≡ copied → copied ≡ copy_text mark message n → message ≡ body → n ≡ line_end s' → s' ≡ s
-    → text ≡ copy_text mark body (line_end s)
-text_so mark {s} {s'} {n} {message} {body} et ec em en es = et ∙ ec ∙ ap (λ (x : List ℕ). copy_text mark x n) em ∙ ap (λ (x : LineEnd). copy_text mark body x) (en ∙ ap line_end es)
+pub text_so : (mark : List ℕ) {s s' : Side} {n end : LineEnd} {message body text head : List ℕ} → text ≡ copy_text head message end → head ≡ mark → end ≡ n → message ≡ body
+    → n ≡ line_end s' → s' ≡ s → text ≡ copy_text mark body (line_end s)
+text_so mark {s} {s'} {n} {end} {message} {body} {text} {head} et em ee eb en es =
+    et ∙ ap (λ (x : List ℕ). copy_text x message end) em ∙ ap (λ (x : List ℕ). copy_text mark x end) eb ∙ ap (λ (x : LineEnd). copy_text mark body x) (ee ∙ en ∙ ap line_end es)
 
 pub told_as : (f : BoxFault) {s s' : Side} {e : OutsideFault} → e ≡ told s f → s ≡ s' → e ≡ told s' f
 told_as f e es = e ∙ ap (λ (s : Side). told s f) es

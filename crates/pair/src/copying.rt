@@ -15,18 +15,17 @@ ghost use Rattle.rules.specs.Copies.{line_end};
 use crate::tally::told;
 use mailbox::mailbox::Mailbox;
 use mailcore::content::fit;
-use mailcore::copies::copy_text;
+use mailcore::copy_pieces::{CopyHead, CopyPieces};
 use mailcore::flags::Flags;
 use mailcore::side::{Direction, LineEnd, Side};
 use mailcore::tuid::Tuid;
 use mailcore::uid::Uid;
 use outside::fault::OutsideFault;
 use outside::outside::Carried;
-use std::alloc::Global;
 
-/// Copies the message with this UID from one mailbox to the other, under this mark and with these flags.
+/// Copies the message with this UID from one mailbox to the other, under this mark and with these flags. The copy is made piece by piece from
+/// the message, as the one mailbox lends it.
 pub(crate) fn copy<A: Mailbox, B: Mailbox>(
-    alloc: Global,
     direction: Direction,
     from: &mut A,
     to: &mut B,
@@ -66,10 +65,8 @@ pub(crate) fn copy<A: Mailbox, B: Mailbox>(
     if !fit(direction.source(), message) {
         return Ok(Carried::Unfit);
     }
-    let Ok(text) = copy_text(alloc, mark, message, line_end(direction.target())) else {
-        return Err(OutsideFault::NoMemory);
-    };
-    match to.append(&text, flags) {
+    let head = CopyHead::new(mark, line_end(direction.target()));
+    match to.append_copy(CopyPieces::new(&head, message), flags) {
         Ok(copy) => Ok(Carried::Made(copy)),
         Err(fault) => Err(told(direction.target(), fault)),
     }

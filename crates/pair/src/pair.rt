@@ -361,7 +361,6 @@ impl<F: Mailbox + Drop, N: Mailbox + Drop, S: Shelf + Drop> Outside for Pair<F, 
         match direction {
             Direction::Pull => {
                 let answer = copy(
-                    self.alloc,
                     Direction::Pull,
                     &mut self.far,
                     &mut self.near,
@@ -373,7 +372,6 @@ impl<F: Mailbox + Drop, N: Mailbox + Drop, S: Shelf + Drop> Outside for Pair<F, 
             }
             Direction::Push => {
                 let answer = copy(
-                    self.alloc,
                     Direction::Push,
                     &mut self.near,
                     &mut self.far,

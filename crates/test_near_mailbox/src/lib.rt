@@ -50,7 +50,7 @@
 //! | `fetch UID`, `find MARK FROM` | the bytes of a message; the UID of the copy with this mark |
 //! | `find N marks` | how many of the marks `000000000001` to N are found, sought one after another |
 //! | `append FLAGS "BYTES"` | the UID of the new message |
-//! | `append N copies` | N messages are appended, and then the names are synced: `ok`, or the fault |
+//! | `append N copies` | N copies of a far message are appended, and then the names are synced: `ok`, or the fault |
 //! | `admit`, `add UID FLAGS`, `remove UID FLAGS`, `expunge UID,UID` | `ok`, or the fault; `-` stands for no UID |
 //!
 //! The folder again; each of these lines closes the mailbox:

@@ -1,7 +1,9 @@
 //! Operations on many messages, of which the answer is short.
 
 use crate::operation::{read_uids, tell_done, tell_fault};
+use mailcore::copy_pieces::{CopyHead, CopyPieces};
 use mailcore::flags::Flags;
+use mailcore::side::LineEnd;
 use mailcore::spared::Spared;
 use mailcore::tuid::{TUID_LENGTH, Tuid};
 use maildir::folder::Folder;
@@ -10,8 +12,8 @@ use std::alloc::{AllocError, Global};
 use test_scripts::told::Told;
 use test_scripts::words::Words;
 
-/// What is appended.
-const COPY: &[u8] = b"Subject: a copy\n\ntext\n";
+/// What is copied.
+const MESSAGE: &[u8] = b"Subject: a copy\r\n\r\ntext\r\n";
 
 /// How many of these things a line asks for, where `N THINGS` stands next in it.
 pub fn many(line: &mut Words<'_>, things: &str) -> Option<u32> {
@@ -73,14 +75,19 @@ fn numbers(alloc: Global, line: &mut Words<'_>) -> Result<Vec<u32>, AllocError> 
     Ok(numbers)
 }
 
-/// Appends so many messages, and syncs the names.
+/// Appends so many copies of a far message, under the mark `000000000000`, and syncs the names.
 pub fn append_copies<F: Folder>(
     near: &mut NearBox<F>,
     copies: u32,
     told: &mut Told,
 ) -> Option<NearFault> {
+    let Some(mark) = mark_of(0) else {
+        return None;
+    };
+    let head = CopyHead::new(mark, LineEnd::Lf);
     for _ in 0..copies {
-        if let Err(fault) = near.append(COPY, Flags::none()) {
+        let copy = CopyPieces::new(&head, MESSAGE);
+        if let Err(fault) = near.append_copy(copy, Flags::none()) {
             return tell_fault(told, fault);
         }
     }

@@ -3,6 +3,7 @@
 ghost use Rattle.std.specs.Prelude.{◌≡◌};
 
 use device::DeviceFault;
+use mailcore::copy_pieces::CopyPieces;
 use maildir::folder::{FileName, Folder, Location, Origin, Source};
 use maildir::mem_folder::FolderCall;
 use std::alloc::Global;
@@ -81,9 +82,9 @@ impl<F: Folder> Folder for NotedFolder<F> {
         self.folder.read(file)
     }
 
-    fn write_tmp(&mut self, bytes: &[u8]) -> Result<(), DeviceFault> {
+    fn write_tmp(&mut self, copy: CopyPieces<'_>) -> Result<(), DeviceFault> {
         self.note(FolderCall::WriteTmp);
-        self.folder.write_tmp(bytes)
+        self.folder.write_tmp(copy)
     }
 
     fn rename(&mut self, from: Origin<'_>, to: Location<'_>) -> Result<(), DeviceFault> {

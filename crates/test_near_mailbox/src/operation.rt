@@ -1,6 +1,7 @@
 //! The operations of a mailbox, and their answers.
 
 use crate::many::{append_copies, count, find_marks, many};
+use mailcore::copy_pieces::CopyPieces;
 use mailcore::listing::{Item, Listing};
 use mailcore::tuid::Tuid;
 use mailcore::uid::Uid;
@@ -71,7 +72,10 @@ fn append<F: Folder>(
     }
     let flags = line.flags();
     match line.bytes(alloc) {
-        Ok(bytes) => tell_uid(told, near.append(&bytes, flags).map(Some)),
+        Ok(bytes) => tell_uid(
+            told,
+            near.append_copy(CopyPieces::whole(&bytes), flags).map(Some),
+        ),
         Err(Failure::NoMemory) => Some(NearFault::NoMemory),
         Err(_) => refuse(line),
     }

@@ -1,6 +1,7 @@
 use Rattle.std.proofs.Common.{◌≡◌, inr, ℕ, ◌+◌, Option, Some, sym, ◌∙◌, ap, subst, take, Result, Ok, Err}
 use Rattle.std.proofs.lemmas.Result.{err_from_is_err_and}
 use Rattle.imap_replies.specs.declared.word.Status.TheVariants as statuses
+use Rattle.mailcore.specs.CopyPieces.{text_left}
 use Rattle.imap_session.specs.Mailboxes.{FarMailbox}
 use Rattle.imap_session.specs.Servers.{selected}
 use Rattle.imap_session.specs.Lines.{told_server}
@@ -33,9 +34,9 @@ returns-in_err-len-clause-outcome g c honest =
           let old = w.mid in
           let new = (told_server (g.L.Link.line c.ask_to_add.new.self.wire.link)) in
           let heard = c.ask_to_add.new.self.wire.heard.items in
-          subst (λ (r : Result (Option ℕ) FarFault). Outcome (Adds m a.flags a.bytes.now) (NoUidLeft m) (AddsSome m a.flags a.bytes.now) r old new) (sym (p.1 ∙ ap Err p.2))
-          (outcome_err ℕ (Option ℕ) (λ len. AddedSo n a.name.now m a.flags a.bytes.now (take len heard)) (Adds m a.flags a.bytes.now) (NoUidLeft m) (AddsSome m a.flags a.bytes.now) old new f
-          (add_exchanged n a.name.now a.flags a.bytes.now old m sel.0 is (Err f) heard new w.then));
+          subst (λ (r : Result (Option ℕ) FarFault). Outcome (Adds m a.flags (text_left a.octets)) (NoUidLeft m) (AddsSome m a.flags (text_left a.octets)) r old new) (sym (p.1 ∙ ap Err p.2))
+          (outcome_err ℕ (Option ℕ) (λ len. AddedSo n a.name.now m a.flags (text_left a.octets) (take len heard)) (Adds m a.flags (text_left a.octets)) (NoUidLeft m) (AddsSome m a.flags (text_left a.octets)) old new f
+          (add_exchanged n a.name.now a.flags (text_left a.octets) old m sel.0 is (Err f) heard new w.then));
     }
 
 pub returns-in_err-given-clause-ends : goal.returns-in_err-given-clause-ends
@@ -60,9 +61,9 @@ returns-in_err-given-clause-outcome g c honest =
           let old = w.mid in
           let new = (told_server (g.L.Link.line c.ask_to_add.new.self.wire.link)) in
           let heard = c.ask_to_add.new.self.wire.heard.items in
-          let done_so = add_exchanged n a.name.now a.flags a.bytes.now old m sel.0 is (Ok c.in_ok-len.len) heard new w.then in
-          subst (λ (r : Result (Option ℕ) FarFault). Outcome (Adds m a.flags a.bytes.now) (NoUidLeft m) (AddsSome m a.flags a.bytes.now) r old new) (sym (p.1 ∙ ap Err (p.2 ∙ c.in_err-given.ensures.err)))
-          (inr (some_of n a.name.now a.flags a.bytes.now old m sel.0 is (take c.in_ok-len.len heard) new done_so));
+          let done_so = add_exchanged n a.name.now a.flags (text_left a.octets) old m sel.0 is (Ok c.in_ok-len.len) heard new w.then in
+          subst (λ (r : Result (Option ℕ) FarFault). Outcome (Adds m a.flags (text_left a.octets)) (NoUidLeft m) (AddsSome m a.flags (text_left a.octets)) r old new) (sym (p.1 ∙ ap Err (p.2 ∙ c.in_err-given.ensures.err)))
+          (inr (some_of n a.name.now a.flags (text_left a.octets) old m sel.0 is (take c.in_ok-len.len heard) new done_so));
     }
 
 pub returns-in_err-told-clause-ends : goal.returns-in_err-told-clause-ends
@@ -87,8 +88,8 @@ returns-in_err-told-clause-outcome g c honest =
           let old = w.mid in
           let new = (told_server (g.L.Link.line c.ask_to_add.new.self.wire.link)) in
           let heard = c.ask_to_add.new.self.wire.heard.items in
-          let done_so = add_exchanged n a.name.now a.flags a.bytes.now old m sel.0 is (Ok c.in_ok-len.len) heard new w.then in
-          let told = told_so n a.name.now m a.flags a.bytes.now (take c.in_ok-len.len heard) old new c.args.validity c.args.next sel is done_so c.in_ok-given.given c.in_ok-given.ensures.told in
+          let done_so = add_exchanged n a.name.now a.flags (text_left a.octets) old m sel.0 is (Ok c.in_ok-len.len) heard new w.then in
+          let told = told_so n a.name.now m a.flags (text_left a.octets) (take c.in_ok-len.len heard) old new c.args.validity c.args.next sel is done_so c.in_ok-given.given c.in_ok-given.ensures.told in
           absurd (never_protocol done_so.uid _ c.in_err-told.field-0.0 told (sym c.uid_told.ensures ∙ c.in_err-told.was));
     }
 
@@ -98,7 +99,7 @@ returns-clause-outcome g c =
     let n = c.args.self.now.tags + 1 in
     let old = (told_server (g.L.Link.line c.args.self.now.wire.link)) in
     let heard = c.ask_to_add.new.self.wire.heard.items in
-    subst (λ l. g.L.Link.honest l → Among g.L.Link.visitors (λ old new. IsSelected a.name.now c.args.validity c.args.next old → (m : FarMailbox) → selected old ≡ Some m → Adds m a.flags a.bytes.now c.in_ok-told.told old new) old (told_server (g.L.Link.line l))) (sym c.done.ensures.link)
+    subst (λ l. g.L.Link.honest l → Among g.L.Link.visitors (λ old new. IsSelected a.name.now c.args.validity c.args.next old → (m : FarMailbox) → selected old ≡ Some m → Adds m a.flags (text_left a.octets) c.in_ok-told.told old new) old (told_server (g.L.Link.line l))) (sym c.done.ensures.link)
     (λ honest.
     let w = c.in_ok-len.ensures.outcome honest in
     record {
@@ -106,7 +107,7 @@ returns-clause-outcome g c =
       visits = w.visits;
       then = λ sel m is.
           let new = (told_server (g.L.Link.line c.ask_to_add.new.self.wire.link)) in
-          let done_so = add_exchanged n a.name.now a.flags a.bytes.now w.mid m sel.0 is (Ok c.in_ok-len.len) heard new w.then in
-          let told = told_so n a.name.now m a.flags a.bytes.now (take c.in_ok-len.len heard) w.mid new c.args.validity c.args.next sel is done_so c.in_ok-given.given c.in_ok-given.ensures.told in
-          adds_so n a.name.now m a.flags a.bytes.now (take c.in_ok-len.len heard) w.mid new _ c.in_ok-told.told done_so told (sym c.uid_told.ensures ∙ c.in_ok-told.was);
+          let done_so = add_exchanged n a.name.now a.flags (text_left a.octets) w.mid m sel.0 is (Ok c.in_ok-len.len) heard new w.then in
+          let told = told_so n a.name.now m a.flags (text_left a.octets) (take c.in_ok-len.len heard) w.mid new c.args.validity c.args.next sel is done_so c.in_ok-given.given c.in_ok-given.ensures.told in
+          adds_so n a.name.now m a.flags (text_left a.octets) (take c.in_ok-len.len heard) w.mid new _ c.in_ok-told.told done_so told (sym c.uid_told.ensures ∙ c.in_ok-told.was);
     })

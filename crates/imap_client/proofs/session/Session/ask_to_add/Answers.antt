@@ -15,8 +15,7 @@ use Rattle.imap_client.proofs.session.Session.ask_to_add.Goals as goal
 pub deliver-requires-clause-parts : goal.deliver-requires-clause-parts
 deliver-requires-clause-parts g c = record {
   command = record { tag = c.in_ok-tag.tag; request = request_to_add c.args.addition.now };
-  is = addition_in_two c.in_ok-tag.tag c.deref.result.now c.in_ok-front.front.items c.deref-2.result.now c.in_ok-rest.rest.items c.args.addition.now c.requires c.deref.ensures.value c.deref-2.ensures.value
-      c.in_ok-front.ensures c.in_ok-rest.ensures;
+  is = addition_in_two c.in_ok-tag.tag c.deref.result.now c.in_ok-front.front.items c.args.addition.now c.requires c.deref.ensures.value c.in_ok-front.ensures;
 }
 
 pub returns-clause-outcome : goal.returns-clause-outcome
@@ -26,8 +25,7 @@ returns-clause-outcome g c honest =
     let heard = c.deliver.new.self.wire.heard.items in
     let tag = c.in_ok-tag.ensures.tag.0 ∙ ap (λ (k : ℕ). tag_text (k + 1)) c.in_ok-begin.ensures.same.1 in
     let wire = c.in_ok-tag.ensures.same.0 ∙ c.in_ok-begin.ensures.same.0 in
-    let parts = addition_in_two c.in_ok-tag.tag c.deref.result.now c.in_ok-front.front.items c.deref-2.result.now c.in_ok-rest.rest.items c.args.addition.now c.requires c.deref.ensures.value c.deref-2.ensures.value
-    c.in_ok-front.ensures c.in_ok-rest.ensures in
+    let parts = addition_in_two c.in_ok-tag.tag c.deref.result.now c.in_ok-front.front.items c.args.addition.now c.requires c.deref.ensures.value c.in_ok-front.ensures in
     subst (λ w. Among g.L.Link.visitors (Exchanged (record { tag = tag_text (c.args.self.now.tags + 1); request = request }) c.deliver.result heard) (told_server (g.L.Link.line w.link)) new) wire
     (subst (λ (t : List ℕ). Among g.L.Link.visitors (Exchanged (record { tag = t; request = request }) c.deliver.result heard) (told_server (g.L.Link.line c.next_tag.new.self.wire.link)) new) tag
     (c.deliver.ensures.outcome honest (record { tag = c.in_ok-tag.tag; request = request }) parts))
@@ -49,9 +47,3 @@ returns-in_err-front-clause-outcome g c honest =
     let p = err_from_is_err_and c.from_residual-in_err-front.result c.from_residual-in_err-front.ensures.1 in
     subst (λ w. Among g.L.Link.visitors (Exchanged (command_at (c.args.self.now.tags + 1) (request_to_add c.args.addition.now)) c.from_residual-in_err-front.result w.heard.items) (told_server (g.L.Link.line c.args.self.now.wire.link)) (told_server (g.L.Link.line w.link))) (sym (c.in_ok-tag.ensures.same.0 ∙ c.in_ok-begin.ensures.same.0))
     (unsent g.L.Link.visitors (λ r. Exchanged (command_at (c.args.self.now.tags + 1) (request_to_add c.args.addition.now)) r c.args.self.now.wire.heard.items) c.from_residual-in_err-front.result faults.NoMemory (told_server (g.L.Link.line c.args.self.now.wire.link)) (p.1 ∙ ap Err p.2) (inl refl))
-
-pub returns-in_err-rest-clause-outcome : goal.returns-in_err-rest-clause-outcome
-returns-in_err-rest-clause-outcome g c honest =
-    let p = err_from_is_err_and c.from_residual-in_err-rest.result c.from_residual-in_err-rest.ensures.1 in
-    subst (λ w. Among g.L.Link.visitors (Exchanged (command_at (c.args.self.now.tags + 1) (request_to_add c.args.addition.now)) c.from_residual-in_err-rest.result w.heard.items) (told_server (g.L.Link.line c.args.self.now.wire.link)) (told_server (g.L.Link.line w.link))) (sym (c.in_ok-tag.ensures.same.0 ∙ c.in_ok-begin.ensures.same.0))
-    (unsent g.L.Link.visitors (λ r. Exchanged (command_at (c.args.self.now.tags + 1) (request_to_add c.args.addition.now)) r c.args.self.now.wire.heard.items) c.from_residual-in_err-rest.result faults.NoMemory (told_server (g.L.Link.line c.args.self.now.wire.link)) (p.1 ∙ ap Err p.2) (inl refl))

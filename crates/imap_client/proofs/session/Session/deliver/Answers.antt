@@ -1,5 +1,7 @@
-use Rattle.std.proofs.Common.{ℕ, List, sym, ◌∙◌, ap, subst, take, drop, Result, Err}
+use Rattle.std.proofs.Common.{◌++◌, ℕ, List, sym, ◌∙◌, ap, subst, take, drop, Result, Err}
 use Rattle.std.proofs.lemmas.Result.{err_from_is_err_and}
+use Rattle.mailcore.specs.CopyPieces.{text_left}
+use Rattle.wire_reader.specs.Spelling.{crlf}
 use Rattle.imap_commands.specs.declared.command.Command.{Command}
 use Rattle.imap_session.specs.Servers.{Server}
 use Rattle.imap_session.specs.Lines.{told_server}
@@ -36,7 +38,7 @@ returns-in_err-offer-clause-outcome g c honest command is =
       then =
           subst (λ (r : Result ℕ FarFault). Exchanged command r heard old new) (sym (p.1 ∙ ap Err p.2))
           (exchanged_err command (λ a. Never) f heard old new
-          (outcome_err (Unit {0}) Answered (λ a. Never) (λ a. Never) Never (Performs command) old new f (a.then c.args.rest.now command is)));
+          (outcome_err (Unit {0}) Answered (λ a. Never) (λ a. Never) Never (Performs command) old new f (a.then (text_left c.args.octets ++ crlf) command is)));
     }
 
 pub returns-in_err-answered-clause-outcome : goal.returns-in_err-answered-clause-outcome
@@ -45,10 +47,10 @@ returns-in_err-answered-clause-outcome g c honest command is =
     let f = c.in_err-answered.field-0.0 in
     let begin = g.L.Link.line c.args.self.now.wire.link in
     let offered = g.L.Link.line c.offer.new.self.wire.link in
-    let new = (told_server (g.L.Link.line c.finish.new.self.link)) in
-    let heard = c.finish.new.self.heard.items in
+    let new = (told_server (g.L.Link.line c.finish_copy.new.self.link)) in
+    let heard = c.finish_copy.new.self.heard.items in
     let first = c.in_ok-offer.ensures.outcome (c.in_err-answered.ensures.was_honest honest) in
-    let waits = first.then c.args.rest.now command is in
+    let waits = first.then (text_left c.args.octets ++ crlf) command is in
     let a = c.in_err-answered.ensures.outcome honest in
     let mid = told a.mid in
     record {
@@ -57,7 +59,7 @@ returns-in_err-answered-clause-outcome g c honest command is =
       then =
           subst (λ (r : Result ℕ FarFault). Exchanged command r heard mid new) (sym (p.1 ∙ ap Err p.2))
           (exchanged_err command (λ a. Replied command a.status (take a.len heard)) f heard mid new
-          (a.then command c.args.front.now (completes command c.args.tag.now c.args.front.now c.args.rest.now is c.answer_alone.result c.answer_alone.ensures)
+          (a.then command c.args.front.now (completes command c.args.tag.now c.args.front.now (text_left c.args.octets ++ crlf) is c.answer_alone.result c.answer_alone.ensures)
           (at_then g.L.Link.visitors c.args.front.now offered c.offer.new.self.wire.heard.items a.mid a.visits waits.1)));
     }
 
@@ -65,28 +67,28 @@ pub judge-requires-clause-idle : goal.judge-requires-clause-idle
 judge-requires-clause-idle g c honest =
     let one = c.requires.parts in
     let first = c.in_ok-offer.ensures.outcome (c.in_ok-answered.ensures.was_honest honest) in
-    let waits = first.then c.args.rest.now one.command one.is in
-    still_of (ends_of (g.L.Link.line c.finish.new.self.link) (drop c.in_ok-answered.answered.len c.finish.new.self.heard.items))
-    (c.in_ok-answered.ensures.idle honest one.command c.args.front.now (completes one.command c.args.tag.now c.args.front.now c.args.rest.now one.is c.answer_alone.result c.answer_alone.ensures) one.is.stays waits.1)
+    let waits = first.then (text_left c.args.octets ++ crlf) one.command one.is in
+    still_of (ends_of (g.L.Link.line c.finish_copy.new.self.link) (drop c.in_ok-answered.answered.len c.finish_copy.new.self.heard.items))
+    (c.in_ok-answered.ensures.idle honest one.command c.args.front.now (completes one.command c.args.tag.now c.args.front.now (text_left c.args.octets ++ crlf) one.is c.answer_alone.result c.answer_alone.ensures) one.is.stays waits.1)
 
 pub returns-clause-outcome : goal.returns-clause-outcome
 returns-clause-outcome g c =
     let begin = g.L.Link.line c.args.self.now.wire.link in
     let now = c.judge.new.self.wire.heard.items in
-    subst (λ l. g.L.Link.honest l → (command : Command) → InTwo c.args.tag.now c.args.front.now c.args.rest.now command → Among g.L.Link.visitors (Exchanged command c.judge.result now) (told_server begin) (told_server (g.L.Link.line l))) (sym c.judge.ensures.link)
+    subst (λ l. g.L.Link.honest l → (command : Command) → InTwo c.args.tag.now c.args.front.now (text_left c.args.octets ++ crlf) command → Among g.L.Link.visitors (Exchanged command c.judge.result now) (told_server begin) (told_server (g.L.Link.line l))) (sym c.judge.ensures.link)
     (λ honest command is.
     let offered = g.L.Link.line c.offer.new.self.wire.link in
-    let new = (told_server (g.L.Link.line c.finish.new.self.link)) in
+    let new = (told_server (g.L.Link.line c.finish_copy.new.self.link)) in
     let first = c.in_ok-offer.ensures.outcome (c.in_ok-answered.ensures.was_honest honest) in
-    let waits = first.then c.args.rest.now command is in
+    let waits = first.then (text_left c.args.octets ++ crlf) command is in
     let a = c.in_ok-answered.ensures.outcome honest in
     let mid = told a.mid in
     record {
       mid = mid;
       visits = two_visits g.L.Link.visitors begin offered first.mid a.mid first.visits waits.0 a.visits;
       then =
-          exchanged_of command c.in_ok-answered.answered.status c.in_ok-answered.answered.len c.judge.new.self.is_ready c.judge.result c.finish.new.self.heard.items now mid new c.judge.ensures.judged c.judge.ensures.heard
-          (a.then command c.args.front.now (completes command c.args.tag.now c.args.front.now c.args.rest.now is c.answer_alone.result c.answer_alone.ensures)
+          exchanged_of command c.in_ok-answered.answered.status c.in_ok-answered.answered.len c.judge.new.self.is_ready c.judge.result c.finish_copy.new.self.heard.items now mid new c.judge.ensures.judged c.judge.ensures.heard
+          (a.then command c.args.front.now (completes command c.args.tag.now c.args.front.now (text_left c.args.octets ++ crlf) is c.answer_alone.result c.answer_alone.ensures)
           (at_then g.L.Link.visitors c.args.front.now offered c.offer.new.self.wire.heard.items a.mid a.visits waits.1));
     })
 
@@ -95,11 +97,11 @@ returns-clause-idle g c =
     if_ok _ c.judge.result (λ n e.
     let len = judged_len c.in_ok-answered.answered.status c.in_ok-answered.answered.len n c.judge.new.self.is_ready c.judge.result c.judge.ensures.judged e in
     let heard = on_ok _ c.judge.result n c.judge.ensures.heard e in
-    let was = c.finish.new.self.heard.items in
+    let was = c.finish_copy.new.self.heard.items in
     subst (λ l. g.L.Link.honest l → IsStill (ends_of (g.L.Link.line l) (drop n c.judge.new.self.wire.heard.items))) (sym c.judge.ensures.link) (λ honest.
     let one = c.requires.parts in
     let first = c.in_ok-offer.ensures.outcome (c.in_ok-answered.ensures.was_honest honest) in
-    let waits = first.then c.args.rest.now one.command one.is in
-    let still = still_of (ends_of (g.L.Link.line c.finish.new.self.link) (drop c.in_ok-answered.answered.len was))
-    (c.in_ok-answered.ensures.idle honest one.command c.args.front.now (completes one.command c.args.tag.now c.args.front.now c.args.rest.now one.is c.answer_alone.result c.answer_alone.ensures) one.is.stays waits.1) in
-    subst (λ (b : List ℕ). IsStill (ends_of (g.L.Link.line c.finish.new.self.link) b)) (ap (λ (k : ℕ). drop k was) (sym len) ∙ ap (drop n) (sym heard)) still))
+    let waits = first.then (text_left c.args.octets ++ crlf) one.command one.is in
+    let still = still_of (ends_of (g.L.Link.line c.finish_copy.new.self.link) (drop c.in_ok-answered.answered.len was))
+    (c.in_ok-answered.ensures.idle honest one.command c.args.front.now (completes one.command c.args.tag.now c.args.front.now (text_left c.args.octets ++ crlf) one.is c.answer_alone.result c.answer_alone.ensures) one.is.stays waits.1) in
+    subst (λ (b : List ℕ). IsStill (ends_of (g.L.Link.line c.finish_copy.new.self.link) b)) (ap (λ (k : ℕ). drop k was) (sym len) ∙ ap (drop n) (sym heard)) still))

@@ -1,6 +1,6 @@
 use Rattle.link_face.specs.Faces.{faced}
 use Rattle.link_face.specs.Turning.{held_of}
-use Rattle.link_face.proofs.Feeding.{nothing_sent}
+use Rattle.imap_link.proofs.Unsent.{nothing_sent}
 use Rattle.link_face.proofs.face_link.FaceLinkLink.send.Goals as goal
 
 pub returns-in-Err-clause-err : goal.returns-in-Err-clause-err

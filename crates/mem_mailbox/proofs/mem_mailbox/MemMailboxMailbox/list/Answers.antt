@@ -1,5 +1,6 @@
 use Rattle.std.proofs.Common.{refl}
 use Rattle.std.proofs.lemmas.Result.{err_from_is_err_and}
+use Rattle.mailcore.specs.Spared.{spares}
 use Rattle.mailbox.specs.Calls.{Never}
 use Rattle.mem_mailbox.specs.Views.{near_of}
 use Rattle.mem_mailbox.proofs.MemCalls.{ends, fails, lacks, lists}
@@ -22,4 +23,4 @@ returns-clause-call g c =
     let m = c.args.self.now in
     let b = near_of m.store m.waiting.items in
     ends _ Never _ _ b m.condition c.in-Ok.listing b c.begin.new.self c.end.new.self c.end.result
-    c.requires.whole c.in_ok-stops.ensures.same (refl, lists g.K.Kind.of b.store.next c.args.from b c.in-Ok.listing (rw c.side.ensures at c.in-Ok.ensures.shows)) c.end.ensures.ends
+    c.requires.whole c.in_ok-stops.ensures.same (refl, lists g.K.Kind.of b.store.next (spares c.args.spared.now) b c.in-Ok.listing (rw c.side.ensures at c.in-Ok.ensures.shows)) c.end.ensures.ends

@@ -2,6 +2,7 @@ use Rattle.std.proofs.Common.{rules, ◌≡◌, ℕ, ◌<◌, ◌+◌, ◌^◌, 
 use Rattle.std.specs.Prelude.{Result, Ok, Err}
 use Rattle.std.proofs.lemmas.Result.{err_from_is_err_and}
 use Rattle.mailcore.specs.FlagSet.{FLAGS}
+use Rattle.mailcore.specs.CopyPieces.{text_left}
 use Rattle.near_box.specs.declared.survey.Survey.{Survey}
 use Rattle.near_box.specs.Mailboxes.{near_of}
 use Rattle.near_box.specs.NearEffects.{AppendsPart, appended}
@@ -9,7 +10,7 @@ use Rattle.near_box.specs.Surveys.{Surveys}
 use Rattle.near_box.specs.declared.near_fault.NearFault.{NearFault}
 use Rattle.near_box.proofs.KeptMailboxes.{append_mailbox}
 use Rattle.near_box.proofs.AppendLemmas.{appended_near, appended_surveys, append_stopped, delivery}
-use Rattle.near_box.proofs.near_box.NearBox.append.Goals as goal
+use Rattle.near_box.proofs.near_box.NearBox.append_copy.Goals as goal
 
 pub returns-clause-effect : goal.returns-clause-effect
 returns-clause-effect g c = λ honest.
@@ -18,11 +19,11 @@ returns-clause-effect g c = λ honest.
     let surveys : Surveys box.survey box.fresh s = box.surveys c.in_ok-begin.ensures.ready honest in
     let room : box.survey.meta.next + 1 < 2 ^ 32 = grind (arith, c.in-Some.ensures) in
     let are_flags : c.args.flags < 2 ^ FLAGS = search rules in
-    let done : (g.F.Folder.seen c.deliver.new.self.folder).stored ≡ appended box.survey.meta c.args.bytes.now c.args.flags s =
+    let done : (g.F.Folder.seen c.deliver.new.self.folder).stored ≡ appended box.survey.meta (text_left c.args.copy) c.args.flags s =
     c.in_ok-deliver.ensures.effect honest
-    ∙ ap (λ v. appended v.meta c.args.bytes.now c.args.flags (g.F.Folder.seen c.begin.new.self.folder).stored) c.begin.ensures.same.0
-    ∙ ap (λ f. appended box.survey.meta c.args.bytes.now c.args.flags (g.F.Folder.seen f).stored) c.begin.ensures.folder in
-    ap (near_of box.fresh) done ∙ appended_near box.survey box.fresh s surveys box.has_fresh.0 box.has_fresh.1 room c.args.bytes.now c.args.flags are_flags
+    ∙ ap (λ v. appended v.meta (text_left c.args.copy) c.args.flags (g.F.Folder.seen c.begin.new.self.folder).stored) c.begin.ensures.same.0
+    ∙ ap (λ f. appended box.survey.meta (text_left c.args.copy) c.args.flags (g.F.Folder.seen f).stored) c.begin.ensures.folder in
+    ap (near_of box.fresh) done ∙ appended_near box.survey box.fresh s surveys box.has_fresh.0 box.has_fresh.1 room (text_left c.args.copy) c.args.flags are_flags
 
 pub returns-in_err-deliver-clause-effect : goal.returns-in_err-deliver-clause-effect
 returns-in_err-deliver-clause-effect g c = λ honest.
@@ -33,10 +34,10 @@ returns-in_err-deliver-clause-effect g c = λ honest.
     let surveys : Surveys box.survey box.fresh s = box.surveys c.in_ok-begin.ensures.ready honest in
     let room : box.survey.meta.next + 1 < 2 ^ 32 = grind (arith, c.in-Some.ensures) in
     let are_flags : c.args.flags < 2 ^ FLAGS = search rules in
-    let left = subst (λ f. (after ≡ (g.F.Folder.seen f).stored) ⊎ ((after ≡ appended box.survey.meta c.args.bytes.now c.args.flags (g.F.Folder.seen f).stored) ⊎ AppendsPart box.survey.meta c.args.bytes.now (g.F.Folder.seen f).stored after)) c.begin.ensures.folder
-    (subst (λ (v : Survey). (after ≡ (g.F.Folder.seen c.begin.new.self.folder).stored) ⊎ ((after ≡ appended v.meta c.args.bytes.now c.args.flags (g.F.Folder.seen c.begin.new.self.folder).stored) ⊎ AppendsPart v.meta c.args.bytes.now (g.F.Folder.seen c.begin.new.self.folder).stored after)) c.begin.ensures.same.0
+    let left = subst (λ f. (after ≡ (g.F.Folder.seen f).stored) ⊎ ((after ≡ appended box.survey.meta (text_left c.args.copy) c.args.flags (g.F.Folder.seen f).stored) ⊎ AppendsPart box.survey.meta (text_left c.args.copy) (g.F.Folder.seen f).stored after)) c.begin.ensures.folder
+    (subst (λ (v : Survey). (after ≡ (g.F.Folder.seen c.begin.new.self.folder).stored) ⊎ ((after ≡ appended v.meta (text_left c.args.copy) c.args.flags (g.F.Folder.seen c.begin.new.self.folder).stored) ⊎ AppendsPart v.meta (text_left c.args.copy) (g.F.Folder.seen c.begin.new.self.folder).stored after)) c.begin.ensures.same.0
     (c.in_err-deliver.ensures.effect honest)) in
-    rw (e.1) (append_stopped box.survey box.fresh s surveys box.has_fresh.0 box.has_fresh.1 room c.args.bytes.now c.args.flags are_flags after left)
+    rw (e.1) (append_stopped box.survey box.fresh s surveys box.has_fresh.0 box.has_fresh.1 room (text_left c.args.copy) c.args.flags are_flags after left)
 
 pub invariant_of-self-2-clause-surveys : goal.invariant_of-self-2-clause-surveys
 invariant_of-self-2-clause-surveys g c = λ ready honest.
@@ -47,15 +48,15 @@ invariant_of-self-2-clause-surveys g c = λ ready honest.
     let room : box.survey.meta.next + 1 < 2 ^ 32 = grind (arith, c.in-Some.ensures) in
     let are_flags : c.args.flags < 2 ^ FLAGS = search rules in
     let number : c.in-Some.uid ≡ box.survey.meta.next = grind (arith, c.in-Some.ensures) in
-    let done : (g.F.Folder.seen new.folder).stored ≡ appended box.survey.meta c.args.bytes.now c.args.flags s =
+    let done : (g.F.Folder.seen new.folder).stored ≡ appended box.survey.meta (text_left c.args.copy) c.args.flags s =
     c.in_ok-deliver.ensures.effect honest
-    ∙ ap (λ v. appended v.meta c.args.bytes.now c.args.flags (g.F.Folder.seen c.begin.new.self.folder).stored) c.begin.ensures.same.0
-    ∙ ap (λ f. appended box.survey.meta c.args.bytes.now c.args.flags (g.F.Folder.seen f).stored) c.begin.ensures.folder in
+    ∙ ap (λ v. appended v.meta (text_left c.args.copy) c.args.flags (g.F.Folder.seen c.begin.new.self.folder).stored) c.begin.ensures.same.0
+    ∙ ap (λ f. appended box.survey.meta (text_left c.args.copy) c.args.flags (g.F.Folder.seen f).stored) c.begin.ensures.folder in
     let extends = delivery box.survey c.begin.new.self.survey new.survey c.in-Some.uid c.args.flags c.begin.ensures.same.0 number c.in_ok-deliver.ensures.survey in
     let same : new.fresh ≡ box.fresh = c.deliver.ensures.failed.1 ∙ c.begin.ensures.same.1 in
     subst (λ t. Surveys new.survey new.fresh t) (sym done)
-    (subst (λ n. Surveys new.survey n (appended box.survey.meta c.args.bytes.now c.args.flags s)) (sym same)
-    (appended_surveys box.survey box.fresh s surveys box.has_fresh.0 box.has_fresh.1 room c.args.bytes.now c.args.flags are_flags new.survey extends))
+    (subst (λ n. Surveys new.survey n (appended box.survey.meta (text_left c.args.copy) c.args.flags s)) (sym same)
+    (appended_surveys box.survey box.fresh s surveys box.has_fresh.0 box.has_fresh.1 room (text_left c.args.copy) c.args.flags are_flags new.survey extends))
 
 pub returns-in_err-deliver-clause-mailbox : goal.returns-in_err-deliver-clause-mailbox
 returns-in_err-deliver-clause-mailbox g c = λ honest is.
@@ -65,11 +66,11 @@ returns-in_err-deliver-clause-mailbox g c = λ honest is.
     let surveys : Surveys box.survey box.fresh s = box.surveys c.in_ok-begin.ensures.ready honest in
     let room : box.survey.meta.next + 1 < 2 ^ 32 = grind (arith, c.in-Some.ensures) in
     let are_flags : c.args.flags < 2 ^ FLAGS = search rules in
-    let left = subst (λ f. (after ≡ (g.F.Folder.seen f).stored) ⊎ ((after ≡ appended box.survey.meta c.args.bytes.now c.args.flags (g.F.Folder.seen f).stored) ⊎ AppendsPart box.survey.meta c.args.bytes.now (g.F.Folder.seen f).stored after)) c.begin.ensures.folder
-    (subst (λ (v : Survey). (after ≡ (g.F.Folder.seen c.begin.new.self.folder).stored) ⊎ ((after ≡ appended v.meta c.args.bytes.now c.args.flags (g.F.Folder.seen c.begin.new.self.folder).stored) ⊎ AppendsPart v.meta c.args.bytes.now (g.F.Folder.seen c.begin.new.self.folder).stored after)) c.begin.ensures.same.0
+    let left = subst (λ f. (after ≡ (g.F.Folder.seen f).stored) ⊎ ((after ≡ appended box.survey.meta (text_left c.args.copy) c.args.flags (g.F.Folder.seen f).stored) ⊎ AppendsPart box.survey.meta (text_left c.args.copy) (g.F.Folder.seen f).stored after)) c.begin.ensures.folder
+    (subst (λ (v : Survey). (after ≡ (g.F.Folder.seen c.begin.new.self.folder).stored) ⊎ ((after ≡ appended v.meta (text_left c.args.copy) c.args.flags (g.F.Folder.seen c.begin.new.self.folder).stored) ⊎ AppendsPart v.meta (text_left c.args.copy) (g.F.Folder.seen c.begin.new.self.folder).stored after)) c.begin.ensures.same.0
     (c.in_err-deliver.ensures.effect honest)) in
     let answer : Result ℕ NearFault = Err c.in_err-deliver.field-0.0 in
-    append_mailbox box.survey box.fresh s surveys box.has_fresh.0 box.has_fresh.1 is room c.args.bytes.now c.args.flags are_flags after answer left
+    append_mailbox box.survey box.fresh s surveys box.has_fresh.0 box.has_fresh.1 is room (text_left c.args.copy) c.args.flags are_flags after answer left
 
 pub returns-clause-mailbox : goal.returns-clause-mailbox
 returns-clause-mailbox g c = λ honest is.
@@ -79,9 +80,9 @@ returns-clause-mailbox g c = λ honest is.
     let surveys : Surveys box.survey box.fresh s = box.surveys c.in_ok-begin.ensures.ready honest in
     let room : box.survey.meta.next + 1 < 2 ^ 32 = grind (arith, c.in-Some.ensures) in
     let are_flags : c.args.flags < 2 ^ FLAGS = search rules in
-    let done : after ≡ appended box.survey.meta c.args.bytes.now c.args.flags s =
+    let done : after ≡ appended box.survey.meta (text_left c.args.copy) c.args.flags s =
     c.in_ok-deliver.ensures.effect honest
-    ∙ ap (λ v. appended v.meta c.args.bytes.now c.args.flags (g.F.Folder.seen c.begin.new.self.folder).stored) c.begin.ensures.same.0
-    ∙ ap (λ f. appended box.survey.meta c.args.bytes.now c.args.flags (g.F.Folder.seen f).stored) c.begin.ensures.folder in
+    ∙ ap (λ v. appended v.meta (text_left c.args.copy) c.args.flags (g.F.Folder.seen c.begin.new.self.folder).stored) c.begin.ensures.same.0
+    ∙ ap (λ f. appended box.survey.meta (text_left c.args.copy) c.args.flags (g.F.Folder.seen f).stored) c.begin.ensures.folder in
     let answer : Result ℕ NearFault = Ok c.in-Some.uid in
-    append_mailbox box.survey box.fresh s surveys box.has_fresh.0 box.has_fresh.1 is room c.args.bytes.now c.args.flags are_flags after answer done
+    append_mailbox box.survey box.fresh s surveys box.has_fresh.0 box.has_fresh.1 is room (text_left c.args.copy) c.args.flags are_flags after answer done

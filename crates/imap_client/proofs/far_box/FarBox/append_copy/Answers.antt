@@ -3,6 +3,7 @@ use Rattle.imap_session.specs.Lines.{told_server}
 use Rattle.imap_client.specs.Boxes.{IsSelected}
 use Rattle.std.proofs.Common.{◌≡◌, true, Option, Some, Result, Ok, Err}
 use Rattle.std.proofs.lemmas.Result.{err_from_is_err_and}
+use Rattle.mailcore.specs.CopyPieces.{text_left}
 use Rattle.imap_session.specs.Mailboxes.{FarMailbox}
 use Rattle.imap_session.specs.Servers.{selected}
 use Rattle.imap_session.specs.Visits.{Among}
@@ -13,8 +14,8 @@ use Rattle.imap_client.proofs.Changed.{state_of_parts}
 use Rattle.imap_client.specs.Appending.{next_known}
 use Rattle.imap_client.proofs.Adding.{among_where, none_known, err_selected, ok_selected}
 use Rattle.imap_client.proofs.Visited.{selected_then}
-use Rattle.imap_client.proofs.far_box.FarBox.append.Goals.{in-Some, in_default}
-use Rattle.imap_client.proofs.far_box.FarBox.append.Goals as goal
+use Rattle.imap_client.proofs.far_box.FarBox.append_copy.Goals.{in-Some, in_default}
+use Rattle.imap_client.proofs.far_box.FarBox.append_copy.Goals as goal
 
 pub invariant_of-self : goal.invariant_of-self
 invariant_of-self g c = record {
@@ -28,7 +29,7 @@ invariant_of-self g c = record {
       let a = c.in_err-told.ensures.outcome honest in
       let old = a.mid in
       err_selected (state_of_parts was.is_ready was.tags (g.L.Link.stops was.wire.link) was.wire.heard.items) (state_of_parts now.is_ready now.tags (g.L.Link.stops now.wire.link) now.wire.heard.items) old new
-      it.name.items it.validity it.next c.args.flags c.args.bytes.now c.in_err-told.field-0.0 c.in_err-told.ensures.ends ready
+      it.name.items it.validity it.next c.args.flags (text_left c.args.copy) c.in_err-told.field-0.0 c.in_err-told.ensures.ends ready
       (λ before. selected_then g.L.Link.visitors it.name.items it.validity it.next begin old a.visits (it.selected is_selected before (c.in_err-told.ensures.was_honest honest)))
       (λ s m is. a.then (subst (λ (n : List ℕ). IsSelected n it.validity it.next old) (sym c.deref.ensures.value) s) m is);
   numbers = c.args.self.now.numbers;
@@ -47,7 +48,7 @@ invariant_of-self-in-Some g c = record {
       let old = a.mid in
       subst (λ (k : ℕ). IsSelected it.name.items it.validity k new) (ap (next_known it.next) c.in-Some.is ∙ ap (λ (u : ℕ). u + 1) (sym c.get.ensures.number))
       (ok_selected (state_of_parts was.is_ready was.tags (g.L.Link.stops was.wire.link) was.wire.heard.items) (state_of_parts now.is_ready now.tags (g.L.Link.stops now.wire.link) now.wire.heard.items) old new
-      it.name.items it.validity it.next c.args.flags c.args.bytes.now c.in_ok-told.told c.in_ok-told.ensures.ends
+      it.name.items it.validity it.next c.args.flags (text_left c.args.copy) c.in_ok-told.told c.in_ok-told.ensures.ends
       (λ before. selected_then g.L.Link.visitors it.name.items it.validity it.next begin old a.visits (it.selected is_selected before (c.in_ok-told.ensures.was_honest honest)))
       (λ s m is. a.then (subst (λ (n : List ℕ). IsSelected n it.validity it.next old) (sym c.deref.ensures.value) s) m is));
   numbers = (c.args.self.now.numbers.0, omega arith);
@@ -66,7 +67,7 @@ invariant_of-self-in_default g c = record {
       let old = a.mid in
       subst (λ (k : ℕ). IsSelected it.name.items it.validity k new) (none_known it.next c.in_ok-told.told c.in_default.not-Some)
       (ok_selected (state_of_parts was.is_ready was.tags (g.L.Link.stops was.wire.link) was.wire.heard.items) (state_of_parts now.is_ready now.tags (g.L.Link.stops now.wire.link) now.wire.heard.items) old new
-      it.name.items it.validity it.next c.args.flags c.args.bytes.now c.in_ok-told.told c.in_ok-told.ensures.ends
+      it.name.items it.validity it.next c.args.flags (text_left c.args.copy) c.in_ok-told.told c.in_ok-told.ensures.ends
       (λ before. selected_then g.L.Link.visitors it.name.items it.validity it.next begin old a.visits (it.selected is_selected before (c.in_ok-told.ensures.was_honest honest)))
       (λ s m is. a.then (subst (λ (n : List ℕ). IsSelected n it.validity it.next old) (sym c.deref.ensures.value) s) m is));
   numbers = c.args.self.now.numbers;
@@ -80,9 +81,9 @@ returns-in_err-told-clause-outcome g c honest is_selected =
     let now = c.add.new.self in
     let begin = (told_server (g.L.Link.line was.wire.link)) in
     let new = (told_server (g.L.Link.line now.wire.link)) in
-    subst (λ (r : Result (Option ℕ) FarFault). Among g.L.Link.visitors (λ s t. (m : FarMailbox) → selected s ≡ Some m → Outcome (Adds m c.args.flags c.args.bytes.now) (NoUidLeft m) (AddsSome m c.args.flags c.args.bytes.now) r s t) begin new) (sym (p.1 ∙ ap Err p.2))
+    subst (λ (r : Result (Option ℕ) FarFault). Among g.L.Link.visitors (λ s t. (m : FarMailbox) → selected s ≡ Some m → Outcome (Adds m c.args.flags (text_left c.args.copy)) (NoUidLeft m) (AddsSome m c.args.flags (text_left c.args.copy)) r s t) begin new) (sym (p.1 ∙ ap Err p.2))
     (among_where (Option ℕ) (state_of_parts was.is_ready was.tags (g.L.Link.stops was.wire.link) was.wire.heard.items) (state_of_parts now.is_ready now.tags (g.L.Link.stops now.wire.link) now.wire.heard.items) begin new
-    g.L.Link.visitors (λ s. IsSelected c.deref.result.now it.validity it.next s) (λ m. Adds m c.args.flags c.args.bytes.now) (λ m. NoUidLeft m) (λ m. AddsSome m c.args.flags c.args.bytes.now) (Err c.in_err-told.field-0.0)
+    g.L.Link.visitors (λ s. IsSelected c.deref.result.now it.validity it.next s) (λ m. Adds m c.args.flags (text_left c.args.copy)) (λ m. NoUidLeft m) (λ m. AddsSome m c.args.flags (text_left c.args.copy)) (Err c.in_err-told.field-0.0)
     c.in_err-told.ensures.ends (λ failed. ap (λ s. told_server (g.L.Link.line s.wire.link)) (c.in_err-told.ensures.stuck failed))
     (λ before mid visits. subst (λ (n : List ℕ). IsSelected n it.validity it.next mid) (sym c.deref.ensures.value)
     (selected_then g.L.Link.visitors it.name.items it.validity it.next begin mid visits (it.selected is_selected before (c.in_err-told.ensures.was_honest honest))))
@@ -91,14 +92,14 @@ returns-in_err-told-clause-outcome g c honest is_selected =
 pub returns-clause-outcome : goal.returns-clause-outcome
 returns-clause-outcome g c =
     let so : g.L.Link.honest c.add.new.self.wire.link → c.args.self.now.is_selected ≡ true
-    → Among g.L.Link.visitors (λ s t. (m : FarMailbox) → selected s ≡ Some m → Adds m c.args.flags c.args.bytes.now c.in_ok-told.told s t) (told_server (g.L.Link.line c.args.self.now.session.wire.link)) (told_server (g.L.Link.line c.add.new.self.wire.link)) = λ honest is_selected.
+    → Among g.L.Link.visitors (λ s t. (m : FarMailbox) → selected s ≡ Some m → Adds m c.args.flags (text_left c.args.copy) c.in_ok-told.told s t) (told_server (g.L.Link.line c.args.self.now.session.wire.link)) (told_server (g.L.Link.line c.add.new.self.wire.link)) = λ honest is_selected.
     let it = c.args.self.now in
     let was = it.session in
     let now = c.add.new.self in
     let begin = (told_server (g.L.Link.line was.wire.link)) in
     let new = (told_server (g.L.Link.line now.wire.link)) in
     among_where (Option ℕ) (state_of_parts was.is_ready was.tags (g.L.Link.stops was.wire.link) was.wire.heard.items) (state_of_parts now.is_ready now.tags (g.L.Link.stops now.wire.link) now.wire.heard.items) begin new
-    g.L.Link.visitors (λ s. IsSelected c.deref.result.now it.validity it.next s) (λ m. Adds m c.args.flags c.args.bytes.now) (λ m. NoUidLeft m) (λ m. AddsSome m c.args.flags c.args.bytes.now) (Ok c.in_ok-told.told)
+    g.L.Link.visitors (λ s. IsSelected c.deref.result.now it.validity it.next s) (λ m. Adds m c.args.flags (text_left c.args.copy)) (λ m. NoUidLeft m) (λ m. AddsSome m c.args.flags (text_left c.args.copy)) (Ok c.in_ok-told.told)
     c.in_ok-told.ensures.ends (λ failed. ap (λ s. told_server (g.L.Link.line s.wire.link)) (c.in_ok-told.ensures.stuck failed))
     (λ before mid visits. subst (λ (n : List ℕ). IsSelected n it.validity it.next mid) (sym c.deref.ensures.value)
     (selected_then g.L.Link.visitors it.name.items it.validity it.next begin mid visits (it.selected is_selected before (c.in_ok-told.ensures.was_honest honest))))
@@ -106,7 +107,7 @@ returns-clause-outcome g c =
     elim c.match-told.branch [
       | in-Some w ↦ rw w.self-is (rw w.told-is
           (subst (λ (told : Option ℕ). g.L.Link.honest c.add.new.self.wire.link → c.args.self.now.is_selected ≡ true
-          → Among g.L.Link.visitors (λ s t. (m : FarMailbox) → selected s ≡ Some m → Adds m c.args.flags c.args.bytes.now told s t) (told_server (g.L.Link.line c.args.self.now.session.wire.link)) (told_server (g.L.Link.line c.add.new.self.wire.link)))
+          → Among g.L.Link.visitors (λ s t. (m : FarMailbox) → selected s ≡ Some m → Adds m c.args.flags (text_left c.args.copy) told s t) (told_server (g.L.Link.line c.args.self.now.session.wire.link)) (told_server (g.L.Link.line c.add.new.self.wire.link)))
           w.in-Some.is so))
       | in_default w ↦ rw w.self-is (rw w.told-is so)
     ]

@@ -1,13 +1,14 @@
 use Rattle.std.proofs.lemmas.Bool.{false≢true}
+use Rattle.mailcore.specs.CopyPieces.{text_left}
 use Rattle.far_side.proofs.CopyOctets.{sent_as}
 use Rattle.far_side.proofs.OpenCalls.{Called, appends, still_logged_in, still_named}
-use Rattle.far_side.proofs.far_side.FarSideMailbox.append.Goals as goal
+use Rattle.far_side.proofs.far_side.FarSideMailbox.append_copy.Goals as goal
 
 pub invariant_of-self : goal.invariant_of-self
 invariant_of-self g c =
     let s = c.args.self.now in
-    let new = c.append.new.self in
-    let said = c.append.ensures in
+    let new = c.append_copy.new.self in
+    let said = c.append_copy.ensures in
     let k : Called s.account.mailbox.items s.stage s.far new = record {
       is_open = c.requires.open;
       whole = c.requires.whole;
@@ -25,8 +26,8 @@ invariant_of-self g c =
 pub returns-clause-call : goal.returns-clause-call
 returns-clause-call g c =
     let s = c.args.self.now in
-    let new = c.append.new.self in
-    let said = c.append.ensures in
+    let new = c.append_copy.new.self in
+    let said = c.append_copy.ensures in
     let k : Called s.account.mailbox.items s.stage s.far new = record {
       is_open = c.requires.open;
       whole = c.requires.whole;
@@ -35,7 +36,7 @@ returns-clause-call g c =
       still = said.same.2;
       counts = said.counts;
     } in
-    rw c.told_by.ensures (appends k g.met.L.Link.sound c.args.text.now c.args.flags c.append.result said.ends said.outcome)
+    rw c.told_by.ensures (appends k g.met.L.Link.sound (text_left c.args.copy) c.args.flags c.append_copy.result said.ends said.outcome)
 
-pub append-requires : goal.append-requires
-append-requires g c = sent_as c.args.text.now c.requires.copy
+pub append_copy-requires : goal.append_copy-requires
+append_copy-requires g c = sent_as (text_left c.args.copy) c.requires.copy

@@ -1,9 +1,10 @@
 use Rattle.std.proofs.Common.{◌∙◌, ap, Some}
 use Rattle.std.proofs.lemmas.Result.{err_from_is_err_and}
+use Rattle.mailcore.specs.CopyPieces.{text_left}
 use Rattle.mailbox.specs.Operations.{NoRoom, is_full}
 use Rattle.mem_mailbox.specs.Views.{near_of}
 use Rattle.mem_mailbox.proofs.MemCalls.{added_next, ends, fails, full, lacks, stays}
-use Rattle.mem_mailbox.proofs.mem_mailbox.MemMailboxMailbox.append.Goals as goal
+use Rattle.mem_mailbox.proofs.mem_mailbox.MemMailboxMailbox.append_copy.Goals as goal
 
 pub returns-in_err-stops-clause-call : goal.returns-in_err-stops-clause-call
 returns-in_err-stops-clause-call g c =
@@ -28,4 +29,4 @@ returns-clause-call g c =
     let m = c.args.self.now in
     let b = near_of m.store m.waiting.items in
     ends _ (NoRoom g.K.Kind.of (λ _. 1)) _ _ b m.condition (Some c.in-Some.uid) (near_of c.add.new.self m.waiting.items) c.begin.new.self c.end.new.self c.end.result
-    c.requires.whole c.in_ok-stops.ensures.same (added_next g.K.Kind.of m.store c.add.new.self m.waiting.items c.in-Some.uid c.args.flags c.args.text.now c.in-Some.ensures c.in-Ok.ensures.ok) c.end.ensures.ends
+    c.requires.whole c.in_ok-stops.ensures.same (added_next g.K.Kind.of m.store c.add.new.self m.waiting.items c.in-Some.uid c.args.flags (text_left c.args.copy) c.in-Some.ensures c.in-Ok.ensures.ok) c.end.ensures.ends
