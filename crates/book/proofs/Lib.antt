@@ -3,6 +3,7 @@ pub mod AgreementLemmas
 pub mod BeginLemmas
 pub mod BegunPlans
 pub mod BookLemmas
+pub mod ChangeLemmas
 pub mod CommitLemmas
 pub mod CommittedLists
 pub mod CommittedPairs

@@ -39,7 +39,8 @@ below_by a b c d first second = elim (cases_lt a c) [
       or_right (nat_lt a c) _ (and_from (a == c) (nat_lt b d) (eq-eqb a c same) (lt-ltb b d (second same)))
 ]
 
-entry_below : (a b : Entry) → EntryBefore a b → is_below (entry_place a) (entry_place b) ≡ true
+-- the same of places of another kind
+pub entry_below : (a b : Entry) → EntryBefore a b → is_below (entry_place a) (entry_place b) ≡ true
 entry_below a b order = below_by (uid_of Far a) (uid_of Near a) (uid_of Far b) (uid_of Near b) order.0 order.1
 
 pub rising_from : {X : Type 0} (place : X → ℕ × ℕ × ℕ) (p : ℕ × ℕ × ℕ) (xs : List X) → rises p (map place xs) ≡ true → Rising place xs

@@ -1,16 +1,21 @@
 -- What is kept of the UIDs that are taken, once one more is taken in.
 use Rattle.std.proofs.Common.{◌≡◌, ◌∙◌, ◌≤◌, ◌<◌, ◌+◌, ℕ, zero, suc, Bool, true, false, ◌||◌, List, [], ◌∷◌, ◌++◌, length, min, get_or, take, refl, sym, ap, subst, arith, append_assoc}
-use Rattle.std.specs.Prelude.{Result, Ok, Err, OnOk}
+use Rattle.std.specs.Prelude.{Result, Ok, Err, OnOk, ◌==◌, map}
+use Rattle.std.specs.Cmp.{unsigned_tied}
 use Rattle.std.specs.List.{list_any}
+use Rattle.std.specs.Ordering.{eq_by_cmp, nat_cmp}
+use Rattle.std.proofs.lemmas.Bool.Decides.{nat_tests}
 use Rattle.std.proofs.lemmas.List.{append-nil}
+use Rattle.mailcore.specs.declared.side.Side.{Side}
 use Rattle.rules.specs.declared.entry.Entry.{Entry}
+use Rattle.rules.specs.Entries.{uid_of}
 use Rattle.rules.specs.declared.plan.Step.{Step}
 use Rattle.sync_state.specs.declared.journal.Logged.{Logged}
 use Rattle.sync_state.specs.declared.journal.WrittenJournal.{WrittenJournal}
 use Rattle.book.specs.declared.book.Pending.{Pending}
 use Rattle.book.specs.declared.book.Pending.TheVariants.{Missing, Useless, Planned}
 use Rattle.book.specs.declared.taken.Taken.{Taken}
-use Rattle.book.specs.Agreement.{Copy, copy_of, copies_of}
+use Rattle.book.specs.Agreement.{Copy, copy_of, copies_of, is_named}
 use Rattle.book.specs.Books.{mended}
 use Rattle.book.specs.BookLogs.{logged_more}
 use Rattle.book.specs.TakenUids.{Knows, KnowsTaken, copies_one, next_copies}
@@ -90,3 +95,14 @@ all_copies (s ∷ steps) (l ∷ log) (suc i) h = ap (λ (cs : List Copy). copy_o
 pub all_copies_known : (es : List Entry) (plan steps : List Step) (log : List Logged) (i : ℕ) (t : Taken) → min (length steps) (length log) ≤ i
     → KnowsTaken es plan (copies_of steps (take i log)) t → KnowsTaken es plan (copies_of steps log) t
 all_copies_known es plan steps log i t past knows = subst (λ (cs : List Copy). KnowsTaken es plan cs t) (all_copies steps log i past) knows
+
+-- ---- the UIDs of entries
+
+same_test : (m n : ℕ) → eq_by_cmp nat_cmp m n ≡ (n == m)
+same_test m n = unsigned_tied m n ∙ grind (arith, nat_tests)
+
+-- a UID is among those of a side if an entry names it there
+pub member_named : (side : Side) (uid : ℕ) (es : List Entry) → list_any (eq_by_cmp nat_cmp uid) (map (λ e. uid_of side e) es) ≡ is_named es side uid
+member_named side uid [] = refl
+member_named side uid (e ∷ es) = ap (λ (b : Bool). b || list_any (eq_by_cmp nat_cmp uid) (map (λ e. uid_of side e) es)) (same_test uid (uid_of side e))
+    ∙ ap (λ (b : Bool). uid_of side e == uid || b) (member_named side uid es)

@@ -5,6 +5,7 @@ pub mod Agreement
 pub mod BookLaws
 pub mod BookLogs
 pub mod Books
+pub mod Changes
 pub mod Commits
 pub mod Committed
 pub mod DiskShelves

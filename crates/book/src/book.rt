@@ -181,6 +181,7 @@ impl<S: Shelf> Book<S> {
         ensures files { S.is_honest ≡ true → (S.seen self.new.shelf).stored ≡ (S.seen self.old.shelf).stored }
         ensures ready { OnOk result (self.new.is_ready ≡ true) }
         ensures failed { OnErr result (self.new.is_ready ≡ false) }
+        ensures untouched { self.old.is_ready ≡ true → (result ≡ Ok tt) × (self.new ≡ self.old) }
         ensures held { OnOk result (S.is_honest ≡ true → Holds (S.seen self.new.shelf).stored self.new.state self.new.pending) }
         ensures unstopped { OnOk result (IsUnstopped (S.seen self.old.shelf) (S.seen self.new.shelf)) }
         ensures refused { IfErr result (λ fault. S.is_honest ≡ true → TellsOpen (S.seen self.new.shelf).stored fault) }

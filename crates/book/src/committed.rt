@@ -5,11 +5,14 @@ ghost use Rattle.std.specs.List.{list_any};
 ghost use Rattle.std.specs.List.Sorted.{IsPermutation};
 ghost use Rattle.book.specs.EntryOrders.{IsNotAfter};
 ghost use Rattle.sync_state.specs.StateText.{HasText, IsEntry};
-ghost use Rattle.sync_state.specs.JournalText.{HasJournal, bottom, note_place, rises, step_place};
+ghost use Rattle.rules.specs.Entries.{ArePairs, is_full};
+ghost use Rattle.sync_state.specs.JournalText.{HasJournal, bottom, note_place, rises};
 ghost use Rattle.book.specs.Agreement.{Agrees, is_pair};
-ghost use Rattle.book.specs.Committed.{Commits, drops, recorded, says_gone, is_gone, entry_after, kept_entries, entry_of_copy, entries_of_copies};
+ghost use Rattle.book.specs.Committed.{Commits, drops, recorded, entry_after, kept_entries, entry_of_copy, entries_of_copies};
+ghost use Rattle.book.specs.Changes.{AreGones, HasReached, PairNotAfter, Reached, gone_place, is_of, pair_place, record_place};
+ghost use Rattle.book.specs.PlacedLists.{entry_place};
 
-use crate::places::{note_at, step_at};
+use crate::changes::{Gones, Pair, Walk};
 use mailcore::flags::Flags;
 use mailcore::side::{Direction, Side};
 use mailcore::uid::Uid;
@@ -18,7 +21,6 @@ use rules::plan::{Note, Step};
 use rules::state::SyncState;
 use std::alloc::{AllocError, Global};
 use sync_state::journal::{Journal, Logged};
-use sync_state::place::Place;
 
 fn is_pair(entry: &Entry, far: Option<Uid>, near: Option<Uid>) -> bool
     ensures { result ≡ is_pair far near entry.now }
@@ -35,29 +37,27 @@ fn drops(entry: &Entry, note: &Note) -> bool
     }
 }
 
-fn is_dropped(entry: &Entry, notes: &[Note]) -> bool
-    requires { rises bottom (map note_place notes.now) ≡ true }
+/// Whether a note drops the entry: the note at this place, if any does.
+fn is_dropped(entry: &Entry, notes: &[Note], at: usize) -> bool
+    requires rise { rises bottom (map note_place notes.now) ≡ true }
+    requires reached { Reached note_place (entry_place entry.now) notes.now at }
     ensures { result ≡ list_any (drops entry.now) notes.now }
 {
-    let (far, near) = (entry.far, entry.near);
-    match note_at(notes, Place::of_note(&Note::Drop { far, near })) {
-        Some(note) => drops(entry, &note),
+    match notes.get(at) {
+        Some(note) => drops(entry, note),
         None => false,
     }
 }
 
-/// The flags recorded from now on.
-fn recorded(entry: &Entry, notes: &[Note]) -> Flags
-    requires { rises bottom (map note_place notes.now) ≡ true }
+/// The flags recorded from now on: the note at this place records them, if any does.
+fn recorded(entry: &Entry, notes: &[Note], at: usize) -> Flags
+    requires rise { rises bottom (map note_place notes.now) ≡ true }
+    requires reached { is_full entry.now ≡ true → Reached note_place (record_place entry.now) notes.now at }
     ensures { result ≡ recorded entry.now notes.now }
 {
-    let flags = entry.flags;
-    let Some((far, near)) = entry.uids() else {
-        return flags;
-    };
-    match note_at(notes, Place::of_note(&Note::Record { far, near, flags })) {
-        Some(note) => recorded_by(entry, &note),
-        None => flags,
+    match notes.get(at) {
+        Some(note) => recorded_by(entry, note),
+        None => entry.flags,
     }
 }
 
@@ -73,85 +73,94 @@ fn recorded_by(entry: &Entry, note: &Note) -> Flags
     entry.flags
 }
 
-fn says_gone(direction: Direction, entry: &Entry, step: &Step) -> bool
-    ensures { result ≡ says_gone direction entry.now step.now }
+/// Whether the entry is one of these pairs: that at this place, if any is.
+fn is_gone(entry: &Entry, pairs: &[Pair], at: usize) -> bool
+    requires in_order { AllPairs PairNotAfter pairs.now }
+    requires reached { Reached pair_place (gone_place entry.now) pairs.now at }
+    ensures { result ≡ list_any (is_of entry.now) pairs.now }
 {
-    match step {
-        Step::Gone {
-            direction: gone,
-            far,
-            near,
-        } => *gone == direction && is_pair(entry, Some(*far), Some(*near)),
-        _ => false,
-    }
-}
-
-/// Whether the direction's source of this entry has vanished.
-fn is_gone(steps: &[Step], direction: Direction, entry: &Entry) -> bool
-    requires { rises bottom (map step_place steps.now) ≡ true }
-    ensures { result ≡ is_gone steps.now direction entry.now }
-{
-    let Some((far, near)) = entry.uids() else {
-        return false;
-    };
-    let gone = Step::Gone {
-        direction,
-        far,
-        near,
-    };
-    match step_at(steps, Place::of_step(&gone)) {
-        Some(step) => says_gone(direction, entry, &step),
+    match pairs.get(at) {
+        Some(pair) => is_pair(entry, Some(pair.far), Some(pair.near)),
         None => false,
     }
 }
 
 /// The entry as it is from now on.
-fn entry_after(journal: &Journal, entry: &Entry) -> Entry
-    requires { HasJournal journal.now }
+fn entry_after(journal: &Journal, gones: &Gones, walk: Walk, entry: &Entry) -> Entry
+    requires text { HasJournal journal.now }
+    requires gones { AreGones journal.now.plan.steps gones.now }
+    requires reached { HasReached journal.now gones.now entry.now walk }
     ensures { result ≡ entry_after journal.now entry.now }
 {
-    let steps = journal.plan.steps.as_slice();
     let (mut far, mut near) = (entry.far, entry.near);
-    if is_gone(steps, Direction::Pull, entry) {
+    if is_gone(entry, &gones.far, walk.far_gones) {
         far = None;
     }
-    if is_gone(steps, Direction::Push, entry) {
+    if is_gone(entry, &gones.near, walk.near_gones) {
         near = None;
     }
     Entry {
         far,
         near,
-        flags: recorded(entry, journal.plan.notes.as_slice()),
+        flags: recorded(entry, journal.plan.notes.as_slice(), walk.records),
     }
 }
 
 /// Adds an entry of the state before as it is from now on, if it is not dropped and a side is left.
-fn push_kept(list: &mut Vec<Entry>, journal: &Journal, entry: &Entry) -> Result<(), AllocError>
-    requires { HasJournal journal.now }
+fn push_kept(
+    list: &mut Vec<Entry>,
+    journal: &Journal,
+    gones: &Gones,
+    walk: Walk,
+    entry: &Entry,
+) -> Result<(), AllocError>
+    requires text { HasJournal journal.now }
+    requires gones { AreGones journal.now.plan.steps gones.now }
+    requires reached { HasReached journal.now gones.now entry.now walk }
     ensures { OnOk result (list.new.items ≡ list.old.items ++ kept_entries journal.now (entry.now ∷ [])) }
 {
-    if is_dropped(entry, journal.plan.notes.as_slice()) {
+    if is_dropped(entry, journal.plan.notes.as_slice(), walk.drops) {
         return Ok(());
     }
-    let after = entry_after(journal, entry);
+    let after = entry_after(journal, gones, walk, entry);
     if after.has_a_side() {
         list.push(after)?;
     }
     Ok(())
 }
 
+/// Adds the entries of the state before as they are from now on: one merge of them with the notes and the gones.
+fn merge(
+    list: &mut Vec<Entry>,
+    journal: &Journal,
+    gones: &Gones,
+    entries: &[Entry],
+) -> Result<(), AllocError>
+    requires text { HasJournal journal.now }
+    requires gones { AreGones journal.now.plan.steps gones.now }
+    requires pairs { ArePairs entries.now }
+    ensures { OnOk result (list.new.items ≡ list.old.items ++ kept_entries journal.now entries.now) }
+{
+    let mut walk = Walk::START;
+    for entry in entries {
+        walk = walk.go_to(journal, gones, entry);
+        push_kept(list, journal, gones, walk, entry)?;
+    }
+    Ok(())
+}
+
 fn push_all_kept(
+    alloc: Global,
     list: &mut Vec<Entry>,
     journal: &Journal,
     entries: &[Entry],
 ) -> Result<(), AllocError>
-    requires { HasJournal journal.now }
+    requires text { HasJournal journal.now }
+    requires pairs { ArePairs entries.now }
     ensures { OnOk result (list.new.items ≡ list.old.items ++ kept_entries journal.now entries.now) }
 {
-    for entry in entries {
-        push_kept(list, journal, entry)?;
-    }
-    Ok(())
+    let gones = Gones::of(alloc, journal.plan.steps.as_slice())?;
+    merge(list, journal, &gones, entries)
 }
 
 fn push_copies(list: &mut Vec<Entry>, steps: &[Step], log: &[Logged]) -> Result<(), AllocError>
@@ -210,7 +219,7 @@ pub fn committed(alloc: Global, old: &SyncState, journal: &Journal) -> Result<Sy
 {
     let plan = &journal.plan;
     let mut list = Vec::new(alloc);
-    push_all_kept(&mut list, journal, old.entries.as_slice())?;
+    push_all_kept(alloc, &mut list, journal, old.entries.as_slice())?;
     push_copies(&mut list, plan.steps.as_slice(), journal.log.as_slice())?;
     sort(&mut list);
     Ok(SyncState {

@@ -5,6 +5,7 @@ pub mod agreement;
 pub mod allowed;
 pub mod book;
 pub mod book_log;
+mod changes;
 pub mod commit;
 pub mod committed;
 pub mod disk_shelf;

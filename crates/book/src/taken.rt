@@ -1,11 +1,13 @@
 //! The UIDs that are taken on each side while a plan is pending, so that the UID of a new copy need not be sought in entries, steps and
 //! log.
 
-ghost use Rattle.std.specs.Prelude.{◌≡◌, ◌++◌, ◌∷◌, [], IfOk, List, OnOk, length, not, true};
+ghost use Rattle.std.specs.Prelude.{◌≡◌, ◌++◌, ◌∷◌, [], IfOk, List, OnOk, ℕ, length, not, true};
+ghost use Rattle.std.specs.BTreeSet.{contains};
+ghost use Rattle.std.specs.Ordering.{nat_cmp};
 ghost use Rattle.std.specs.List.{list_all, list_any};
 ghost use Rattle.rules.specs.declared.entry.Entry.{Entry};
 ghost use Rattle.rules.specs.declared.plan.Step.{Step};
-ghost use Rattle.book.specs.Agreement.{Copy, copies_of, copy_of, is_taken};
+ghost use Rattle.book.specs.Agreement.{Copy, copies_of, copy_of, is_named, is_taken};
 ghost use Rattle.book.specs.BookLogs.{logged_more};
 ghost use Rattle.book.specs.TakenUids.{Adds, Knows, KnowsTaken, copies_one, has, next_copies};
 
@@ -87,11 +89,10 @@ impl Taken {
     pub(crate) fn named(alloc: Global, entries: &[Entry]) -> Result<Taken, AllocError>
         ensures { IfOk result (KnowsTaken entries.now [] []) }
     {
-        let mut taken = Taken::none(alloc);
-        for entry in entries {
-            taken.add_entry(entry)?;
-        }
-        Ok(taken)
+        Ok(Taken {
+            far: uids_on(alloc, Side::Far, entries)?,
+            near: uids_on(alloc, Side::Near, entries)?,
+        })
     }
 
     /// Whether this UID is taken on this side.
@@ -175,14 +176,6 @@ impl Taken {
         }
     }
 
-    /// Takes in the UIDs that this entry names.
-    fn add_entry(&mut self, entry: &Entry) -> Result<(), AllocError>
-        ensures { OnOk result ((entries : List Entry) → KnowsTaken entries [] [] self.old → KnowsTaken (entries ++ entry.now ∷ []) [] [] self.new) }
-    {
-        self.insert(Side::Far, entry.number(Side::Far))?;
-        self.insert(Side::Near, entry.number(Side::Near))
-    }
-
     fn insert(&mut self, side: Side, uid: u32) -> Result<(), AllocError>
         ensures { OnOk result (Adds side uid self.old self.new) }
     {
@@ -192,6 +185,16 @@ impl Taken {
         };
         Ok(())
     }
+}
+
+/// The UIDs that these entries name on a side. A set that is made of all at once costs less than one that grows.
+fn uids_on(alloc: Global, side: Side, entries: &[Entry]) -> Result<BTreeSet<u32>, AllocError>
+    ensures { IfOk result (λ uids. (uid : ℕ) → contains nat_cmp uids uid ≡ is_named entries.now side uid) }
+{
+    entries
+        .iter()
+        .map(|entry| entry.number(side))
+        .collect(alloc)
 }
 
 /// Whether one of these steps copies a new message.
