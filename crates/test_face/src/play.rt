@@ -2,6 +2,7 @@
 
 use crate::hearing::Hearing;
 use crate::sending::Sending;
+use mailcore::tuid::Tuid;
 use std::alloc::Global;
 use test_scripts::failure::Failure;
 use test_scripts::play::{Player, play_all};
@@ -33,13 +34,11 @@ struct Faces {
 }
 
 impl Faces {
-    /// Sends these bytes, and tells what the server gets.
-    fn tell_sent(&mut self, bytes: &[u8], told: &mut Told) -> Result<(), Failure> {
-        let sent = self.sending.send(bytes)?;
-        for line in sent.split(|b| *b == b'\n') {
-            tell_line(told, "", line);
-        }
-        Ok(())
+    /// Sends the copy of this message, and gives what the server gets.
+    fn copy(&mut self, line: &mut Words<'_>) -> Result<Vec<u8>, Failure> {
+        let mark = Tuid::read(line.word().as_bytes()).ok_or(Failure::Script)?;
+        let message = line.bytes(self.alloc)?;
+        self.sending.send_copy(mark, &message)
     }
 }
 
@@ -59,7 +58,12 @@ impl Player for Faces {
             }
             "send" => {
                 let bytes = line.bytes(self.alloc)?;
-                return self.tell_sent(&bytes, &mut script.told);
+                tell_sent(&self.sending.send(&bytes)?, &mut script.told);
+                return Ok(());
+            }
+            "copy" => {
+                tell_sent(&self.copy(line)?, &mut script.told);
+                return Ok(());
             }
             "connect" => return self.sending.reconnect(),
             _ => return Err(Failure::Script),
@@ -69,6 +73,13 @@ impl Player for Faces {
 
     fn finish(&mut self) -> Result<(), Failure> {
         Ok(())
+    }
+}
+
+/// Tells what the server gets.
+fn tell_sent(sent: &[u8], told: &mut Told) {
+    for line in sent.split(|b| *b == b'\n') {
+        tell_line(told, "", line);
     }
 }
 

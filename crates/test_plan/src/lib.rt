@@ -30,7 +30,7 @@
 //! | `marks COUNT counting`, `marks COUNT constant` | so many marks of a generator whose words are 1, 2, 3 .., or all 0 |
 //! | `mark "BYTES"`, `mark_of "BYTES"` | the mark that this is, or that this message bears |
 //! | `content "BYTES"`, `length far "BYTES"` | what this message says, and how long that is on this side |
-//! | `copy far MARK "BYTES"`, `fit far "BYTES"` | the copy on this side, and whether a message of this side can be copied; `near` likewise |
+//! | `copy far MARK "BYTES"`, `copy_len far "BYTES"`, `fit far "BYTES"` | the copy on this side, how long it is, and whether a message of this side can be copied; `near` likewise |
 //! | `flags "LETTERS"`, `imap "NAME"`, `uid N` | the flags with these letters, the flag with this name, this UID |
 #![tactic(auto)]
 

@@ -2,7 +2,7 @@
 
 use crate::marks::tell_mark;
 use mailcore::content::{content, content_len, fit};
-use mailcore::copies::{copy_text, mark_of};
+use mailcore::copies::{copy_len, copy_text, mark_of};
 use mailcore::flags::{Flag, Flags};
 use mailcore::side::{LineEnd, Side};
 use mailcore::tuid::Tuid;
@@ -34,8 +34,8 @@ pub fn tell_of_message(
     Ok(())
 }
 
-/// `SIDE "BYTES"`, or `SIDE MARK "BYTES"` for `copy`: tells how long what they say is on this side, their copy there, or whether they
-/// can be copied from there.
+/// `SIDE "BYTES"`, or `SIDE MARK "BYTES"` for `copy`: tells how long what they say is on this side, their copy there and how
+/// long it is, or whether they can be copied from there.
 pub fn tell_of_side(
     alloc: Global,
     told: &mut Told,
@@ -49,6 +49,7 @@ pub fn tell_of_side(
     };
     match question {
         "length" => told.say(&content_len(&line.bytes(alloc)?, end)),
+        "copy_len" => told.say(&copy_len(&line.bytes(alloc)?, end)),
         "copy" => {
             let mark = Tuid::read(line.word().as_bytes()).ok_or(Failure::Script)?;
             let bytes = line.bytes(alloc)?;

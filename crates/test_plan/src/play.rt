@@ -97,7 +97,7 @@ fn ask_mail(
     match word {
         "sync" => tell_cells(alloc, told, line),
         "marks" => tell_drawn(alloc, told, line),
-        "length" | "copy" | "fit" => tell_of_side(alloc, told, word, line),
+        "length" | "copy" | "copy_len" | "fit" => tell_of_side(alloc, told, word, line),
         "uid" => {
             match Uid::new(line.number()) {
                 Some(uid) => told.say(&uid.get()),
