@@ -31,7 +31,9 @@ use trial::trial::Trial;
 pub enum Request {
     /// A trial whose far mailbox is reached in memory: there are no arguments.
     Memory,
-    /// The same behind a face, as `mbsync` hears real servers: `--face`.
+    /// The same, where at most so many bytes are received at once. No argument asks for it.
+    Pieces(usize),
+    /// The same as `Memory` behind a face, as `mbsync` hears real servers: `--face`.
     Face,
     /// One whose far mailbox is reached over a loopback connection: `--tcp`.
     Loopback,
@@ -105,6 +107,7 @@ fn told_of_trial<R: Net + AllocGlobal + Clone + Drop>(
             told_of(alloc, Devices::of(outside), settled)
         }
         Request::Memory | Request::Unknown => told_among(alloc, trial),
+        Request::Pieces(piece) => told_in_pieces(alloc, trial, piece),
         Request::Face => told_over_face(alloc, trial),
         Request::Loopback => told_over_loopback(rt, trial),
     }
@@ -121,6 +124,22 @@ fn told_among(alloc: Global, trial: Trial) -> Result<(String, u8), Failure>
         let (outside, settled) = run_among::<1>(alloc, trial)?;
         told_of(alloc, Devices::among(outside)?, settled)
     }
+}
+
+/// What is told of this trial where at most so many bytes are received at once.
+fn told_in_pieces(alloc: Global, trial: Trial, piece: usize) -> Result<(String, u8), Failure>
+    ensures { IfOk result (λ told. told.1 ≤ 1) }
+{
+    let options = trial.world.options;
+    let tries = trial.course.tries;
+    let VisitedSetting::<1> {
+        far,
+        arrivals,
+        near,
+    } = visited(alloc, setting_of(alloc, trial)?)?;
+    let link = MemLink::new(alloc, far.server, far.schedule).in_pieces(piece);
+    let link = VisitedLink::<1>::new(link, arrivals);
+    told_over(alloc, link, near, &options, tries)
 }
 
 /// What is told of this trial behind a face.

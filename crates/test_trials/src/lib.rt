@@ -7,6 +7,7 @@
 //! | `play` | the trial is played, and the far mailbox is reached in memory |
 //! | `play over loopback` | the same, and the far mailbox is reached over a loopback connection |
 //! | `play behind a face` | the same, and the far mailbox is reached in memory behind a face, as `mbsync` hears real servers |
+//! | `play in pieces` | whether it comes to the same as in memory where at most 1, 7 and 4096 bytes of what the server says are received at once |
 //! | `play for each B from N to M` | the trial is played once for each number from N to M, in place of each word `B` of its text: where all numbers of a range have the same answer, it is told once behind the range |
 //! | `play for each B from N to M over loopback` | the same over loopback connections |
 //! | `play for each B from N to M behind a face` | the same behind faces |

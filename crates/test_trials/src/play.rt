@@ -8,6 +8,9 @@ use test_scripts::script::Script;
 use test_scripts::told::Told;
 use test_scripts::words::Words;
 
+/// At most so many bytes of what the server says are received at once, where it comes in pieces.
+const PIECES: [u32; 3] = [1, 7, 4096];
+
 /// Plays the trials of a script.
 pub fn run(rt: &HostRuntime, script: &mut Script<'_>) -> Result<(), Failure> {
     let text = Vec::new(rt.alloc());
@@ -48,7 +51,7 @@ impl Trials<'_> {
         Ok(self.text.extend_from_slice(text)?)
     }
 
-    /// `over loopback`, `behind a face`, or `for each B from N to M`, behind which these may stand.
+    /// `over loopback`, `behind a face`, `in pieces`, or `for each B from N to M`, behind which the first two may stand.
     fn play_as(&self, line: &mut Words<'_>, told: &mut Told) -> Result<(), Failure> {
         match line.word() {
             "over" => {
@@ -60,6 +63,10 @@ impl Trials<'_> {
                 expect(line, "face");
                 self.play_text(Request::Face, told)
             }
+            "in" => {
+                expect(line, "pieces");
+                self.play_in_pieces(told)
+            }
             "for" => {
                 expect(line, "each");
                 expect(line, PLACE);
@@ -67,6 +74,23 @@ impl Trials<'_> {
             }
             _ => Err(Failure::Script),
         }
+    }
+
+    /// Tells that the trial comes to the same as in memory where what the server says comes in pieces, or what it comes to.
+    fn play_in_pieces(&self, told: &mut Told) -> Result<(), Failure> {
+        let whole = self.answer(Request::Memory, &self.text)?;
+        let mut are_same = true;
+        for piece in PIECES {
+            let answer = self.answer(Request::Pieces(piece as usize), &self.text)?;
+            if answer.as_str() != whole.as_str() {
+                are_same = false;
+                tell_range(told, piece, piece, &answer);
+            }
+        }
+        if are_same {
+            told.answer("as in memory");
+        }
+        Ok(())
     }
 
     /// Tells what the trial comes to.
