@@ -5,9 +5,10 @@ ghost use Rattle.std.specs.Io.KnownBytes.{Keeps};
 
 use crate::failure::Failure;
 use mailcore::listing::Listing;
-use mailcore::marks::draw_marks;
 use mailcore::side::Side;
+use mailcore::tuid::Tuid;
 use mailcore::uid::Uid;
+use planner::fault::PlanFault;
 use planner::news::news;
 use planner::plan::plan;
 use planner::unfit::unfit;
@@ -17,7 +18,6 @@ use std::io;
 use std::io::{Read, Write};
 use worlds::plan_lines::{NoteLine, StepLine, UnfitLine};
 use worlds::read::read_world;
-use worlds::trial_generator::TrialGenerator;
 use worlds::world::{Waiting, World};
 
 /// Whether a program is given arguments.
@@ -71,31 +71,37 @@ fn plan_text<I: Read>(alloc: Global, arguments: Arguments, input: &mut I) -> Res
     if arguments == Arguments::Given {
         return Err(Failure::Usage);
     }
+    let world = input_world(alloc, input)?;
+    plan_lines(alloc, &world)
+}
+
+/// The world whose text is read. The text is let go before there is a plan.
+fn input_world<I: Read>(alloc: Global, input: &mut I) -> Result<World, Failure> {
     let mut text = Vec::new(alloc);
     input.read_to_end(&mut text)?;
-    let world = read_world(alloc, &text, Waiting::Admitted)?;
-    plan_lines(alloc, &world)
+    Ok(read_world(alloc, &text, Waiting::Admitted)?)
 }
 
 /// The lines of the plan of a world whose near files are all admitted.
 fn plan_lines(alloc: Global, world: &World) -> Result<String, Failure> {
     let far = world.far.listing(alloc, Side::Far)?;
     let near = world.near.listing(alloc, Side::Near)?;
-    let plan = trial_plan(alloc, &far, &near, world)?;
+    let plan = world_plan(alloc, &far, &near, world)?;
     let unfit = unfit(alloc, &far, &near, &world.state, &world.options)?;
     Ok(lines_of(alloc, &plan, &unfit)?)
 }
 
-/// The plan of a world whose mailboxes list this, with marks of the trial generator.
-fn trial_plan(
+/// The plan of a world whose mailboxes list this. Its lines tell no marks, so none is drawn, and all copies get one.
+fn world_plan(
     alloc: Global,
     far: &Listing,
     near: &Listing,
     world: &World,
-) -> Result<Plan, Failure> {
+) -> Result<Plan, PlanFault> {
     let count = news(far, near, &world.state, &world.options);
-    let marks = draw_marks(alloc, &mut TrialGenerator::new(), count)?;
-    Ok(plan(alloc, far, near, &world.state, &world.options, &marks)?)
+    let mark = Tuid::read(b"AAAAAAAAAAAA").unwrap();
+    let marks = vec![in alloc; mark; count]?;
+    plan(alloc, far, near, &world.state, &world.options, &marks)
 }
 
 fn lines_of(alloc: Global, plan: &Plan, unfit: &[(Side, Uid)]) -> Result<String, AllocError> {

@@ -21,12 +21,24 @@ pub fn unescape(alloc: Global, text: &[u8]) -> Result<Vec<u8>, EscapeFault>
     }
     let mut bytes = Vec::with_capacity(alloc, text.len())?;
     let mut rest = text;
-    while let Some((plain, escape)) = cut(rest, b'\\') {
+    while let Some((plain, escape)) = cut_escape(rest) {
         bytes.extend_from_slice(plain)?;
         rest = push_escape(&mut bytes, escape)?;
     }
     bytes.extend_from_slice(rest)?;
     Ok(bytes)
+}
+
+/// What stands before the first `\` of a text and what stands behind it, or none if the text has none.
+fn cut_escape(text: &[u8]) -> Option<(&[u8], &[u8])>
+    ensures { MatchOption result (All (λ b. b ≢ 92) text.now)
+        (λ parts. (text.now ≡ parts.0.now ++ 92 ∷ parts.1.now) × All (λ b. b ≢ 92) parts.0.now) }
+{
+    match text {
+        // Escapes often stand one behind another, as at the end of a message's header: there is nothing to search then.
+        [b'\\', behind @ ..] => Some((&text[..0], behind)),
+        _ => cut(text, b'\\'),
+    }
 }
 
 /// Whether each byte of a text stands for itself or is `\`, as in an escaped text.
