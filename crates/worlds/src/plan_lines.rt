@@ -30,7 +30,8 @@ pub fn side_word(side: Side) -> &'static str
     }
 }
 
-/// A step as a line without its end.
+/// A step as a line without its end. A plan has one for each step: written part by part, and its numbers by `itoa`, it takes
+/// a fifth less than by `write!`.
 #[derive(Clone, Copy)]
 pub struct StepLine<'a>(pub &'a Step);
 
@@ -140,7 +141,7 @@ fn write_pair<W: fmt::Write>(f: &mut fmt::Formatter<W>, far: u32, near: u32) -> 
     write_number(f, near)
 }
 
-/// A number behind a space. A plan has a line for each step, and `itoa` takes half of what `{}` does.
+/// A number behind a space.
 fn write_number<W: fmt::Write>(f: &mut fmt::Formatter<W>, number: u32) -> fmt::Result {
     f.write_str(" ")?;
     f.write_str(Buffer::new().format(number))
