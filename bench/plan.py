@@ -21,14 +21,20 @@ MOST_TIMES_AS_LONG = 12
 MOST_TIMES_THE_TEXT = 6
 
 
+def mail(n):
+    """The escaped text of a message: two lines of header and one of body, each ended by CR LF as those of mail are."""
+    return "From: news@example.org\\0d\\0aSubject: day %d\\0d\\0a\\0d\\0aNothing newer was told.\\0d\\0a" % n
+
+
 def many(count):
-    lines = ["sync Full", "expunge Both", "far 1 %d" % (count + 1)]
-    lines += ['f %d %s "Subject: %d\\0d\\0a\\0d\\0abody\\0d\\0a"' % (n, "S" if n % 3 else "FS", n) for n in range(1, count + 1)]
-    lines.append("near 1 %d" % (count + 1))
-    lines += ['n %d %s "Subject: %d\\0a\\0abody\\0a"' % (n, "F" if n % 5 else "-", n) for n in range(1, count + 1)]
+    """Half of the messages of each side are paired, the first of far with the last of that half of near."""
     half = count // 2
+    lines = ["sync Full", "expunge Both", "far 1 %d" % (count + 1)]
+    lines += ['f %d %s "%s"' % (n, "S" if n % 3 else "FS", mail(n)) for n in range(1, count + 1)]
+    lines.append("near 1 %d" % (count + 1))
+    lines += ['n %d %s "%s"' % (n, "F" if n % 5 else "-", mail(half + 1 - n if n <= half else n)) for n in range(1, count + 1)]
     lines.append("state 7 1 1 %d %d" % (half, half))
-    lines += ["e %d %d S" % (n, n) for n in range(1, half + 1)]
+    lines += ["e %d %d S" % (n, half + 1 - n) for n in range(1, half + 1)]
     return "\n".join(lines + ["end", ""]).encode()
 
 

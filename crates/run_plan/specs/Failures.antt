@@ -1,11 +1,13 @@
 -- What `mbplan` tells where it has no plan.
 use Rattle.std.specs.Prelude.{ℕ}
+use Rattle.mailcore.specs.declared.fault.CoreFault.{CoreFault}
+use Rattle.mailcore.specs.declared.fault.CoreFault.TheVariants.{NoMemory as no_room, MarksRepeat as repeats}
 use Rattle.planner.specs.declared.fault.PlanFault.{PlanFault}
 use Rattle.planner.specs.declared.fault.PlanFault.TheVariants.{NoMemory as no_plan, ValidityChanged as changed}
 use Rattle.worlds.specs.declared.fault.WorldFault.{WorldFault}
 use Rattle.worlds.specs.declared.fault.WorldFault.TheVariants.{Line as bad_line, NoMemory as no_world}
 use Rattle.run_plan.specs.declared.failure.Failure.{Failure}
-use Rattle.run_plan.specs.declared.failure.Failure.TheVariants.{Usage, Input, World, ValidityChanged, NoMemory}
+use Rattle.run_plan.specs.declared.failure.Failure.TheVariants.{Usage, Input, World, ValidityChanged, MarksRepeat, NoMemory}
 
 abbrev pub of_world : WorldFault → Failure
 of_world (bad_line n) = World n
@@ -14,6 +16,10 @@ of_world no_world = NoMemory
 abbrev pub of_plan : PlanFault → Failure
 of_plan (changed side) = ValidityChanged side
 of_plan no_plan = NoMemory
+
+abbrev pub of_marks : CoreFault → Failure
+of_marks repeats = MarksRepeat
+of_marks no_room = NoMemory
 
 -- what is told where reading failed
 abbrev pub OfInput : Failure → Type 0
@@ -27,4 +33,5 @@ status_of Usage = 2
 status_of Input = 1
 status_of (World n) = 2
 status_of (ValidityChanged side) = 1
+status_of MarksRepeat = 1
 status_of NoMemory = 1

@@ -2,6 +2,7 @@
 
 ghost use Rattle.std.specs.Prelude.{◌≡◌};
 
+use mailcore::fault::CoreFault;
 use mailcore::side::Side;
 use planner::fault::PlanFault;
 use std::alloc::AllocError;
@@ -22,6 +23,8 @@ pub(crate) enum Failure {
     World(usize),
     #[error("validity changed {}", side_word(*.0))]
     ValidityChanged(Side),
+    #[error("marks repeat")]
+    MarksRepeat,
     #[error("no memory")]
     NoMemory,
 }
@@ -72,6 +75,19 @@ impl From<PlanFault> for Failure {
         match fault {
             PlanFault::ValidityChanged(side) => Failure::ValidityChanged(side),
             PlanFault::NoMemory => Failure::NoMemory,
+        }
+    }
+}
+
+impl From<CoreFault> for Failure {
+    ghost use Rattle.run_plan.specs.Failures.{of_marks};
+
+    ghost from_gives = { λ fault e. e ≡ of_marks fault };
+
+    fn from(fault: CoreFault) -> Failure {
+        match fault {
+            CoreFault::MarksRepeat => Failure::MarksRepeat,
+            CoreFault::NoMemory => Failure::NoMemory,
         }
     }
 }

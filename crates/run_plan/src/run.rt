@@ -5,10 +5,9 @@ ghost use Rattle.std.specs.Io.KnownBytes.{Keeps};
 
 use crate::failure::Failure;
 use mailcore::listing::Listing;
+use mailcore::marks::draw_marks;
 use mailcore::side::Side;
-use mailcore::tuid::Tuid;
 use mailcore::uid::Uid;
-use planner::fault::PlanFault;
 use planner::news::news;
 use planner::plan::plan;
 use planner::unfit::unfit;
@@ -18,6 +17,7 @@ use std::io;
 use std::io::{Read, Write};
 use worlds::plan_lines::{NoteLine, StepLine, UnfitLine};
 use worlds::read::read_world;
+use worlds::trial_generator::TrialGenerator;
 use worlds::world::{Waiting, World};
 
 /// Whether a program is given arguments.
@@ -86,22 +86,21 @@ fn input_world<I: Read>(alloc: Global, input: &mut I) -> Result<World, Failure> 
 fn plan_lines(alloc: Global, world: &World) -> Result<String, Failure> {
     let far = world.far.listing(alloc, Side::Far)?;
     let near = world.near.listing(alloc, Side::Near)?;
-    let plan = world_plan(alloc, &far, &near, world)?;
+    let plan = trial_plan(alloc, &far, &near, world)?;
     let unfit = unfit(alloc, &far, &near, &world.state, &world.options)?;
     Ok(lines_of(alloc, &plan, &unfit)?)
 }
 
-/// The plan of a world whose mailboxes list this. Its lines tell no marks, so none is drawn, and all copies get one.
-fn world_plan(
+/// The plan of a world whose mailboxes list this, with marks of the trial generator.
+fn trial_plan(
     alloc: Global,
     far: &Listing,
     near: &Listing,
     world: &World,
-) -> Result<Plan, PlanFault> {
+) -> Result<Plan, Failure> {
     let count = news(far, near, &world.state, &world.options);
-    let mark = Tuid::read(b"AAAAAAAAAAAA").unwrap();
-    let marks = vec![in alloc; mark; count]?;
-    plan(alloc, far, near, &world.state, &world.options, &marks)
+    let marks = draw_marks(alloc, &mut TrialGenerator::new(), count)?;
+    Ok(plan(alloc, far, near, &world.state, &world.options, &marks)?)
 }
 
 fn lines_of(alloc: Global, plan: &Plan, unfit: &[(Side, Uid)]) -> Result<String, AllocError> {
