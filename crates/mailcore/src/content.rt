@@ -1,5 +1,5 @@
 //! What a message says, however a store ends its lines and whatever marks it bears.
-ghost use Rattle.std.specs.Prelude.{◌≡◌, ◌++◌, length, IfOk, OnOk};
+ghost use Rattle.std.specs.Prelude.{◌≡◌, ◌++◌, length, nat_le, IfOk, OnOk};
 ghost use Rattle.mailcore.specs.Content as spec;
 
 use crate::content_lines::ContentLines;
@@ -69,8 +69,14 @@ pub fn fit(side: Side, message: &[u8]) -> bool
 {
     match side {
         Side::Far => message.len() <= MESSAGE_MAX,
-        Side::Near => {
-            memchr(0, message).is_none() && content_len(message, LineEnd::CrLf) <= MESSAGE_MAX
-        }
+        Side::Near => memchr(0, message).is_none() && content_fits(message),
     }
+}
+
+// Whether a message's content with CR LF line ends has at most [`MESSAGE_MAX`] bytes.
+fn content_fits(message: &[u8]) -> bool
+    ensures { result ≡ nat_le (length (spec.with_line_ends LineEnd.CrLf (spec.content message.now))) 16777216 }
+{
+    // A content has at most twice as many bytes as its message, so the lines of nearly all messages need no walk.
+    message.len() <= MESSAGE_MAX / 2 || content_len(message, LineEnd::CrLf) <= MESSAGE_MAX
 }

@@ -4,7 +4,6 @@ ghost use Rattle.std.specs.Prelude.{◌≡◌, ◌≤◌, ◌<◌, IsErr};
 ghost use Rattle.std.specs.Io.KnownBytes.{Keeps};
 
 use crate::failure::Failure;
-use mailcore::listing::Listing;
 use mailcore::marks::draw_marks;
 use mailcore::side::Side;
 use mailcore::uid::Uid;
@@ -15,10 +14,9 @@ use rules::plan::Plan;
 use std::alloc::{AllocError, Global};
 use std::io;
 use std::io::{Read, Write};
+use worlds::listed::{ListedWorld, read_listed_world};
 use worlds::plan_lines::{NoteLine, StepLine, UnfitLine};
-use worlds::read::read_world;
 use worlds::trial_generator::TrialGenerator;
-use worlds::world::{Waiting, World};
 
 /// Whether a program is given arguments.
 #[derive(Clone, Copy, PartialEq, Eq)]
@@ -71,31 +69,35 @@ fn plan_text<I: Read>(alloc: Global, arguments: Arguments, input: &mut I) -> Res
     if arguments == Arguments::Given {
         return Err(Failure::Usage);
     }
-    let mut text = Vec::new(alloc);
-    input.read_to_end(&mut text)?;
-    let world = read_world(alloc, &text, Waiting::Admitted)?;
+    let world = input_world(alloc, input)?;
     plan_lines(alloc, &world)
 }
 
-/// The lines of the plan of a world whose near files are all admitted.
-fn plan_lines(alloc: Global, world: &World) -> Result<String, Failure> {
-    let far = world.far.listing(alloc, Side::Far)?;
-    let near = world.near.listing(alloc, Side::Near)?;
-    let plan = trial_plan(alloc, &far, &near, world)?;
-    let unfit = unfit(alloc, &far, &near, &world.state, &world.options)?;
+/// The world whose text is read. The text is let go before there is a plan.
+fn input_world<I: Read>(alloc: Global, input: &mut I) -> Result<ListedWorld, Failure> {
+    let mut text = Vec::new(alloc);
+    input.read_to_end(&mut text)?;
+    Ok(read_listed_world(alloc, &text)?)
+}
+
+/// The lines of the plan of a world.
+fn plan_lines(alloc: Global, world: &ListedWorld) -> Result<String, Failure> {
+    let plan = trial_plan(alloc, world)?;
+    let unfit = unfit(alloc, &world.far, &world.near, &world.state, &world.options)?;
     Ok(lines_of(alloc, &plan, &unfit)?)
 }
 
-/// The plan of a world whose mailboxes list this, with marks of the trial generator.
-fn trial_plan(
-    alloc: Global,
-    far: &Listing,
-    near: &Listing,
-    world: &World,
-) -> Result<Plan, Failure> {
-    let count = news(far, near, &world.state, &world.options);
+/// The plan of a world, with marks of the trial generator.
+fn trial_plan(alloc: Global, world: &ListedWorld) -> Result<Plan, Failure> {
+    let ListedWorld {
+        options,
+        far,
+        near,
+        state,
+    } = world;
+    let count = news(far, near, state, options);
     let marks = draw_marks(alloc, &mut TrialGenerator::new(), count)?;
-    Ok(plan(alloc, far, near, &world.state, &world.options, &marks)?)
+    Ok(plan(alloc, far, near, state, options, &marks)?)
 }
 
 fn lines_of(alloc: Global, plan: &Plan, unfit: &[(Side, Uid)]) -> Result<String, AllocError> {

@@ -16,17 +16,40 @@ pub fn unescape(alloc: Global, text: &[u8]) -> Result<Vec<u8>, EscapeFault>
     ensures bytes { IfOk result (λ bytes. escaped bytes.items ≡ text.now) }
     ensures not_escaped { IsErrOf result EscapeFault.NotEscaped → (bytes : List ℕ) → All (λ b. b < 256) bytes → escaped bytes ≢ text.now }
 {
+    let mut bytes = Vec::new(alloc);
+    unescape_into(&mut bytes, text)?;
+    Ok(bytes)
+}
+
+/// The same, in the place of what `bytes` holds: where it has room, no memory is taken. After an error it may hold anything.
+pub fn unescape_into(bytes: &mut Vec<u8>, text: &[u8]) -> Result<(), EscapeFault>
+    ensures bytes { OnOk result (escaped bytes.new.items ≡ text.now) }
+    ensures not_escaped { IsErrOf result EscapeFault.NotEscaped → (bytes : List ℕ) → All (λ b. b < 256) bytes → escaped bytes ≢ text.now }
+{
     if !has_only_text_bytes(text) {
         return Err(EscapeFault::NotEscaped);
     }
-    let mut bytes = Vec::with_capacity(alloc, text.len())?;
+    bytes.clear();
+    bytes.reserve(text.len())?;
     let mut rest = text;
-    while let Some((plain, escape)) = cut(rest, b'\\') {
+    while let Some((plain, escape)) = cut_escape(rest) {
         bytes.extend_from_slice(plain)?;
-        rest = push_escape(&mut bytes, escape)?;
+        rest = push_escape(bytes, escape)?;
     }
     bytes.extend_from_slice(rest)?;
-    Ok(bytes)
+    Ok(())
+}
+
+/// What stands before the first `\` of a text and what stands behind it, or none if the text has none.
+fn cut_escape(text: &[u8]) -> Option<(&[u8], &[u8])>
+    ensures { MatchOption result (All (λ b. b ≢ 92) text.now)
+        (λ parts. (text.now ≡ parts.0.now ++ 92 ∷ parts.1.now) × All (λ b. b ≢ 92) parts.0.now) }
+{
+    match text {
+        // Escapes often stand one behind another, as at the end of a message's header: there is nothing to search then.
+        [b'\\', behind @ ..] => Some((&text[..0], behind)),
+        _ => cut(text, b'\\'),
+    }
 }
 
 /// Whether each byte of a text stands for itself or is `\`, as in an escaped text.

@@ -3,6 +3,7 @@
 
 pub mod fault;
 pub mod line;
+pub mod listed;
 pub mod plan_lines;
 pub mod read;
 pub mod read_mailbox;

@@ -1,6 +1,6 @@
 //! How a world is read from its text (docs/FORMATS.md, "World").
 
-ghost use Rattle.std.specs.Prelude.{◌≡◌, ◌+◌, ◌≤◌, IfErr};
+ghost use Rattle.std.specs.Prelude.{◌≡◌, ◌≢◌, ◌+◌, ◌≤◌, [], IfErr, OnErr};
 ghost use Rattle.worlds.specs.Lines.{IsOf, IsUpTo, line_count, line_ends};
 
 use crate::fault::WorldFault;
@@ -19,8 +19,17 @@ pub fn read_world(alloc: Global, text: &[u8], waiting: Waiting) -> Result<World,
 {
     let mut lines = Lines::new(text);
     let world = take_world(alloc, waiting, &mut lines)?;
+    read_nothing(&lines)?;
+    Ok(world)
+}
+
+/// That nothing stands behind the lines that are taken.
+pub(crate) fn read_nothing(lines: &Lines<'_>) -> Result<(), WorldFault>
+    ensures fault { IfErr result (λ fault. fault ≡ WorldFault.Line (lines.now.taken + 1)) }
+    ensures more { OnErr result (lines.now.rest.now ≢ []) }
+{
     if lines.rest.is_empty() {
-        Ok(world)
+        Ok(())
     } else {
         Err(lines.fault())
     }
@@ -63,7 +72,7 @@ fn read_mailboxes(
     Ok((far, near, waiting))
 }
 
-fn read_end(lines: &mut Lines<'_>) -> Result<(), WorldFault>
+pub(crate) fn read_end(lines: &mut Lines<'_>) -> Result<(), WorldFault>
     ensures count { line_count lines.new ≤ line_count lines.old }
     ensures fault { IfErr result (IsUpTo (line_count lines.old + 1)) }
 {

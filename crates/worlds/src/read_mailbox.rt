@@ -17,7 +17,7 @@ use mailcore::side::Side;
 use mailcore::uid::Uid;
 use memchr::memchr;
 use std::alloc::Global;
-use texts::escape::unescape;
+use texts::escape::unescape_into;
 use texts::fault::EscapeFault;
 
 /// The greatest number of bytes of a far message: 16777216 and a mark line of 22.
@@ -28,10 +28,7 @@ pub fn read_mailbox(alloc: Global, side: Side, lines: &mut Lines<'_>) -> Result<
     ensures count { line_count lines.new ≤ line_count lines.old }
     ensures fault { IfErr result (IsUpTo (line_count lines.old + 1)) }
 {
-    let (mailbox_start, message_start): (&[u8], &[u8]) = match side {
-        Side::Far => (b"far ", b"f "),
-        Side::Near => (b"near ", b"n "),
-    };
+    let (mailbox_start, message_start) = line_starts(side);
     let line = lines.take(mailbox_start)?;
     let (validity, next) = read_numbers(line.text).ok_or(line.fault())?;
     let name = MailboxName::inbox(alloc)?;
@@ -43,8 +40,16 @@ pub fn read_mailbox(alloc: Global, side: Side, lines: &mut Lines<'_>) -> Result<
     Ok(mailbox)
 }
 
+/// How the line of a mailbox begins, and how those of its messages do.
+pub(crate) fn line_starts(side: Side) -> (&'static [u8], &'static [u8]) {
+    match side {
+        Side::Far => (b"far ", b"f "),
+        Side::Near => (b"near ", b"n "),
+    }
+}
+
 /// The UIDVALIDITY and the UIDNEXT of a mailbox.
-fn read_numbers(text: &[u8]) -> Option<(u32, u32)> {
+pub(crate) fn read_numbers(text: &[u8]) -> Option<(u32, u32)> {
     let (validity, next) = split_word(text)?;
     Some((read_positive(validity)?, read_positive(next)?))
 }
@@ -67,7 +72,7 @@ fn read_message(alloc: Global, side: Side, line: Line<'_>) -> Result<Message, Wo
 }
 
 /// The UID and the flags of a message, and the quoted text of its bytes.
-fn split_message(text: &[u8]) -> Option<(Uid, Flags, &[u8])> {
+pub(crate) fn split_message(text: &[u8]) -> Option<(Uid, Flags, &[u8])> {
     let (uid, text) = split_word(text)?;
     let (flags, text) = split_word(text)?;
     Some((read_uid(uid)?, read_flags(flags)?, text))
@@ -82,11 +87,24 @@ pub fn is_far(bytes: &[u8]) -> bool {
 pub fn read_bytes(alloc: Global, text: &[u8], line: Line<'_>) -> Result<Vec<u8>, WorldFault>
     ensures { IfErr result (IsOf line.entry.number) }
 {
+    let mut bytes = Vec::new(alloc);
+    read_bytes_into(&mut bytes, text, line)?;
+    Ok(bytes)
+}
+
+/// The same, in the place of what `bytes` holds.
+pub(crate) fn read_bytes_into(
+    bytes: &mut Vec<u8>,
+    text: &[u8],
+    line: Line<'_>,
+) -> Result<(), WorldFault>
+    ensures { IfErr result (IsOf line.entry.number) }
+{
     let [b'"', escaped @ .., b'"'] = text else {
         return Err(line.fault());
     };
-    match unescape(alloc, escaped) {
-        Ok(bytes) => Ok(bytes),
+    match unescape_into(bytes, escaped) {
+        Ok(()) => Ok(()),
         Err(EscapeFault::NotEscaped) => Err(line.fault()),
         Err(EscapeFault::NoMemory) => Err(WorldFault::NoMemory),
     }
@@ -116,13 +134,20 @@ pub fn read_waiting(
 fn read_waiting_file(alloc: Global, line: Line<'_>) -> Result<WaitingFile, WorldFault>
     ensures { IfErr result (IsOf line.entry.number) }
 {
-    let (flags, text) = split_word(line.text).ok_or(line.fault())?;
-    let flags = read_flags(flags).ok_or(line.fault())?;
+    let Some((flags, text)) = split_file(line.text) else {
+        return Err(line.fault());
+    };
     let bytes = read_bytes(alloc, text, line)?;
     Ok(WaitingFile {
         flags,
         bytes: Octets::from_vec(bytes),
     })
+}
+
+/// The flags of a waiting file, and the quoted text of its bytes.
+pub(crate) fn split_file(text: &[u8]) -> Option<(Flags, &[u8])> {
+    let (flags, text) = split_word(text)?;
+    Some((read_flags(flags)?, text))
 }
 
 /// Makes a waiting file the message with the next UID. `OutOfOrder`: no UID is left.

@@ -6,7 +6,6 @@ ghost use Rattle.worlds.specs.Words.{flags_word};
 
 use mailcore::flags::Flags;
 use mailcore::uid::Uid;
-use texts::cut::cut;
 use texts::number::read_u32;
 
 /// The greatest UID.
@@ -17,7 +16,9 @@ pub fn split_word(text: &[u8]) -> Option<(&[u8], &[u8])>
     ensures { MatchOption result (All (λ b. b ≢ 32) text.now)
         (λ parts. (text.now ≡ parts.0.now ++ 32 ∷ parts.1.now) × All (λ b. b ≢ 32) parts.0.now) }
 {
-    cut(text, b' ')
+    // A word is short: byte by byte its end is found before a search by `memchr` has begun.
+    let place = text.iter().position(|&byte| byte == b' ')?;
+    Some((&text[..place], &text[place + 1..]))
 }
 
 /// A UIDVALIDITY or UIDNEXT, 1 to 4294967295 (RFC 9051, section 9, `nz-number`).

@@ -2,7 +2,7 @@ use Rattle.std.proofs.Common.{◌≡◌, ◌++◌, ◌∷◌, ℕ, List, true, a
 use Rattle.std.specs.List.{list_all}
 use Rattle.texts.specs.Escape.{escaped}
 use Rattle.texts.proofs.EscapeLemmas.{end_read, escaped_text, front_read, is_text, none_spelled}
-use Rattle.texts.proofs.escape.unescape.Goals as goal
+use Rattle.texts.proofs.escape.unescape_into.Goals as goal
 
 pub returns-then-not-has_only_text_bytes-clause-not_escaped : goal.returns-then-not-has_only_text_bytes-clause-not_escaped
 returns-then-not-has_only_text_bytes-clause-not_escaped c = λ _ bytes are e.
