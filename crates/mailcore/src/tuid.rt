@@ -5,7 +5,6 @@ ghost use Rattle.std.specs.List.{list_all};
 ghost use Rattle.mailcore.specs.Mark.{base64url, is_mark_char, IsMark};
 
 use base64::engine::general_purpose::URL_SAFE_NO_PAD;
-use std::hash::{Hash, Hasher};
 use std::marker::Model;
 
 /// The number of characters of a mark.
@@ -17,7 +16,7 @@ const TUID_BYTES: usize = 9;
 /// A mark: twelve characters of base64url (RFC 4648, section 5), which stand for nine bytes.
 ///
 /// A copy begins with the line `X-TUID: ` and its mark.
-#[derive(Clone, Copy, PartialEq, Eq)]
+#[derive(Clone, Copy, PartialEq, Eq, Hash)]
 pub struct Tuid {
     text: [u8; TUID_LENGTH],
 }
@@ -33,21 +32,6 @@ impl Model for Tuid {
     ghost invariant = { λ mark. IsMark mark.text };
 
     ghost inverse = { λ characters. record { text = characters } };
-}
-
-// A mark is fed to a hasher as one piece, where a derive would feed each character and how many there are.
-impl Hash for Tuid {
-    ghost use Rattle.std.specs.Prelude.{◌∷◌, []};
-    ghost use Rattle.std.proofs.Common.{rules};
-    ghost use Rattle.std.specs.Cmp.Rules.{hashing};
-
-    ghost hash_input = { λ mark. mark ∷ [] };
-
-    ghost respects_eq = { Prim.search (hashing, rules) };
-
-    fn hash<H: Hasher>(&self, state: &mut H) {
-        state.write(&self.text);
-    }
 }
 
 impl Tuid {
