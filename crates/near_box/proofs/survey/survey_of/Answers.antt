@@ -16,11 +16,11 @@ returns-in_default-clause-adds g c = λ honest.
 pub returns-in_err-text-clause-adds : goal.returns-in_err-text-clause-adds
 returns-in_err-text-clause-adds g c = λ honest.
     let f = c.in_ok-names.ensures.effect honest in
-    subst (λ (t : Stored). Adds g.F.Folder.visitors (g.F.Folder.seen c.args.folder.now).stored t) (sym (c.in_err-text.ensures.left honest))
+    subst (λ (t : Stored). Adds g.F.Folder.visitors (g.F.Folder.seen c.args.folder.now).stored t) (sym (c.in_err-text.ensures.call.left honest))
     (subst (λ (t : Stored). Adds g.F.Folder.visitors (g.F.Folder.seen c.args.folder.now).stored t) (sym f.behind.0) f.before)
 
 pub returns-clause-adds : goal.returns-clause-adds
 returns-clause-adds g c = λ honest.
     let f = c.in_ok-names.ensures.effect honest in
-    subst (λ (t : Stored). Adds g.F.Folder.visitors (g.F.Folder.seen c.args.folder.now).stored t) (sym (c.in_ok-text.ensures.effect honest).0)
+    subst (λ (t : Stored). Adds g.F.Folder.visitors (g.F.Folder.seen c.args.folder.now).stored t) (sym (c.in_ok-text.ensures.call.effect honest).0)
     (subst (λ (t : Stored). Adds g.F.Folder.visitors (g.F.Folder.seen c.args.folder.now).stored t) (sym f.behind.0) f.before)
