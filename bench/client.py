@@ -5,7 +5,8 @@
 
 A mailbox with 10,000 and one with 100,000 messages is listed, the mark of its last message is sought, and a message of 1.6 MB and
 one of 16 MB is fetched. The server answers in the same process, so that its time and its memory, with the mailbox itself, are
-counted in. Seconds are the least of three runs, and of one call each: the connection, the login and the selection stand before.
+counted in. Then a server in this script lists a mailbox of 1,000,000 messages and sends a message of 16 MB, over TCP: what the client's process takes
+beside a mailbox and a message of one byte is told, which is to be at most 60 bytes a message and 1.2 times the message. Seconds are the least of three runs, and of one call each: the connection, the login and the selection stand before.
 Beside them stand the processor seconds of the whole program, which others on the machine disturb less; the mailbox is made in them,
 too. Ten times the messages or bytes take about ten times as long. tests_of_runs makes the calls, by lines of a script of `client`
 (crates/test_client)."""
@@ -15,6 +16,7 @@ import tempfile
 
 from memory import peak
 from played import build, play, program, text_of
+from scripted_server import BODY, LISTING, ScriptedServer, body_told
 
 NAME = "tests_of_runs"
 TASKS = [("list", "messages", (10000, 100000)), ("find", "messages", (10000, 100000)), ("fetch", "bytes", (1677721, 16777216))]
@@ -61,8 +63,39 @@ def measure(task, unit, size):
     return seconds, cpu, memory
 
 
+def says(size):
+    """A script of a server: a mailbox of so many messages, each of which has so many bytes."""
+    def answer(talk, command):
+        if command.asks(LISTING):
+            for first in range(1, size + 1, 10000):
+                rows = range(first, min(first + 10000, size + 1))
+                talk.stream.sendall(b"".join(b"* %d FETCH (UID %d FLAGS (\\Seen) RFC822.SIZE 3000)\r\n" % (n, n) for n in rows))
+        elif command.asks(BODY):
+            talk.stream.sendall(body_told(1, 1, b"BODY[]", b"x" * size))
+        else:
+            return False
+        talk.done(command)
+        return True
+    return answer
+
+
+def heard_memory(call, size):
+    """The most memory of the client's process that makes this call."""
+    server = ScriptedServer([b"x"])
+    server.script = says(size)
+    with tempfile.TemporaryFile() as source:
+        source.write(text_of("client", ["case a call", f"over tcp 127.0.0.1:{server.port}", "open", "login u p", "select INBOX", call]))
+        source.seek(0)
+        memory = peak([program(NAME)], source)
+    server.stop()
+    return memory
+
+
 def main():
     build(NAME)
+    for call, size, limit in (("count", 1000000, 60), ("fetch 1", 16777216, 1.2)):
+        memory = heard_memory(call, size) - heard_memory(call, 1)
+        print("%-7s %8d over TCP: %6.1f MB more, %5.2f bytes for each, at most %s are asked" % (call, size, memory / 1e6, memory / size, limit), flush=True)
     for task, unit, sizes in TASKS:
         few, many = (measure(task, unit, size) for size in sizes)
         print("%-5s ten times as many take %.1f times as long, %.1f times the processor and %.1f times the memory"

@@ -8,7 +8,9 @@ An example is a line: C (a command) or R (a reply), a space, and the bytes as a 
 quotes around. Behind that line stand its answers: to the whole, to each of its beginnings, its places (a line feed outside
 the octets of literals, a NUL among them), and, a line for each byte, to the bytes with that one changed to each of
 CHANGES. With c or r in place of C or R, the whole alone is asked for: so stand the lines of
-real servers, from bench/real-lines.txt.
+real servers, from bench/real-lines.txt. With b, a buffer of replies is asked, to which the bytes come in pieces of 1, 2 and 7
+bytes, each size with a line of its own: what it answers, how many bytes it holds, and how many once those that were read are
+dropped.
 
     w N  whole, of N bytes    a N  a literal of N octets is asked for    p  partial
     s N  a byte that no spelling goes on with, at N    t N  a literal's number passes its limit at N
@@ -311,6 +313,15 @@ EXAMPLES = [
     ("R", b"* 007 X\r\n"), ("R", b"* 0 FETCH (UID 1)\r\n"), ("R", b"* 1 FETCH (BODY[] {16777239}\r\n"),
 ]
 
+# Of these a buffer of replies is asked too.
+BUFFERED = [
+    b"+ go\r\n", b"A1 NO [TRYCREATE] no mailbox\r\n", b"* OK [UIDNEXT 4] n\r\n", b"* PREAUTH hi {5}\r\n",
+    b"* 1 FETCH (BODY[] {6}\r\n{2}\r\n\n)\r\n", b"* 1 FETCH (BODY[] {3}\r\n\0\n\0)\r\n", b"* LIST () NIL {4}\r\na\nb]\r\n",
+    b"* 0 EXISTS\r\n", b"* 1 FETCH (UID 7 FLAGS (\\Seen) RFC822.SIZE 0)\r\n", b"* 1 FETCH (UID 7 BODY[] {3}\r\nabc)\r\n",
+    b"* 2 FETCH (BODY[] {0}\r\n UID 3)\r\n", b"* 3 5 [x\r\n", b"* 0 FETCH (UID 1)\r\n", b"* 1 FETCH (BODY[] {16777239}\r\n",
+    b"* 1 FETCH (UID 7 BODY[] {3}\r\n", b"* 2 EXISTS\r",
+]
+
 
 def shown(data):
     return "".join(chr(b) if 32 <= b <= 126 and b not in b'"\\' else f"\\{b:02x}" for b in data)
@@ -329,6 +340,13 @@ def read(line):
     letter, _, text = line.rstrip("\n").partition(" ")
     pieces = text.split("\\")
     return letter, pieces[0].encode() + b"".join(bytes([int(p[:2], 16)]) + p[2:].encode() for p in pieces[1:])
+
+
+def buffered(data):
+    """What a buffer of replies answers: the same for each size of the pieces."""
+    told = answer("R", data)
+    left = 0 if told.startswith("w ") else len(data)
+    return [f"{told}, held {len(data)}, then {left}"] * 3
 
 
 # What makes replies, and what is asked of them.
@@ -371,6 +389,11 @@ def main():
         print(line)
         if sys.argv[1] == "answers":
             for told in answers(side, data) if side.isupper() else [answer(side.upper(), data)]:
+                print(f"  {told}")
+    for data in BUFFERED:
+        print(f"b {shown(data)}")
+        if sys.argv[1] == "answers":
+            for told in buffered(data):
                 print(f"  {told}")
     for line, told in made():
         print(line)

@@ -29,7 +29,7 @@ use Rattle.mailbox.specs.Calls.{Call, Never}
 use Rattle.mailbox.specs.Operations.{Answers, Appends, Loads, NoRoom, Turns}
 use Rattle.far_side.specs.declared.stage.Stage.{Stage}
 use Rattle.far_side.specs.declared.stage.Stage.TheVariants.{Closed, LoggedIn, Open}
-use Rattle.far_side.specs.Chosen.{IsChosen, box_at, settled, store_at}
+use Rattle.far_side.specs.Chosen.{IsChosen, box_at, settled}
 use Rattle.far_side.specs.FarFaults.{told, told_by}
 use Rattle.far_side.specs.FarSides.{seen_at}
 use Rattle.far_side.specs.FarStops.{Ends, HasEnded}

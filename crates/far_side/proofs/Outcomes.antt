@@ -1,5 +1,5 @@
 -- From what a call of the far box does at the server to what the trait says of it.
-use Rattle.std.proofs.Common.{◌≡◌, ◌≤◌, ◌+◌, ◌^◌, ℕ, Bool, List, [], ◌++◌, Option, Some, None, Result, Ok, Err, false, sym, ap, subst, ◌∙◌, inl, inr, refl, arith, true}
+use Rattle.std.proofs.Common.{◌≡◌, ◌≤◌, ◌+◌, ◌^◌, ℕ, Bool, List, [], ◌++◌, Option, Some, None, Result, Ok, Err, false, sym, ap, subst, ◌∙◌, inl, inr, refl, arith}
 use Rattle.std.proofs.lemmas.List.{append-nil}
 use Rattle.device.specs.Calls.{Effect, Follows, Leaves, Nothing, Went}
 use Rattle.mailcore.specs.declared.mailbox.Message.{Message}

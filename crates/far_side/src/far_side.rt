@@ -229,6 +229,7 @@ impl<L: Link + Drop> Mailbox for FarSide<L> {
     ghost use Rattle.mailcore.specs.declared.side.Side.TheVariants.{Far};
     ghost use Rattle.imap_client.specs.Sessions.{state_of};
     ghost use Rattle.far_side.specs.FarSides.{Unfit, honest_of, seen_of};
+    ghost use Rattle.imap_client.specs.Fetches.{body_of};
     ghost use Rattle.far_side.specs.FarStops.{HasEnded};
 
     ghost side = { Far };
@@ -244,7 +245,7 @@ impl<L: Link + Drop> Mailbox for FarSide<L> {
 
     ghost is_open = { λ side. is_open_at side.stage };
 
-    ghost body = { λ side. side.far.body.items };
+    ghost body = { λ side. body_of side.far };
 
     ghost ended = { λ _ side. HasEnded (state_of side.far.session) };
 

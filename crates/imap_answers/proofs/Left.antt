@@ -1,5 +1,5 @@
 -- Replies that are read one after another.
-use Rattle.std.proofs.Common.{◌≡◌, ◌≤◌, ℕ, true, false, List, [], ◌∷◌, ◌++◌, refl, sym, ◌∙◌, ap, subst, take, drop, length, take-append-drop, length-append, append_assoc, append-nil, arith, Result, Ok, Err}
+use Rattle.std.proofs.Common.{◌≡◌, ◌<◌, ◌≤◌, ℕ, true, List, [], ◌∷◌, ◌++◌, refl, sym, ◌∙◌, ap, subst, take, drop, length, take-append-drop, length-append, append_assoc, append-nil, arith, Result, Ok, Err}
 use Rattle.std.specs.Bool.{◌==◌}
 use Rattle.std.proofs.lemmas.Bool.Decides.{nat_tests}
 use Rattle.std.proofs.Math.Seq.{take-append_seam}
@@ -17,16 +17,13 @@ use Rattle.exchange_laws.proofs.Apart.{apart, replies_apart}
 use Rattle.exchange_laws.proofs.AnswersApart.{reply_some}
 use Rattle.imap_link.specs.declared.fault.FarFault.TheVariants.{NoMemory}
 use Rattle.imap_link.specs.Faults.{heard_fault}
-use Rattle.imap_answers.specs.Spoken.{Speaks, IsLeft}
-
-pub left_all : (bytes : List ℕ) (rs : List Reply) → AreReplies rs bytes → IsLeft [] bytes rs
-left_all bytes rs h = record { left = rs; spelled = h; all = refl }
+use Rattle.imap_answers.specs.Spoken.{Speaks, IsLeft, IsFirst}
 
 empty_front : (a b : List ℕ) → a ++ b ≡ [] → a ≡ []
 empty_front [] b e = refl
 empty_front (x ∷ a) b e = cc
 
-no_left : (left : List Reply) (rest : List ℕ) → AreReplies left rest → rest ≡ [] → left ≡ []
+pub no_left : (left : List Reply) (rest : List ℕ) → AreReplies left rest → rest ≡ [] → left ≡ []
 no_left [] rest h e = refl
 no_left (q ∷ qs) rest h e = absurd (reply_some q h.front h.first (empty_front h.front h.back (sym h.parts ∙ e)))
 
@@ -34,21 +31,24 @@ module _ (read : List Reply) (rest : List ℕ) (rs : List Reply) where
   pub all_read : IsLeft read rest rs → rest ≡ [] → read ≡ rs
   all_read h e = sym (h.all ∙ ap (λ (l : List Reply). read ++ l) (no_left h.left rest h.spelled e) ∙ append-nil read)
 
-  next_of : (r : Reply) (len : ℕ) (left : List Reply) → ReplyText r (take len rest) → AreReplies left rest → rs ≡ read ++ left → (rest ≡ [] → ⊥) → IsLeft (read ++ r ∷ []) (drop len rest) rs
-  next_of r len [] h a e n = absurd (n a)
-  next_of r len (q ∷ qs) h a e n =
-      let same = apart replies_apart r q (take len rest) (drop len rest) a.front a.back h a.first (take-append-drop len rest ∙ a.parts) in
-      record {
-        left = qs;
-        spelled = subst (AreReplies qs) (sym same.rest) a.others;
-        all = e ∙ ap (λ (x : Reply). read ++ x ∷ qs) (sym same.value) ∙ sym (append_assoc read (r ∷ []) qs);
-      }
+-- what was read is the first of the replies
+pub first_of : (bytes : List ℕ) (r : Reply) (len : ℕ) (rs : List Reply) → ReplyText r (take len bytes) → AreReplies rs bytes → (bytes ≡ [] → ⊥) → IsFirst r len bytes rs
+first_of bytes r len [] h a n = absurd (n a)
+first_of bytes r len (q ∷ qs) h a n =
+    let same = apart replies_apart r q (take len bytes) (drop len bytes) a.front a.back h a.first (take-append-drop len bytes ∙ a.parts) in
+    record {
+      others = qs;
+      spelled = subst (AreReplies qs) (sym same.rest) a.others;
+      all = ap (λ (x : Reply). x ∷ qs) (sym same.value);
+    }
 
 pub left_next : (read now_read : List Reply) (rest now_rest : List ℕ) (rs : List Reply) (r : Reply) (len : ℕ)
-    → now_read ≡ read ++ r ∷ [] → now_rest ≡ drop len rest → ReplyText r (take len rest) → (rest ≡ [] → ⊥) → IsLeft read rest rs → IsLeft now_read now_rest rs
-left_next read now_read rest now_rest rs r len a e h n l =
-    subst (λ (x : List Reply). IsLeft x now_rest rs) (sym a)
-    (subst (λ (x : List ℕ). IsLeft (read ++ r ∷ []) x rs) (sym e) (next_of read rest rs r len l.left h l.spelled l.all n))
+    → now_read ≡ read ++ r ∷ [] → now_rest ≡ drop len rest → (l : IsLeft read rest rs) → IsFirst r len rest l.left → IsLeft now_read now_rest rs
+left_next read now_read rest now_rest rs r len a e l f = record {
+  left = f.others;
+  spelled = subst (AreReplies f.others) (sym e) f.spelled;
+  all = l.all ∙ ap (λ (x : List Reply). read ++ x) f.all ∙ sym (append_assoc read (r ∷ []) f.others) ∙ ap (λ (x : List Reply). x ++ f.others) (sym a);
+}
 
 pub record MustTake (result : Result (Read Reply) WireFault) : Type 0 where
   pub reply : Reply
@@ -66,10 +66,9 @@ must_of rest (q ∷ qs) result a n t =
       takes = t q (length a.front) (record { within = long; spelled = subst (ReplyText q) (sym at) a.first }) (subst (λ (l : List ℕ). outside l ≤ 65536) (sym at) a.fits);
     }
 
--- a reply is read wherever one is left
-pub must_take : (bytes rest : List ℕ) (read : List Reply) (result : Result (Read Reply) WireFault) → Speaks bytes
-    → ((rs : List Reply) → AreReplies rs bytes → IsLeft read rest rs) → (rest ≡ [] → ⊥) → TakesEach seen ReplyText rest result → MustTake result
-must_take bytes rest read result s l n t = let left = l s.replies s.spelled in must_of rest left.left result left.spelled n t
+-- a reply is read wherever one stands
+pub must_take : (bytes : List ℕ) (result : Result (Read Reply) WireFault) → Speaks bytes → (bytes ≡ [] → ⊥) → TakesEach seen ReplyText bytes result → MustTake result
+must_take bytes result s n t = must_of bytes s.replies result s.spelled n t
 
 pub stops_at : (f : WireFault) → MustTake (Err f) → heard_fault f ≡ NoMemory
 stops_at (faults.Syntax at) m = absurd m.takes
@@ -77,9 +76,9 @@ stops_at faults.LineTooLong m = absurd m.takes
 stops_at (faults.LiteralTooLong at) m = absurd m.takes
 stops_at faults.NoMemory m = refl
 
-pub some_rest : (rest : List ℕ) → (length rest == 0) ≡ false → rest ≡ [] → ⊥
-some_rest [] h e = cc
-some_rest (b ∷ bs) h e = cc
+pub some_bytes : (bytes : List ℕ) → 0 < length bytes → bytes ≡ [] → ⊥
+some_bytes [] h e = absurd (omega (arith, h))
+some_bytes (b ∷ bs) h e = cc
 
 pub none_rest : (rest : List ℕ) → (length rest == 0) ≡ true → rest ≡ []
 none_rest [] h = refl

@@ -2,4 +2,5 @@ pub mod Left
 pub mod Unread
 pub mod Listed
 pub mod BodyTold
+pub mod Placed
 pub mod NameLemmas

@@ -1,14 +1,15 @@
 -- The bytes of a message, as replies to UID FETCH tell them.
-use Rattle.std.specs.Prelude.{ℕ, Bool, false, ◌==◌, List, Option, None, Some, if◌then◌else◌, Vec}
+use Rattle.std.specs.Prelude.{ℕ, Bool, false, ◌==◌, List, take, drop, Option, None, Some, if◌then◌else◌}
 use Rattle.std.specs.List.{fold, list_any}
 use Rattle.std.specs.Option.{option_map}
-use Rattle.std.specs.Global.{Global}
 use Rattle.wire_strings.specs.declared.string.WireString.{WireString}
 use Rattle.wire_strings.specs.declared.string.WireString.TheVariants.{Quoted, Literal}
 use Rattle.imap_replies.specs.declared.fetch.FetchItem.{FetchItem}
 use Rattle.imap_replies.specs.declared.fetch.FetchItem.TheVariants as items
 use Rattle.imap_replies.specs.declared.reply.Reply.{Reply}
 use Rattle.imap_replies.specs.declared.reply.Reply.TheVariants.{Fetch}
+use Rattle.imap_answers.specs.declared.bodies.FoundBody.{FoundBody}
+use Rattle.imap_answers.specs.declared.bodies.FoundBody.TheVariants.{At, Copied}
 use Rattle.imap_answers.specs.Fetching.{told_of}
 
 -- the bytes of a body, or none where it is NIL or quoted with a backslash
@@ -41,5 +42,12 @@ bodies_more uid told _ = told
 abbrev pub body_told : (uid : ℕ) → List Reply → Option (Option (List ℕ))
 body_told uid replies = fold (bodies_more uid) (Some None) replies
 
-abbrev pub text_of : Option (Vec ℕ Global) → Option (List ℕ)
-text_of found = option_map (λ v. v.items) found
+-- ---- where they stand
+
+-- the bytes of a message that was found in these bytes
+abbrev pub body_at : FoundBody → (bytes : List ℕ) → List ℕ
+body_at (At from len) bytes = take len (drop from bytes)
+body_at (Copied copy) bytes = copy.items
+
+abbrev pub found_at : (bytes : List ℕ) → Option FoundBody → Option (List ℕ)
+found_at bytes found = option_map (λ b. body_at b bytes) found

@@ -1,24 +1,23 @@
 -- What the selected mailbox lists.
-use Rattle.std.specs.Prelude.{◌≡◌, ℕ, ◌+◌, max, Bool, ◌&&◌, nat_lt, nat_le, List, [], ◌∷◌, map, Option, None, Some, if◌then◌else◌}
+use Rattle.std.specs.Prelude.{◌≡◌, ℕ, ◌+◌, max, Bool, ◌&&◌, nat_lt, List, [], ◌∷◌, map, Option, None, Some, if◌then◌else◌}
 use Rattle.std.specs.List.{fold}
 use Rattle.mailcore.specs.declared.side.Side.TheVariants.{Far}
 use Rattle.mailcore.specs.declared.listing.Item.{Item}
 use Rattle.mailcore.specs.declared.listing.Listing.{Listing}
-use Rattle.mailcore.specs.Content.{size_limit}
 use Rattle.mailcore.specs.Listed.{item_of}
 use Rattle.mailcore.specs.Stores.{Store}
-use Rattle.imap_answers.specs.declared.told.Told.{Told}
+use Rattle.imap_answers.specs.declared.told.Row.{Row}
 
 -- ---- what is told of messages, as a list of them
 
 abbrev pub is_uid : ℕ → Bool
 is_uid n = nat_lt 0 n && nat_lt n 4294967295
 
--- a message with its flags and its size
-abbrev pub item_told : (uid : ℕ) → (flags size : Option ℕ) → Option Item
-item_told uid None size = None
+-- a message with its flags, of which the size was told
+abbrev pub item_told : (uid : ℕ) → (flags : Option ℕ) → (fit : Option Bool) → Option Item
+item_told uid None fit = None
 item_told uid (Some flags) None = None
-item_told uid (Some flags) (Some size) = if is_uid uid then Some (record { uid = uid; flags = flags; fit = nat_le size size_limit }) else None
+item_told uid (Some flags) (Some fit) = if is_uid uid then Some (record { uid = uid; flags = flags; fit = fit }) else None
 
 abbrev pub joined : Option Item → Option (List Item) → Option (List Item)
 joined None items = None
@@ -26,9 +25,9 @@ joined (Some item) None = None
 joined (Some item) (Some items) = Some (item ∷ items)
 
 -- all of them, or none where one has no flags, no size or no UID
-abbrev pub items_told : List (ℕ × Told) → Option (List Item)
+abbrev pub items_told : List (ℕ × Row) → Option (List Item)
 items_told [] = Some []
-items_told (row ∷ rows) = joined (item_told row.0 row.1.flags row.1.size) (items_told rows)
+items_told (row ∷ rows) = joined (item_told row.0 row.1.flags row.1.fit) (items_told rows)
 
 -- ---- what the mailbox lists
 

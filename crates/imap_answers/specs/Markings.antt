@@ -1,5 +1,5 @@
 -- Where replies to UID FETCH show a mark.
-use Rattle.std.specs.Prelude.{ℕ, min, Bool, false, ◌&&◌, nat_le, nat_lt, List, length, Option, None, Some, if◌then◌else◌}
+use Rattle.std.specs.Prelude.{◌≡◌, ℕ, min, Bool, false, ◌&&◌, ◌||◌, nat_le, nat_lt, List, length, Option, None, Some, if◌then◌else◌}
 use Rattle.std.specs.List.{fold, list_any}
 use Rattle.mailcore.specs.Content.{mark_of}
 use Rattle.mailcore.specs.Operations.{is_mark}
@@ -12,6 +12,7 @@ use Rattle.imap_replies.specs.declared.reply.Reply.{Reply}
 use Rattle.imap_replies.specs.declared.reply.Reply.TheVariants.{Fetch}
 use Rattle.imap_answers.specs.Fetching.{told_of}
 use Rattle.imap_answers.specs.Listings.{is_uid}
+use Rattle.imap_answers.specs.declared.marks.MarkSearch.{MarkSearch}
 
 -- the mark that the beginning of a message bears
 abbrev pub mark_told : Option WireString → Option (List ℕ)
@@ -81,3 +82,18 @@ has_long_head _ = false
 -- the UID that was found, if one was; or nothing that the call can take
 abbrev pub mark_found : (mark : List ℕ) (from : ℕ) → List Reply → Option (Option ℕ)
 mark_found mark from replies = if list_any has_long_head replies then None else uid_found (least_marked mark from replies)
+
+-- ---- the search, reply by reply
+
+-- it was told nothing
+abbrev pub new_search : (mark : List ℕ) (from : ℕ) → MarkSearch
+new_search mark from = record { mark = mark; from = from; is_long = false; least = None }
+
+-- told these replies, the first became the second
+abbrev pub TookHeads : (first : MarkSearch) → List Reply → (second : MarkSearch) → Type 0
+TookHeads first replies second =
+    second ≡ record first { is_long = list_any has_long_head replies || first.is_long; least = fold (least_more first.mark first.from) first.least replies }
+
+-- the search for this mark, once it was told these replies
+abbrev pub Sought : (mark : List ℕ) (from : ℕ) → List Reply → MarkSearch → Type 0
+Sought mark from replies search = TookHeads (new_search mark from) replies search

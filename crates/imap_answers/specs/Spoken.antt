@@ -1,5 +1,5 @@
 -- Bytes that are replies.
-use Rattle.std.specs.Prelude.{◌≡◌, ℕ, List, ◌++◌}
+use Rattle.std.specs.Prelude.{◌≡◌, ℕ, List, ◌∷◌, ◌++◌, drop}
 use Rattle.imap_replies.specs.declared.reply.Reply.{Reply}
 use Rattle.imap_session.specs.Heard.{AreReplies}
 
@@ -12,3 +12,9 @@ pub record IsLeft (read : List Reply) (rest : List ℕ) (rs : List Reply) : Type
   pub left : List Reply
   pub spelled : AreReplies left rest
   pub all : rs ≡ read ++ left
+
+-- the first of these replies, and how many bytes it has
+pub record IsFirst (reply : Reply) (len : ℕ) (bytes : List ℕ) (rs : List Reply) : Type 0 where
+  pub others : List Reply
+  pub spelled : AreReplies others (drop len bytes)
+  pub all : rs ≡ reply ∷ others

@@ -1,52 +1,132 @@
 //! The bytes of one message, as replies to UID FETCH tell them (RFC 9051, section 7.5.2).
 
-ghost use Rattle.std.specs.Prelude.{◌≡◌, Some};
+ghost use Rattle.std.specs.Prelude.{◌≡◌, ◌≤◌, ◌+◌, List, None, Some, length, take, drop, IfOk, IfErr, IfSome};
 ghost use Rattle.std.specs.Option.{option_map};
-ghost use Rattle.imap_answers.specs.Bodies.{bodies_more, body_bytes, body_in, body_more, body_told, is_told, text_of};
+ghost use Rattle.imap_replies.specs.declared.reply.Reply.{Reply};
+ghost use Rattle.imap_session.specs.Heard.{AreReplies};
+ghost use Rattle.imap_answers.specs.Bodies.{bodies_more, body_at, body_bytes, body_in, body_told, found_at, is_told};
 ghost use Rattle.imap_answers.specs.Fetching.{told_of};
-ghost use Rattle.imap_answers.specs.Readings.{ReadsAs};
+ghost use Rattle.imap_answers.specs.Readings.{ReadsAs, IsReadFault};
+ghost use Rattle.imap_answers.specs.Spoken.{Speaks};
 
+use crate::reading::first_reply;
 use crate::told::Told;
 use imap_link::fault::FarFault;
 use imap_replies::fetch::FetchItem;
 use imap_replies::reply::Reply;
 use mailcore::uid::Uid;
-use std::alloc::Global;
+use std::alloc::{AllocError, Global};
+use wire_reader::scanner::Scanner;
 use wire_strings::string::WireString;
 
-/// The bytes of the message with this UID, or none where these replies do not tell them. Of two replies the later counts.
-///
-/// `Protocol`: they are told as NIL, or quoted with a backslash. `NoMemory`.
-pub fn body_told(
-    alloc: Global,
-    replies: &[Reply<'_>],
-    uid: Uid,
-) -> Result<Option<Vec<u8>>, FarFault>
-    ensures told { ReadsAs text_of result (body_told uid replies.now) }
-{
-    let mut body = None;
-    for reply in replies {
-        body = with_reply(alloc, reply, uid, body)?;
-    }
-    Ok(body)
+/// The bytes of a message that replies tell.
+#[derive(Drop)]
+pub enum FoundBody {
+    /// They stand among the bytes of the replies.
+    At {
+        /// Where they begin.
+        from: usize,
+        /// How many they are.
+        len: usize,
+    },
+    /// A copy: they were told between quotes.
+    Copied(Vec<u8>),
 }
 
-/// The bytes that a reply tells of the message with this UID, or else those that were told before.
-fn with_reply(
-    alloc: Global,
-    reply: &Reply<'_>,
-    uid: Uid,
-    before: Option<Vec<u8>>,
-) -> Result<Option<Vec<u8>>, FarFault>
-    ensures told { ReadsAs text_of result (bodies_more uid (Some (text_of before)) reply.now) }
+impl FoundBody {
+    /// The bytes themselves, where these are the bytes of the replies.
+    pub fn lent<'a>(&'a self, bytes: &'a [u8]) -> &'a [u8]
+        ensures { result.now ≡ body_at self.now bytes.now }
+    {
+        match self {
+            FoundBody::At { from, len } => {
+                let behind = &bytes[(*from).min(bytes.len())..];
+                &behind[..(*len).min(behind.len())]
+            }
+            FoundBody::Copied(copy) => copy.as_slice(),
+        }
+    }
+}
+
+/// Where the bytes of the message with this UID stand, or none where the replies in these bytes do not tell them. Of two replies the
+/// later counts.
+///
+/// `Protocol`: they are told as NIL, or quoted with a backslash. `NoMemory`.
+pub fn body_told(alloc: Global, bytes: &[u8], uid: Uid) -> Result<Option<FoundBody>, FarFault>
+    requires { Speaks bytes.now }
+    ensures told { (rs : List Reply) → AreReplies rs bytes.now → ReadsAs (found_at bytes.now) result (body_told uid rs) }
+    ensures err { IfErr result IsReadFault }
 {
-    let Reply::Fetch(_, items) = reply else {
-        return Ok(before);
-    };
-    if is_told(items.items(), uid) {
-        body_in(alloc, items.items(), before)
-    } else {
-        Ok(before)
+    let mut found = None;
+    let mut done = 0;
+    for _ in 0..=bytes.len() {
+        if done == bytes.len() {
+            return Ok(found);
+        }
+        let (reply, len) = first_reply(alloc, &bytes[done..])?;
+        if let Some(octets) = body_of(&reply, uid)? {
+            found = Some(found_in(alloc, bytes, done, len, octets)?);
+        }
+        done += len;
+    }
+    Err(FarFault::NoMemory)
+}
+
+/// Where these octets, which the reply at a place tells as a literal or between quotes, stand in the bytes.
+///
+/// `AllocError`: memory ran out.
+fn found_in(
+    alloc: Global,
+    bytes: &[u8],
+    start: usize,
+    len: usize,
+    octets: &[u8],
+) -> Result<FoundBody, AllocError>
+    requires { start + len ≤ length bytes.now }
+    ensures { IfOk result (λ found. body_at found bytes.now ≡ octets.now) }
+{
+    match place_of(&bytes[start..start + len], octets) {
+        Some(place) => Ok(FoundBody::At {
+            from: start + place,
+            len: octets.len(),
+        }),
+        None => Ok(FoundBody::Copied(Vec::from_slice(alloc, octets)?)),
+    }
+}
+
+/// Where these octets stand in the text of a reply as a literal.
+fn place_of(text: &[u8], octets: &[u8]) -> Option<usize>
+    ensures { IfSome result (λ place. (place ≤ length text.now) × (take (length octets.now) (drop place text.now) ≡ octets.now)) }
+{
+    let mut scanner = Scanner::new();
+    let mut done = 0;
+    for _ in 0..=text.len() {
+        done = next_place(&mut scanner, text, done)?;
+        if scanner.owed() as usize == octets.len() && text[done..].starts_with(octets) {
+            return Some(done);
+        }
+    }
+    None
+}
+
+/// The end of the text up to and with the next place of the scanner, which has scanned so much of it.
+fn next_place(scanner: &mut Scanner, text: &[u8], done: usize) -> Option<usize>
+    requires { done ≤ length text.now }
+    ensures { IfSome result (λ place. place ≤ length text.now) }
+{
+    let count = scanner.advance(&text[done..])?;
+    Some(done + count)
+}
+
+/// The bytes that a reply tells of the message with this UID, if it tells them.
+///
+/// `Protocol`: it tells them as NIL, or quoted with a backslash.
+fn body_of<'a>(reply: &'a Reply<'_>, uid: Uid) -> Result<Option<&'a [u8]>, FarFault>
+    ensures told { ReadsAs (option_map (λ b. b.now)) result (bodies_more uid (Some None) reply.now) }
+{
+    match reply {
+        Reply::Fetch(_, items) if is_told(items.items(), uid) => body_in(items.items()),
+        _ => Ok(None),
     }
 }
 
@@ -60,36 +140,20 @@ fn is_told(items: &[FetchItem<'_>], uid: Uid) -> bool
     }
 }
 
-/// The bytes that these items tell, or else those that were told before.
-fn body_in(
-    alloc: Global,
-    items: &[FetchItem<'_>],
-    before: Option<Vec<u8>>,
-) -> Result<Option<Vec<u8>>, FarFault>
-    ensures told { ReadsAs text_of result (body_in (Some (text_of before)) items.now) }
+/// The bytes that these items tell, if they tell them.
+fn body_in<'a>(items: &'a [FetchItem<'_>]) -> Result<Option<&'a [u8]>, FarFault>
+    ensures told { ReadsAs (option_map (λ b. b.now)) result (body_in (Some None) items.now) }
 {
-    let mut body = before;
+    let mut body = None;
     for item in items {
-        body = with_item(alloc, item, body)?;
+        if let FetchItem::Body(string) = item {
+            let Some(bytes) = body_bytes(string) else {
+                return Err(FarFault::Protocol);
+            };
+            body = Some(bytes);
+        }
     }
     Ok(body)
-}
-
-/// A copy of the bytes that an item tells, or else those that were told before.
-fn with_item(
-    alloc: Global,
-    item: &FetchItem<'_>,
-    before: Option<Vec<u8>>,
-) -> Result<Option<Vec<u8>>, FarFault>
-    ensures told { ReadsAs text_of result (body_more (Some (text_of before)) item.now) }
-{
-    let FetchItem::Body(body) = item else {
-        return Ok(before);
-    };
-    match body_bytes(body) {
-        Some(bytes) => Ok(Some(Vec::from_slice(alloc, bytes)?)),
-        None => Err(FarFault::Protocol),
-    }
 }
 
 /// The bytes of a body, or none where it is NIL or quoted with a backslash.

@@ -4,42 +4,38 @@ ghost use Rattle.std.specs.Prelude.{◌≡◌, ◌≤◌};
 ghost use Rattle.imap_answers.specs.Listings.{item_told, items_told, next_above};
 ghost use Rattle.imap_answers.specs.Readings.{ReadsAs};
 
-use crate::told::Told;
+use crate::told::{Row, Rows};
 use imap_link::fault::FarFault;
-use mailcore::content::MESSAGE_MAX;
 use mailcore::listing::{Item, Items};
 use mailcore::uid::Uid;
 use std::alloc::Global;
-use std::collections::BTreeMap;
 
-/// The messages that these rows list.
-///
-/// `Protocol`: a message was told without its flags or its size, or under 4294967295. `NoMemory`.
-pub fn items_of(alloc: Global, rows: &BTreeMap<u32, Told>) -> Result<Items, FarFault>
-    ensures told { ReadsAs (λ items. items) result (items_told rows.now.entries) }
-{
-    let mut items = Vec::with_capacity(alloc, rows.len())?;
-    for (uid, told) in rows {
-        match item_told(*uid, told) {
-            Some(item) => items.push(item)?,
-            None => return Err(FarFault::Protocol),
+impl Rows {
+    /// The messages that these rows list.
+    ///
+    /// `Protocol`: a message was told without its flags or its size, or under 4294967295. `NoMemory`.
+    pub fn items(&self, alloc: Global) -> Result<Items, FarFault>
+        ensures told { ReadsAs (λ items. items) result (items_told self.now) }
+    {
+        let mut items = Vec::with_capacity(alloc, self.by_uid.len())?;
+        for (uid, row) in &self.by_uid {
+            match item_told(*uid, row) {
+                Some(item) => items.push(item)?,
+                None => return Err(FarFault::Protocol),
+            }
         }
+        Ok(Items::from_vec(items))
     }
-    Ok(Items::from_vec(items))
 }
 
 /// The message of this UID as it is listed, or none where its flags or its size were not told.
-fn item_told(uid: u32, told: &Told) -> Option<Item>
-    ensures { result ≡ item_told uid told.now.flags told.now.size }
+fn item_told(uid: u32, row: &Row) -> Option<Item>
+    ensures { result ≡ item_told uid row.now.flags row.now.fit }
 {
     let uid = Uid::new(uid)?;
-    let flags = told.flags?;
-    let size = told.size?;
-    Some(Item {
-        uid,
-        flags,
-        fit: size as usize <= MESSAGE_MAX,
-    })
+    let flags = row.flags?;
+    let fit = row.fit?;
+    Some(Item { uid, flags, fit })
 }
 
 /// The least number that is at least `known` and above the UIDs of these messages.

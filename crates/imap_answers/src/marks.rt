@@ -1,39 +1,78 @@
 //! Where replies to UID FETCH show a mark: the mark of a message is in its first 22 octets (RFC 9051, section 6.4.5).
 
-ghost use Rattle.std.specs.Prelude.{◌≡◌, length};
+ghost use Rattle.std.specs.Prelude.{◌≡◌, ℕ, List, length, IfErr};
 ghost use Rattle.std.specs.List.{list_any};
+ghost use Rattle.imap_replies.specs.declared.reply.Reply.{Reply};
 ghost use Rattle.wire_strings.specs.Quotes.{unescaped};
-ghost use Rattle.imap_answers.specs.Markings.{is_long, is_long_head, has_long_head, mark_told, bears, marked_uid, lesser, least_marked, uid_found, mark_found};
-ghost use Rattle.imap_answers.specs.Readings.{ReadsAs};
+ghost use Rattle.imap_answers.specs.Markings.{is_long, is_long_head, has_long_head, mark_told, bears, marked_uid, lesser, uid_found, mark_found, new_search, Sought};
+ghost use Rattle.imap_answers.specs.Readings.{ReadsAs, IsReadFault};
 
 use crate::told::Told;
 use imap_link::fault::FarFault;
+use imap_link::sink::ReplySink;
 use imap_replies::fetch::FetchItem;
 use imap_replies::reply::Reply;
 use mailcore::copies::mark_of;
 use mailcore::tuid::Tuid;
 use mailcore::uid::Uid;
+use std::alloc::AllocError;
 use wire_strings::string::WireString;
 
 /// How many octets of each message are asked for.
 const HEAD_SIZE: usize = 22;
 
-/// The least UID of at least `from` under which one of these replies shows the mark.
-///
-/// `Protocol`: a reply shows more octets than were asked for, or the UID is 4294967295.
-pub fn mark_found(replies: &[Reply<'_>], mark: Tuid, from: u32) -> Result<Option<Uid>, FarFault>
-    ensures { ReadsAs (λ uid. uid) result (mark_found mark from replies.now) }
-{
-    if any_has_long_head(replies) {
-        return Err(FarFault::Protocol);
-    }
-    uid_found(least_marked(replies, mark, from))
+/// The search for the least UID of at least `from` under which a reply shows the mark. It is told the replies as they are heard, and
+/// keeps none.
+#[derive(Drop)]
+pub struct MarkSearch {
+    mark: Tuid,
+    from: u32,
+    // A reply showed more octets of a message than were asked for.
+    is_long: bool,
+    // The least UID so far.
+    least: Option<u32>,
 }
 
-fn any_has_long_head(replies: &[Reply<'_>]) -> bool
-    ensures { result ≡ list_any has_long_head replies.now }
-{
-    replies.iter().any(|reply| has_long_head(reply))
+impl MarkSearch {
+    /// One that was told nothing.
+    pub fn new(mark: Tuid, from: u32) -> MarkSearch
+        ensures { result ≡ new_search mark from }
+    {
+        MarkSearch {
+            mark,
+            from,
+            is_long: false,
+            least: None,
+        }
+    }
+
+    /// The UID that was found.
+    ///
+    /// `Protocol`: a reply shows more octets than were asked for, or the UID is 4294967295.
+    pub fn found(&self) -> Result<Option<Uid>, FarFault>
+        ensures told { (mark : List ℕ) (from : ℕ) (rs : List Reply) → Sought mark from rs self.now → ReadsAs (λ uid. uid) result (mark_found mark from rs) }
+        ensures err { IfErr result IsReadFault }
+    {
+        if self.is_long {
+            return Err(FarFault::Protocol);
+        }
+        uid_found(self.least)
+    }
+}
+
+impl ReplySink for MarkSearch {
+    ghost use Rattle.imap_answers.specs.Markings.{TookHeads};
+    ghost use Rattle.std.specs.Prelude.{refl};
+
+    ghost took = { TookHeads };
+
+    ghost none = { λ _. refl };
+
+    fn take(&mut self, reply: &Reply<'_>) -> Result<(), AllocError> {
+        self.is_long = self.is_long || has_long_head(reply);
+        self.least = lesser(self.least, marked_uid(reply, self.mark, self.from));
+        Ok(())
+    }
 }
 
 /// Whether a reply shows more octets of a message than were asked for.
@@ -88,17 +127,6 @@ fn value_len(raw: &[u8]) -> usize
         }
     }
     count
-}
-
-/// The least UID of at least `from` under which one of these replies shows the mark.
-fn least_marked(replies: &[Reply<'_>], mark: Tuid, from: u32) -> Option<u32>
-    ensures { result ≡ least_marked mark from replies.now }
-{
-    let mut least = None;
-    for reply in replies {
-        least = lesser(least, marked_uid(reply, mark, from));
-    }
-    least
 }
 
 fn lesser(a: Option<u32>, b: Option<u32>) -> Option<u32>

@@ -1,9 +1,9 @@
 //! Replies in the buffer, read one after another.
 
-ghost use Rattle.std.specs.Prelude.{◌≡◌, IfOk, IfErr, List};
+ghost use Rattle.std.specs.Prelude.{◌≡◌, ◌<◌, ◌≤◌, IfOk, IfErr, List, length};
 ghost use Rattle.imap_replies.specs.declared.reply.Reply.{Reply};
 ghost use Rattle.imap_session.specs.Heard.{AreReplies};
-ghost use Rattle.imap_answers.specs.Spoken.{Speaks};
+ghost use Rattle.imap_answers.specs.Spoken.{Speaks, IsFirst};
 
 use imap_link::fault::FarFault;
 use imap_replies::reading::read_reply;
@@ -25,15 +25,27 @@ pub fn read_replies(alloc: Global, bytes: &[u8]) -> Result<Vec<Reply<'_>>, FarFa
         if rest.is_empty() {
             return Ok(replies);
         }
-        match read_reply(alloc, rest) {
-            Ok(Read::Whole(reply, len)) => {
-                replies.push(reply)?;
-                rest = &rest[len..];
-            }
-            Ok(Read::WantsLiteral(_)) => return Err(FarFault::Protocol),
-            Ok(Read::Partial) => return Err(FarFault::Protocol),
-            Err(fault) => return Err(FarFault::from(fault)),
-        }
+        let (reply, len) = first_reply(alloc, rest)?;
+        replies.push(reply)?;
+        rest = &rest[len..];
     }
     Err(FarFault::NoMemory)
+}
+
+/// The first of the replies in these bytes, and its length.
+///
+/// `NoMemory`: memory ran out.
+pub(crate) fn first_reply(alloc: Global, bytes: &[u8]) -> Result<(Reply<'_>, usize), FarFault>
+    requires some { 0 < length bytes.now }
+    requires speaks { Speaks bytes.now }
+    ensures within { IfOk result (λ r. r.1 ≤ length bytes.now) }
+    ensures first { IfOk result (λ r. (rs : List Reply) → AreReplies rs bytes.now → IsFirst r.0 r.1 bytes.now rs) }
+    ensures err { IfErr result (λ fault. fault ≡ FarFault.NoMemory) }
+{
+    match read_reply(alloc, bytes) {
+        Ok(Read::Whole(reply, len)) => Ok((reply, len)),
+        Ok(Read::WantsLiteral(_)) => Err(FarFault::Protocol),
+        Ok(Read::Partial) => Err(FarFault::Protocol),
+        Err(fault) => Err(FarFault::from(fault)),
+    }
 }

@@ -1,5 +1,5 @@
 -- A message is added to the selected mailbox.
-use Rattle.std.proofs.Common.{◌≡◌, ◌⊎◌, ◌<◌, ◌≤◌, inl, inr, ℕ, ◌+◌, Bool, true, false, List, [], ◌∷◌, ◌++◌, refl, sym, ◌∙◌, ap, subst, arith, take, length, Option, Some, None, Result, Ok, Err}
+use Rattle.std.proofs.Common.{◌≡◌, ◌⊎◌, ◌<◌, ◌≤◌, inl, inr, ℕ, ◌+◌, Bool, true, false, List, [], ◌∷◌, ◌++◌, refl, sym, ◌∙◌, ap, subst, arith, length, Option, Some, None, Result, Ok, Err}
 use Rattle.std.specs.Prelude.{filter, ◌==◌, ◌&&◌, nat_le, nat_lt, if◌then◌else◌}
 use Rattle.std.specs.Option.{option_map}
 use Rattle.std.proofs.lemmas.Bool.{cases_Bool, le-leb, leb-true}
@@ -23,6 +23,7 @@ use Rattle.imap_link.specs.declared.fault.FarFault.{FarFault}
 use Rattle.imap_link.specs.declared.fault.FarFault.TheVariants as faults
 use Rattle.imap_link.specs.UsedReplies.{answer_alone, is_used}
 use Rattle.imap_link.specs.Outcomes.{Outcome}
+use Rattle.imap_link.specs.Sinks.{any_replies}
 use Rattle.imap_link.specs.Exchanges.{Performs, Replied}
 use Rattle.imap_answers.specs.declared.given.Given.{Given}
 use Rattle.imap_client.specs.Tags.{tag_text}
@@ -69,7 +70,7 @@ at_of name mailboxes LoggedOut e = cc
 pub record AddedSo (n : ℕ) (name : List ℕ) (m : FarMailbox) (flags : ℕ) (message bytes : List ℕ) (old new : Server) : Type 0 where
   pub uid : ℕ
   pub under : AddsUnder m flags message uid old new
-  pub heard : HeardOf answer_alone (grown old.condition name (length m.store.messages + 1) ++ done_with (tag_text n) (codes_of.AppendUid m.store.validity uid) ∷ []) bytes
+  pub heard : HeardOf answer_alone any_replies (grown old.condition name (length m.store.messages + 1) ++ done_with (tag_text n) (codes_of.AppendUid m.store.validity uid) ∷ []) bytes
 
 module _ (n : ℕ) (name : List ℕ) (flags : ℕ) (message : List ℕ) (old : Server) (m : FarMailbox) (named : selected_name old.condition ≡ Some name) (is : selected old ≡ Some m) where
   abbrev this : Command
@@ -95,25 +96,25 @@ module _ (n : ℕ) (name : List ℕ) (flags : ℕ) (message : List ℕ) (old : S
   none_status : (said : List Reply) (new : Server) (status : Status) → NoneLeft old m (tag_text n) said new → final_status said ≡ Some status → statuses.No ≡ status
   none_status said new status l e = let last : final_status said ≡ Some statuses.No = ap final_status l.gives.0 in cc
 
-  ok_so : (bytes : List ℕ) (new : Server) → Replied this statuses.Ok bytes old new → AddedSo n name m flags message bytes old new
+  ok_so : (bytes : List ℕ) (new : Server) → Replied this statuses.Ok any_replies bytes old new → AddedSo n name m flags message bytes old new
   ok_so bytes new r =
-      let s = said_of this statuses.Ok bytes old new r in
+      let s = said_of any_replies this statuses.Ok bytes old new r in
       elim (by_step s.said new s.step) [
         | inl l ↦ (let both = none_status s.said new statuses.Ok l s.status_is in cc)
-        | inr a ↦ record { uid = a.uid; under = under_of s.said new a; heard = subst (λ (rs : List Reply). HeardOf answer_alone rs bytes) a.gives.0 s.heard }
+        | inr a ↦ record { uid = a.uid; under = under_of s.said new a; heard = subst (λ (rs : List Reply). HeardOf answer_alone any_replies rs bytes) a.gives.0 s.heard }
       ]
 
-  no_so : (bytes : List ℕ) (new : Server) → Replied this statuses.No bytes old new → NoUidLeft m old new
+  no_so : (bytes : List ℕ) (new : Server) → Replied this statuses.No any_replies bytes old new → NoUidLeft m old new
   no_so bytes new r =
-      let s = said_of this statuses.No bytes old new r in
+      let s = said_of any_replies this statuses.No bytes old new r in
       elim (by_step s.said new s.step) [
         | inl l ↦ (l.gives.1, l.last)
         | inr a ↦ (let both = added_status s.said new statuses.No a s.status_is in cc)
       ]
 
-  bad_so : (bytes : List ℕ) (new : Server) → Replied this statuses.Bad bytes old new → ⊥
+  bad_so : (bytes : List ℕ) (new : Server) → Replied this statuses.Bad any_replies bytes old new → ⊥
   bad_so bytes new r =
-      let s = said_of this statuses.Bad bytes old new r in
+      let s = said_of any_replies this statuses.Bad bytes old new r in
       elim (by_step s.said new s.step) [
         | inl l ↦ (let both = none_status s.said new statuses.Bad l s.status_is in cc)
         | inr a ↦ (let both = added_status s.said new statuses.Bad a s.status_is in cc)
@@ -127,9 +128,9 @@ module _ (n : ℕ) (name : List ℕ) (flags : ℕ) (message : List ℕ) (old : S
         | inr a ↦ inr (record { uid = a.uid; under = under_of d.said new a })
       ]
 
-  pub add_exchanged : (result : Result ℕ FarFault) (heard : List ℕ) (new : Server) → Exchanged this result heard old new
-      → Outcome {T = ℕ} (λ len. AddedSo n name m flags message (take len heard)) (NoUidLeft m) (AddsSome m flags message) result old new
-  add_exchanged (Ok len) heard new h = ok_so (take len heard) new h
+  pub add_exchanged : (result : Result (Unit {0}) FarFault) (heard : List ℕ) (new : Server) → Exchanged this any_replies result heard old new
+      → Outcome {T = Unit {0}} (λ _. AddedSo n name m flags message heard) (NoUidLeft m) (AddsSome m flags message) result old new
+  add_exchanged (Ok x) heard new h = ok_so heard new h
   add_exchanged (Err faults.Stopped) heard new h = may_so new h
   add_exchanged (Err faults.Refused) heard new h = no_so h.bytes new h.replied
   add_exchanged (Err faults.Protocol) heard new h = bad_so h.bytes new h.replied

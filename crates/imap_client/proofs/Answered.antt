@@ -1,5 +1,5 @@
 -- What became of a command of which it is known what the server does with it.
-use Rattle.std.proofs.Common.{◌≡◌, ◌⊎◌, inl, inr, ℕ, Bool, true, false, List, [], ◌∷◌, ◌++◌, refl, sym, ◌∙◌, ap, subst, append-nil, take, Option, Some, Result, Ok, Err}
+use Rattle.std.proofs.Common.{◌≡◌, ◌⊎◌, inl, inr, ℕ, Bool, true, false, List, [], ◌∷◌, ◌++◌, refl, sym, ◌∙◌, ap, subst, append-nil, Option, Some, Result, Ok, Err}
 use Rattle.std.specs.Prelude.{filter, nat_eq, if◌then◌else◌}
 use Rattle.std.specs.Cmp.Lexicographic.{pointwise}
 use Rattle.imap_commands.specs.declared.command.Command.{Command}
@@ -15,7 +15,7 @@ use Rattle.exchange_laws.specs.Ends.{MayHave}
 use Rattle.exchange_laws.proofs.Answering.{step_answer, leaves_answer}
 use Rattle.imap_link.specs.declared.fault.FarFault.{FarFault}
 use Rattle.imap_link.specs.declared.fault.FarFault.TheVariants as faults
-use Rattle.imap_link.specs.declared.front.Kind.TheVariants.{Mine, Stray}
+use Rattle.imap_link.specs.declared.kind.Kind.TheVariants.{Mine, Stray}
 use Rattle.imap_link.specs.ReplyKinds.{kind_of, IsAwaited}
 use Rattle.imap_link.specs.UsedReplies.{uses_of, is_used}
 use Rattle.imap_link.specs.Outcomes.{Outcome, Never}
@@ -70,14 +70,14 @@ leaves_final (h ∷ i ∷ hs) (s ∷ t ∷ ss) l = leaves_final (i ∷ hs) (t �
 
 -- ---- what was done
 
-pub record Said (c : Command) (status : Status) (bytes : List ℕ) (old new : Server) : Type 0 where
+pub record Said (T : List Reply → Type 0) (c : Command) (status : Status) (bytes : List ℕ) (old new : Server) : Type 0 where
   pub said : List Reply
   pub step : Step old c said new
-  pub heard : HeardOf (uses_of c.request) said bytes
+  pub heard : HeardOf (uses_of c.request) T said bytes
   pub status_is : final_status said ≡ Some status
 
-pub said_of : (c : Command) (status : Status) (bytes : List ℕ) (old new : Server) → Replied c status bytes old new → Said c status bytes old new
-said_of c status bytes old new r =
+pub said_of : (T : List Reply → Type 0) (c : Command) (status : Status) (bytes : List ℕ) (old new : Server) → Replied c status T bytes old new → Said T c status bytes old new
+said_of T c status bytes old new r =
     let uses = uses_of c.request in
     let said = r.did.said in
     let answer = leaves_answer c.tag r.replies said r.did.left_out (step_answer old c.tag c.request said new r.did.step) in
@@ -89,7 +89,7 @@ said_of c status bytes old new r =
     record {
       said = said;
       step = r.did.step;
-      heard = record { replies = r.replies; spelled = r.spelled; left_out = r.did.left_out };
+      heard = record { replies = r.replies; spelled = r.spelled; told = r.told; left_out = r.did.left_out };
       status_is = sym (leaves_final r.replies said r.did.left_out) ∙ ap final_status closed.all ∙ final_last closed.passed closed.last ∙ ap status_of (sym same.1) ∙ kind_status c.tag r.text.last status r.text.is;
     }
 
@@ -99,26 +99,26 @@ said_of c status bytes old new r =
 pub record Sure (c : Command) (old : Server) (xs : List Reply) (last : Reply) (after : Server) : Type 0 where
   pub each : (said : List Reply) (new : Server) → Step old c said new → (said ≡ xs ++ last ∷ []) × (new ≡ after)
 
-module _ (c : Command) (old : Server) (xs : List Reply) (last : Reply) (after : Server) (sure : Sure c old xs last after) where
-  pub status_so : (status : Status) (bytes : List ℕ) (new : Server) → Replied c status bytes old new → status_of last ≡ Some status
+module _ (T : List Reply → Type 0) (c : Command) (old : Server) (xs : List Reply) (last : Reply) (after : Server) (sure : Sure c old xs last after) where
+  pub status_so : (status : Status) (bytes : List ℕ) (new : Server) → Replied c status T bytes old new → status_of last ≡ Some status
   status_so status bytes new r =
-      let s = said_of c status bytes old new r in
+      let s = said_of T c status bytes old new r in
       sym (final_last xs last) ∙ ap final_status (sym (sure.each s.said new s.step).0) ∙ s.status_is
 
   pub after_so : (new : Server) → MayHave (Performs c) old new → MayHave (λ (s t : Server). t ≡ after) old new
   after_so new (inl q) = inl q
   after_so new (inr d) = inr (sure.each d.said new d.step).1
 
-  pub heard_so : (status : Status) (bytes : List ℕ) (new : Server) → Replied c status bytes old new → HeardOf (uses_of c.request) (xs ++ last ∷ []) bytes × (new ≡ after)
+  pub heard_so : (status : Status) (bytes : List ℕ) (new : Server) → Replied c status T bytes old new → HeardOf (uses_of c.request) T (xs ++ last ∷ []) bytes × (new ≡ after)
   heard_so status bytes new r =
-      let s = said_of c status bytes old new r in
+      let s = said_of T c status bytes old new r in
       let is = sure.each s.said new s.step in
-      (subst (λ (rs : List Reply). HeardOf (uses_of c.request) rs bytes) is.0 s.heard, is.1)
+      (subst (λ (rs : List Reply). HeardOf (uses_of c.request) T rs bytes) is.0 s.heard, is.1)
 
   -- where it is OK
-  pub answered : status_of last ≡ Some statuses.Ok → (result : Result ℕ FarFault) (heard : List ℕ) (new : Server) → Exchanged c result heard old new
-      → Outcome {T = ℕ} (λ len s t. HeardOf (uses_of c.request) (xs ++ last ∷ []) (take len heard) × (t ≡ after)) Never (λ s t. t ≡ after) result old new
-  answered ok (Ok len) heard new h = heard_so statuses.Ok (take len heard) new h
+  pub answered : status_of last ≡ Some statuses.Ok → (result : Result (Unit {0}) FarFault) (heard : List ℕ) (new : Server) → Exchanged c T result heard old new
+      → Outcome {T = Unit {0}} (λ _ s t. HeardOf (uses_of c.request) T (xs ++ last ∷ []) heard × (t ≡ after)) Never (λ s t. t ≡ after) result old new
+  answered ok (Ok x) heard new h = heard_so statuses.Ok heard new h
   answered ok (Err faults.Stopped) heard new h = after_so new h
   answered ok (Err faults.Refused) heard new h = let no = status_so statuses.No h.bytes new h.replied in let both : (let x : Option Status = Some statuses.Ok in x) ≡ Some statuses.No = sym ok ∙ no in cc
   answered ok (Err faults.Protocol) heard new h = let bad = status_so statuses.Bad h.bytes new h.replied in let both : (let x : Option Status = Some statuses.Ok in x) ≡ Some statuses.Bad = sym ok ∙ bad in cc
@@ -128,9 +128,9 @@ module _ (c : Command) (old : Server) (xs : List Reply) (last : Reply) (after : 
   answered ok (Err faults.NoMemory) heard new h = after_so new h
 
   -- where it is NO
-  pub refused : status_of last ≡ Some statuses.No → (does : ℕ → Server → Server → Type 0) (result : Result ℕ FarFault) (heard : List ℕ) (new : Server) → Exchanged c result heard old new
-      → Outcome {T = ℕ} does (λ s t. t ≡ after) (λ s t. t ≡ after) result old new
-  refused says does (Ok len) heard new h = let ok = status_so statuses.Ok (take len heard) new h in let both : (let x : Option Status = Some statuses.No in x) ≡ Some statuses.Ok = sym says ∙ ok in cc
+  pub refused : status_of last ≡ Some statuses.No → (does : Unit {0} → Server → Server → Type 0) (result : Result (Unit {0}) FarFault) (heard : List ℕ) (new : Server) → Exchanged c T result heard old new
+      → Outcome {T = Unit {0}} does (λ s t. t ≡ after) (λ s t. t ≡ after) result old new
+  refused says does (Ok x) heard new h = let ok = status_so statuses.Ok heard new h in let both : (let x : Option Status = Some statuses.No in x) ≡ Some statuses.Ok = sym says ∙ ok in cc
   refused says does (Err faults.Stopped) heard new h = after_so new h
   refused says does (Err faults.Refused) heard new h = (heard_so statuses.No h.bytes new h.replied).1
   refused says does (Err faults.Protocol) heard new h = let bad = status_so statuses.Bad h.bytes new h.replied in let both : (let x : Option Status = Some statuses.No in x) ≡ Some statuses.Bad = sym says ∙ bad in cc

@@ -1,5 +1,5 @@
 -- Calls that change the selected mailbox.
-use Rattle.std.proofs.Common.{◌≡◌, ℕ, Bool, true, false, List, [], ◌∷◌, ◌++◌, refl, sym, ◌∙◌, ap, subst, take, Option, Some, None, Result, Ok, Err}
+use Rattle.std.proofs.Common.{◌≡◌, ℕ, Bool, true, false, List, [], ◌∷◌, ◌++◌, refl, sym, ◌∙◌, ap, subst, Option, Some, None, Result, Ok, Err}
 use Rattle.std.specs.Prelude.{nat_le, if◌then◌else◌}
 use Rattle.std.specs.Option.{option_map}
 use Rattle.mailcore.specs.Stores.{Store}
@@ -19,6 +19,7 @@ use Rattle.imap_link.specs.declared.fault.FarFault.TheVariants as faults
 use Rattle.imap_link.specs.declared.uses.Uses.{Uses}
 use Rattle.imap_link.specs.UsedReplies.{uses_of}
 use Rattle.imap_link.specs.Outcomes.{Outcome, Never}
+use Rattle.imap_link.specs.Sinks.{any_replies}
 use Rattle.imap_client.specs.declared.call.Call.{Call}
 use Rattle.imap_client.specs.declared.call.Call.TheVariants as calls
 use Rattle.imap_client.specs.Tags.{tag_text}
@@ -59,10 +60,10 @@ module _ (n : ℕ) (old : Server) (m : FarMailbox) (is : selected old ≡ Some m
     each = λ said new step. subst (λ (x : Option FarMailbox). Gives (expunges_in x old (tag_text n) set) said new) is step;
   }
 
-  becomes_by : (uses : Uses) (xs : List Reply) (change : Store → Store) (heard : List ℕ) (new : Server) (result : Result ℕ FarFault)
-      → Outcome {T = ℕ} (λ len s t. HeardOf uses xs (take len heard) × (t ≡ with_selected change old)) Never (λ s t. t ≡ with_selected change old) result old new
-      → Outcome {T = ℕ} (λ len. Becomes change) Never (Becomes change) result old new
-  becomes_by uses xs change heard new (Ok len) h = h.1
+  becomes_by : (uses : Uses) (xs : List Reply) (change : Store → Store) (heard : List ℕ) (new : Server) (result : Result (Unit {0}) FarFault)
+      → Outcome {T = Unit {0}} (λ _ s t. HeardOf uses any_replies xs heard × (t ≡ with_selected change old)) Never (λ s t. t ≡ with_selected change old) result old new
+      → Outcome {T = Unit {0}} (λ _. Becomes change) Never (Becomes change) result old new
+  becomes_by uses xs change heard new (Ok x) h = h.1
   becomes_by uses xs change heard new (Err faults.Stopped) h = h
   becomes_by uses xs change heard new (Err faults.Refused) h = h
   becomes_by uses xs change heard new (Err faults.Protocol) h = h
@@ -71,12 +72,12 @@ module _ (n : ℕ) (old : Server) (m : FarMailbox) (is : selected old ≡ Some m
   becomes_by uses xs change heard new (Err faults.ReadOnly) h = h
   becomes_by uses xs change heard new (Err faults.NoMemory) h = h
 
-  becomes : (xs : List Reply) (c : Command) (change : Store → Store) → Sure c old xs (done (tag_text n)) (with_selected change old) → (result : Result ℕ FarFault) (heard : List ℕ) (new : Server) → Exchanged c result heard old new
-      → Outcome {T = ℕ} (λ len. Becomes change) Never (Becomes change) result old new
-  becomes xs c change sure result heard new h = becomes_by (uses_of c.request) (xs ++ done (tag_text n) ∷ []) change heard new result (answered c old xs (done (tag_text n)) (with_selected change old) sure refl result heard new h)
+  becomes : (xs : List Reply) (c : Command) (change : Store → Store) → Sure c old xs (done (tag_text n)) (with_selected change old) → (result : Result (Unit {0}) FarFault) (heard : List ℕ) (new : Server) → Exchanged c any_replies result heard old new
+      → Outcome {T = Unit {0}} (λ _. Becomes change) Never (Becomes change) result old new
+  becomes xs c change sure result heard new h = becomes_by (uses_of c.request) (xs ++ done (tag_text n) ∷ []) change heard new result (answered any_replies c old xs (done (tag_text n)) (with_selected change old) sure refl result heard new h)
 
-  pub changes : (call : Call) (change : Store → Store) → Changing call change → (result : Result ℕ FarFault) (heard : List ℕ) (new : Server) → Exchanged (command_at n (request_of call)) result heard old new
-      → Outcome {T = ℕ} (λ len. Becomes change) Never (Becomes change) result old new
+  pub changes : (call : Call) (change : Store → Store) → Changing call change → (result : Result (Unit {0}) FarFault) (heard : List ℕ) (new : Server) → Exchanged (command_at n (request_of call)) any_replies result heard old new
+      → Outcome {T = Unit {0}} (λ _. Becomes change) Never (Becomes change) result old new
   changes calls.Capability change h result heard new x = absurd h
   changes (calls.Login user password) change h result heard new x = absurd h
   changes calls.Enable change h result heard new x = absurd h
@@ -87,10 +88,10 @@ module _ (n : ℕ) (old : Server) (m : FarMailbox) (is : selected old ≡ Some m
   changes (calls.Body uid) change h result heard new x = absurd h
   changes (calls.Heads from) change h result heard new x = absurd h
   changes (calls.Store uid mode flags) change h result heard new x =
-      subst (λ (f : Store → Store). Outcome {T = ℕ} (λ len. Becomes f) Never (Becomes f) result old new) (sym h)
+      subst (λ (f : Store → Store). Outcome {T = Unit {0}} (λ _. Becomes f) Never (Becomes f) result old new) (sym h)
       (becomes [] (command_at n (requests.Store (one_uid uid) mode flags)) (stored mode flags (one_uid uid)) (sure_store (one_uid uid) mode flags) result heard new x)
   changes (calls.Expunge uids) change h result heard new x =
-      subst (λ (f : Store → Store). Outcome {T = ℕ} (λ len. Becomes f) Never (Becomes f) result old new) (sym h)
+      subst (λ (f : Store → Store). Outcome {T = Unit {0}} (λ _. Becomes f) Never (Becomes f) result old new) (sym h)
       (becomes (removed (named_in m.store (each_one uids.now)) 1 m.store.messages) (command_at n (requests.Expunge (each_one uids.now))) (swept (each_one uids.now)) (sure_expunge (each_one uids.now)) result heard new x)
 
 -- ---- the mailbox stays selected

@@ -1,5 +1,5 @@
 -- A mailbox is made.
-use Rattle.std.proofs.Common.{◌≡◌, inl, inr, ℕ, Bool, true, false, List, [], ◌∷◌, refl, ◌∙◌, subst, take, Option, Some, None, Result, Ok, Err}
+use Rattle.std.proofs.Common.{◌≡◌, inl, inr, ℕ, Bool, true, false, List, [], ◌∷◌, refl, ◌∙◌, subst, Option, Some, None, Result, Ok, Err}
 use Rattle.std.specs.Prelude.{codes, nat_le, if◌then◌else◌}
 use Rattle.imap_commands.specs.declared.command.Command.{Command}
 use Rattle.imap_commands.specs.declared.command.Request.TheVariants as requests
@@ -12,6 +12,7 @@ use Rattle.imap_link.specs.declared.fault.FarFault.{FarFault}
 use Rattle.imap_link.specs.declared.fault.FarFault.TheVariants as faults
 use Rattle.imap_link.specs.UsedReplies.{answer_alone}
 use Rattle.imap_link.specs.Outcomes.{Outcome, Never}
+use Rattle.imap_link.specs.Sinks.{any_replies}
 use Rattle.imap_client.specs.Tags.{tag_text}
 use Rattle.imap_client.specs.Exchanged.{command_at, Exchanged}
 use Rattle.imap_client.specs.Saying.{HeardOf}
@@ -20,10 +21,10 @@ use Rattle.imap_client.proofs.Answered.{Sure, answered, refused}
 
 module _ (old after : Server) (refuses effect : Server → Server → Type 0) where
   -- where it was done
-  pub to_effect : ((t : Server) → t ≡ after → effect old t) → (said : List Reply) (heard : List ℕ) (new : Server) (result : Result ℕ FarFault)
-      → Outcome {T = ℕ} (λ len s t. HeardOf answer_alone said (take len heard) × (t ≡ after)) Never (λ s t. t ≡ after) result old new
-      → Outcome {T = ℕ} (λ len. effect) refuses effect result old new
-  to_effect e said heard new (Ok len) h = e new h.1
+  pub to_effect : ((t : Server) → t ≡ after → effect old t) → (said : List Reply) (heard : List ℕ) (new : Server) (result : Result (Unit {0}) FarFault)
+      → Outcome {T = Unit {0}} (λ _ s t. HeardOf answer_alone any_replies said heard × (t ≡ after)) Never (λ s t. t ≡ after) result old new
+      → Outcome {T = Unit {0}} (λ _. effect) refuses effect result old new
+  to_effect e said heard new (Ok x) h = e new h.1
   to_effect e said heard new (Err faults.Stopped) (inl q) = inl q
   to_effect e said heard new (Err faults.Stopped) (inr k) = inr (e new k)
   to_effect e said heard new (Err faults.Refused) h = absurd h
@@ -35,10 +36,10 @@ module _ (old after : Server) (refuses effect : Server → Server → Type 0) wh
   to_effect e said heard new (Err faults.NoMemory) (inr k) = inr (e new k)
 
   -- where it was refused
-  pub to_refusal : ((t : Server) → t ≡ after → refuses old t) → after ≡ old → (new : Server) (result : Result ℕ FarFault)
-      → Outcome {T = ℕ} (λ len s t. ⊥) (λ s t. t ≡ after) (λ s t. t ≡ after) result old new
-      → Outcome {T = ℕ} (λ len. effect) refuses effect result old new
-  to_refusal r same new (Ok len) h = absurd h
+  pub to_refusal : ((t : Server) → t ≡ after → refuses old t) → after ≡ old → (new : Server) (result : Result (Unit {0}) FarFault)
+      → Outcome {T = Unit {0}} (λ _ s t. ⊥) (λ s t. t ≡ after) (λ s t. t ≡ after) result old new
+      → Outcome {T = Unit {0}} (λ _. effect) refuses effect result old new
+  to_refusal r same new (Ok x) h = absurd h
   to_refusal r same new (Err faults.Stopped) (inl q) = inl q
   to_refusal r same new (Err faults.Stopped) (inr k) = inl (k ∙ same)
   to_refusal r same new (Err faults.Refused) h = r new h
@@ -53,8 +54,8 @@ module _ (n : ℕ) (name : List ℕ) (old : Server) (logged : is_logged_in old.c
   abbrev c : Command
   c = command_at n (requests.Create name)
 
-  abbrev Ends : Result ℕ FarFault → Server → Type 0
-  Ends result new = Outcome {T = ℕ} (λ len. Makes name) (CannotMake name) (Makes name) result old new
+  abbrev Ends : Result (Unit {0}) FarFault → Server → Type 0
+  Ends result new = Outcome {T = Unit {0}} (λ _. Makes name) (CannotMake name) (Makes name) result old new
 
   at : (x : Option FarMailbox) → mailbox_at name old.mailboxes ≡ x → (said : List Reply) (new : Server) → Gives (if is_logged_in old.condition then creates_at (mailbox_at name old.mailboxes) old (tag_text n) name else out_of_place old (tag_text n)) said new
       → Gives (creates_at x old (tag_text n) name) said new
@@ -84,25 +85,25 @@ module _ (n : ℕ) (name : List ℕ) (old : Server) (logged : is_logged_in old.c
   limit_sure : nat_le (next_validity old.mailboxes) 4294967295 ≡ false → is_name name ≡ true → mailbox_at name old.mailboxes ≡ None → Sure c old [] (refused_reply (tag_text n) (codes "limit")) old
   limit_sure v is none = record { each = λ said new step. valid false v is none said new step }
 
-  by_validity : (b : Bool) → nat_le (next_validity old.mailboxes) 4294967295 ≡ b → is_name name ≡ true → mailbox_at name old.mailboxes ≡ None → (result : Result ℕ FarFault) (heard : List ℕ) (new : Server) → Exchanged c result heard old new → Ends result new
+  by_validity : (b : Bool) → nat_le (next_validity old.mailboxes) 4294967295 ≡ b → is_name name ≡ true → mailbox_at name old.mailboxes ≡ None → (result : Result (Unit {0}) FarFault) (heard : List ℕ) (new : Server) → Exchanged c any_replies result heard old new → Ends result new
   by_validity true v is none result heard new h =
       to_effect old (made name old) (CannotMake name) (Makes name) (λ t e. (none, is, e)) (done (tag_text n) ∷ []) heard new result
-      (answered c old [] (done (tag_text n)) (made name old) (made_sure v is none) refl result heard new h)
+      (answered any_replies c old [] (done (tag_text n)) (made name old) (made_sure v is none) refl result heard new h)
   by_validity false v is none result heard new h =
       to_refusal old old (CannotMake name) (Makes name) (λ t e. (e, NoValidity v)) refl new result
-      (refused c old [] (refused_reply (tag_text n) (codes "limit")) old (limit_sure v is none) refl (λ len s t. ⊥) result heard new h)
+      (refused any_replies c old [] (refused_reply (tag_text n) (codes "limit")) old (limit_sure v is none) refl (λ _ s t. ⊥) result heard new h)
 
-  by_name : (b : Bool) → is_name name ≡ b → mailbox_at name old.mailboxes ≡ None → (result : Result ℕ FarFault) (heard : List ℕ) (new : Server) → Exchanged c result heard old new → Ends result new
+  by_name : (b : Bool) → is_name name ≡ b → mailbox_at name old.mailboxes ≡ None → (result : Result (Unit {0}) FarFault) (heard : List ℕ) (new : Server) → Exchanged c any_replies result heard old new → Ends result new
   by_name true is none result heard new h = by_validity (nat_le (next_validity old.mailboxes) 4294967295) refl is none result heard new h
   by_name false is none result heard new h =
       to_refusal old old (CannotMake name) (Makes name) (λ t e. (e, BadName is)) refl new result
-      (refused c old [] (refused_reply (tag_text n) (codes "name")) old (bad_sure is none) refl (λ len s t. ⊥) result heard new h)
+      (refused any_replies c old [] (refused_reply (tag_text n) (codes "name")) old (bad_sure is none) refl (λ _ s t. ⊥) result heard new h)
 
-  by_mailbox : (x : Option FarMailbox) → mailbox_at name old.mailboxes ≡ x → (result : Result ℕ FarFault) (heard : List ℕ) (new : Server) → Exchanged c result heard old new → Ends result new
+  by_mailbox : (x : Option FarMailbox) → mailbox_at name old.mailboxes ≡ x → (result : Result (Unit {0}) FarFault) (heard : List ℕ) (new : Server) → Exchanged c any_replies result heard old new → Ends result new
   by_mailbox None none result heard new h = by_name (is_name name) refl none result heard new h
   by_mailbox (Some m) is result heard new h =
       to_refusal old old (CannotMake name) (Makes name) (λ t e. (e, Exists m is)) refl new result
-      (refused c old [] (refused_with (tag_text n) (codes "ALREADYEXISTS") (codes "exists")) old (there_sure m is) refl (λ len s t. ⊥) result heard new h)
+      (refused any_replies c old [] (refused_with (tag_text n) (codes "ALREADYEXISTS") (codes "exists")) old (there_sure m is) refl (λ _ s t. ⊥) result heard new h)
 
-  pub create_exchanged : (result : Result ℕ FarFault) (heard : List ℕ) (new : Server) → Exchanged (command_at n (requests.Create name)) result heard old new → Outcome {T = ℕ} (λ len. Makes name) (CannotMake name) (Makes name) result old new
+  pub create_exchanged : (result : Result (Unit {0}) FarFault) (heard : List ℕ) (new : Server) → Exchanged (command_at n (requests.Create name)) any_replies result heard old new → Outcome {T = Unit {0}} (λ _. Makes name) (CannotMake name) (Makes name) result old new
   create_exchanged = by_mailbox (mailbox_at name old.mailboxes) refl

@@ -1,9 +1,10 @@
 -- UID FETCH: the replies are those for the messages that the set names, and nothing is left out of them.
-use Rattle.std.proofs.Common.{◌≡◌, ◌⊎◌, inl, inr, ℕ, ◌+◌, Bool, true, false, List, [], ◌∷◌, ◌++◌, refl, sym, ◌∙◌, ap, subst, take, Option, Some, None, Result, Ok, Err}
+use Rattle.std.proofs.Common.{◌≡◌, ◌⊎◌, inl, inr, ℕ, ◌+◌, Bool, true, false, List, [], ◌∷◌, ◌++◌, refl, sym, ◌∙◌, ap, subst, Option, Some, None, Result, Ok, Err}
 use Rattle.std.specs.Prelude.{filter, if◌then◌else◌}
 use Rattle.mailcore.specs.declared.mailbox.Message.{Message}
 use Rattle.wire_tokens.specs.declared.uid_set.SetItem.{SetItem}
 use Rattle.imap_commands.specs.declared.command.FetchItems.{FetchItems}
+use Rattle.imap_commands.specs.declared.command.FetchItems.TheVariants as wanted
 use Rattle.imap_commands.specs.declared.command.Request.TheVariants as requests
 use Rattle.imap_replies.specs.declared.word.Status.TheVariants as statuses
 use Rattle.imap_replies.specs.declared.response.Code.TheVariants as codes_of
@@ -19,7 +20,7 @@ use Rattle.imap_session.specs.MessageCommands.{shown, fetched, fetches_in}
 use Rattle.imap_session.specs.Heard.{AreReplies, LeavesOut, WithoutUid}
 use Rattle.imap_link.specs.declared.fault.FarFault.{FarFault}
 use Rattle.imap_link.specs.declared.fault.FarFault.TheVariants as faults
-use Rattle.imap_link.specs.UsedReplies.{messages_read, is_used}
+use Rattle.imap_link.specs.UsedReplies.{messages_read, fetch_uses, is_used}
 use Rattle.imap_link.specs.Outcomes.{Outcome, Never}
 use Rattle.imap_client.specs.Tags.{tag_text}
 use Rattle.imap_client.specs.Exchanged.{command_at, Exchanged}
@@ -57,7 +58,7 @@ exact_fetched : (named : ℕ → Bool) (what : FetchItems) (place : ℕ) (ms : L
 exact_fetched named what place [] tail e = e
 exact_fetched named what place (m ∷ ms) tail e = exact_if (named m.uid) place (shown what m) (fetched named what (place + 1) ms) tail (exact_fetched named what (place + 1) ms tail e)
 
--- ---- the call reads all of them
+-- ---- all of them tell of messages
 
 read_if : (b : Bool) (place : ℕ) (list : List FetchItem) (rest tail : List Reply) → filter (is_used messages_read) (rest ++ tail) ≡ rest ++ tail
     → filter (is_used messages_read) ((if b then Fetch place list ∷ rest else rest) ++ tail) ≡ (if b then Fetch place list ∷ rest else rest) ++ tail
@@ -75,34 +76,43 @@ all_read named what place (m ∷ ms) tag = read_if (named m.uid) place (shown wh
 abbrev pub replies_for : FarMailbox → List SetItem → FetchItems → (tag : List ℕ) → List Reply
 replies_for m set what tag = fetched (named_in m.store set) what 1 m.store.messages ++ done tag ∷ []
 
+-- T holds of them, and those of them that the call keeps were read
+abbrev pub FetchTells : (n : ℕ) → FarMailbox → List SetItem → FetchItems → (T : List Reply → Type 0) → (read : List ℕ) → Type 0
+FetchTells n m set what T read = T (replies_for m set what (tag_text n)) × AreReplies (filter (is_used (fetch_uses what)) (replies_for m set what (tag_text n))) read
+
 module _ (n : ℕ) (old : Server) (m : FarMailbox) (is : selected old ≡ Some m) (set : List SetItem) (what : FetchItems) where
   fetch_sure : Sure (command_at n (requests.Fetch set what)) old (fetched (named_in m.store set) what 1 m.store.messages) (done (tag_text n)) old
   fetch_sure = record {
     each = λ said new step. subst (λ (x : Option FarMailbox). Gives (fetches_in x old (tag_text n) set what) said new) is step;
   }
 
-  heard_are : (bytes : List ℕ) → HeardOf messages_read (replies_for m set what (tag_text n)) bytes → AreReplies (replies_for m set what (tag_text n)) bytes
-  heard_are bytes h =
-      subst (λ (rs : List Reply). AreReplies rs bytes)
-      (ap (filter (is_used messages_read)) (exact_same h.replies _ (exact_fetched (named_in m.store set) what 1 m.store.messages (done (tag_text n) ∷ []) (done_exact (tag_text n), tt)) h.left_out)
-      ∙ all_read (named_in m.store set) what 1 m.store.messages (tag_text n)) h.spelled
+  module _ (T : List Reply → Type 0) (bytes : List ℕ) (h : HeardOf (fetch_uses what) T (replies_for m set what (tag_text n)) bytes) where
+    said_all : h.replies ≡ replies_for m set what (tag_text n)
+    said_all = exact_same h.replies _ (exact_fetched (named_in m.store set) what 1 m.store.messages (done (tag_text n) ∷ []) (done_exact (tag_text n), tt)) h.left_out
 
-  fetch_by : (heard : List ℕ) (new : Server) (result : Result ℕ FarFault)
-      → Outcome {T = ℕ} (λ len s t. HeardOf messages_read (replies_for m set what (tag_text n)) (take len heard) × (t ≡ old)) Never (λ s t. t ≡ old) result old new
-      → Outcome {T = ℕ} (λ len. Tells (λ x. AreReplies (replies_for m set what (tag_text n)) (take x heard)) len) Never Remains result old new
-  fetch_by heard new (Ok len) h = (heard_are (take len heard) h.0, h.1)
-  fetch_by heard new (Err faults.Stopped) h = h
-  fetch_by heard new (Err faults.Refused) h = h
-  fetch_by heard new (Err faults.Protocol) h = h
-  fetch_by heard new (Err faults.TooLong) h = h
-  fetch_by heard new (Err faults.NoRev2) h = h
-  fetch_by heard new (Err faults.ReadOnly) h = h
-  fetch_by heard new (Err faults.NoMemory) h = h
+    told_all : T (replies_for m set what (tag_text n))
+    told_all = subst T (ap (filter (is_used messages_read)) said_all ∙ all_read (named_in m.store set) what 1 m.store.messages (tag_text n)) h.told
 
-  pub fetch_exchanged : (result : Result ℕ FarFault) (heard : List ℕ) (new : Server) → Exchanged (command_at n (requests.Fetch set what)) result heard old new
-      → Outcome {T = ℕ} (λ len. Tells (λ x. AreReplies (replies_for m set what (tag_text n)) (take x heard)) len) Never Remains result old new
-  fetch_exchanged result heard new h =
-      fetch_by heard new result (answered (command_at n (requests.Fetch set what)) old (fetched (named_in m.store set) what 1 m.store.messages) (done (tag_text n)) old fetch_sure refl result heard new h)
+    kept_all : AreReplies (filter (is_used (fetch_uses what)) (replies_for m set what (tag_text n))) bytes
+    kept_all = subst (λ (rs : List Reply). AreReplies (filter (is_used (fetch_uses what)) rs) bytes) said_all h.spelled
+
+  module _ (T : List Reply → Type 0) where
+    fetch_by : (read : List ℕ) (new : Server) (result : Result (Unit {0}) FarFault)
+        → Outcome {T = Unit {0}} (λ _ s t. HeardOf (fetch_uses what) T (replies_for m set what (tag_text n)) read × (t ≡ old)) Never (λ s t. t ≡ old) result old new
+        → Outcome {T = Unit {0}} (λ x. Tells (λ _. FetchTells n m set what T read) x) Never Remains result old new
+    fetch_by read new (Ok x) h = ((told_all T read h.0, kept_all T read h.0), h.1)
+    fetch_by read new (Err faults.Stopped) h = h
+    fetch_by read new (Err faults.Refused) h = h
+    fetch_by read new (Err faults.Protocol) h = h
+    fetch_by read new (Err faults.TooLong) h = h
+    fetch_by read new (Err faults.NoRev2) h = h
+    fetch_by read new (Err faults.ReadOnly) h = h
+    fetch_by read new (Err faults.NoMemory) h = h
+
+    pub fetch_exchanged : (result : Result (Unit {0}) FarFault) (read : List ℕ) (new : Server) → Exchanged (command_at n (requests.Fetch set what)) T result read old new
+        → Outcome {T = Unit {0}} (λ x. Tells (λ _. FetchTells n m set what T read) x) Never Remains result old new
+    fetch_exchanged result read new h =
+        fetch_by read new result (answered T (command_at n (requests.Fetch set what)) old (fetched (named_in m.store set) what 1 m.store.messages) (done (tag_text n)) old fetch_sure refl result read new h)
 
 -- ---- what is read of it
 
@@ -137,6 +147,11 @@ unchanged T P old new (Err faults.NoMemory) (inl q) = q
 unchanged T P old new (Err faults.NoMemory) (inr e) = e
 
 module _ (n : ℕ) (old : Server) (m : FarMailbox) (is : selected old ≡ Some m) (set : List SetItem) (what : FetchItems) where
-  pub fetch_unchanged : (result : Result ℕ FarFault) (heard : List ℕ) (new : Server) → Exchanged (command_at n (requests.Fetch set what)) result heard old new → new ≡ old
-  fetch_unchanged result heard new h =
-      unchanged ℕ (λ x. AreReplies (replies_for m set what (tag_text n)) (take x heard)) old new result (fetch_exchanged n old m is set what result heard new h)
+  pub fetch_unchanged : (T : List Reply → Type 0) (result : Result (Unit {0}) FarFault) (read : List ℕ) (new : Server) → Exchanged (command_at n (requests.Fetch set what)) T result read old new → new ≡ old
+  fetch_unchanged T result read new h =
+      unchanged (Unit {0}) (λ _. FetchTells n m set what T read) old new result (fetch_exchanged n old m is set what T result read new h)
+
+-- where whole messages are asked for, all replies were read
+pub bodies_read : (n : ℕ) (m : FarMailbox) (set : List SetItem) (T : List Reply → Type 0) (read : List ℕ) → FetchTells n m set wanted.Body T read
+    → AreReplies (replies_for m set wanted.Body (tag_text n)) read
+bodies_read n m set T read h = subst (λ (rs : List Reply). AreReplies rs read) (all_read (named_in m.store set) wanted.Body 1 m.store.messages (tag_text n)) h.1

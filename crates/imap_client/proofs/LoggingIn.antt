@@ -1,5 +1,5 @@
 -- Capabilities are asked for, somebody logs in, and the revision is enabled.
-use Rattle.std.proofs.Common.{◌≡◌, ◌⊎◌, ◌≤◌, inl, inr, ℕ, ◌+◌, Bool, true, false, List, [], ◌∷◌, ◌++◌, refl, sym, ◌∙◌, ap, subst, arith, take, Option, Some, None, Result, Ok, Err}
+use Rattle.std.proofs.Common.{◌≡◌, ◌⊎◌, ◌≤◌, inl, inr, ℕ, ◌+◌, Bool, true, false, List, [], ◌∷◌, ◌++◌, refl, sym, ◌∙◌, ap, subst, arith, Option, Some, None, Result, Ok, Err}
 use Rattle.std.specs.Prelude.{codes, filter, nat_eq, ◌&&◌, ◌||◌, if◌then◌else◌}
 use Rattle.std.specs.Cmp.Lexicographic.{pointwise}
 use Rattle.visitors.specs.Visitors.{Visitors}
@@ -18,8 +18,8 @@ use Rattle.imap_link.specs.declared.fault.FarFault.{FarFault}
 use Rattle.imap_link.specs.declared.fault.FarFault.TheVariants as faults
 use Rattle.imap_link.specs.UsedReplies.{answer_alone, abilities_read, is_used}
 use Rattle.imap_link.specs.Outcomes.{Outcome, Never}
+use Rattle.imap_link.specs.Sinks.{any_replies}
 use Rattle.imap_client.specs.Tags.{tag_text}
-use Rattle.imap_link.specs.declared.wire.Answered.{Answered}
 use Rattle.imap_replies.specs.declared.word.Status.{Status}
 use Rattle.imap_replies.specs.declared.word.Status.TheVariants as statuses
 use Rattle.imap_client.specs.Exchanged.{command_at, AnsweredSo, Exchanged}
@@ -37,10 +37,10 @@ module _ (n : ℕ) (old : Server) where
   ability_sure : Sure (command_at n requests.Capability) old abilities (done (tag_text n)) old
   ability_sure = record { each = λ said new step. step }
 
-  ability_by : (heard : List ℕ) (new : Server) (result : Result ℕ FarFault)
-      → Outcome {T = ℕ} (λ len s t. HeardOf abilities_read (abilities ++ done (tag_text n) ∷ []) (take len heard) × (t ≡ old)) Never (λ s t. t ≡ old) result old new
-      → Outcome {T = ℕ} (λ len s t. HeardOf abilities_read (abilities ++ done (tag_text n) ∷ []) (take len heard) × Remains s t) Never Remains result old new
-  ability_by heard new (Ok len) h = h
+  ability_by : (heard : List ℕ) (new : Server) (result : Result (Unit {0}) FarFault)
+      → Outcome {T = Unit {0}} (λ _ s t. HeardOf abilities_read any_replies (abilities ++ done (tag_text n) ∷ []) heard × (t ≡ old)) Never (λ s t. t ≡ old) result old new
+      → Outcome {T = Unit {0}} (λ _ s t. HeardOf abilities_read any_replies (abilities ++ done (tag_text n) ∷ []) heard × Remains s t) Never Remains result old new
+  ability_by heard new (Ok x) h = h
   ability_by heard new (Err faults.Stopped) h = h
   ability_by heard new (Err faults.Refused) h = h
   ability_by heard new (Err faults.Protocol) h = h
@@ -49,10 +49,10 @@ module _ (n : ℕ) (old : Server) where
   ability_by heard new (Err faults.ReadOnly) h = h
   ability_by heard new (Err faults.NoMemory) h = h
 
-  pub ability_exchanged : (result : Result ℕ FarFault) (heard : List ℕ) (new : Server) → Exchanged (command_at n requests.Capability) result heard old new
-      → Outcome {T = ℕ} (λ len s t. HeardOf abilities_read (abilities ++ done (tag_text n) ∷ []) (take len heard) × Remains s t) Never Remains result old new
+  pub ability_exchanged : (result : Result (Unit {0}) FarFault) (heard : List ℕ) (new : Server) → Exchanged (command_at n requests.Capability) any_replies result heard old new
+      → Outcome {T = Unit {0}} (λ _ s t. HeardOf abilities_read any_replies (abilities ++ done (tag_text n) ∷ []) heard × Remains s t) Never Remains result old new
   ability_exchanged result heard new h =
-      ability_by heard new result (answered (command_at n requests.Capability) old abilities (done (tag_text n)) old ability_sure refl result heard new h)
+      ability_by heard new result (answered any_replies (command_at n requests.Capability) old abilities (done (tag_text n)) old ability_sure refl result heard new h)
 
 same_tells : (h s : Reply) → (h ≡ s) ⊎ WithoutUid h s → tells_rev2 h ≡ tells_rev2 s
 same_tells h s (inl e) = ap tells_rev2 e
@@ -89,7 +89,7 @@ tells_read [] = refl
 tells_read (r ∷ rs) = tells_by (is_used abilities_read r) r rs refl (tells_read rs)
 
 -- an honest server names the revision
-pub named_so : (tag bytes : List ℕ) (told : Bool) → HeardOf abilities_read (abilities ++ done tag ∷ []) bytes → ((rs : List Reply) → AreReplies rs bytes → told ≡ list_any tells_rev2 rs) → told ≡ true
+pub named_so : (tag bytes : List ℕ) (told : Bool) → HeardOf abilities_read any_replies (abilities ++ done tag ∷ []) bytes → ((rs : List Reply) → AreReplies rs bytes → told ≡ list_any tells_rev2 rs) → told ≡ true
 named_so tag bytes told h t = t (filter (is_used abilities_read) h.replies) h.spelled ∙ tells_read h.replies ∙ leaves_tells h.replies (abilities ++ done tag ∷ []) h.left_out
 
 -- ---- LOGIN
@@ -107,10 +107,10 @@ module _ (n : ℕ) (user password : List ℕ) (old : Server) (before : is_before
   out_sure : is_known user password old ≡ false → Sure (command_at n (requests.Login user password)) old [] (refused_with (tag_text n) (codes "AUTHENTICATIONFAILED") (codes "login")) old
   out_sure is = record { each = λ said new step. stepped false is said new step }
 
-  in_by : is_known user password old ≡ true → (heard : List ℕ) (new : Server) (result : Result ℕ FarFault)
-      → Outcome {T = ℕ} (λ len s t. HeardOf answer_alone (done (tag_text n) ∷ []) (take len heard) × (t ≡ record old { condition = Authenticated })) Never (λ s t. t ≡ record old { condition = Authenticated }) result old new
-      → Outcome {T = ℕ} (λ len. Authenticates user password) (Rejects user password) (Authenticates user password) result old new
-  in_by is heard new (Ok len) h = (is, h.1)
+  in_by : is_known user password old ≡ true → (heard : List ℕ) (new : Server) (result : Result (Unit {0}) FarFault)
+      → Outcome {T = Unit {0}} (λ _ s t. HeardOf answer_alone any_replies (done (tag_text n) ∷ []) heard × (t ≡ record old { condition = Authenticated })) Never (λ s t. t ≡ record old { condition = Authenticated }) result old new
+      → Outcome {T = Unit {0}} (λ _. Authenticates user password) (Rejects user password) (Authenticates user password) result old new
+  in_by is heard new (Ok x) h = (is, h.1)
   in_by is heard new (Err faults.Stopped) (inl q) = inl q
   in_by is heard new (Err faults.Stopped) (inr e) = inr (is, e)
   in_by is heard new (Err faults.Refused) h = absurd h
@@ -121,10 +121,10 @@ module _ (n : ℕ) (user password : List ℕ) (old : Server) (before : is_before
   in_by is heard new (Err faults.NoMemory) (inl q) = inl q
   in_by is heard new (Err faults.NoMemory) (inr e) = inr (is, e)
 
-  out_by : is_known user password old ≡ false → (heard : List ℕ) (new : Server) (result : Result ℕ FarFault)
-      → Outcome {T = ℕ} (λ len s t. ⊥) (λ s t. t ≡ old) (λ s t. t ≡ old) result old new
-      → Outcome {T = ℕ} (λ len. Authenticates user password) (Rejects user password) (Authenticates user password) result old new
-  out_by is heard new (Ok len) h = absurd h
+  out_by : is_known user password old ≡ false → (heard : List ℕ) (new : Server) (result : Result (Unit {0}) FarFault)
+      → Outcome {T = Unit {0}} (λ _ s t. ⊥) (λ s t. t ≡ old) (λ s t. t ≡ old) result old new
+      → Outcome {T = Unit {0}} (λ _. Authenticates user password) (Rejects user password) (Authenticates user password) result old new
+  out_by is heard new (Ok x) h = absurd h
   out_by is heard new (Err faults.Stopped) (inl q) = inl q
   out_by is heard new (Err faults.Stopped) (inr e) = inl e
   out_by is heard new (Err faults.Refused) h = (is, h)
@@ -135,15 +135,15 @@ module _ (n : ℕ) (user password : List ℕ) (old : Server) (before : is_before
   out_by is heard new (Err faults.NoMemory) (inl q) = inl q
   out_by is heard new (Err faults.NoMemory) (inr e) = inl e
 
-  by_known : (b : Bool) → is_known user password old ≡ b → (result : Result ℕ FarFault) (heard : List ℕ) (new : Server) → Exchanged (command_at n (requests.Login user password)) result heard old new
-      → Outcome {T = ℕ} (λ len. Authenticates user password) (Rejects user password) (Authenticates user password) result old new
+  by_known : (b : Bool) → is_known user password old ≡ b → (result : Result (Unit {0}) FarFault) (heard : List ℕ) (new : Server) → Exchanged (command_at n (requests.Login user password)) any_replies result heard old new
+      → Outcome {T = Unit {0}} (λ _. Authenticates user password) (Rejects user password) (Authenticates user password) result old new
   by_known true is result heard new h =
-      in_by is heard new result (answered (command_at n (requests.Login user password)) old [] (done (tag_text n)) (record old { condition = Authenticated }) (in_sure is) refl result heard new h)
+      in_by is heard new result (answered any_replies (command_at n (requests.Login user password)) old [] (done (tag_text n)) (record old { condition = Authenticated }) (in_sure is) refl result heard new h)
   by_known false is result heard new h =
-      out_by is heard new result (refused (command_at n (requests.Login user password)) old [] (refused_with (tag_text n) (codes "AUTHENTICATIONFAILED") (codes "login")) old (out_sure is) refl (λ len s t. ⊥) result heard new h)
+      out_by is heard new result (refused any_replies (command_at n (requests.Login user password)) old [] (refused_with (tag_text n) (codes "AUTHENTICATIONFAILED") (codes "login")) old (out_sure is) refl (λ _ s t. ⊥) result heard new h)
 
-  pub login_exchanged : (result : Result ℕ FarFault) (heard : List ℕ) (new : Server) → Exchanged (command_at n (requests.Login user password)) result heard old new
-      → Outcome {T = ℕ} (λ len. Authenticates user password) (Rejects user password) (Authenticates user password) result old new
+  pub login_exchanged : (result : Result (Unit {0}) FarFault) (heard : List ℕ) (new : Server) → Exchanged (command_at n (requests.Login user password)) any_replies result heard old new
+      → Outcome {T = Unit {0}} (λ _. Authenticates user password) (Rejects user password) (Authenticates user password) result old new
   login_exchanged = by_known (is_known user password old) refl
 
 -- ---- ENABLE
@@ -158,20 +158,20 @@ module _ (n : ℕ) (old : Server) (logged : is_logged_in old.condition ≡ true)
         subst (λ (b : Bool). Gives (if b then record { replies = Enabled (if has_name REV2 (REV2 ∷ []) then Some (REV2 ∷ []) else None) ∷ done (tag_text n) ∷ []; after = old } else out_of_place old (tag_text n)) said new) logged step;
   }
 
-  pub enable_answered : (result : Result Answered FarFault) (heard : List ℕ) (new : Server) → AnsweredSo (command_at n (requests.Enable (REV2 ∷ []))) result heard old new
-      → Outcome {T = Answered} (λ a s t. (a.status ≡ statuses.Ok) × Remains s t) Never Remains result old new
+  pub enable_answered : (result : Result Status FarFault) (heard : List ℕ) (new : Server) → AnsweredSo (command_at n (requests.Enable (REV2 ∷ []))) any_replies result heard old new
+      → Outcome {T = Status} (λ a s t. (a ≡ statuses.Ok) × Remains s t) Never Remains result old new
   enable_answered (Ok a) heard new h =
       let c = command_at n (requests.Enable (REV2 ∷ [])) in
       let xs = Enabled (Some (REV2 ∷ [])) ∷ [] in
-      let status = status_so c old xs (done (tag_text n)) old enable_sure a.status (take a.len heard) new h in
-      (same_status a.status status, (heard_so c old xs (done (tag_text n)) old enable_sure a.status (take a.len heard) new h).1)
-  enable_answered (Err faults.Stopped) heard new h = after_so (command_at n (requests.Enable (REV2 ∷ []))) old (Enabled (Some (REV2 ∷ [])) ∷ []) (done (tag_text n)) old enable_sure new h
+      let status = status_so any_replies c old xs (done (tag_text n)) old enable_sure a heard new h in
+      (same_status a status, (heard_so any_replies c old xs (done (tag_text n)) old enable_sure a heard new h).1)
+  enable_answered (Err faults.Stopped) heard new h = after_so any_replies (command_at n (requests.Enable (REV2 ∷ []))) old (Enabled (Some (REV2 ∷ [])) ∷ []) (done (tag_text n)) old enable_sure new h
   enable_answered (Err faults.Refused) heard new h = h
   enable_answered (Err faults.Protocol) heard new h = h
   enable_answered (Err faults.TooLong) heard new h = h
   enable_answered (Err faults.NoRev2) heard new h = h
   enable_answered (Err faults.ReadOnly) heard new h = h
-  enable_answered (Err faults.NoMemory) heard new h = after_so (command_at n (requests.Enable (REV2 ∷ []))) old (Enabled (Some (REV2 ∷ [])) ∷ []) (done (tag_text n)) old enable_sure new h
+  enable_answered (Err faults.NoMemory) heard new h = after_so any_replies (command_at n (requests.Enable (REV2 ∷ []))) old (Enabled (Some (REV2 ∷ [])) ∷ []) (done (tag_text n)) old enable_sure new h
 
 -- ---- one after another
 

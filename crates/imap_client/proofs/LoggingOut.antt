@@ -1,5 +1,5 @@
 -- A session ends at the server.
-use Rattle.std.proofs.Common.{◌≡◌, ℕ, List, [], ◌∷◌, refl, ◌∙◌, subst, sym, take, Result, Ok, Err, ap}
+use Rattle.std.proofs.Common.{◌≡◌, ℕ, List, [], ◌∷◌, refl, ◌∙◌, subst, sym, Result, Ok, Err, ap}
 use Rattle.std.specs.Prelude.{codes}
 use Rattle.imap_commands.specs.declared.command.Command.{Command}
 use Rattle.imap_commands.specs.declared.command.Request.{Request}
@@ -12,9 +12,9 @@ use Rattle.imap_session.specs.Answering.{bye, done}
 use Rattle.imap_session.specs.Steps.{StepOf}
 use Rattle.imap_link.specs.declared.fault.FarFault.{FarFault}
 use Rattle.imap_link.specs.declared.fault.FarFault.TheVariants as faults
-use Rattle.imap_link.specs.declared.wire.Answered.{Answered}
 use Rattle.imap_link.specs.Faults.{IsHearing}
 use Rattle.imap_link.specs.Outcomes.{Outcome, Never}
+use Rattle.imap_link.specs.Sinks.{any_replies}
 use Rattle.imap_link.specs.declared.uses.Uses.{Uses}
 use Rattle.imap_link.specs.UsedReplies.{answer_alone, uses_of}
 use Rattle.imap_link.specs.Exchanges.{Completes}
@@ -37,18 +37,18 @@ module _ (c : Command) (is : c.request ≡ requests.Logout) where
     logout_sure : Sure c old (bye (codes "bye") ∷ []) (done c.tag) over
     logout_sure = record { each = λ said new step. subst (λ (r : Request). StepOf old c.tag r said new) is step }
 
-    pub left_answered : (result : Result Answered FarFault) (heard : List ℕ) (new : Server) → AnsweredSo c result heard old new
-        → Outcome {T = Answered} (λ a s t. (a.status ≡ statuses.Ok) × Leaves s t) Never Leaves result old new
+    pub left_answered : (result : Result Status FarFault) (heard : List ℕ) (new : Server) → AnsweredSo c any_replies result heard old new
+        → Outcome {T = Status} (λ a s t. (a ≡ statuses.Ok) × Leaves s t) Never Leaves result old new
     left_answered (Ok a) heard new h =
-        let status = status_so c old (bye (codes "bye") ∷ []) (done c.tag) over logout_sure a.status (take a.len heard) new h in
-        (same_status a.status status, (heard_so c old (bye (codes "bye") ∷ []) (done c.tag) over logout_sure a.status (take a.len heard) new h).1)
-    left_answered (Err faults.Stopped) heard new h = after_so c old (bye (codes "bye") ∷ []) (done c.tag) over logout_sure new h
+        let status = status_so any_replies c old (bye (codes "bye") ∷ []) (done c.tag) over logout_sure a heard new h in
+        (same_status a status, (heard_so any_replies c old (bye (codes "bye") ∷ []) (done c.tag) over logout_sure a heard new h).1)
+    left_answered (Err faults.Stopped) heard new h = after_so any_replies c old (bye (codes "bye") ∷ []) (done c.tag) over logout_sure new h
     left_answered (Err faults.Refused) heard new h = h
     left_answered (Err faults.Protocol) heard new h = h
     left_answered (Err faults.TooLong) heard new h = h
     left_answered (Err faults.NoRev2) heard new h = h
     left_answered (Err faults.ReadOnly) heard new h = h
-    left_answered (Err faults.NoMemory) heard new h = after_so c old (bye (codes "bye") ∷ []) (done c.tag) over logout_sure new h
+    left_answered (Err faults.NoMemory) heard new h = after_so any_replies c old (bye (codes "bye") ∷ []) (done c.tag) over logout_sure new h
 
 pub left_err : (T : Type 0) (tag : List ℕ) (old new : State) (f : FarFault) → IsHearing f → (f ≡ faults.Stopped → SendStops tag old new) → LeftSo {T = T} tag old new (Err f)
 left_err T tag old new faults.Stopped h s = s refl

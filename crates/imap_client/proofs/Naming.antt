@@ -1,5 +1,5 @@
 -- The names of a server's mailboxes are told.
-use Rattle.std.proofs.Common.{◌≡◌, ◌⊎◌, inl, inr, ℕ, Bool, true, false, List, [], ◌∷◌, ◌++◌, refl, sym, ◌∙◌, ap, subst, append_assoc, append-nil, take, Option, Some, None, Result, Err}
+use Rattle.std.proofs.Common.{◌≡◌, ◌⊎◌, inl, inr, ℕ, Bool, true, false, List, [], ◌∷◌, ◌++◌, refl, sym, ◌∙◌, ap, subst, append_assoc, append-nil, Option, Some, None, Result, Err}
 use Rattle.std.specs.Prelude.{map, filter, if◌then◌else◌}
 use Rattle.std.specs.List.{fold, list_all}
 use Rattle.std.proofs.lemmas.Bool.{and_from}
@@ -17,6 +17,7 @@ use Rattle.imap_link.specs.declared.fault.FarFault.{FarFault}
 use Rattle.imap_link.specs.declared.fault.FarFault.TheVariants as faults
 use Rattle.imap_link.specs.UsedReplies.{names_read, is_used}
 use Rattle.imap_link.specs.Outcomes.{Outcome, Never}
+use Rattle.imap_link.specs.Sinks.{any_replies}
 use Rattle.imap_client.specs.Tags.{tag_text}
 use Rattle.imap_client.specs.Exchanged.{command_at, Exchanged}
 use Rattle.imap_client.specs.Saying.{HeardOf}
@@ -38,9 +39,9 @@ module _ (n : ℕ) (old : Server) (logged : is_logged_in old.condition ≡ true)
     each = λ said new step. subst (λ (b : Bool). Gives (if b then record { replies = told_first old ++ done (tag_text n) ∷ []; after = old } else out_of_place old (tag_text n)) said new) logged step;
   }
 
-  pub names_exchanged : (result : Result ℕ FarFault) (heard : List ℕ) (new : Server) → Exchanged (command_at n (requests.List (42 ∷ []))) result heard old new
-      → Outcome {T = ℕ} (λ len s t. HeardOf names_read (told_first old ++ done (tag_text n) ∷ []) (take len heard) × (t ≡ old)) Never (λ s t. t ≡ old) result old new
-  names_exchanged result heard new h = answered (command_at n (requests.List (42 ∷ []))) old (told_first old) (done (tag_text n)) old names_sure refl result heard new h
+  pub names_exchanged : (result : Result (Unit {0}) FarFault) (heard : List ℕ) (new : Server) → Exchanged (command_at n (requests.List (42 ∷ []))) any_replies result heard old new
+      → Outcome {T = Unit {0}} (λ _ s t. HeardOf names_read any_replies (told_first old ++ done (tag_text n) ∷ []) heard × (t ≡ old)) Never (λ s t. t ≡ old) result old new
+  names_exchanged result heard new h = answered any_replies (command_at n (requests.List (42 ∷ []))) old (told_first old) (done (tag_text n)) old names_sure refl result heard new h
 
 -- ---- what it tells
 
@@ -65,7 +66,7 @@ listed_names tag names (n ∷ ns) =
     let x = unescaped n in
     listed_names tag (with_name names (within_limits x)) ns ∙ by_limits (is_name x) names (filter is_name (map unescaped ns)) x
 
-pub names_told : (tag bytes : List ℕ) (old : Server) (names : List (List ℕ)) → HeardOf names_read (told_first old ++ done tag ∷ []) bytes → ((rs : List Reply) → AreReplies rs bytes → names ≡ names_in rs) → names ≡ names_of old
+pub names_told : (tag bytes : List ℕ) (old : Server) (names : List (List ℕ)) → HeardOf names_read any_replies (told_first old ++ done tag ∷ []) bytes → ((rs : List Reply) → AreReplies rs bytes → names ≡ names_in rs) → names ≡ names_of old
 names_told tag bytes old names h told =
     told (filter (is_used names_read) h.replies) h.spelled ∙ names_in_read h.replies ∙ leaves_names [] h.replies (told_first old ++ done tag ∷ []) h.left_out ∙ listed_names tag [] (names_matched (42 ∷ []) old.mailboxes)
 
@@ -99,7 +100,7 @@ names_within names rs e = ap (list_all is_name) e ∙ within_from [] rs refl
 -- ---- how the call ends
 
 module _ (T : Type 0) (r : Result T FarFault) (items : T → List (List ℕ)) (old new : Server) where
-  by_fault : (f : FarFault) (said : List Reply) (heard : List ℕ) → Outcome {T = ℕ} (λ len s t. HeardOf names_read said (take len heard) × (t ≡ old)) Never (λ s t. t ≡ old) (Err f) old new
+  by_fault : (f : FarFault) (said : List Reply) (heard : List ℕ) → Outcome {T = Unit {0}} (λ _ s t. HeardOf names_read any_replies said heard × (t ≡ old)) Never (λ s t. t ≡ old) (Err f) old new
       → Outcome {T = T} (λ x. TellsNames (items x)) Never Remains (Err f) old new
   by_fault faults.Stopped said heard h = h
   by_fault faults.Refused said heard h = h
@@ -109,7 +110,7 @@ module _ (T : Type 0) (r : Result T FarFault) (items : T → List (List ℕ)) (o
   by_fault faults.ReadOnly said heard h = h
   by_fault faults.NoMemory said heard h = h
 
-  pub not_answered : (f : FarFault) (said : List Reply) (heard : List ℕ) → r ≡ Err f → Outcome {T = ℕ} (λ len s t. HeardOf names_read said (take len heard) × (t ≡ old)) Never (λ s t. t ≡ old) (Err f) old new
+  pub not_answered : (f : FarFault) (said : List Reply) (heard : List ℕ) → r ≡ Err f → Outcome {T = Unit {0}} (λ _ s t. HeardOf names_read any_replies said heard × (t ≡ old)) Never (λ s t. t ≡ old) (Err f) old new
       → Outcome {T = T} (λ x. TellsNames (items x)) Never Remains r old new
   not_answered f said heard e h = subst (λ (q : Result T FarFault). Outcome {T = T} (λ x. TellsNames (items x)) Never Remains q old new) (sym e) (by_fault f said heard h)
 

@@ -32,8 +32,8 @@ module _ (c : Command) (front : List ℕ) (old new : Line) (heard : List ℕ) wh
   waits_err T faults.ReadOnly h = h
   waits_err T faults.NoMemory h = h
 
-  pub go_waits : (told : Told) (len : ℕ) → told ≡ tells.Go len → AsksOr c front (Ok told) old new heard → Waits front len old new heard
-  go_waits told len e h = subst (λ (t : Told). AsksOr c front (Ok t) old new heard) e h
+  pub go_waits : (told : Told) → told ≡ tells.Go → AsksOr c front (Ok told) old new heard → Waits front old new heard
+  go_waits told e h = subst (λ (t : Told). AsksOr c front (Ok t) old new heard) e h
 
-  pub no_answer : (told : Told) (len : ℕ) (status : Status) → told ≡ tells.Answer len status → AsksOr c front (Ok told) old new heard → ⊥
-  no_answer told len status e h = subst (λ (t : Told). AsksOr c front (Ok t) old new heard) e h
+  pub no_answer : (told : Told) (status : Status) → told ≡ tells.Answer status → AsksOr c front (Ok told) old new heard → ⊥
+  no_answer told status e h = subst (λ (t : Told). AsksOr c front (Ok t) old new heard) e h

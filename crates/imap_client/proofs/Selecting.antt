@@ -1,5 +1,5 @@
 -- A mailbox is selected.
-use Rattle.std.proofs.Common.{◌≡◌, ◌⊎◌, inl, inr, ℕ, Bool, true, false, List, [], ◌∷◌, ◌++◌, refl, sym, ◌∙◌, ap, subst, append_assoc, length, arith, take, Option, Some, None, Result, Ok, Err}
+use Rattle.std.proofs.Common.{◌≡◌, ◌⊎◌, inl, inr, ℕ, Bool, true, false, List, [], ◌∷◌, ◌++◌, refl, sym, ◌∙◌, ap, subst, append_assoc, length, arith, Option, Some, None, Result, Ok, Err}
 use Rattle.std.specs.Prelude.{codes, filter, if◌then◌else◌}
 use Rattle.std.specs.List.{fold}
 use Rattle.std.specs.Option.{option_map}
@@ -17,6 +17,7 @@ use Rattle.imap_link.specs.declared.fault.FarFault.{FarFault}
 use Rattle.imap_link.specs.declared.fault.FarFault.TheVariants as faults
 use Rattle.imap_link.specs.UsedReplies.{opening_read, is_used}
 use Rattle.imap_link.specs.Outcomes.{Outcome, Never}
+use Rattle.imap_link.specs.Sinks.{any_replies}
 use Rattle.imap_answers.specs.declared.opening.Opening.{Opening}
 use Rattle.imap_client.specs.Tags.{tag_text}
 use Rattle.imap_client.specs.Exchanged.{command_at, Exchanged}
@@ -43,7 +44,7 @@ pub record ChosenBy (name tag bytes : List ℕ) (old new : Server) : Type 0 wher
   pub mailbox : FarMailbox
   pub there : mailbox_at name old.mailboxes ≡ Some mailbox
   pub after : new ≡ record old { condition = Selected name }
-  pub heard : HeardOf opening_read ((closes old.condition ++ front mailbox) ++ done_with tag codes_of.ReadWrite ∷ []) bytes
+  pub heard : HeardOf opening_read any_replies ((closes old.condition ++ front mailbox) ++ done_with tag codes_of.ReadWrite ∷ []) bytes
 
 chosen : (old new : Server) (c : Condition) → new ≡ record old { condition = c } → new ≡ record old { condition = new.condition }
 chosen old new c e = e ∙ ap (λ (d : Condition). record old { condition = d }) (sym (ap (λ (s : Server). s.condition) e))
@@ -61,10 +62,10 @@ module _ (n : ℕ) (name : List ℕ) (old : Server) (logged : is_logged_in old.c
           (at.0 ∙ sym (append_assoc (closes old.condition) (front m) (done_with (tag_text n) codes_of.ReadWrite ∷ [])), at.1);
     }
 
-    some_by : (result : Result ℕ FarFault) (heard : List ℕ) (new : Server)
-        → Outcome {T = ℕ} (λ len s t. HeardOf opening_read ((closes old.condition ++ front m) ++ done_with (tag_text n) codes_of.ReadWrite ∷ []) (take len heard) × (t ≡ record old { condition = Selected name })) Never (λ s t. t ≡ record old { condition = Selected name }) result old new
-        → Outcome {T = ℕ} (λ len. ChosenBy name (tag_text n) (take len heard)) (NoMailbox name) (Chooses name) result old new
-    some_by (Ok len) heard new h = record { mailbox = m; there = is; after = h.1; heard = h.0 }
+    some_by : (result : Result (Unit {0}) FarFault) (heard : List ℕ) (new : Server)
+        → Outcome {T = Unit {0}} (λ _ s t. HeardOf opening_read any_replies ((closes old.condition ++ front m) ++ done_with (tag_text n) codes_of.ReadWrite ∷ []) heard × (t ≡ record old { condition = Selected name })) Never (λ s t. t ≡ record old { condition = Selected name }) result old new
+        → Outcome {T = Unit {0}} (λ _. ChosenBy name (tag_text n) heard) (NoMailbox name) (Chooses name) result old new
+    some_by (Ok x) heard new h = record { mailbox = m; there = is; after = h.1; heard = h.0 }
     some_by (Err faults.Stopped) heard new (inl q) = inl q
     some_by (Err faults.Stopped) heard new (inr e) = inr (chosen old new (Selected name) e)
     some_by (Err faults.Refused) heard new h = absurd h
@@ -83,10 +84,10 @@ module _ (n : ℕ) (name : List ℕ) (old : Server) (logged : is_logged_in old.c
           subst (λ (x : Option FarMailbox). Gives (selects_at x old (tag_text n) name) said new) is now;
     }
 
-    none_by : (result : Result ℕ FarFault) (heard : List ℕ) (new : Server)
-        → Outcome {T = ℕ} (λ len s t. ⊥) (λ s t. t ≡ record old { condition = Authenticated }) (λ s t. t ≡ record old { condition = Authenticated }) result old new
-        → Outcome {T = ℕ} (λ len. ChosenBy name (tag_text n) (take len heard)) (NoMailbox name) (Chooses name) result old new
-    none_by (Ok len) heard new h = absurd h
+    none_by : (result : Result (Unit {0}) FarFault) (heard : List ℕ) (new : Server)
+        → Outcome {T = Unit {0}} (λ _ s t. ⊥) (λ s t. t ≡ record old { condition = Authenticated }) (λ s t. t ≡ record old { condition = Authenticated }) result old new
+        → Outcome {T = Unit {0}} (λ _. ChosenBy name (tag_text n) heard) (NoMailbox name) (Chooses name) result old new
+    none_by (Ok x) heard new h = absurd h
     none_by (Err faults.Stopped) heard new (inl q) = inl q
     none_by (Err faults.Stopped) heard new (inr e) = inr (chosen old new Authenticated e)
     none_by (Err faults.Refused) heard new h = (is, h)
@@ -97,15 +98,15 @@ module _ (n : ℕ) (name : List ℕ) (old : Server) (logged : is_logged_in old.c
     none_by (Err faults.NoMemory) heard new (inl q) = inl q
     none_by (Err faults.NoMemory) heard new (inr e) = inr (chosen old new Authenticated e)
 
-  by_mailbox : (x : Option FarMailbox) → mailbox_at name old.mailboxes ≡ x → (result : Result ℕ FarFault) (heard : List ℕ) (new : Server) → Exchanged (command_at n (requests.Select name)) result heard old new
-      → Outcome {T = ℕ} (λ len. ChosenBy name (tag_text n) (take len heard)) (NoMailbox name) (Chooses name) result old new
+  by_mailbox : (x : Option FarMailbox) → mailbox_at name old.mailboxes ≡ x → (result : Result (Unit {0}) FarFault) (heard : List ℕ) (new : Server) → Exchanged (command_at n (requests.Select name)) any_replies result heard old new
+      → Outcome {T = Unit {0}} (λ _. ChosenBy name (tag_text n) heard) (NoMailbox name) (Chooses name) result old new
   by_mailbox (Some m) is result heard new h =
-      some_by m is result heard new (answered (command_at n (requests.Select name)) old (closes old.condition ++ front m) (done_with (tag_text n) codes_of.ReadWrite) (record old { condition = Selected name }) (some_sure m is) refl result heard new h)
+      some_by m is result heard new (answered any_replies (command_at n (requests.Select name)) old (closes old.condition ++ front m) (done_with (tag_text n) codes_of.ReadWrite) (record old { condition = Selected name }) (some_sure m is) refl result heard new h)
   by_mailbox None is result heard new h =
-      none_by is result heard new (refused (command_at n (requests.Select name)) old (closes old.condition) (refused_with (tag_text n) (codes "NONEXISTENT") (codes "no mailbox")) (record old { condition = Authenticated }) (none_sure is) refl (λ len s t. ⊥) result heard new h)
+      none_by is result heard new (refused any_replies (command_at n (requests.Select name)) old (closes old.condition) (refused_with (tag_text n) (codes "NONEXISTENT") (codes "no mailbox")) (record old { condition = Authenticated }) (none_sure is) refl (λ _ s t. ⊥) result heard new h)
 
-  pub select_exchanged : (result : Result ℕ FarFault) (heard : List ℕ) (new : Server) → Exchanged (command_at n (requests.Select name)) result heard old new
-      → Outcome {T = ℕ} (λ len. ChosenBy name (tag_text n) (take len heard)) (NoMailbox name) (Chooses name) result old new
+  pub select_exchanged : (result : Result (Unit {0}) FarFault) (heard : List ℕ) (new : Server) → Exchanged (command_at n (requests.Select name)) any_replies result heard old new
+      → Outcome {T = Unit {0}} (λ _. ChosenBy name (tag_text n) heard) (NoMailbox name) (Chooses name) result old new
   select_exchanged = by_mailbox (mailbox_at name old.mailboxes) refl
 
 -- where the answer is OK, somebody is logged in
@@ -115,13 +116,13 @@ module _ (n : ℕ) (name : List ℕ) (old : Server) where
     each = λ said new step. subst (λ (b : Bool). Gives (if b then selects_at (mailbox_at name old.mailboxes) old (tag_text n) name else out_of_place old (tag_text n)) said new) out step;
   }
 
-  by_login : (b : Bool) → is_logged_in old.condition ≡ b → (len : ℕ) (heard : List ℕ) (new : Server) → Exchanged (command_at n (requests.Select name)) (Ok len) heard old new → ChosenBy name (tag_text n) (take len heard) old new
-  by_login true is len heard new h = select_exchanged n name old is (Ok len) heard new h
-  by_login false is len heard new h =
-      let ok = status_so (command_at n (requests.Select name)) old [] (bad (tag_text n) (codes "state")) old (out_sure is) statuses.Ok (take len heard) new h in
+  by_login : (b : Bool) → is_logged_in old.condition ≡ b → (x : Unit {0}) (heard : List ℕ) (new : Server) → Exchanged (command_at n (requests.Select name)) any_replies (Ok x) heard old new → ChosenBy name (tag_text n) heard old new
+  by_login true is x heard new h = select_exchanged n name old is (Ok x) heard new h
+  by_login false is x heard new h =
+      let ok = status_so any_replies (command_at n (requests.Select name)) old [] (bad (tag_text n) (codes "state")) old (out_sure is) statuses.Ok heard new h in
       let both : (let x : Option Status = Some statuses.Bad in x) ≡ Some statuses.Ok = ok in cc
 
-  pub ok_chosen : (len : ℕ) (heard : List ℕ) (new : Server) → Exchanged (command_at n (requests.Select name)) (Ok len) heard old new → ChosenBy name (tag_text n) (take len heard) old new
+  pub ok_chosen : (x : Unit {0}) (heard : List ℕ) (new : Server) → Exchanged (command_at n (requests.Select name)) any_replies (Ok x) heard old new → ChosenBy name (tag_text n) heard old new
   ok_chosen = by_login (is_logged_in old.condition) refl
 
 -- ---- what is told

@@ -1,6 +1,6 @@
 -- Nothing is removed where nothing is named.
-use Rattle.std.proofs.Common.{◌≡◌, inl, IfErr, Result, Ok, Err, ℕ, Bool, true, false, List, [], ◌∷◌, refl, sym, ◌∙◌, ap, subst, Option, Some, None}
-use Rattle.std.specs.Prelude.{map, filter, ◌&&◌, if◌then◌else◌}
+use Rattle.std.proofs.Common.{◌≡◌, inl, IfErr, Result, Ok, Err, ℕ, Bool, true, false, List, [], ◌∷◌, length, refl, sym, ◌∙◌, ap, subst, Option, Some, None}
+use Rattle.std.specs.Prelude.{map, filter, ◌==◌, ◌&&◌, if◌then◌else◌}
 use Rattle.mailcore.specs.declared.mailbox.Message.{Message}
 use Rattle.mailcore.specs.Stores.{Store}
 use Rattle.mailcore.specs.Operations.{expunged}
@@ -63,6 +63,6 @@ rests uids old (Err f) e h = subst (λ (y : FarFault). Outcome {T = Unit {0}} (�
 pub none_sent : (uids : List ℕ) → uids ≡ [] → 0 ≡ commands_for uids
 none_sent uids e = sym (ap commands_for e)
 
-pub one_sent : (uids : List ℕ) → (uids ≡ [] → ⊥) → 1 ≡ commands_for uids
-one_sent [] n = absurd (n refl)
-one_sent (u ∷ uids) n = refl
+pub one_sent : (uids : List ℕ) → (length uids == 0) ≡ false → 1 ≡ commands_for uids
+one_sent [] e = cc
+one_sent (u ∷ uids) e = refl

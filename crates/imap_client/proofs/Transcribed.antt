@@ -1,5 +1,5 @@
 -- What calls have heard.
-use Rattle.std.proofs.Common.{◌≡◌, inl, inr, ℕ, ◌+◌, Bool, true, false, List, Option, None, Some, sym, ◌∙◌, ap, subst, refl, take, Result, Ok, Err, OnOk}
+use Rattle.std.proofs.Common.{◌≡◌, inl, inr, ℕ, ◌+◌, Bool, true, false, List, Option, None, Some, sym, ◌∙◌, ap, subst, refl, Result, Ok, Err}
 use Rattle.std.specs.Prelude.{◌&&◌, is_some}
 use Rattle.imap_answers.specs.declared.opening.Opening.{Opening}
 use Rattle.imap_answers.specs.Openings.{opening_of}
@@ -41,22 +41,19 @@ with_status : (tag tag_now : List ℕ) (status now : Status) (bytes : List ℕ) 
 with_status tag tag_now status now bytes t e h = subst (λ (s : Status). IsAnswerText tag_now s bytes) e (subst (λ (x : List ℕ). IsAnswerText x status bytes) t h)
 
 -- an answer was heard, which its status judges
-module _ (n : ℕ) (tag : List ℕ) (same : tag ≡ tag_text n) (status : Status) (len : ℕ) (ready : Bool) (was now : List ℕ) (text : IsAnswerText tag status (take len was)) where
-  pub judged_ends : (result : Result ℕ FarFault) (old new : List (List ℕ)) → Judged status len ready result → OnOk result (now ≡ was) → Hears (λ bytes. bytes ≡ take len was) old new
-      → EndsBy (of_command n now) result old new
-  judged_ends (Ok k) old new j e h = record {
-    bytes = h.bytes;
-    is = (subst (IsAnswerText (tag_text n) statuses.Ok) (sym h.is) (with_status tag (tag_text n) status statuses.Ok (take len was) same j.0 text), h.is ∙ ap (λ (i : ℕ). take i was) (sym j.1) ∙ ap (take k) (sym e));
-    grows = h.grows;
-  }
-  judged_ends (Err faults.Stopped) old new j e h = absurd j
-  judged_ends (Err faults.Refused) old new j e h = record { bytes = h.bytes; is = subst (IsAnswerText (tag_text n) statuses.No) (sym h.is) (with_status tag (tag_text n) status statuses.No (take len was) same j.0 text); grows = h.grows }
-  judged_ends (Err faults.Protocol) old new j e h =
-      inr (record { bytes = h.bytes; is = subst (IsAnswerText (tag_text n) statuses.Bad) (sym h.is) (with_status tag (tag_text n) status statuses.Bad (take len was) same j.0 text); grows = h.grows })
-  judged_ends (Err faults.TooLong) old new j e h = absurd j
-  judged_ends (Err faults.NoRev2) old new j e h = absurd j
-  judged_ends (Err faults.ReadOnly) old new j e h = absurd j
-  judged_ends (Err faults.NoMemory) old new j e h = absurd j
+module _ (n : ℕ) (tag : List ℕ) (same : tag ≡ tag_text n) (status : Status) (ready : Bool) (read : List ℕ) (text : IsAnswerText tag status read) where
+  heard_as : (now : Status) (old new : List (List ℕ)) → status ≡ now → (h : Hears (λ bytes. bytes ≡ read) old new) → Answers n now h.bytes
+  heard_as now old new e h = subst (IsAnswerText (tag_text n) now) (sym h.is) (with_status tag (tag_text n) status now read same e text)
+
+  pub judged_ends : (result : Result (Unit {0}) FarFault) (old new : List (List ℕ)) → Judged status ready result → Hears (λ bytes. bytes ≡ read) old new → EndsBy (of_command n read) result old new
+  judged_ends (Ok x) old new j h = record { bytes = h.bytes; is = (heard_as statuses.Ok old new j.0 h, h.is); grows = h.grows }
+  judged_ends (Err faults.Stopped) old new j h = absurd j
+  judged_ends (Err faults.Refused) old new j h = record { bytes = h.bytes; is = heard_as statuses.No old new j.0 h; grows = h.grows }
+  judged_ends (Err faults.Protocol) old new j h = inr (record { bytes = h.bytes; is = heard_as statuses.Bad old new j.0 h; grows = h.grows })
+  judged_ends (Err faults.TooLong) old new j h = absurd j
+  judged_ends (Err faults.NoRev2) old new j h = absurd j
+  judged_ends (Err faults.ReadOnly) old new j h = absurd j
+  judged_ends (Err faults.NoMemory) old new j h = absurd j
 
 -- a command failed, in a call that tells so of NO and BAD
 module _ (n : ℕ) (heard : List ℕ) (T : Type 0) (m : Meaning T) (no : (bytes : List ℕ) → Answers n statuses.No bytes → m.refused bytes) (bad : (bytes : List ℕ) → Answers n statuses.Bad bytes → m.protocol bytes) where
@@ -71,9 +68,9 @@ module _ (n : ℕ) (heard : List ℕ) (T : Type 0) (m : Meaning T) (no : (bytes 
   command_ends faults.NoMemory old new (inl e) = inl e
   command_ends faults.NoMemory old new (inr h) = absurd h.is
 
--- of an answer that stands in the buffer: what its replies say
-module _ (n len : ℕ) (heard : List ℕ) (old new : List (List ℕ)) (h : Hears (λ bytes. Answers n statuses.Ok bytes × (bytes ≡ take len heard)) old new) where
-  pub says_so : (P : List Reply → Type 0) → ((rs : List Reply) → AreReplies rs (take len heard) → P rs) → Hears (Says n statuses.Ok P) old new
+-- of an answer that was read: what its replies say
+module _ (n : ℕ) (heard : List ℕ) (old new : List (List ℕ)) (h : Hears (λ bytes. Answers n statuses.Ok bytes × (bytes ≡ heard)) old new) where
+  pub says_so : (P : List Reply → Type 0) → ((rs : List Reply) → AreReplies rs heard → P rs) → Hears (Says n statuses.Ok P) old new
   says_so P told = record {
     bytes = h.bytes;
     is = record { answer = h.is.0; said = λ rs are. told rs (subst (AreReplies rs) h.is.1 are) };
@@ -84,9 +81,9 @@ module _ (n len : ℕ) (heard : List ℕ) (old new : List (List ℕ)) (h : Hears
   answers_ok = record { bytes = h.bytes; is = h.is.0; grows = h.grows }
 
 -- and of one with any status
-module _ (n len : ℕ) (tag : List ℕ) (same : tag ≡ tag_text n) (status : Status) (heard : List ℕ) (text : IsAnswerText tag status (take len heard)) (old new : List (List ℕ)) (h : Hears (λ bytes. bytes ≡ take len heard) old new) where
+module _ (n : ℕ) (tag : List ℕ) (same : tag ≡ tag_text n) (status : Status) (heard : List ℕ) (text : IsAnswerText tag status heard) (old new : List (List ℕ)) (h : Hears (λ bytes. bytes ≡ heard) old new) where
   answers_as : (now : Status) → status ≡ now → Answers n now h.bytes
-  answers_as now e = subst (IsAnswerText (tag_text n) now) (sym h.is) (with_status tag (tag_text n) status now (take len heard) same e text)
+  answers_as now e = subst (IsAnswerText (tag_text n) now) (sym h.is) (with_status tag (tag_text n) status now heard same e text)
 
   pub answers_so : (now : Status) → status ≡ now → Hears (Answers n now) old new
   answers_so now e = record { bytes = h.bytes; is = answers_as now e; grows = h.grows }
@@ -169,12 +166,12 @@ opened_so o validity next read_only n v r =
     ∙ ap (λ (x : Option ℕ). (let y : Opening = record { next = Some next; validity = x; is_read_only = o.is_read_only } in y)) v
     ∙ ap (λ (x : Bool). (let y : Opening = record { next = Some next; validity = Some validity; is_read_only = x } in y)) r
 
--- what is told of the mailbox is that of an answer in the buffer
-module _ (T : Type 0) (told : T → Opening) (n len : ℕ) (heard : List ℕ) (old new : List (List ℕ)) (h : Hears (λ bytes. Answers n statuses.Ok bytes × (bytes ≡ take len heard)) old new)
-    (o : Opening) (is : (rs : List Reply) → AreReplies rs (take len heard) → o ≡ opening_of rs) where
+-- what is told of the mailbox is that of an answer that was read
+module _ (T : Type 0) (told : T → Opening) (n : ℕ) (heard : List ℕ) (old new : List (List ℕ)) (h : Hears (λ bytes. Answers n statuses.Ok bytes × (bytes ≡ heard)) old new)
+    (o : Opening) (is : (rs : List Reply) → AreReplies rs heard → o ≡ opening_of rs) where
   lacks : LacksNumber o → EndsBy (of_select n told) (Err faults.Protocol) old new
   lacks e =
-      let s = says_so n len heard old new h (λ rs. LacksNumber (opening_of rs)) (λ rs are. subst LacksNumber (is rs are) e) in
+      let s = says_so n heard old new h (λ rs. LacksNumber (opening_of rs)) (λ rs are. subst LacksNumber (is rs are) e) in
       inr (record { bytes = s.bytes; is = inr s.is; grows = s.grows })
 
   pub lacks_next : ((y : ℕ) → o.next ≡ Some y → ⊥) → EndsBy (of_select n told) (Err faults.Protocol) old new
@@ -186,8 +183,8 @@ module _ (T : Type 0) (told : T → Opening) (n len : ℕ) (heard : List ℕ) (o
   module _ (validity next : ℕ) (at_next : o.next ≡ Some next) (at_validity : o.validity ≡ Some validity) where
     pub is_read_only : o.is_read_only ≡ true → EndsBy (of_select n told) (Err faults.ReadOnly) old new
     is_read_only r =
-        says_so n len heard old new h (λ rs. TellsNumbers (opening_of rs) × ((opening_of rs).is_read_only ≡ true))
+        says_so n heard old new h (λ rs. TellsNumbers (opening_of rs) × ((opening_of rs).is_read_only ≡ true))
         (λ rs are. subst (λ (x : Opening). TellsNumbers x × (x.is_read_only ≡ true)) (sym (opened_so o validity next true at_next at_validity r) ∙ is rs are) (refl, refl))
 
     pub is_opened : o.is_read_only ≡ false → Hears (Says n statuses.Ok (λ rs. opening_of rs ≡ opened validity next)) old new
-    is_opened r = says_so n len heard old new h (λ rs. opening_of rs ≡ opened validity next) (λ rs are. sym (is rs are) ∙ opened_so o validity next false at_next at_validity r)
+    is_opened r = says_so n heard old new h (λ rs. opening_of rs ≡ opened validity next) (λ rs are. sym (is rs are) ∙ opened_so o validity next false at_next at_validity r)

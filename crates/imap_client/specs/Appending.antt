@@ -99,6 +99,6 @@ pub record IsFront (tag front : List ℕ) : Type 0 where
   pub is : IsInTwo tag front rest
 
 -- the server waits for the rest, and nothing is on the way; or the command was done or not
-abbrev pub WaitsOr : {T : Type 0} → Command → (front : List ℕ) → Result T FarFault → (old new : Line) (heard : List ℕ) → Type 0
-WaitsOr c front (Ok _) old new heard = Quiet (told_server old) (told_server new) × IsAt front (ends_of new heard)
-WaitsOr c front (Err fault) old new heard = Outcome {T = Unit {0}} (λ _. Never) Never (Performs c) (Err fault) (told_server old) (told_server new)
+abbrev pub WaitsOr : {T : Type 0} → Command → (front : List ℕ) → Result T FarFault → (old new : Line) (coming : List ℕ) → Type 0
+WaitsOr c front (Ok _) old new coming = Quiet (told_server old) (told_server new) × IsAt front (ends_of new coming)
+WaitsOr c front (Err fault) old new coming = Outcome {T = Unit {0}} (λ _. Never) Never (Performs c) (Err fault) (told_server old) (told_server new)

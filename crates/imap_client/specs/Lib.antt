@@ -23,3 +23,4 @@ pub mod Laws
 pub mod Calls
 pub mod Transcripts
 pub mod Sessions
+pub mod Fetches

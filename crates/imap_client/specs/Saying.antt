@@ -5,6 +5,7 @@ use Rattle.imap_replies.specs.declared.reply.Reply.{Reply}
 use Rattle.imap_replies.specs.declared.reply.Reply.TheVariants.{Continue, Tagged, Notice, Capability, Enabled, List as Listed, Flags, Exists, Expunge, Fetch, Other, OtherNumbered}
 use Rattle.imap_session.specs.Heard.{AreReplies, LeavesOut}
 use Rattle.imap_link.specs.declared.uses.Uses.{Uses}
+use Rattle.imap_link.specs.Sinks.{telling}
 use Rattle.imap_link.specs.UsedReplies.{is_used}
 
 abbrev pub status_of : Reply → Option Status
@@ -27,8 +28,10 @@ final_status [] = None
 final_status (r ∷ []) = status_of r
 final_status (r ∷ q ∷ rs) = final_status (q ∷ rs)
 
--- the bytes are those of these replies that the call reads, but that a code may be left out
-pub record HeardOf (uses : Uses) (said : List Reply) (bytes : List ℕ) : Type 0 where
+-- The bytes are those of these replies that the call keeps, but that a code may be left out. T holds of those that tell of
+-- messages.
+pub record HeardOf (uses : Uses) (T : List Reply → Type 0) (said : List Reply) (bytes : List ℕ) : Type 0 where
   pub replies : List Reply
   pub spelled : AreReplies (filter (is_used uses) replies) bytes
+  pub told : T (telling replies)
   pub left_out : LeavesOut replies said

@@ -7,7 +7,7 @@ use Rattle.imap_client.specs.States.{State}
 
 module _ {L : Type 0} {links : link.Ghosts L} where
   abbrev pub state_of : Session L links → State
-  state_of s = record { is_ready = s.is_ready; tags = s.tags; stops = links.stops s.wire.link; heard = s.wire.heard.items }
+  state_of s = record { is_ready = s.is_ready; tags = s.tags; stops = links.stops s.wire.link; heard = s.wire.heard.read }
 
   -- both ends of its connection
   abbrev pub line_of : Session L links → Line

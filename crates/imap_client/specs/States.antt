@@ -7,8 +7,8 @@ use Rattle.imap_link.specs.declared.fault.FarFault.TheVariants.{Stopped, Refused
 use Rattle.imap_link.specs.Buffers.{SaysBye}
 use Rattle.imap_client.specs.Tags.{tag_text, LAST_TAG}
 
--- whether it goes on, how many tags were used on its connection, how often its link was stopped, and what stands in its
--- buffer
+-- whether it goes on, how many tags were used on its connection, how often its link was stopped, and what was read of the
+-- replies to its last command
 pub record State : Type 0 where
   pub is_ready : Bool
   pub tags : ℕ
@@ -70,7 +70,7 @@ EndsSo commands old new (Err NoMemory) = Fails old new
 abbrev pub SendStops : (tag : List ℕ) → State → State → Type 0
 SendStops tag old new = (old.stops < new.stops) ⊎ SaysBye tag new.heard
 
--- the command of this tag was answered, and its answer stands in the buffer; or it was refused, and the session goes on
+-- the command of this tag was answered, and its answer was read; or it was refused, and the session goes on
 abbrev pub SentSo : {T : Type 0} → (tag : List ℕ) → State → State → Result T FarFault → Type 0
 SentSo tag old new (Ok answer) = (new.is_ready ≡ false) × (new.stops ≡ old.stops)
 SentSo tag old new (Err Stopped) = (new.is_ready ≡ false) × SendStops tag old new
@@ -81,16 +81,16 @@ SentSo tag old new (Err NoRev2) = ⊥
 SentSo tag old new (Err ReadOnly) = ⊥
 SentSo tag old new (Err NoMemory) = new.is_ready ≡ false
 
--- what a status makes of an answer of this length
-abbrev pub Judged : Status → (len : ℕ) → (is_ready : Bool) → Result ℕ FarFault → Type 0
-Judged status len is_ready (Ok n) = (status ≡ statuses.Ok) × (n ≡ len) × (is_ready ≡ false)
-Judged status len is_ready (Err Stopped) = ⊥
-Judged status len is_ready (Err Refused) = (status ≡ statuses.No) × (is_ready ≡ true)
-Judged status len is_ready (Err Protocol) = (status ≡ statuses.Bad) × (is_ready ≡ false)
-Judged status len is_ready (Err TooLong) = ⊥
-Judged status len is_ready (Err NoRev2) = ⊥
-Judged status len is_ready (Err ReadOnly) = ⊥
-Judged status len is_ready (Err NoMemory) = ⊥
+-- what a status makes of an answer
+abbrev pub Judged : Status → (is_ready : Bool) → Result (Unit {0}) FarFault → Type 0
+Judged status is_ready (Ok _) = (status ≡ statuses.Ok) × (is_ready ≡ false)
+Judged status is_ready (Err Stopped) = ⊥
+Judged status is_ready (Err Refused) = (status ≡ statuses.No) × (is_ready ≡ true)
+Judged status is_ready (Err Protocol) = (status ≡ statuses.Bad) × (is_ready ≡ false)
+Judged status is_ready (Err TooLong) = ⊥
+Judged status is_ready (Err NoRev2) = ⊥
+Judged status is_ready (Err ReadOnly) = ⊥
+Judged status is_ready (Err NoMemory) = ⊥
 
 -- the same with the next tag, which may be used up
 abbrev pub ExchangedSo : {T : Type 0} → State → State → Result T FarFault → Type 0

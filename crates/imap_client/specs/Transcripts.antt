@@ -1,6 +1,6 @@
 -- What a session has heard: the bytes of each answer, the last one first. The replies before the tagged one are those that the command
--- reads. Nothing is supposed of the server: the bytes stand here as they came.
-use Rattle.std.specs.Prelude.{◌≡◌, ◌⊎◌, ℕ, ◌+◌, ◌&&◌, true, false, List, ◌∷◌, take, Some, Result, Ok, Err, is_some}
+-- keeps. Nothing is supposed of the server: the bytes stand here as they came.
+use Rattle.std.specs.Prelude.{◌≡◌, ◌⊎◌, ℕ, ◌+◌, ◌&&◌, true, false, List, ◌∷◌, Some, Result, Ok, Err, is_some}
 use Rattle.std.specs.List.{list_any}
 use Rattle.imap_replies.specs.declared.reply.Reply.{Reply}
 use Rattle.imap_replies.specs.declared.word.Status.{Status}
@@ -9,7 +9,6 @@ use Rattle.imap_session.specs.Heard.{AreReplies}
 use Rattle.imap_link.specs.Buffers.{IsAnswerText}
 use Rattle.imap_link.specs.declared.fault.FarFault.{FarFault}
 use Rattle.imap_link.specs.declared.fault.FarFault.TheVariants.{Stopped, Refused, Protocol, TooLong, NoRev2, ReadOnly, NoMemory}
-use Rattle.imap_link.specs.declared.wire.Answered.{Answered}
 use Rattle.imap_answers.specs.declared.opening.Opening.{Opening}
 use Rattle.imap_answers.specs.Openings.{opening_of}
 use Rattle.imap_client.specs.Logins.{tells_rev2}
@@ -55,10 +54,10 @@ EndsBy m (Err NoRev2) old new = Hears m.no_rev2 old new
 EndsBy m (Err ReadOnly) old new = Hears m.read_only old new
 EndsBy m (Err NoMemory) old new = (new ≡ old) ⊎ Hears m.no_memory old new
 
--- any answer, which stands at the front of the buffer
-abbrev pub of_any : (heard : List ℕ) → Meaning Answered
-of_any heard = record {
-  ok = λ a bytes. bytes ≡ take a.len heard;
+-- any answer, which was read last
+abbrev pub of_any : (read : List ℕ) → Meaning Status
+of_any read = record {
+  ok = λ _ bytes. bytes ≡ read;
   refused = NoAnswer;
   protocol = NoAnswer;
   no_rev2 = NoAnswer;
@@ -66,10 +65,10 @@ of_any heard = record {
   no_memory = NoAnswer;
 }
 
--- one of this length stands there; NO refuses the command, BAD breaks the protocol
-abbrev pub of_command : (n : ℕ) → (heard : List ℕ) → Meaning ℕ
-of_command n heard = record {
-  ok = λ len bytes. Answers n statuses.Ok bytes × (bytes ≡ take len heard);
+-- OK was read last; NO refuses the command, BAD breaks the protocol
+abbrev pub of_command : (n : ℕ) → (read : List ℕ) → Meaning (Unit {0})
+of_command n read = record {
+  ok = λ _ bytes. Answers n statuses.Ok bytes × (bytes ≡ read);
   refused = Answers n statuses.No;
   protocol = Answers n statuses.Bad;
   no_rev2 = NoAnswer;

@@ -1,6 +1,6 @@
 //! Messages are added to a far mailbox (RFC 9051, section 6.3.12).
 
-ghost use Rattle.std.specs.Prelude.{◌≡◌, ◌≤◌, ◌+◌, ◌++◌, ℕ, List, Some, true, false, length, take, drop, IfOk, IfErr, OnErr};
+ghost use Rattle.std.specs.Prelude.{◌≡◌, ◌≤◌, ◌+◌, ◌++◌, ℕ, List, Some, true, false, IfOk, IfErr, OnErr, OnOk};
 ghost use Rattle.mailcore.specs.CopyPieces.{text_left};
 ghost use Rattle.wire_reader.specs.Spelling.{crlf};
 ghost use Rattle.imap_commands.specs.declared.command.Command.{Command};
@@ -14,6 +14,7 @@ ghost use Rattle.imap_session.specs.Visits.{Among};
 ghost use Rattle.exchange_laws.specs.Ends.{ends_of};
 ghost use Rattle.imap_link.specs.Buffers.{IsAnswerText};
 ghost use Rattle.imap_link.specs.Outcomes.{Outcome};
+ghost use Rattle.imap_link.specs.Sinks.{any_replies};
 ghost use Rattle.imap_link.specs.Sending.{AfterVisits};
 ghost use Rattle.imap_client.specs.Appending.{Adds, AddsSome, NoUidLeft, next_known, CanAdd, request_to_add, InTwo, IsInTwo, IsFront, WaitsOr};
 ghost use Rattle.imap_client.specs.Boxes.{IsSelected};
@@ -32,7 +33,7 @@ use imap_answers::reading::read_replies;
 use imap_link::fault::FarFault;
 use imap_link::link::Link;
 use imap_link::uses::Uses;
-use imap_link::wire::{Answered, Told};
+use imap_link::wire::Told;
 use mailcore::copy_pieces::CopyPieces;
 use mailcore::flags::Flags;
 use mailcore::uid::Uid;
@@ -46,67 +47,55 @@ impl<L: Link> Session<L> {
     fn offer(&mut self, tag: &Tag, front: &[u8]) -> Result<(), FarFault>
         requires front { IsFront tag.now front.now }
         requires begun { self.old.is_ready ≡ false }
-        requires idle { L.honest self.old.wire.link → IsStill (ends_of (L.line self.old.wire.link) self.old.wire.heard.items) }
+        requires idle { L.honest self.old.wire.link → IsStill (ends_of (L.line self.old.wire.link) self.old.wire.heard.unread) }
         ensures was_honest { L.honest self.new.wire.link → L.honest self.old.wire.link }
         ensures counts { L.stops self.old.wire.link ≤ L.stops self.new.wire.link }
         ensures tags { self.new.tags ≡ self.old.tags }
         ensures sent { SentSo tag.now (state_of self.old) (state_of self.new) result }
         ensures outcome { L.honest self.new.wire.link → AfterVisits L.visitors (λ line. (rest : List ℕ) (c : Command)
-            → InTwo tag.now front.now rest c → WaitsOr c front.now result line (line_of self.new) self.new.wire.heard.items) (line_of self.old) }
+            → InTwo tag.now front.now rest c → WaitsOr c front.now result line (line_of self.new) self.new.wire.heard.unread) (line_of self.old) }
     {
         match self.wire.ask(tag, front)? {
-            Told::Go(len) => {
-                self.wire.forget(len);
-                Ok(())
-            }
-            Told::Answer(len, status) => {
-                self.judge(Answered { len, status })?;
+            Told::Go => Ok(()),
+            Told::Answer(status) => {
+                self.judge(status)?;
                 Err(FarFault::Protocol)
             }
         }
     }
 
-    // Sends a command in two parts, the second, a message and the line end, once it is asked for, and waits for its answer, which stands
-    // in the buffer then.
-    fn deliver(
-        &mut self,
-        tag: &Tag,
-        front: &[u8],
-        octets: CopyPieces<'_>,
-    ) -> Result<usize, FarFault>
+    // Sends a command in two parts, the second, a message and the line end, once it is asked for, and waits for its answer, which was
+    // read then.
+    fn deliver(&mut self, tag: &Tag, front: &[u8], octets: CopyPieces<'_>) -> Result<(), FarFault>
         requires parts { IsInTwo tag.now front.now (text_left octets ++ crlf) }
         requires begun { self.old.is_ready ≡ false }
-        requires idle { L.honest self.old.wire.link → IsStill (ends_of (L.line self.old.wire.link) self.old.wire.heard.items) }
+        requires idle { L.honest self.old.wire.link → IsStill (ends_of (L.line self.old.wire.link) self.old.wire.heard.unread) }
         ensures was_honest { L.honest self.new.wire.link → L.honest self.old.wire.link }
         ensures counts { L.stops self.old.wire.link ≤ L.stops self.new.wire.link }
         ensures tags { self.new.tags ≡ self.old.tags }
         ensures sent { SentSo tag.now (state_of self.old) (state_of self.new) result }
         ensures outcome { L.honest self.new.wire.link → (c : Command) → InTwo tag.now front.now (text_left octets.entry ++ crlf) c
-            → Among L.visitors (Exchanged c result self.new.wire.heard.items) (server_of self.old) (server_of self.new) }
-        ensures idle { IfOk result (λ len. L.honest self.new.wire.link
-            → IsStill (ends_of (L.line self.new.wire.link) (drop len self.new.wire.heard.items))) }
-        ensures answer { IfOk result (λ len. (len ≤ length self.new.wire.heard.items)
-            × IsAnswerText tag.now statuses.Ok (take len self.new.wire.heard.items)) }
+            → Among L.visitors (Exchanged c any_replies result self.new.wire.heard.read) (server_of self.old) (server_of self.new) }
+        ensures idle { OnOk result (L.honest self.new.wire.link → IsStill (ends_of (L.line self.new.wire.link) self.new.wire.heard.unread)) }
+        ensures answer { OnOk result (IsAnswerText tag.now statuses.Ok self.new.wire.heard.read) }
     {
         self.offer(tag, front)?;
-        let answered = self.wire.finish_copy(tag, octets, Uses::answer_alone())?;
-        self.judge(answered)
+        let status = self.wire.finish_copy(tag, octets, Uses::answer_alone())?;
+        self.judge(status)
     }
 
-    // Begins a call that adds this: sends it and waits for its answer, which stands in the buffer then. The session counts
-    // as failed until `done`.
-    fn ask_to_add(&mut self, addition: &Addition<'_>) -> Result<usize, FarFault>
+    // Begins a call that adds this: sends it and waits for its answer, which was read then. The session counts as failed
+    // until `done`.
+    fn ask_to_add(&mut self, addition: &Addition<'_>) -> Result<(), FarFault>
         requires { CanAdd addition.now }
         ensures was_honest { L.honest self.new.wire.link → L.honest self.old.wire.link }
         ensures counts { L.stops self.old.wire.link ≤ L.stops self.new.wire.link }
         ensures stuck { self.old.is_ready ≡ false → self.new ≡ self.old }
         ensures asked { AskedSo (state_of self.old) (state_of self.new) result }
         ensures outcome { L.honest self.new.wire.link → Among L.visitors (Exchanged (command_at (self.old.tags + 1)
-            (request_to_add addition.now)) result self.new.wire.heard.items) (server_of self.old) (server_of self.new) }
-        ensures idle { IfOk result (λ len. L.honest self.new.wire.link
-            → IsStill (ends_of (L.line self.new.wire.link) (drop len self.new.wire.heard.items))) }
-        ensures answer { IfOk result (λ len. (len ≤ length self.new.wire.heard.items)
-            × IsAnswerText (tag_text self.new.tags) statuses.Ok (take len self.new.wire.heard.items)) }
+            (request_to_add addition.now)) any_replies result self.new.wire.heard.read) (server_of self.old) (server_of self.new) }
+        ensures idle { OnOk result (L.honest self.new.wire.link → IsStill (ends_of (L.line self.new.wire.link) self.new.wire.heard.unread)) }
+        ensures answer { OnOk result (IsAnswerText (tag_text self.new.tags) statuses.Ok self.new.wire.heard.read) }
     {
         self.begin()?;
         let tag = self.next_tag()?;
@@ -114,14 +103,13 @@ impl<L: Link> Session<L> {
         self.deliver(&tag, &front, addition.octets)
     }
 
-    // What the replies at the front of the buffer tell of a message that was added.
-    fn given(&self, len: usize) -> Result<Option<Given>, FarFault>
-        requires within { len ≤ length self.now.wire.heard.items }
-        requires speaks { Speaks (take len self.now.wire.heard.items) }
-        ensures told { IfOk result (λ given. (rs : List Reply) → AreReplies rs (take len self.now.wire.heard.items) → given ≡ given_in rs) }
+    // What the replies that were read tell of a message that was added.
+    fn given(&self) -> Result<Option<Given>, FarFault>
+        requires { Speaks self.now.wire.heard.read }
+        ensures told { IfOk result (λ given. (rs : List Reply) → AreReplies rs self.now.wire.heard.read → given ≡ given_in rs) }
         ensures err { IfErr result (λ fault. fault ≡ FarFault.NoMemory) }
     {
-        let replies = read_replies(self.wire.alloc, &self.wire.heard[..len])?;
+        let replies = read_replies(self.wire.alloc, self.wire.heard.read_part())?;
         Ok(given_in(&replies))
     }
 
@@ -141,10 +129,10 @@ impl<L: Link> Session<L> {
             → (m : FarMailbox) → selected s ≡ Some m → Outcome (Adds m addition.now.flags (text_left addition.now.octets)) (NoUidLeft m)
             (AddsSome m addition.now.flags (text_left addition.now.octets)) result s t) (server_of self.old) (server_of self.new) }
     {
-        let len = self.ask_to_add(addition)?;
-        let given = self.given(len)?;
+        self.ask_to_add(addition)?;
+        let given = self.given()?;
         let told = uid_told(given, validity, next)?;
-        self.done(len);
+        self.done();
         Ok(told)
     }
 }

@@ -1,9 +1,7 @@
 //! The bytes of one message of the selected mailbox (RFC 9051, section 6.4.5).
 
-ghost use Rattle.std.specs.Prelude.{◌≡◌, ◌≤◌, List, Some, None, false, length, take, IfErr, if◌then◌else◌};
+ghost use Rattle.std.specs.Prelude.{◌≡◌, ◌≤◌, List, Some, None, false, if◌then◌else◌};
 ghost use Rattle.std.specs.Option.{option_map};
-ghost use Rattle.imap_replies.specs.declared.reply.Reply.{Reply};
-ghost use Rattle.imap_session.specs.Heard.{AreReplies};
 ghost use Rattle.imap_session.specs.Mailboxes.{FarMailbox};
 ghost use Rattle.imap_session.specs.Servers.{selected};
 ghost use Rattle.imap_session.specs.Visits.{Among};
@@ -11,17 +9,15 @@ ghost use Rattle.imap_link.specs.Outcomes.{Outcome, Never};
 ghost use Rattle.mailcore.specs.Operations.{bytes_of};
 ghost use Rattle.mailcore.specs.Ranges.{AreInRange};
 ghost use Rattle.mailcore.specs.Stores.{IsStore};
-ghost use Rattle.imap_answers.specs.Bodies.{body_told, text_of};
+ghost use Rattle.imap_answers.specs.Bodies.{found_at};
 ghost use Rattle.imap_client.specs.Logins.{Remains};
-ghost use Rattle.imap_answers.specs.Readings.{ReadsAs, IsReadFault, Tells};
-ghost use Rattle.imap_answers.specs.Spoken.{Speaks};
+ghost use Rattle.imap_answers.specs.Readings.{Tells};
 ghost use Rattle.imap_client.specs.States.{EndsSo};
 
 use crate::call::Call;
 use crate::far_box::FarBox;
 use crate::session::Session;
-use imap_answers::bodies::body_told;
-use imap_answers::reading::read_replies;
+use imap_answers::bodies::{FoundBody, body_told};
 use imap_link::fault::FarFault;
 use imap_link::link::Link;
 use mailcore::uid::Uid;
@@ -29,20 +25,8 @@ use mailcore::uid::Uid;
 impl<L: Link> Session<L> {
     ghost use Rattle.imap_client.specs.Sessions.{state_of, server_of};
 
-    // The bytes of the message with this UID, as the replies at the front of the buffer tell them.
-    fn body_heard(&self, len: usize, uid: Uid) -> Result<Option<Vec<u8>>, FarFault>
-        requires within { len ≤ length self.now.wire.heard.items }
-        requires speaks { Speaks (take len self.now.wire.heard.items) }
-        ensures told { (rs : List Reply) → AreReplies rs (take len self.now.wire.heard.items) → ReadsAs text_of result (body_told uid rs) }
-        ensures err { IfErr result IsReadFault }
-    {
-        let alloc = self.wire.alloc;
-        let replies = read_replies(alloc, &self.wire.heard[..len])?;
-        body_told(alloc, &replies, uid)
-    }
-
-    /// The bytes of a message of the selected mailbox, or none where it is not there.
-    pub(crate) fn body(&mut self, uid: Uid) -> Result<Option<Vec<u8>>, FarFault>
+    /// Where the bytes of a message of the selected mailbox stand in the replies that were read, or none where it is not there.
+    pub(crate) fn body(&mut self, uid: Uid) -> Result<Option<FoundBody>, FarFault>
         ensures was_honest { L.honest self.new.wire.link → L.honest self.old.wire.link }
         ensures counts { L.stops self.old.wire.link ≤ L.stops self.new.wire.link }
         ensures stuck { self.old.is_ready ≡ false → self.new ≡ self.old }
@@ -50,12 +34,12 @@ impl<L: Link> Session<L> {
         ensures remains { L.honest self.new.wire.link → Among L.visitors (λ s t. (m : FarMailbox) → selected s ≡ Some m → Remains s t)
             (server_of self.old) (server_of self.new) }
         ensures outcome { L.honest self.new.wire.link → Among L.visitors (λ s t. (m : FarMailbox) → selected s ≡ Some m → IsStore m.store
-            → AreInRange m.store.messages → Outcome (Tells (λ found. text_of found ≡ bytes_of uid m.store)) Never Remains result s t)
+            → AreInRange m.store.messages → Outcome (Tells (λ found. found_at self.new.wire.heard.read found ≡ bytes_of uid m.store)) Never Remains result s t)
             (server_of self.old) (server_of self.new) }
     {
-        let len = self.ask(&Call::Body(uid))?;
-        let body = self.body_heard(len, uid)?;
-        self.done(len);
+        self.ask(&Call::Body(uid))?;
+        let body = body_told(self.wire.alloc, self.wire.heard.read_part(), uid)?;
+        self.done();
         Ok(body)
     }
 }
@@ -65,6 +49,7 @@ impl<L: Link> FarBox<L> {
     ghost use mathlib.Core.Option.{none};
     ghost use Rattle.std.specs.Borrow.{sem, follows_so};
     ghost use Rattle.imap_client.specs.Sessions.{state_of, server_of};
+    ghost use Rattle.imap_client.specs.Fetches.{body_of};
     ghost use Rattle.imap_client.specs.contracts.far_box.FarBox.{the_row};
 
     /// The bytes of a message, or none where it is not there: one UID FETCH. They are lent until the next call.
@@ -103,23 +88,23 @@ impl<L: Link> FarBox<L> {
             (server_of self.old.session) (server_of self.new.session) }
         ensures outcome { L.honest self.new.session.wire.link → Among L.visitors (λ s t. (m : FarMailbox) → selected s ≡ Some m
             → IsStore m.store → AreInRange m.store.messages
-            → Outcome (Tells (λ is_there. (if is_there then Some self.new.body.items else None) ≡ bytes_of uid m.store)) Never Remains result s t)
+            → Outcome (Tells (λ is_there. (if is_there then Some (body_of self.new) else None) ≡ bytes_of uid m.store)) Never Remains result s t)
             (server_of self.old.session) (server_of self.new.session) }
     {
         let found = self.session.body(uid)?;
         match found {
-            Some(bytes) => {
-                self.body = bytes;
+            Some(body) => {
+                self.body = body;
                 Ok(true)
             }
             None => Ok(false),
         }
     }
 
-    /// The bytes that `load` fetched last.
+    /// The bytes that `load` fetched last, which are lent from the replies to it.
     pub fn body(&self) -> &[u8]
-        ensures { result.now ≡ self.now.body.items }
+        ensures { result.now ≡ body_of self.now }
     {
-        self.body.as_slice()
+        self.body.lent(self.session.wire.heard.read_part())
     }
 }

@@ -1,6 +1,6 @@
 //! A far mailbox: a session, and the mailbox that is selected in it.
 
-ghost use Rattle.std.specs.Prelude.{◌≡◌, ◌<◌, ◌≤◌, ◌+◌, true, false, List, Some, length, take, IfOk, IfErr, IsErrOf, OnErr, OnOk, Ok, Err};
+ghost use Rattle.std.specs.Prelude.{◌≡◌, ◌<◌, ◌≤◌, ◌+◌, true, false, List, Some, length, IfOk, IfErr, IsErrOf, OnErr, OnOk, Ok, Err};
 ghost use Rattle.imap_commands.specs.declared.command.StoreMode.TheVariants as modes;
 ghost use Rattle.imap_replies.specs.declared.reply.Reply.{Reply};
 ghost use Rattle.imap_session.specs.Heard.{AreReplies};
@@ -24,6 +24,7 @@ ghost use Rattle.std.proofs.Props.{props};
 
 use crate::call::Call;
 use crate::session::Session;
+use imap_answers::bodies::FoundBody;
 use imap_answers::opening::Opening;
 use imap_answers::reading::read_replies;
 use imap_commands::command::StoreMode;
@@ -45,8 +46,8 @@ pub struct FarBox<L: Link> {
     // A UID that is above those of all messages of which the server has told: those that were there when the mailbox was
     // selected, and those that were added since, where their UIDs were told.
     pub(crate) next: u32,
-    // The bytes of the message that was fetched last.
-    pub(crate) body: Vec<u8>,
+    // Where the bytes of the message that was fetched last stand in the replies that were read last.
+    pub(crate) body: FoundBody,
     pub ghost named: { IsWord name.items },
     pub ghost selected: { is_selected ≡ true → session.is_ready ≡ true → L.honest session.wire.link
         → IsSelected name.items validity next (L.line session.wire.link).end.server } by { Prim.hlevel props },
@@ -94,14 +95,13 @@ impl<L: Link> Session<L> {
                     validity,
                     next,
                 } = chosen;
-                let body = Vec::new(session.wire.alloc);
                 Ok(FarBox {
                     session,
                     is_selected: true,
                     name,
                     validity,
                     next,
-                    body,
+                    body: FoundBody::At { from: 0, len: 0 },
                 })
             }
             Err(fault) => Err((fault, session)),
@@ -123,8 +123,8 @@ impl<L: Link> Session<L> {
             (server_of self.old) (server_of self.new) }
         ensures heard { EndsBy (of_select (self.old.tags + 1) (λ x. opened x.validity x.next)) result self.old.transcript self.new.transcript }
     {
-        let len = self.ask(&Call::Select(name))?;
-        let opening = self.opening(len)?;
+        self.ask(&Call::Select(name))?;
+        let opening = self.opening()?;
         let Some(next) = opening.next else {
             return Err(FarFault::Protocol);
         };
@@ -132,7 +132,7 @@ impl<L: Link> Session<L> {
             return Err(FarFault::Protocol);
         };
         let name = Vec::from_slice(self.wire.alloc, name)?;
-        self.done(len);
+        self.done();
         if opening.is_read_only {
             return Err(FarFault::ReadOnly);
         }
@@ -143,15 +143,14 @@ impl<L: Link> Session<L> {
         })
     }
 
-    // What the replies at the front of the buffer say of a mailbox.
-    fn opening(&self, len: usize) -> Result<Opening, FarFault>
-        requires within { len ≤ length self.now.wire.heard.items }
-        requires speaks { Speaks (take len self.now.wire.heard.items) }
-        ensures told { IfOk result (λ o. (rs : List Reply) → AreReplies rs (take len self.now.wire.heard.items) → o ≡ opening_of rs) }
+    // What the replies that were read say of a mailbox.
+    fn opening(&self) -> Result<Opening, FarFault>
+        requires { Speaks self.now.wire.heard.read }
+        ensures told { IfOk result (λ o. (rs : List Reply) → AreReplies rs self.now.wire.heard.read → o ≡ opening_of rs) }
         ensures positive { IfOk result IsPositive }
         ensures err { IfErr result (λ fault. fault ≡ FarFault.NoMemory) }
     {
-        let replies = read_replies(self.wire.alloc, &self.wire.heard[..len])?;
+        let replies = read_replies(self.wire.alloc, self.wire.heard.read_part())?;
         Ok(Opening::of(&replies))
     }
 
@@ -178,8 +177,8 @@ impl<L: Link> Session<L> {
             → (change : Store → Store) → Changing call.now change → Outcome (λ _. Becomes change) Never (Becomes change) result s t)
             (server_of self.old) (server_of self.new) }
     {
-        let len = self.ask(call)?;
-        self.done(len);
+        self.ask(call)?;
+        self.done();
         Ok(())
     }
 }
@@ -199,7 +198,7 @@ impl<L: Link> FarBox<L> {
             name: Vec::new(alloc),
             validity: 1,
             next: 1,
-            body: Vec::new(alloc),
+            body: FoundBody::At { from: 0, len: 0 },
         }
     }
 

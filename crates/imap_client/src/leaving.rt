@@ -13,6 +13,7 @@ use crate::session::Session;
 use imap_commands::command::{Command, Request};
 use imap_link::fault::FarFault;
 use imap_link::link::Link;
+use imap_link::sink::NoSink;
 use imap_link::uses::Uses;
 use imap_replies::word::Status;
 
@@ -56,7 +57,7 @@ impl<L: Link> Session<L> {
     fn leave(&mut self, command: &Command) -> Result<(), FarFault>
         requires logout { command.now.request ≡ requests.Logout }
         requires begun { self.old.is_ready ≡ false }
-        requires idle { L.honest self.old.wire.link → IsStill (ends_of (L.line self.old.wire.link) self.old.wire.heard.items) }
+        requires idle { L.honest self.old.wire.link → IsStill (ends_of (L.line self.old.wire.link) self.old.wire.heard.unread) }
         ensures was_honest { L.honest self.new.wire.link → L.honest self.old.wire.link }
         ensures same { (self.new.is_ready ≡ self.old.is_ready) × (self.new.tags ≡ self.old.tags) }
         ensures left { LeftSo command.now.tag (state_of self.old) (state_of self.new) result }
@@ -64,10 +65,11 @@ impl<L: Link> Session<L> {
             (server_of self.old) (server_of self.new) }
     {
         let text = text_of(self.wire.alloc, command)?;
-        let answered = self
+        let uses = Uses::answer_alone();
+        let status = self
             .wire
-            .finish(&command.tag, &text, true, Uses::answer_alone())?;
-        match answered.status {
+            .finish(&command.tag, &text, true, uses, &mut NoSink {})?;
+        match status {
             Status::Ok => Ok(()),
             Status::No => Err(FarFault::Refused),
             Status::Bad => Err(FarFault::Protocol),

@@ -1,8 +1,6 @@
 //! What the selected mailbox lists (RFC 9051, section 6.4.5).
 
-ghost use Rattle.std.specs.Prelude.{◌≡◌, ◌≤◌, ◌<◌, List, Some, true, false, length, take, map, IfOk, IfErr};
-ghost use Rattle.imap_replies.specs.declared.reply.Reply.{Reply};
-ghost use Rattle.imap_session.specs.Heard.{AreReplies};
+ghost use Rattle.std.specs.Prelude.{◌≡◌, ◌≤◌, ◌<◌, List, Some, true, false, map, IfOk};
 ghost use Rattle.imap_session.specs.Mailboxes.{FarMailbox};
 ghost use Rattle.imap_session.specs.Servers.{selected};
 ghost use Rattle.imap_session.specs.Visits.{Among};
@@ -12,19 +10,16 @@ ghost use Rattle.mailcore.specs.Listed.{item_of};
 ghost use Rattle.mailcore.specs.Operations.{Shows};
 ghost use Rattle.mailcore.specs.Ranges.{AreInRange};
 ghost use Rattle.mailcore.specs.Stores.{IsStore};
-ghost use Rattle.imap_answers.specs.Fetching.{rows_of};
-ghost use Rattle.imap_answers.specs.Listings.{items_told, ListsFrom};
+ghost use Rattle.imap_answers.specs.Listings.{ListsFrom};
 ghost use Rattle.imap_client.specs.Logins.{Remains};
-ghost use Rattle.imap_answers.specs.Readings.{ReadsAs, IsReadFault, Tells};
-ghost use Rattle.imap_answers.specs.Spoken.{Speaks};
+ghost use Rattle.imap_answers.specs.Readings.{Tells};
 ghost use Rattle.imap_client.specs.States.{EndsSo};
 
 use crate::call::Call;
 use crate::far_box::FarBox;
 use crate::session::Session;
-use imap_answers::items::{items_of, next_above};
-use imap_answers::reading::read_replies;
-use imap_answers::told::rows_of;
+use imap_answers::items::next_above;
+use imap_answers::told::Rows;
 use imap_link::fault::FarFault;
 use imap_link::link::Link;
 use mailcore::listing::{Items, Listing};
@@ -32,21 +27,7 @@ use mailcore::listing::{Items, Listing};
 impl<L: Link> Session<L> {
     ghost use Rattle.imap_client.specs.Sessions.{state_of, server_of};
 
-    // The messages that the replies at the front of the buffer list.
-    fn items_heard(&self, len: usize) -> Result<Items, FarFault>
-        requires within { len ≤ length self.now.wire.heard.items }
-        requires speaks { Speaks (take len self.now.wire.heard.items) }
-        ensures told { (rs : List Reply) → AreReplies rs (take len self.now.wire.heard.items)
-            → ReadsAs (λ items. items) result (items_told (rows_of rs)) }
-        ensures err { IfErr result IsReadFault }
-    {
-        let alloc = self.wire.alloc;
-        let replies = read_replies(alloc, &self.wire.heard[..len])?;
-        let rows = rows_of(alloc, &replies)?;
-        items_of(alloc, &rows)
-    }
-
-    /// The messages of the selected mailbox.
+    /// The messages of the selected mailbox. What is told of them is taken reply by reply, as it is heard.
     pub(crate) fn items(&mut self) -> Result<Items, FarFault>
         ensures was_honest { L.honest self.new.wire.link → L.honest self.old.wire.link }
         ensures counts { L.stops self.old.wire.link ≤ L.stops self.new.wire.link }
@@ -58,9 +39,11 @@ impl<L: Link> Session<L> {
             → AreInRange m.store.messages → Outcome (Tells (λ items. items ≡ map (item_of Far) m.store.messages)) Never Remains result s t)
             (server_of self.old) (server_of self.new) }
     {
-        let len = self.ask(&Call::Listing)?;
-        let items = self.items_heard(len)?;
-        self.done(len);
+        let alloc = self.wire.alloc;
+        let mut rows = Rows::new(alloc);
+        self.ask_telling(&Call::Listing, &mut rows)?;
+        let items = rows.items(alloc)?;
+        self.done();
         Ok(items)
     }
 }

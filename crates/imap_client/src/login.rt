@@ -1,6 +1,6 @@
 //! What a session sends before its calls: CAPABILITY, LOGIN, ENABLE (RFC 9051, sections 6.1.1, 6.2.3 and 6.3.1).
 
-ghost use Rattle.std.specs.Prelude.{◌≡◌, ◌≤◌, ◌+◌, List, true, false, length, take, IfOk, IfErr};
+ghost use Rattle.std.specs.Prelude.{◌≡◌, ◌≤◌, ◌+◌, List, true, false, IfOk, IfErr};
 ghost use Rattle.std.specs.List.{list_any};
 ghost use Rattle.imap_replies.specs.declared.reply.Reply.{Reply};
 ghost use Rattle.imap_session.specs.Heard.{AreReplies};
@@ -18,6 +18,7 @@ use crate::session::Session;
 use imap_answers::reading::read_replies;
 use imap_link::fault::FarFault;
 use imap_link::link::Link;
+use imap_link::sink::NoSink;
 use imap_replies::reply::Reply;
 use imap_replies::word::Status;
 
@@ -55,23 +56,22 @@ impl<L: Link> Session<L> {
         ensures outcome { L.honest self.new.wire.link → Among L.visitors (Outcome (λ _. Remains) Never Remains result) (server_of self.old) (server_of self.new) }
         ensures heard { EndsBy (of_abilities (self.old.tags + 1)) result self.old.transcript self.new.transcript }
     {
-        let len = self.ask(&Call::Capability)?;
-        let speaks = self.speaks_rev2(len)?;
+        self.ask(&Call::Capability)?;
+        let speaks = self.speaks_rev2()?;
         if !speaks {
             return Err(FarFault::NoRev2);
         }
-        self.done(len);
+        self.done();
         Ok(())
     }
 
-    // Whether the replies at the front of the buffer name IMAP4rev2.
-    fn speaks_rev2(&self, len: usize) -> Result<bool, FarFault>
-        requires within { len ≤ length self.now.wire.heard.items }
-        requires speaks { Speaks (take len self.now.wire.heard.items) }
-        ensures told { IfOk result (λ told. (rs : List Reply) → AreReplies rs (take len self.now.wire.heard.items) → told ≡ list_any tells_rev2 rs) }
+    // Whether the replies that were read name IMAP4rev2.
+    fn speaks_rev2(&self) -> Result<bool, FarFault>
+        requires { Speaks self.now.wire.heard.read }
+        ensures told { IfOk result (λ told. (rs : List Reply) → AreReplies rs self.now.wire.heard.read → told ≡ list_any tells_rev2 rs) }
         ensures err { IfErr result (λ fault. fault ≡ FarFault.NoMemory) }
     {
-        let replies = read_replies(self.wire.alloc, &self.wire.heard[..len])?;
+        let replies = read_replies(self.wire.alloc, self.wire.heard.read_part())?;
         Ok(any_tells_rev2(&replies))
     }
 
@@ -88,8 +88,8 @@ impl<L: Link> Session<L> {
             (Authenticates user.now password.now) result) (server_of self.old) (server_of self.new) }
         ensures heard { EndsBy (of_login (self.old.tags + 1)) result self.old.transcript self.new.transcript }
     {
-        let len = self.ask(&Call::Login(user, password))?;
-        self.done(len);
+        self.ask(&Call::Login(user, password))?;
+        self.done();
         Ok(())
     }
 
@@ -103,10 +103,10 @@ impl<L: Link> Session<L> {
             → Among L.visitors (Outcome (λ _. Remains) Never Remains result) (server_of self.old) (server_of self.new) }
         ensures heard { EndsBy (of_enable (self.old.tags + 1)) result self.old.transcript self.new.transcript }
     {
-        let answered = self.ask_status(&Call::Enable)?;
-        match answered.status {
+        let status = self.ask_status(&Call::Enable, &mut NoSink {})?;
+        match status {
             Status::Ok => {
-                self.done(answered.len);
+                self.done();
                 Ok(())
             }
             _ => Err(FarFault::NoRev2),

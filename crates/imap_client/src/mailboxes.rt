@@ -1,6 +1,6 @@
 //! Calls on the mailboxes of a server (RFC 9051, sections 6.3.4 and 6.3.9).
 
-ghost use Rattle.std.specs.Prelude.{◌≡◌, ◌≤◌, List, true, false, length, take, IfOk, IfErr};
+ghost use Rattle.std.specs.Prelude.{◌≡◌, ◌≤◌, List, true, false, IfOk, IfErr};
 ghost use Rattle.std.specs.List.{list_all};
 ghost use Rattle.imap_replies.specs.declared.reply.Reply.{Reply};
 ghost use Rattle.imap_session.specs.Heard.{AreReplies};
@@ -39,8 +39,8 @@ impl<L: Link> Session<L> {
             → Among L.visitors (Outcome (λ _. Makes name.now) (CannotMake name.now) (Makes name.now) result)
             (server_of self.old) (server_of self.new) }
     {
-        let len = self.ask(&Call::Create(name))?;
-        self.done(len);
+        self.ask(&Call::Create(name))?;
+        self.done();
         Ok(())
     }
 
@@ -56,21 +56,20 @@ impl<L: Link> Session<L> {
         ensures outcome { L.honest self.new.wire.link → is_logged_in (server_of self.old).condition ≡ true
             → Among L.visitors (Outcome (λ names. TellsNames names.items) Never Remains result) (server_of self.old) (server_of self.new) }
     {
-        let len = self.ask(&Call::Names)?;
-        let names = self.names(len)?;
-        self.done(len);
+        self.ask(&Call::Names)?;
+        let names = self.names()?;
+        self.done();
         Ok(names)
     }
 
-    // The names that the replies at the front of the buffer tell.
-    fn names(&self, len: usize) -> Result<Vec<MailboxName>, FarFault>
-        requires within { len ≤ length self.now.wire.heard.items }
-        requires speaks { Speaks (take len self.now.wire.heard.items) }
-        ensures told { IfOk result (λ names. (rs : List Reply) → AreReplies rs (take len self.now.wire.heard.items) → names.items ≡ names_in rs) }
+    // The names that the replies that were read tell.
+    fn names(&self) -> Result<Vec<MailboxName>, FarFault>
+        requires { Speaks self.now.wire.heard.read }
+        ensures told { IfOk result (λ names. (rs : List Reply) → AreReplies rs self.now.wire.heard.read → names.items ≡ names_in rs) }
         ensures limits { IfOk result (λ names. list_all is_name names.items ≡ true) }
         ensures err { IfErr result (λ fault. fault ≡ FarFault.NoMemory) }
     {
-        let replies = read_replies(self.wire.alloc, &self.wire.heard[..len])?;
+        let replies = read_replies(self.wire.alloc, self.wire.heard.read_part())?;
         let names = names_in(self.wire.alloc, &replies)?;
         Ok(names)
     }

@@ -1,8 +1,6 @@
 //! Where a mark stands in the selected mailbox: the mark of a message is in its first 22 octets (RFC 9051, section 6.4.5).
 
-ghost use Rattle.std.specs.Prelude.{◌≡◌, ◌≤◌, List, Some, false, length, take, IfOk, IfErr};
-ghost use Rattle.imap_replies.specs.declared.reply.Reply.{Reply};
-ghost use Rattle.imap_session.specs.Heard.{AreReplies};
+ghost use Rattle.std.specs.Prelude.{◌≡◌, ◌≤◌, Some, false};
 ghost use Rattle.imap_session.specs.Mailboxes.{FarMailbox};
 ghost use Rattle.imap_session.specs.Servers.{selected};
 ghost use Rattle.imap_session.specs.Visits.{Among};
@@ -11,16 +9,13 @@ ghost use Rattle.mailcore.specs.Operations.{marked_from};
 ghost use Rattle.mailcore.specs.Ranges.{AreInRange};
 ghost use Rattle.mailcore.specs.Stores.{IsStore};
 ghost use Rattle.imap_client.specs.Logins.{Remains};
-ghost use Rattle.imap_answers.specs.Markings.{mark_found};
-ghost use Rattle.imap_answers.specs.Readings.{ReadsAs, IsReadFault, Tells};
-ghost use Rattle.imap_answers.specs.Spoken.{Speaks};
+ghost use Rattle.imap_answers.specs.Readings.{Tells};
 ghost use Rattle.imap_client.specs.States.{EndsSo};
 
 use crate::call::Call;
 use crate::far_box::FarBox;
 use crate::session::Session;
-use imap_answers::marks::mark_found;
-use imap_answers::reading::read_replies;
+use imap_answers::marks::MarkSearch;
 use imap_link::fault::FarFault;
 use imap_link::link::Link;
 use mailcore::tuid::Tuid;
@@ -29,19 +24,7 @@ use mailcore::uid::Uid;
 impl<L: Link> Session<L> {
     ghost use Rattle.imap_client.specs.Sessions.{state_of, server_of};
 
-    // Where the replies at the front of the buffer show the mark.
-    fn mark_heard(&self, len: usize, mark: Tuid, from: u32) -> Result<Option<Uid>, FarFault>
-        requires within { len ≤ length self.now.wire.heard.items }
-        requires speaks { Speaks (take len self.now.wire.heard.items) }
-        ensures told { (rs : List Reply) → AreReplies rs (take len self.now.wire.heard.items)
-            → ReadsAs (λ uid. uid) result (mark_found mark from rs) }
-        ensures err { IfErr result IsReadFault }
-    {
-        let replies = read_replies(self.wire.alloc, &self.wire.heard[..len])?;
-        mark_found(&replies, mark, from)
-    }
-
-    /// Where the mark stands in the selected mailbox, from this UID on.
+    /// Where the mark stands in the selected mailbox, from this UID on. It is sought reply by reply, as they are heard.
     pub(crate) fn mark(&mut self, mark: Tuid, from: u32) -> Result<Option<Uid>, FarFault>
         ensures was_honest { L.honest self.new.wire.link → L.honest self.old.wire.link }
         ensures counts { L.stops self.old.wire.link ≤ L.stops self.new.wire.link }
@@ -53,9 +36,10 @@ impl<L: Link> Session<L> {
             → AreInRange m.store.messages → Outcome (Tells (λ found. found ≡ marked_from mark from m.store)) Never Remains result s t)
             (server_of self.old) (server_of self.new) }
     {
-        let len = self.ask(&Call::Heads(from))?;
-        let found = self.mark_heard(len, mark, from)?;
-        self.done(len);
+        let mut search = MarkSearch::new(mark, from);
+        self.ask_telling(&Call::Heads(from), &mut search)?;
+        let found = search.found()?;
+        self.done();
         Ok(found)
     }
 }

@@ -1,8 +1,9 @@
 //! A session with a server.
 
-ghost use Rattle.std.specs.Prelude.{◌≡◌, ◌≤◌, ◌⊎◌, ◌+◌, ◌++◌, [], true, false, length, take, drop, IfOk, IfErr, OnOk, OnErr, IsErrOf};
+ghost use Rattle.std.specs.Prelude.{◌≡◌, ◌≤◌, ◌⊎◌, ◌+◌, ◌++◌, [], true, false, IfOk, IfErr, OnOk, OnErr, IsErrOf};
 ghost use Rattle.imap_replies.specs.declared.word.Status.TheVariants as statuses;
 ghost use Rattle.exchange_laws.specs.Ends.{ends_of, is_logout};
+ghost use Rattle.reply_buf.specs.Buffers.{empty};
 ghost use Rattle.imap_client.specs.Stillness.{IsStill};
 ghost use Rattle.imap_link.specs.Buffers.{IsAnswerText};
 ghost use Rattle.imap_client.specs.Tags.{tag_text};
@@ -11,6 +12,7 @@ ghost use Rattle.imap_client.specs.Exchanged.{command_at, AnsweredSo, Exchanged}
 ghost use Rattle.imap_client.specs.Calls.{request_of, CanAsk};
 ghost use Rattle.imap_client.specs.States.{Opened, SendStops, EndsSo, SentSo, Judged, ExchangedSo, AskedSo};
 ghost use Rattle.imap_link.specs.Faults.{IsHearing};
+ghost use Rattle.imap_link.specs.Sinks.{any_replies};
 ghost use Rattle.imap_link.specs.Outcomes.{Outcome, Never};
 ghost use Rattle.imap_link.specs.Exchanges.{Restarts};
 ghost use Rattle.imap_session.specs.Visits.{Among};
@@ -23,9 +25,11 @@ use crate::transcript::Transcript;
 use imap_commands::command::{Command, Request};
 use imap_link::fault::FarFault;
 use imap_link::link::Link;
+use imap_link::sink::{NoSink, ReplySink};
 use imap_link::uses::Uses;
-use imap_link::wire::{Answered, PIECE, Wire};
+use imap_link::wire::{PIECE, Wire};
 use imap_replies::word::Status;
+use reply_buf::buffer::ReplyBuf;
 use std::alloc::Global;
 use wire_tokens::tag::Tag;
 
@@ -41,7 +45,7 @@ pub struct Session<L: Link> {
     // Each answer to a command that was sent in one part, as it was read.
     transcript: Transcript,
     pub(crate) is_ready: bool,
-    pub ghost idle: { is_ready ≡ true → L.honest wire.link → IsStill (ends_of (L.line wire.link) wire.heard.items) },
+    pub ghost idle: { is_ready ≡ true → L.honest wire.link → IsStill (ends_of (L.line wire.link) wire.heard.unread) },
 }
 
 impl<L: Link> Session<L> {
@@ -53,13 +57,13 @@ impl<L: Link> Session<L> {
         ensures link { result.wire.link ≡ link }
         ensures ready { result.is_ready ≡ false }
         ensures tags { result.tags ≡ 0 }
-        ensures heard { result.wire.heard.items ≡ [] }
+        ensures heard { result.wire.heard ≡ empty }
         ensures transcript { result.transcript ≡ [] }
     {
         Session {
             wire: Wire {
                 link,
-                heard: Vec::new(alloc),
+                heard: ReplyBuf::new(alloc),
                 piece: [0; PIECE],
                 alloc,
             },
@@ -131,7 +135,7 @@ impl<L: Link> Session<L> {
         ensures stuck { self.old.is_ready ≡ false → self.new ≡ self.old }
         ensures ready { OnOk result (self.old.is_ready ≡ true) }
         ensures failed { IfErr result (λ fault. (fault ≡ FarFault.Stopped) × (self.old.is_ready ≡ false)) }
-        ensures idle { OnOk result (L.honest self.new.wire.link → IsStill (ends_of (L.line self.new.wire.link) self.new.wire.heard.items)) }
+        ensures idle { OnOk result (L.honest self.new.wire.link → IsStill (ends_of (L.line self.new.wire.link) self.new.wire.heard.unread)) }
     {
         if !self.is_ready {
             return Err(FarFault::Stopped);
@@ -168,47 +172,41 @@ impl<L: Link> Session<L> {
         Ok(Command { tag, request })
     }
 
-    // Sends a command of one line and waits for its answer, which stands in the buffer then.
-    fn send(&mut self, command: &Command) -> Result<Answered, FarFault>
+    // Sends a command of one line and waits for its answer, which was read then. The sink takes what is told of messages.
+    fn send<S: ReplySink>(&mut self, command: &Command, sink: &mut S) -> Result<Status, FarFault>
         requires plain { IsPlain command.now.request }
         requires stays { is_logout command.now.request ≡ false }
         requires begun { self.old.is_ready ≡ false }
-        requires idle { L.honest self.old.wire.link → IsStill (ends_of (L.line self.old.wire.link) self.old.wire.heard.items) }
+        requires idle { L.honest self.old.wire.link → IsStill (ends_of (L.line self.old.wire.link) self.old.wire.heard.unread) }
         ensures was_honest { L.honest self.new.wire.link → L.honest self.old.wire.link }
         ensures counts { L.stops self.old.wire.link ≤ L.stops self.new.wire.link }
         ensures tags { self.new.tags ≡ self.old.tags }
         ensures sent { SentSo command.now.tag (state_of self.old) (state_of self.new) result }
-        ensures outcome { L.honest self.new.wire.link → Among L.visitors (AnsweredSo command.now result self.new.wire.heard.items)
-            (server_of self.old) (server_of self.new) }
-        ensures idle { IfOk result (λ a. L.honest self.new.wire.link → IsStill
-            (ends_of (L.line self.new.wire.link) (drop a.len self.new.wire.heard.items))) }
-        ensures answer { IfOk result (λ a. (a.len ≤ length self.new.wire.heard.items)
-            × IsAnswerText command.now.tag a.status (take a.len self.new.wire.heard.items)) }
-        ensures heard { EndsBy (of_any self.new.wire.heard.items) result self.old.transcript self.new.transcript }
+        ensures outcome { L.honest self.new.wire.link → Among L.visitors (AnsweredSo command.now (λ told. S.took sink.old told sink.new) result
+            self.new.wire.heard.read) (server_of self.old) (server_of self.new) }
+        ensures idle { OnOk result (L.honest self.new.wire.link → IsStill (ends_of (L.line self.new.wire.link) self.new.wire.heard.unread)) }
+        ensures answer { IfOk result (λ status. IsAnswerText command.now.tag status self.new.wire.heard.read) }
+        ensures heard { EndsBy (of_any self.new.wire.heard.read) result self.old.transcript self.new.transcript }
     {
         let text = text_of(self.wire.alloc, command)?;
-        let answered = self
-            .wire
-            .finish(&command.tag, &text, false, Uses::of(&command.request))?;
-        self.transcript.note(&self.wire.heard, answered.len);
-        Ok(answered)
+        let uses = Uses::of(&command.request);
+        let status = self.wire.finish(&command.tag, &text, false, uses, sink)?;
+        self.transcript.note(&self.wire.heard);
+        Ok(status)
     }
 
-    // What the status of an answer makes of it: after NO it is dropped, and the session goes on.
-    pub(crate) fn judge(&mut self, answered: Answered) -> Result<usize, FarFault>
+    // What the status of an answer makes of it: after NO the session goes on.
+    pub(crate) fn judge(&mut self, status: Status) -> Result<(), FarFault>
         requires begun { self.old.is_ready ≡ false }
-        requires within { answered.len ≤ length self.old.wire.heard.items }
-        requires idle { L.honest self.old.wire.link → IsStill (ends_of (L.line self.old.wire.link) (drop answered.len self.old.wire.heard.items)) }
-        ensures link { self.new.wire.link ≡ self.old.wire.link }
+        requires idle { L.honest self.old.wire.link → IsStill (ends_of (L.line self.old.wire.link) self.old.wire.heard.unread) }
+        ensures wire { self.new.wire ≡ self.old.wire }
         ensures tags { self.new.tags ≡ self.old.tags }
-        ensures judged { Judged answered.status answered.len self.new.is_ready result }
-        ensures heard { OnOk result (self.new.wire.heard.items ≡ self.old.wire.heard.items) }
+        ensures judged { Judged status self.new.is_ready result }
         ensures transcript { self.new.transcript ≡ self.old.transcript }
     {
-        match answered.status {
-            Status::Ok => Ok(answered.len),
+        match status {
+            Status::Ok => Ok(()),
             Status::No => {
-                self.wire.forget(answered.len);
                 self.is_ready = true;
                 Err(FarFault::Refused)
             }
@@ -217,76 +215,93 @@ impl<L: Link> Session<L> {
     }
 
     // Sends the command with the next tag, and waits for its answer.
-    fn exchange(&mut self, request: Request) -> Result<Answered, FarFault>
+    fn exchange<S: ReplySink>(&mut self, request: Request, sink: &mut S) -> Result<Status, FarFault>
         requires plain { IsPlain request }
         requires stays { is_logout request ≡ false }
         requires begun { self.old.is_ready ≡ false }
-        requires idle { L.honest self.old.wire.link → IsStill (ends_of (L.line self.old.wire.link) self.old.wire.heard.items) }
+        requires idle { L.honest self.old.wire.link → IsStill (ends_of (L.line self.old.wire.link) self.old.wire.heard.unread) }
         ensures was_honest { L.honest self.new.wire.link → L.honest self.old.wire.link }
         ensures counts { L.stops self.old.wire.link ≤ L.stops self.new.wire.link }
         ensures asked { ExchangedSo (state_of self.old) (state_of self.new) result }
-        ensures outcome { L.honest self.new.wire.link → Among L.visitors (AnsweredSo (command_at (self.old.tags + 1) request) result
-            self.new.wire.heard.items) (server_of self.old) (server_of self.new) }
-        ensures idle { IfOk result (λ a. L.honest self.new.wire.link → IsStill
-            (ends_of (L.line self.new.wire.link) (drop a.len self.new.wire.heard.items))) }
-        ensures answer { IfOk result (λ a. (a.len ≤ length self.new.wire.heard.items)
-            × IsAnswerText (tag_text self.new.tags) a.status (take a.len self.new.wire.heard.items)) }
-        ensures heard { EndsBy (of_any self.new.wire.heard.items) result self.old.transcript self.new.transcript }
+        ensures outcome { L.honest self.new.wire.link → Among L.visitors (AnsweredSo (command_at (self.old.tags + 1) request)
+            (λ told. S.took sink.old told sink.new) result self.new.wire.heard.read) (server_of self.old) (server_of self.new) }
+        ensures idle { OnOk result (L.honest self.new.wire.link → IsStill (ends_of (L.line self.new.wire.link) self.new.wire.heard.unread)) }
+        ensures answer { IfOk result (λ status. IsAnswerText (tag_text self.new.tags) status self.new.wire.heard.read) }
+        ensures heard { EndsBy (of_any self.new.wire.heard.read) result self.old.transcript self.new.transcript }
     {
         let command = self.command(request)?;
-        self.send(&command)
+        self.send(&command, sink)
     }
 
-    /// Begins a call that sends this: sends it and waits for its answer, whatever its status, which stands in the buffer
-    /// then. The session counts as failed until `done`.
-    pub(crate) fn ask_status(&mut self, call: &Call<'_>) -> Result<Answered, FarFault>
+    /// Begins a call that sends this: sends it and waits for its answer, whatever its status. What was read then is the replies
+    /// that the call keeps, and the tagged one; the sink has taken what is told of messages. The session counts as failed until
+    /// `done`.
+    pub(crate) fn ask_status<S: ReplySink>(
+        &mut self,
+        call: &Call<'_>,
+        sink: &mut S,
+    ) -> Result<Status, FarFault>
         requires { CanAsk call.now }
         ensures was_honest { L.honest self.new.wire.link → L.honest self.old.wire.link }
         ensures counts { L.stops self.old.wire.link ≤ L.stops self.new.wire.link }
         ensures stuck { self.old.is_ready ≡ false → self.new ≡ self.old }
         ensures asked { AskedSo (state_of self.old) (state_of self.new) result }
-        ensures outcome { L.honest self.new.wire.link → Among L.visitors (AnsweredSo (command_at (self.old.tags + 1) (request_of call.now)) result
-            self.new.wire.heard.items) (server_of self.old) (server_of self.new) }
-        ensures idle { IfOk result (λ a. L.honest self.new.wire.link → IsStill
-            (ends_of (L.line self.new.wire.link) (drop a.len self.new.wire.heard.items))) }
-        ensures answer { IfOk result (λ a. (a.len ≤ length self.new.wire.heard.items)
-            × IsAnswerText (tag_text self.new.tags) a.status (take a.len self.new.wire.heard.items)) }
-        ensures heard { EndsBy (of_any self.new.wire.heard.items) result self.old.transcript self.new.transcript }
+        ensures outcome { L.honest self.new.wire.link → Among L.visitors (AnsweredSo (command_at (self.old.tags + 1) (request_of call.now))
+            (λ told. S.took sink.old told sink.new) result self.new.wire.heard.read) (server_of self.old) (server_of self.new) }
+        ensures idle { OnOk result (L.honest self.new.wire.link → IsStill (ends_of (L.line self.new.wire.link) self.new.wire.heard.unread)) }
+        ensures answer { IfOk result (λ status. IsAnswerText (tag_text self.new.tags) status self.new.wire.heard.read) }
+        ensures heard { EndsBy (of_any self.new.wire.heard.read) result self.old.transcript self.new.transcript }
     {
         self.begin()?;
         let request = call.request(self.wire.alloc)?;
-        self.exchange(request)
+        self.exchange(request, sink)
     }
 
     /// The same, where an answer that is not OK is a fault.
-    pub(crate) fn ask(&mut self, call: &Call<'_>) -> Result<usize, FarFault>
+    pub(crate) fn ask_telling<S: ReplySink>(
+        &mut self,
+        call: &Call<'_>,
+        sink: &mut S,
+    ) -> Result<(), FarFault>
         requires { CanAsk call.now }
         ensures was_honest { L.honest self.new.wire.link → L.honest self.old.wire.link }
         ensures counts { L.stops self.old.wire.link ≤ L.stops self.new.wire.link }
         ensures stuck { self.old.is_ready ≡ false → self.new ≡ self.old }
         ensures asked { AskedSo (state_of self.old) (state_of self.new) result }
-        ensures outcome { L.honest self.new.wire.link → Among L.visitors (Exchanged (command_at (self.old.tags + 1) (request_of call.now)) result
-            self.new.wire.heard.items) (server_of self.old) (server_of self.new) }
-        ensures idle { IfOk result (λ len. L.honest self.new.wire.link
-            → IsStill (ends_of (L.line self.new.wire.link) (drop len self.new.wire.heard.items))) }
-        ensures answer { IfOk result (λ len. (len ≤ length self.new.wire.heard.items)
-            × IsAnswerText (tag_text self.new.tags) statuses.Ok (take len self.new.wire.heard.items)) }
-        ensures heard { EndsBy (of_command (self.old.tags + 1) self.new.wire.heard.items) result self.old.transcript self.new.transcript }
+        ensures outcome { L.honest self.new.wire.link → Among L.visitors (Exchanged (command_at (self.old.tags + 1) (request_of call.now))
+            (λ told. S.took sink.old told sink.new) result self.new.wire.heard.read) (server_of self.old) (server_of self.new) }
+        ensures idle { OnOk result (L.honest self.new.wire.link → IsStill (ends_of (L.line self.new.wire.link) self.new.wire.heard.unread)) }
+        ensures answer { OnOk result (IsAnswerText (tag_text self.new.tags) statuses.Ok self.new.wire.heard.read) }
+        ensures heard { EndsBy (of_command (self.old.tags + 1) self.new.wire.heard.read) result self.old.transcript self.new.transcript }
     {
-        let answered = self.ask_status(call)?;
-        self.judge(answered)
+        let status = self.ask_status(call, sink)?;
+        self.judge(status)
     }
 
-    /// Ends a call: drops its answer, of this length.
-    pub(crate) fn done(&mut self, len: usize)
-        requires within { len ≤ length self.old.wire.heard.items }
-        requires idle { L.honest self.old.wire.link → IsStill (ends_of (L.line self.old.wire.link) (drop len self.old.wire.heard.items)) }
-        ensures link { self.new.wire.link ≡ self.old.wire.link }
+    /// The same, where nobody is told.
+    pub(crate) fn ask(&mut self, call: &Call<'_>) -> Result<(), FarFault>
+        requires { CanAsk call.now }
+        ensures was_honest { L.honest self.new.wire.link → L.honest self.old.wire.link }
+        ensures counts { L.stops self.old.wire.link ≤ L.stops self.new.wire.link }
+        ensures stuck { self.old.is_ready ≡ false → self.new ≡ self.old }
+        ensures asked { AskedSo (state_of self.old) (state_of self.new) result }
+        ensures outcome { L.honest self.new.wire.link → Among L.visitors (Exchanged (command_at (self.old.tags + 1) (request_of call.now)) any_replies
+            result self.new.wire.heard.read) (server_of self.old) (server_of self.new) }
+        ensures idle { OnOk result (L.honest self.new.wire.link → IsStill (ends_of (L.line self.new.wire.link) self.new.wire.heard.unread)) }
+        ensures answer { OnOk result (IsAnswerText (tag_text self.new.tags) statuses.Ok self.new.wire.heard.read) }
+        ensures heard { EndsBy (of_command (self.old.tags + 1) self.new.wire.heard.read) result self.old.transcript self.new.transcript }
+    {
+        self.ask_telling(call, &mut NoSink {})
+    }
+
+    /// Ends a call. What was read of its answer stays until the next command is sent.
+    pub(crate) fn done(&mut self)
+        requires idle { L.honest self.old.wire.link → IsStill (ends_of (L.line self.old.wire.link) self.old.wire.heard.unread) }
+        ensures wire { self.new.wire ≡ self.old.wire }
         ensures ready { self.new.is_ready ≡ true }
         ensures tags { self.new.tags ≡ self.old.tags }
         ensures transcript { self.new.transcript ≡ self.old.transcript }
     {
-        self.wire.forget(len);
         self.is_ready = true;
     }
 }

@@ -1,26 +1,24 @@
 //! What a session has heard, for contracts alone.
 
-ghost use Rattle.std.specs.Prelude.{◌≡◌, ◌∷◌, [], take};
+ghost use Rattle.std.specs.Prelude.{◌≡◌, ◌∷◌, []};
 
 use device::history::History;
+use reply_buf::buffer::ReplyBuf;
 use std::marker::Model;
 
 /// The answers that a session has heard, the last first. To contracts it is the list of their bytes; it takes no memory.
 #[derive(Drop)]
 pub struct Transcript {
-    // The buffer at the front of which each of them stood.
-    buffers: History<Vec<u8>>,
-    // How long each of them was.
-    lengths: History<usize>,
+    // The buffer when each of them was read.
+    buffers: History<ReplyBuf>,
 }
 
 impl Model for Transcript {
-    ghost use Rattle.std.specs.Prelude.{ℕ, List, take, map};
-    ghost use Rattle.std.specs.List.{zip};
+    ghost use Rattle.std.specs.Prelude.{ℕ, List, map};
 
     ghost Value = { List (List ℕ) };
 
-    ghost view = { λ t. map (λ it. take it.1 it.0.items) (zip t.buffers.items t.lengths.items) };
+    ghost view = { λ t. map (λ b. b.read) t.buffers.items };
 }
 
 impl Transcript {
@@ -30,15 +28,13 @@ impl Transcript {
     {
         Transcript {
             buffers: History::new(),
-            lengths: History::new(),
         }
     }
 
-    /// An answer of this length was heard, which stands at the front of the buffer.
-    pub(crate) fn note(&mut self, heard: &Vec<u8>, len: usize)
-        ensures { self.new ≡ take len heard.now.items ∷ self.old }
+    /// An answer was heard, and was read in this buffer.
+    pub(crate) fn note(&mut self, heard: &ReplyBuf)
+        ensures { self.new ≡ heard.now.read ∷ self.old }
     {
         self.buffers = self.buffers.and(heard);
-        self.lengths = self.lengths.and(&len);
     }
 }

@@ -1,5 +1,5 @@
 -- How the sending of the front of a command ends.
-use Rattle.std.proofs.Common.{◌≡◌, inl, inr, ℕ, List, [], ◌++◌, refl, sym, ◌∙◌, ap, subst, take, drop, Result, Ok, Err}
+use Rattle.std.proofs.Common.{◌≡◌, inl, inr, ℕ, List, [], ◌++◌, refl, sym, ◌∙◌, ap, subst, Result, Ok, Err}
 use Rattle.imap_commands.specs.declared.command.Command.{Command}
 use Rattle.imap_replies.specs.declared.word.Status.{Status}
 use Rattle.imap_replies.specs.declared.reply.Reply.{Reply}
@@ -15,11 +15,11 @@ use Rattle.imap_link.specs.declared.fault.FarFault.{FarFault}
 use Rattle.imap_link.specs.declared.fault.FarFault.TheVariants.{Stopped, Refused, Protocol, TooLong, NoRev2, ReadOnly, NoMemory}
 use Rattle.imap_link.specs.declared.wire.Told.{Told}
 use Rattle.imap_link.specs.declared.wire.Told.TheVariants as tells
-use Rattle.imap_link.specs.declared.front.Kind.TheVariants.{Go, Mine}
+use Rattle.imap_link.specs.declared.kind.Kind.TheVariants.{Go, Mine}
 use Rattle.imap_link.specs.declared.uses.Uses.{Uses}
 use Rattle.imap_link.specs.Faults.{IsStop}
 use Rattle.imap_link.specs.ReplyKinds.{kind_of, IsAwaited}
-use Rattle.imap_link.specs.Buffers.{Expects, Came, GoesOn, IsTold, length_of}
+use Rattle.imap_link.specs.Buffers.{Expects, Came, GoesOn, IsTold}
 use Rattle.imap_link.specs.Exchanges.{Performs, Waits, AsksOr, AsksFor}
 use Rattle.imap_link.proofs.KindLemmas.{awaited_stays, mine_tagged, tagged_awaited, go_or_tagged}
 use Rattle.imap_link.proofs.Astray.{ends_apart}
@@ -52,14 +52,14 @@ module _ (c : Command) (tag front rest : List ℕ) (n : ℕ) (text : IsText c (f
   pub quiet_so : Quiet old.end.server mid.end.server
   quiet_so = elim or [ inl none ↦ none.quiet | inr w ↦ w.quiet ]
 
-  module _ (uses : Uses) (kept now : List ℕ) (len : ℕ) where
-    pub waits_so : Came uses (λ r. kind_of tag r ≡ Go) kept (GoesOn (ends_of mid heard) (ends_of new (drop len now))) → Waits front len old new now
+  module _ (uses : Uses) (T : List Reply → Type 0) (kept coming : List ℕ) where
+    pub waits_so : Came uses T (λ r. kind_of tag r ≡ Go) kept (GoesOn (ends_of mid heard) (ends_of new coming)) → Waits front old new coming
     waits_so a =
-        let g = text_of uses (λ r. kind_of tag r ≡ Go) kept (GoesOn (ends_of mid heard) (ends_of new (drop len now))) a in
+        let g = text_of uses T (λ r. kind_of tag r ≡ Go) kept (GoesOn (ends_of mid heard) (ends_of new coming)) a in
         elim or [
-          | inl none ↦ absurd (some_end a.text (drop len now ++ new.unseen) g (sym a.goes.coming ∙ none.coming))
+          | inl none ↦ absurd (some_end a.text (coming ++ new.unseen) g (sym a.goes.coming ∙ none.coming))
           | inr w ↦
-              let same = ends_apart a.last go (awaited_stays tag a.last (go_stays tag a.last a.is)) (awaited_stays tag go tt) a.passed [] a.text (ends_of mid heard).coming (drop len now ++ new.unseen) a.untagged tt a.spelled w.coming (sym a.goes.coming) in
+              let same = ends_apart a.last go (awaited_stays tag a.last (go_stays tag a.last a.is)) (awaited_stays tag go tt) a.passed [] a.text (ends_of mid heard).coming (coming ++ new.unseen) a.untagged tt a.spelled w.coming (sym a.goes.coming) in
               record {
                 quiet = ap told (quiet-trans old.end.server mid.end.server new.end.server w.quiet a.goes.stays.quiet);
                 at = record {
@@ -70,36 +70,36 @@ module _ (c : Command) (tag front rest : List ℕ) (n : ℕ) (text : IsText c (f
               }
         ]
 
-    pub no_answer : (status : Status) → Came uses (λ r. kind_of tag r ≡ Mine status) kept (GoesOn (ends_of mid heard) (ends_of new (drop len now))) → ⊥
+    pub no_answer : (status : Status) → Came uses T (λ r. kind_of tag r ≡ Mine status) kept (GoesOn (ends_of mid heard) (ends_of new coming)) → ⊥
     no_answer status a =
         let mine = mine_tagged tag a.last status a.is in
         elim or [
-          | inl none ↦ some_end a.text (drop len now ++ new.unseen) (text_of uses (λ r. kind_of tag r ≡ Mine status) kept (GoesOn (ends_of mid heard) (ends_of new (drop len now))) a) (sym a.goes.coming ∙ none.coming)
+          | inl none ↦ some_end a.text (coming ++ new.unseen) (text_of uses T (λ r. kind_of tag r ≡ Mine status) kept (GoesOn (ends_of mid heard) (ends_of new coming)) a) (sym a.goes.coming ∙ none.coming)
           | inr w ↦
-              let same = ends_apart a.last go (awaited_stays tag a.last (tagged_awaited tag a.last mine)) (awaited_stays tag go tt) a.passed [] a.text (ends_of mid heard).coming (drop len now ++ new.unseen) a.untagged tt a.spelled w.coming (sym a.goes.coming) in
+              let same = ends_apart a.last go (awaited_stays tag a.last (tagged_awaited tag a.last mine)) (awaited_stays tag go tt) a.passed [] a.text (ends_of mid heard).coming (coming ++ new.unseen) a.untagged tt a.spelled w.coming (sym a.goes.coming) in
               go_or_tagged tag a.last tag (ap (kind_of tag) same.1) mine
         ]
 
 -- where the front was not sent
-pub unasked : (front : List ℕ) (y : FarFault) (old new : Line) (heard now : List ℕ) → IsStop y → FeedsSome old.end front new.end.server → AsksFor front (Err y) old heard new now
-unasked front y old new heard now stop s c rest n text some asking idle =
-    stop_asks c front y old new now stop
+pub unasked : (front : List ℕ) (y : FarFault) (old new : Line) (heard coming : List ℕ) → IsStop y → FeedsSome old.end front new.end.server → AsksFor front (Err y) old heard new coming
+unasked front y old new heard coming stop s c rest n text some asking idle =
+    stop_asks c front y old new coming stop
     (may_perform c old.end.server new.end.server
     (half_front c (front ++ rest) front rest old.end.server new.end.server text idle.reads_on refl (s.from [] [] idle.has_read.unread)))
 
 -- where it was sent, and waiting failed
-pub unanswered : (tag front : List ℕ) (y : FarFault) (old mid new : Line) (heard now : List ℕ) → Sends front old mid → Quiet mid.end.server new.end.server
-    → (Expects tag (ends_of mid heard).coming → IsStop y) → AsksFor front (Err y) old heard new now
-unanswered tag front y old mid new heard now s q stop c rest n text some asking idle =
-    stop_asks c front y old new now (stop (may_ask c tag front rest n text some asking old mid new heard idle s))
+pub unanswered : (tag front : List ℕ) (y : FarFault) (old mid new : Line) (heard coming : List ℕ) → Sends front old mid → Quiet mid.end.server new.end.server
+    → (Expects tag (ends_of mid heard).coming → IsStop y) → AsksFor front (Err y) old heard new coming
+unanswered tag front y old mid new heard coming s q stop c rest n text some asking idle =
+    stop_asks c front y old new coming (stop (may_ask c tag front rest n text some asking old mid new heard idle s))
     (inl (ap told (quiet-trans old.end.server mid.end.server new.end.server (quiet_so c tag front rest n text some asking old mid new heard idle s) q)))
 
 -- where it was sent
-pub answered_so : (uses : Uses) (tag front : List ℕ) (result : Result Told FarFault) (old mid new : Line) (heard now : List ℕ) → Sends front old mid → Quiet mid.end.server new.end.server
-    → ((told : Told) → result ≡ Ok told → Came uses (IsTold tag told) (take (length_of told) now) (GoesOn (ends_of mid heard) (ends_of new (drop (length_of told) now))))
-    → ((y : FarFault) → result ≡ Err y → Expects tag (ends_of mid heard).coming → IsStop y) → AsksFor front result old heard new now
-answered_so uses tag front (Ok (tells.Go len)) old mid new heard now s q ok err c rest n text some asking idle =
-    waits_so c tag front rest n text some asking old mid new heard idle s uses (take len now) now len (ok (tells.Go len) refl)
-answered_so uses tag front (Ok (tells.Answer len status)) old mid new heard now s q ok err c rest n text some asking idle =
-    no_answer c tag front rest n text some asking old mid new heard idle s uses (take len now) now len status (ok (tells.Answer len status) refl)
-answered_so uses tag front (Err y) old mid new heard now s q ok err c rest n text some asking idle = unanswered tag front y old mid new heard now s q (err y refl) c rest n text some asking idle
+pub answered_so : (uses : Uses) (T : List Reply → Type 0) (tag front : List ℕ) (result : Result Told FarFault) (old mid new : Line) (heard read coming : List ℕ) → Sends front old mid → Quiet mid.end.server new.end.server
+    → ((told : Told) → result ≡ Ok told → Came uses T (IsTold tag told) read (GoesOn (ends_of mid heard) (ends_of new coming)))
+    → ((y : FarFault) → result ≡ Err y → Expects tag (ends_of mid heard).coming → IsStop y) → AsksFor front result old heard new coming
+answered_so uses T tag front (Ok tells.Go) old mid new heard read coming s q ok err c rest n text some asking idle =
+    waits_so c tag front rest n text some asking old mid new heard idle s uses T read coming (ok tells.Go refl)
+answered_so uses T tag front (Ok (tells.Answer status)) old mid new heard read coming s q ok err c rest n text some asking idle =
+    no_answer c tag front rest n text some asking old mid new heard idle s uses T read coming status (ok (tells.Answer status) refl)
+answered_so uses T tag front (Err y) old mid new heard read coming s q ok err c rest n text some asking idle = unanswered tag front y old mid new heard coming s q (err y refl) c rest n text some asking idle

@@ -1,6 +1,5 @@
 -- Where an answer comes, nothing else stands.
-use Rattle.std.proofs.Common.{◌≡◌, ◌⊎◌, inl, inr, ℕ, true, List, [], ◌∷◌, ◌++◌, codes, refl, sym, ◌∙◌, ap, subst, arith, append_assoc, append-nil, take, drop, take-append-drop, Some}
-use Rattle.std.proofs.lemmas.List.{take_all}
+use Rattle.std.proofs.Common.{◌≡◌, ◌⊎◌, inl, inr, ℕ, Bool, true, List, [], ◌∷◌, ◌++◌, codes, refl, sym, ◌∙◌, ap, subst, arith, append_assoc, append-nil, Some}
 use Rattle.wire_reader.specs.Spelling.{crlf}
 use Rattle.imap_replies.specs.declared.word.Status.{Status}
 use Rattle.imap_replies.specs.declared.reply.Reply.{Reply}
@@ -8,13 +7,13 @@ use Rattle.imap_replies.specs.declared.reply.Reply.TheVariants.{Continue}
 use Rattle.imap_session.specs.Heard.{tag_of, is_passed, IsAnswer, AreUntagged, AreReplies}
 use Rattle.exchange_laws.proofs.Apart.{apart, replies_apart}
 use Rattle.exchange_laws.proofs.AnswersApart.{plain_go, reply_some}
-use Rattle.imap_session.specs.Lines.{Line}
-use Rattle.exchange_laws.specs.Ends.{Ends, ends_of}
+use Rattle.exchange_laws.specs.Ends.{Ends}
+use Rattle.reply_buf.specs.Fronts.{Spells, IsFaulty}
 use Rattle.imap_link.specs.declared.uses.Uses.{Uses}
-use Rattle.imap_link.specs.declared.front.Kind.{Kind}
-use Rattle.imap_link.specs.declared.front.Kind.TheVariants.{Stray}
+use Rattle.imap_link.specs.declared.kind.Kind.{Kind}
+use Rattle.imap_link.specs.declared.kind.Kind.TheVariants.{Stray}
 use Rattle.imap_link.specs.ReplyKinds.{kind_of, passes, IsAwaited}
-use Rattle.imap_link.specs.Buffers.{Begins, IsFaulty, Expects, IsAnswerText, Passed, GoesOn}
+use Rattle.imap_link.specs.Buffers.{Reads, Expects, IsAnswerText, Passed, GoesOn}
 use Rattle.imap_link.proofs.KindLemmas.{passes_is, awaited_stays, tagged_awaited, mine_tagged}
 
 -- ---- the same bytes end in the same reply
@@ -71,8 +70,16 @@ expects_answer tag rs bytes h a =
 
 -- ---- no other reply stands where an answer comes
 
+pub record Strays (tag bytes : List ℕ) : Type 0 where
+  pub reply : Reply
+  pub front : List ℕ
+  pub back : List ℕ
+  pub parts : bytes ≡ front ++ back
+  pub spells : Spells reply front
+  pub is : kind_of tag reply ≡ Stray
+
 abbrev pub Astray : List ℕ → List ℕ → Type 0
-Astray tag bytes = ((len : ℕ) × Begins tag Stray bytes len) ⊎ IsFaulty bytes
+Astray tag bytes = Strays tag bytes ⊎ IsFaulty bytes
 
 abbrev Last : List ℕ → Reply → Type 0
 Last tag r = IsAwaited (kind_of tag r)
@@ -83,11 +90,11 @@ stray_stays k e = (λ p. let q : passes Stray ≡ true = ap passes (sym e) ∙ p
 first_astray : (tag : List ℕ) (ps : List Reply) (last : Reply) (d : List ℕ) → AreUntagged ps → Last tag last → AreReplies (ps ++ last ∷ []) d → Astray tag d → ⊥
 first_astray tag [] last d u is a (inr f) = f last a.front a.back [] a.first a.fits (append-nil d ∙ a.parts)
 first_astray tag (q ∷ ps) last d u is a (inr f) = f q a.front a.back [] a.first a.fits (append-nil d ∙ a.parts)
-first_astray tag [] last d u is a (inl (len, b)) =
-    let same = apart replies_apart b.reply last (take len d) (drop len d) a.front a.back b.spelled a.first (take-append-drop len d ∙ a.parts) in
+first_astray tag [] last d u is a (inl b) =
+    let same = apart replies_apart b.reply last b.front b.back a.front a.back b.spells.spelled a.first (sym b.parts ∙ a.parts) in
     (stray_stays (kind_of tag last) (ap (kind_of tag) (sym same.value) ∙ b.is)).1 is
-first_astray tag (q ∷ ps) last d u is a (inl (len, b)) =
-    let same = apart replies_apart b.reply q (take len d) (drop len d) a.front a.back b.spelled a.first (take-append-drop len d ∙ a.parts) in
+first_astray tag (q ∷ ps) last d u is a (inl b) =
+    let same = apart replies_apart b.reply q b.front b.back a.front a.back b.spells.spelled a.first (sym b.parts ∙ a.parts) in
     (stray_stays (kind_of tag q) (ap (kind_of tag) (sym same.value) ∙ b.is)).0 (sym (passes_is tag q) ∙ u.0)
 
 walk : (tag : List ℕ) (us ps : List Reply) (last : Reply) (x z y : List ℕ) → AreUntagged us → AreReplies us x → AreUntagged ps → Last tag last → AreReplies (ps ++ last ∷ []) y → x ++ z ≡ y → Astray tag z → ⊥
@@ -102,11 +109,12 @@ walk tag (r ∷ us) (q ∷ ps) last x z y u a v is b e s =
     let same = apart replies_apart r q a.front (a.back ++ z) b.front b.back a.first b.first bytes in
     walk tag us ps last a.back z b.back u.1 a.others v.1 is b.others same.rest s
 
-take_none : (len : ℕ) (d : List ℕ) → d ≡ [] → take len d ≡ []
-take_none len d e = ap (take len) e ∙ take_all len [] (omega arith)
+front_none : (a b : List ℕ) → a ++ b ≡ [] → a ≡ []
+front_none [] b e = refl
+front_none (x ∷ a) b e = cc
 
 nothing_astray : (tag d : List ℕ) → d ≡ [] → Astray tag d → ⊥
-nothing_astray tag d e (inl (len, b)) = reply_some b.reply (take len d) b.spelled (take_none len d e)
+nothing_astray tag d e (inl b) = reply_some b.reply b.front b.spells.spelled (front_none b.front b.back (sym b.parts ∙ e))
 nothing_astray tag d e (inr f) = f (Continue []) (codes "+ " ++ crlf) [] (codes "+ " ++ crlf) plain_go (omega arith) (ap (λ (l : List ℕ). l ++ (codes "+ " ++ crlf)) e ∙ sym (append-nil (codes "+ " ++ crlf)))
 
 back_none : (a b : List ℕ) → a ++ b ≡ [] → b ≡ []
@@ -118,7 +126,12 @@ pub none_astray : (tag text rest coming : List ℕ) (us : List Reply) → AreUnt
 none_astray tag text rest coming us u a e (inl none) s = nothing_astray tag rest (back_none text rest (sym e ∙ none)) s
 none_astray tag text rest coming us u a e (inr x) s = walk tag us x.passed x.last text rest coming u a x.untagged x.is x.spelled (sym e) s
 
-pub never_astray : (tag : List ℕ) (uses : Uses) (kept : List ℕ) (first : Ends) (line : Line) (heard : List ℕ) (read : ℕ) (honest : Type 0)
-    → Passed uses kept (λ text. honest → GoesOn first (ends_of line (drop read heard)) text) → honest → Expects tag first.coming → Astray tag (drop read heard ++ line.unseen) → ⊥
-never_astray tag uses kept first line heard read honest p h expects s =
-    none_astray tag p.text (drop read heard ++ line.unseen) first.coming p.replies p.untagged p.spelled (p.goes h).coming expects s
+pub never_astray : (tag : List ℕ) (uses : Uses) (T : List Reply → Type 0) (kept : List ℕ) (first now : Ends) (honest : Type 0) → Passed uses T kept (λ text. honest → GoesOn first now text)
+    → honest → Expects tag first.coming → Astray tag now.coming → ⊥
+never_astray tag uses T kept first now honest p h expects s = none_astray tag p.text now.coming first.coming p.replies p.untagged p.spelled (p.goes h).coming expects s
+
+-- a stray reply was heard there
+pub strays : (tag : List ℕ) (uses : Uses) (kind : Kind) (used : Bool) (len : ℕ) (R : Reply → Type 0) (honest : Type 0) (old new : Ends) (before now : List ℕ)
+    → Reads uses tag kind used len R (λ text. honest → GoesOn old new text) before now → kind ≡ Stray → honest → Astray tag old.coming
+strays tag uses kind used len R honest old new before now b e h =
+    inl (record { reply = b.whole.reply; front = b.whole.text; back = new.coming; parts = (b.whole.goes h).coming; spells = b.whole.spells; is = b.is ∙ e })

@@ -1,20 +1,15 @@
 -- What a `?` passes on.
-use Rattle.std.proofs.Common.{◌≡◌, ◌⊎◌, inl, inr, ℕ, ◌≤◌, ◌-◌, List, ◌++◌, sym, ◌∙◌, ap, subst, arith, length, take, drop, length-drop, Result, Ok, Err, IfOk, OnOk, IfErr, refl}
-use Rattle.std.proofs.lemmas.List.{take_all}
+use Rattle.std.proofs.Common.{◌≡◌, ◌⊎◌, inl, inr, ℕ, List, sym, ◌∙◌, subst, Result, Ok, Err, IfOk, OnOk, IfErr, refl}
 use Rattle.imap_link.specs.declared.fault.FarFault.{FarFault}
 use Rattle.imap_link.specs.declared.fault.FarFault.TheVariants as faults
 use Rattle.imap_link.specs.declared.link.LinkFault.{LinkFault}
 use Rattle.imap_link.specs.declared.link.LinkFault.TheVariants as links
 use Rattle.imap_link.specs.Faults.{link_fault, IsStop, IsHearing}
-use Rattle.imap_link.specs.Buffers.{IsFaulty, IsBreach}
-use Rattle.imap_link.proofs.Text.{faulty_coming}
+use Rattle.reply_buf.specs.Fronts.{IsFaulty}
+use Rattle.imap_link.specs.Breaches.{IsBreach}
 
 pub if_err : {T : Type 0} (Q : FarFault → Type 0) (r : Result T FarFault) (x y : FarFault) → r ≡ Err x → x ≡ y → Q y → IfErr r Q
 if_err {T} Q r x y e f q = subst (λ (s : Result T FarFault). IfErr s Q) (sym e) (subst Q (sym f) q)
-
--- the buffer from a place on
-pub slice_is : (l heard : List ℕ) (read : ℕ) → l ≡ heard → take (length l - read) (drop read l) ≡ drop read heard
-slice_is l heard read e = take_all (length l - read) (drop read l) (omega (arith, length-drop read l)) ∙ ap (drop read) e
 
 -- a breach is a stop or faulty bytes, and never tells a stop
 pub breach_or : (f : FarFault) (bytes : List ℕ) → IsBreach f bytes → IsStop f ⊎ IsFaulty bytes
@@ -53,11 +48,6 @@ at_err {T} {E} Q r x h e = subst (λ (s : Result T E). IfErr s Q) e h
 pub if_ok : {T E : Type 0} (Q : T → Type 0) (r : Result T E) → ((x : T) → r ≡ Ok x → Q x) → IfOk r Q
 if_ok Q (Ok x) h = h x refl
 if_ok Q (Err y) h = tt
-
--- bytes that are faulty in the buffer are so in what comes
-pub or_faulty : (f : FarFault) (read : ℕ) (heard more coming : List ℕ) → read ≤ length heard → heard ++ more ≡ coming → IsStop f ⊎ IsFaulty (drop read heard) → IsStop f ⊎ IsFaulty (drop read coming)
-or_faulty f read heard more coming h e (inl s) = inl s
-or_faulty f read heard more coming h e (inr x) = inr (subst (λ (l : List ℕ). IsFaulty (drop read l)) e (faulty_coming read heard more h x))
 
 -- ---- what hearing tells
 

@@ -1,6 +1,6 @@
 -- How the sending of a command ends.
 use Rattle.std.specs.Prelude.{filter}
-use Rattle.std.proofs.Common.{◌≡◌, inl, inr, ℕ, false, List, [], ◌∷◌, ◌++◌, refl, sym, ◌∙◌, ap, subst, append_assoc, take, drop, take-append-drop, Err, Some}
+use Rattle.std.proofs.Common.{◌≡◌, inl, inr, ℕ, false, List, [], ◌∷◌, ◌++◌, refl, sym, ◌∙◌, ap, subst, Err, Some}
 use Rattle.imap_commands.specs.declared.command.Command.{Command}
 use Rattle.imap_replies.specs.declared.word.Status.{Status}
 use Rattle.imap_replies.specs.declared.reply.Reply.{Reply}
@@ -15,14 +15,13 @@ use Rattle.exchange_laws.proofs.Answering.{did_answer, leaves_answer}
 use Rattle.exchange_laws.proofs.AnswersApart.{reply_some}
 use Rattle.imap_link.specs.declared.fault.FarFault.{FarFault}
 use Rattle.imap_link.specs.declared.fault.FarFault.TheVariants.{Stopped, Refused, Protocol, TooLong, NoRev2, ReadOnly, NoMemory}
-use Rattle.imap_link.specs.declared.wire.Answered.{Answered}
-use Rattle.imap_link.specs.declared.front.Kind.TheVariants.{Go, Mine}
+use Rattle.imap_link.specs.declared.kind.Kind.TheVariants.{Go, Mine}
 use Rattle.imap_link.specs.declared.uses.Uses.{Uses}
-use Rattle.imap_link.specs.UsedReplies.{is_used, uses_of}
+use Rattle.imap_link.specs.UsedReplies.{is_used, uses_of, messages_read}
 use Rattle.imap_link.specs.Faults.{IsStop}
 use Rattle.imap_link.specs.ReplyKinds.{kind_of, IsAwaited}
 use Rattle.imap_link.specs.Outcomes.{Outcome, Never}
-use Rattle.imap_link.specs.Buffers.{EndsIn, IsAnswerText, IsGoText, Expects, Keeps, Came, GoesOn}
+use Rattle.imap_link.specs.Buffers.{EndsIn, IsAnswerText, IsGoText, Expects, Came, GoesOn}
 use Rattle.imap_link.specs.Exchanges.{Performs, Replied, Completes, Exchanges}
 use Rattle.imap_link.proofs.KindLemmas.{awaited_stays, tagged_awaited, go_or_tagged}
 use Rattle.imap_link.proofs.Astray.{ends_apart, answer_of, closed_of, expects_answer}
@@ -43,15 +42,6 @@ expects_of : (c : Command) (old mid : Ends) → SentOr c old mid → Expects c.t
 expects_of c old mid (inl none) = inl none.coming
 expects_of c old mid (inr w) =
     expects_answer c.tag w.heard mid.coming (leaves_answer c.tag w.heard w.said w.left_out (did_answer c old.end.server w.said mid.end.server w.did)) w.coming
-
--- the first n bytes of the buffer are heard
-abbrev pub hears_of : (old : Ends) (new : Line) (heard : List ℕ) (n : ℕ) (rs : List Reply) → Keeps old (ends_of new heard) → AreReplies rs (take n heard) → Hears rs old (ends_of new (drop n heard))
-hears_of old new heard n rs k a = record {
-  stays = k.stays;
-  bytes = take n heard;
-  spelled = a;
-  heard = sym k.coming ∙ ap (λ (l : List ℕ). l ++ new.unseen) (sym (take-append-drop n heard)) ∙ append_assoc (take n heard) (drop n heard) new.unseen;
-}
 
 empty_front : (a b : List ℕ) → a ++ b ≡ [] → a ≡ []
 empty_front [] b e = refl
@@ -89,43 +79,44 @@ module _ (c : Command) (uses : Uses) (tag from rest : List ℕ) (w : Completes c
   pub may_have : (after : Server) → Quiet mid.end.server after → MayHave (Performs c) (told_server old) (told after)
   may_have after q = may_perform c old.end.server after (half_of c (ends_of old heard) (ends_of mid heard) after or q)
 
-  -- the replies up to the tagged one came, and `kept` are those that the call reads
-  module _ (kept now : List ℕ) (status : Status) (a : Came uses (λ r. kind_of tag r ≡ Mine status) kept (GoesOn (ends_of mid heard) (ends_of new now))) where
-    done : Done c (a.passed ++ a.last ∷ []) (ends_of old heard) (ends_of new now)
+  -- the replies up to the tagged one came, and `kept` are those that the call keeps
+  module _ (T : List Reply → Type 0) (kept coming : List ℕ) (status : Status) (a : Came uses T (λ r. kind_of tag r ≡ Mine status) kept (GoesOn (ends_of mid heard) (ends_of new coming))) where
+    done : Done c (a.passed ++ a.last ∷ []) (ends_of old heard) (ends_of new coming)
     done =
-        done_of c tag (ends_of old heard) (ends_of mid heard) (ends_of new now) (a.passed ++ a.last ∷ []) at.reads_on or
-        (came_hears uses (λ r. kind_of tag r ≡ Mine status) kept (ends_of mid heard) (ends_of new now) a)
-        (answer_of tag a.text status (text_of uses (λ r. kind_of tag r ≡ Mine status) kept (GoesOn (ends_of mid heard) (ends_of new now)) a))
+        done_of c tag (ends_of old heard) (ends_of mid heard) (ends_of new coming) (a.passed ++ a.last ∷ []) at.reads_on or
+        (came_hears uses T (λ r. kind_of tag r ≡ Mine status) kept (ends_of mid heard) (ends_of new coming) a)
+        (answer_of tag a.text status (text_of uses T (λ r. kind_of tag r ≡ Mine status) kept (GoesOn (ends_of mid heard) (ends_of new coming)) a))
 
-    pub replied : Replied c status kept (told_server old) (told_server new)
+    pub replied : Replied c status T kept (told_server old) (told_server new)
     replied =
-        let own = has_performed c old.end.server new.end.server (uses_of c.request) (a.passed ++ a.last ∷ []) done.did in
+        let own = has_performed c old.end.server new.end.server (a.passed ++ a.last ∷ []) done.did in
         record {
-          text = subst (λ (t : List ℕ). IsAnswerText t status kept) (sym w.tag_is) (front_of uses (λ r. kind_of tag r ≡ Mine status) kept (GoesOn (ends_of mid heard) (ends_of new now)) a);
+          text = subst (λ (t : List ℕ). IsAnswerText t status kept) (sym w.tag_is) (front_of uses T (λ r. kind_of tag r ≡ Mine status) kept (GoesOn (ends_of mid heard) (ends_of new coming)) a);
           replies = own.replies;
           spelled =
-              subst (λ (rs : List Reply). AreReplies rs kept) own.used
+              subst (λ (rs : List Reply). AreReplies rs kept) (own.used (uses_of c.request))
               (subst (λ (u : Uses). AreReplies (filter (is_used u) (a.passed ++ a.last ∷ [])) kept) (sym w.uses_is)
-              (came_used uses tag status kept (GoesOn (ends_of mid heard) (ends_of new now)) a));
+              (came_used uses T tag status kept (GoesOn (ends_of mid heard) (ends_of new coming)) a));
+          told = subst T (own.used messages_read) a.told;
           did = own.did;
         }
 
-    pub idle : is_logout c.request ≡ false → IsIdle (ends_of new now)
+    pub idle : is_logout c.request ≡ false → IsIdle (ends_of new coming)
     idle l = done.idle l
 
-  pub no_go : (kept now : List ℕ) → Came uses (λ r. kind_of tag r ≡ Go) kept (GoesOn (ends_of mid heard) (ends_of new now)) → ⊥
-  no_go kept now a =
-      go_astray c tag (ends_of old heard) (ends_of mid heard) (ends_of new now) a.text w.tag_is or
-      (text_of uses (λ r. kind_of tag r ≡ Go) kept (GoesOn (ends_of mid heard) (ends_of new now)) a) a.goes.coming
+  pub no_go : (T : List Reply → Type 0) (kept coming : List ℕ) → Came uses T (λ r. kind_of tag r ≡ Go) kept (GoesOn (ends_of mid heard) (ends_of new coming)) → ⊥
+  no_go T kept coming a =
+      go_astray c tag (ends_of old heard) (ends_of mid heard) (ends_of new coming) a.text w.tag_is or
+      (text_of uses T (λ r. kind_of tag r ≡ Go) kept (GoesOn (ends_of mid heard) (ends_of new coming)) a) a.goes.coming
 
 -- where the bytes were not sent
-pub unsent : (uses : Uses) (tag rest : List ℕ) (y : FarFault) (old new : Line) (heard now : List ℕ) → IsStop y → FeedsSome old.end rest new.end.server → Exchanges uses tag rest (Err y) old heard new now
-unsent uses tag rest y old new heard now stop s c from w at =
-    stop_outcome {T = Answered} (λ a. Replied c a.status (take a.len now)) Never (Performs c) y (told_server old) (told_server new) stop (may_perform c old.end.server new.end.server (half_sent c from rest old new.end.server heard w.text at s))
+pub unsent : (uses : Uses) (tag rest : List ℕ) (T : List Reply → Type 0) (y : FarFault) (old new : Line) (heard read : List ℕ) → IsStop y → FeedsSome old.end rest new.end.server → Exchanges uses tag rest T (Err y) old heard new read
+unsent uses tag rest T y old new heard read stop s c from w at =
+    stop_outcome {T = Status} (λ status. Replied c status T read) Never (Performs c) y (told_server old) (told_server new) stop (may_perform c old.end.server new.end.server (half_sent c from rest old new.end.server heard w.text at s))
 
 -- where they were sent, and waiting failed
-pub unheard : (uses : Uses) (tag rest : List ℕ) (y : FarFault) (old mid new : Line) (heard now : List ℕ) → Sends rest old mid → Quiet mid.end.server new.end.server
-    → (Expects tag (ends_of mid heard).coming → IsStop y) → Exchanges uses tag rest (Err y) old heard new now
-unheard uses tag rest y old mid new heard now s q stop c from w at =
-    stop_outcome {T = Answered} (λ a. Replied c a.status (take a.len now)) Never (Performs c) y (told_server old) (told_server new)
+pub unheard : (uses : Uses) (tag rest : List ℕ) (T : List Reply → Type 0) (y : FarFault) (old mid new : Line) (heard read : List ℕ) → Sends rest old mid → Quiet mid.end.server new.end.server
+    → (Expects tag (ends_of mid heard).coming → IsStop y) → Exchanges uses tag rest T (Err y) old heard new read
+unheard uses tag rest T y old mid new heard read s q stop c from w at =
+    stop_outcome {T = Status} (λ status. Replied c status T read) Never (Performs c) y (told_server old) (told_server new)
     (stop (may_expect c uses tag from rest w old mid new heard at s)) (may_have c uses tag from rest w old mid new heard at s new.end.server q)

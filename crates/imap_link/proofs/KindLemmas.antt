@@ -7,8 +7,8 @@ use Rattle.imap_replies.specs.declared.word.NoticeKind.TheVariants as notices
 use Rattle.imap_replies.specs.declared.reply.Reply.{Reply}
 use Rattle.imap_replies.specs.declared.reply.Reply.TheVariants.{Continue, Tagged, Notice, Capability, Enabled, List as Listed, Flags, Exists, Expunge, Fetch, Other, OtherNumbered}
 use Rattle.imap_session.specs.Heard.{tag_of, is_passed}
-use Rattle.imap_link.specs.declared.front.Kind.{Kind}
-use Rattle.imap_link.specs.declared.front.Kind.TheVariants.{Hello, Bye, Passed, Go, Mine, Stray}
+use Rattle.imap_link.specs.declared.kind.Kind.{Kind}
+use Rattle.imap_link.specs.declared.kind.Kind.TheVariants.{Hello, Bye, Passed, Go, Mine, Stray}
 use Rattle.imap_link.specs.ReplyKinds.{kind_of, passes, IsAwaited}
 
 pub passes_is : (tag : List ℕ) (r : Reply) → is_passed r ≡ passes (kind_of tag r)

@@ -1,12 +1,11 @@
 pub mod KindLemmas
-pub mod Places
 pub mod Text
-pub mod Searched
-pub mod Passing
-pub mod Astray
-pub mod Faulty
 pub mod Kept
 pub mod Exits
+pub mod Late
+pub mod Heard
+pub mod Passing
+pub mod Astray
 pub mod Performed
 pub mod Finished
 pub mod Asked

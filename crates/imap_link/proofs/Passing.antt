@@ -1,8 +1,7 @@
--- Replies that are passed over, of which those that the call reads are kept.
-use Rattle.std.proofs.Common.{◌≡◌, ◌≤◌, ◌<◌, inl, inr, ℕ, ◌+◌, Bool, true, false, List, [], ◌∷◌, ◌++◌, refl, sym, ◌∙◌, ap, subst, arith, append_assoc, append-nil, length, take, drop, take-append-drop, length-append, length-drop, Some}
-use Rattle.std.specs.Prelude.{filter, max, if◌then◌else◌}
-use Rattle.std.proofs.lemmas.Bool.{cases_lt}
-use Rattle.std.proofs.lemmas.List.{drop-append-le, drop-drop, take-append-le, length-take}
+-- Replies that are passed over, of which those that the call keeps stay.
+use Rattle.std.proofs.Common.{◌≡◌, ◌≤◌, ℕ, ◌-◌, Bool, true, false, List, [], ◌∷◌, ◌++◌, refl, sym, ◌∙◌, ap, subst, arith, append_assoc, append-nil, length, take, length-append, Some}
+use Rattle.std.specs.Prelude.{filter, if◌then◌else◌}
+use Rattle.std.proofs.lemmas.List.{take-append-le, take_all}
 use Rattle.std.proofs.lemmas.List.Elements.{filter-append}
 use Rattle.imap_replies.specs.declared.word.Status.{Status}
 use Rattle.imap_replies.specs.declared.reply.Reply.{Reply}
@@ -11,16 +10,16 @@ use Rattle.imap_session.specs.Heard.{is_passed, tag_of, AreUntagged, AreReplies}
 use Rattle.imap_session.specs.Lines.{Line}
 use Rattle.exchange_laws.specs.Ends.{Ends, ends_of, Hears}
 use Rattle.exchange_laws.proofs.Others.{quiet-trans}
-use Rattle.imap_link.specs.declared.front.Kind.{Kind}
-use Rattle.imap_link.specs.declared.front.Kind.TheVariants.{Mine}
+use Rattle.reply_buf.specs.Buffers.{Buffer, drops_last}
+use Rattle.imap_link.specs.declared.kind.Kind.{Kind}
+use Rattle.imap_link.specs.declared.kind.Kind.TheVariants.{Mine}
 use Rattle.imap_link.specs.declared.uses.Uses.{Uses}
-use Rattle.imap_link.specs.declared.held.Held.{Held}
 use Rattle.imap_link.specs.declared.wire.Told.{Told}
 use Rattle.imap_link.specs.ReplyKinds.{kind_of, passes}
-use Rattle.imap_link.specs.UsedReplies.{is_used}
-use Rattle.imap_link.specs.Buffers.{Reads, EndsIn, Keeps, Passed, Came, GoesOn, IsTold, length_of, Passes, OneMore, AreRead, IsBounded}
+use Rattle.imap_link.specs.UsedReplies.{is_used, messages_read}
+use Rattle.imap_link.specs.Sinks.{telling}
+use Rattle.imap_link.specs.Buffers.{WholeRead, Reads, EndsIn, Passed, Came, GoesOn, IsTold}
 use Rattle.imap_link.proofs.KindLemmas.{passes_is, mine_tagged}
-use Rattle.imap_link.proofs.Searched.{none_empty}
 use Rattle.imap_link.proofs.Text.{replies-join, untagged-more}
 
 -- ---- the used ones
@@ -51,246 +50,148 @@ tagged_used uses (OtherNumbered n event text) t e = cc
 pub used_last : (uses : Uses) (rs : List Reply) (r : Reply) → is_used uses r ≡ true → filter (is_used uses) (rs ++ r ∷ []) ≡ filter (is_used uses) rs ++ r ∷ []
 used_last uses rs r e = filter-append (is_used uses) rs (r ∷ []) ∙ ap (λ (b : Bool). filter (is_used uses) rs ++ (if b then r ∷ [] else [])) e
 
--- ---- one reply more
-
-module _ (uses : Uses) (tag : List ℕ) (kind : Kind) (used : Bool) (bytes : List ℕ) (len : ℕ) (b : Reads uses tag kind used bytes len) where
-  one : AreReplies (b.begins.reply ∷ []) (take len bytes)
-  one = record { front = take len bytes; back = []; parts = sym (append-nil (take len bytes)); first = b.begins.spelled; fits = b.begins.fits; others = refl }
-
-  kept_by : (u : Bool) (rs : List Reply) (kept : List ℕ) → AreReplies rs kept → AreReplies (rs ++ (if u then b.begins.reply ∷ [] else [])) (kept ++ (if u then take len bytes else []))
-  kept_by true rs kept h = replies-join rs (b.begins.reply ∷ []) kept (take len bytes) h one
-  kept_by false rs kept h = replies-join rs [] kept [] h refl
-
-  -- it is kept where the call reads it
-  used_more : (rs : List Reply) (kept : List ℕ) → AreReplies (filter (is_used uses) rs) kept → AreReplies (filter (is_used uses) (rs ++ b.begins.reply ∷ [])) (kept ++ (if used then take len bytes else []))
-  used_more rs kept h =
-      subst (λ (l : List Reply). AreReplies l (kept ++ (if used then take len bytes else [])))
-      (sym (filter-append (is_used uses) rs (b.begins.reply ∷ []) ∙ ap (λ (v : Bool). filter (is_used uses) rs ++ (if v then b.begins.reply ∷ [] else [])) b.used_is))
-      (kept_by used (filter (is_used uses) rs) kept h)
-
-  pub passed_more : (kept now : List ℕ) (G H : List ℕ → Type 0) → now ≡ kept ++ (if used then take len bytes else []) → passes kind ≡ true
-      → ((text : List ℕ) → G text → H (text ++ take len bytes)) → Passed uses kept G → Passed uses now H
-  passed_more kept now G H is e to p = record {
-    replies = p.replies ++ b.begins.reply ∷ [];
-    untagged = untagged-more p.replies b.begins.reply p.untagged (passes_is tag b.begins.reply ∙ ap passes b.begins.is ∙ e);
-    text = p.text ++ take len bytes;
-    spelled = replies-join p.replies (b.begins.reply ∷ []) p.text (take len bytes) p.spelled one;
-    used = subst (AreReplies (filter (is_used uses) (p.replies ++ b.begins.reply ∷ []))) (sym is) (used_more p.replies kept p.used);
-    goes = to p.text p.goes;
-  }
-
-  pub came_last : (P : Reply → Type 0) (kept now : List ℕ) (G H : List ℕ → Type 0) → now ≡ kept ++ take len bytes → P b.begins.reply
-      → ((text : List ℕ) → G text → H (text ++ take len bytes)) → Passed uses kept G → Came uses P now H
-  came_last P kept now G H is e to p = record {
-    passed = p.replies;
-    untagged = p.untagged;
-    last = b.begins.reply;
-    is = e;
-    text = p.text ++ take len bytes;
-    spelled = replies-join p.replies (b.begins.reply ∷ []) p.text (take len bytes) p.spelled one;
-    used = subst (AreReplies (filter (is_used uses) p.replies ++ b.begins.reply ∷ [])) (sym is) (kept_by true (filter (is_used uses) p.replies) kept p.used);
-    goes = to p.text p.goes;
-  }
-
--- what the buffer begins with
-abbrev pub front_of : (uses : Uses) (P : Reply → Type 0) (kept : List ℕ) (G : List ℕ → Type 0) → Came uses P kept G → EndsIn P kept
-front_of uses P kept G a = record { passed = filter (is_used uses) a.passed; untagged = untagged_used uses a.passed a.untagged; last = a.last; is = a.is; spelled = a.used }
-
--- all that was heard
-abbrev pub text_of : (uses : Uses) (P : Reply → Type 0) (kept : List ℕ) (G : List ℕ → Type 0) (a : Came uses P kept G) → EndsIn P a.text
-text_of uses P kept G a = record { passed = a.passed; untagged = a.untagged; last = a.last; is = a.is; spelled = a.spelled }
-
-pub came_at : (uses : Uses) (P : Reply → Type 0) (kept : List ℕ) (H : Type 0) (G : List ℕ → Type 0) → Came uses P kept (λ text. H → G text) → H → Came uses P kept G
-came_at uses P kept H G a h = record { passed = a.passed; untagged = a.untagged; last = a.last; is = a.is; text = a.text; spelled = a.spelled; used = a.used; goes = a.goes h }
-
--- what was told
-pub came_told : (uses : Uses) (tag : List ℕ) (was told : Told) (now : List ℕ) (H : Type 0) (mid new : Line) (heard : List ℕ) → was ≡ told
-    → Came uses (IsTold tag was) (take (length_of was) now) (λ text. H → GoesOn (ends_of mid heard) (ends_of new (drop (length_of was) now)) text) → H
-    → Came uses (IsTold tag told) (take (length_of told) now) (GoesOn (ends_of mid heard) (ends_of new (drop (length_of told) now)))
-came_told uses tag was told now H mid new heard e a h =
-    subst (λ (t : Told). Came uses (IsTold tag t) (take (length_of t) now) (GoesOn (ends_of mid heard) (ends_of new (drop (length_of t) now)))) e
-    (came_at uses (IsTold tag was) (take (length_of was) now) H (GoesOn (ends_of mid heard) (ends_of new (drop (length_of was) now))) a h)
-
-pub came_hears : (uses : Uses) (P : Reply → Type 0) (kept : List ℕ) (old new : Ends) (a : Came uses P kept (GoesOn old new)) → Hears (a.passed ++ a.last ∷ []) old new
-came_hears uses P kept old new a = record { stays = a.goes.stays; bytes = a.text; spelled = a.spelled; heard = a.goes.coming }
-
--- those that the call reads, with the tagged one
-pub came_used : (uses : Uses) (tag : List ℕ) (status : Status) (kept : List ℕ) (G : List ℕ → Type 0) (a : Came uses (λ r. kind_of tag r ≡ Mine status) kept G)
-    → AreReplies (filter (is_used uses) (a.passed ++ a.last ∷ [])) kept
-came_used uses tag status kept G a =
-    subst (λ (l : List Reply). AreReplies l kept) (sym (used_last uses a.passed a.last (tagged_used uses a.last tag (mine_tagged tag a.last status a.is)))) a.used
-
 -- ---- what is to be heard
 
--- a reply was read
-pub goes_more : (old : Ends) (line : Line) (bytes behind text : List ℕ) (len : ℕ) → behind ≡ drop len bytes → GoesOn old (ends_of line bytes) text → GoesOn old (ends_of line behind) (text ++ take len bytes)
-goes_more old line bytes behind text len e g = record {
-  stays = g.stays;
-  coming =
-      g.coming ∙ ap (λ (l : List ℕ). text ++ (l ++ line.unseen)) (sym (take-append-drop len bytes)) ∙ ap (λ (l : List ℕ). text ++ l) (append_assoc (take len bytes) (drop len bytes) line.unseen)
-      ∙ sym (append_assoc text (take len bytes) (drop len bytes ++ line.unseen)) ∙ ap (λ (l : List ℕ). (text ++ take len bytes) ++ (l ++ line.unseen)) (sym e);
+goes_first : (ends : Ends) → GoesOn ends ends []
+goes_first ends = record { stays = record { quiet = refl; kept = refl }; coming = refl }
+
+pub goes_then : (a b c : Ends) (x y : List ℕ) → GoesOn a b x → GoesOn b c y → GoesOn a c (x ++ y)
+goes_then a b c x y g h = record {
+  stays = record { quiet = quiet-trans a.end.server b.end.server c.end.server g.stays.quiet h.stays.quiet; kept = h.stays.kept ∙ g.stays.kept };
+  coming = g.coming ∙ ap (λ (l : List ℕ). x ++ l) h.coming ∙ sym (append_assoc x y c.coming);
 }
 
--- more came
-pub goes_later : (old : Ends) (l m : Line) (x y more text : List ℕ) (k : ℕ) → k ≤ length x → y ≡ x ++ more → Keeps (ends_of l x) (ends_of m y)
-    → GoesOn old (ends_of l (drop k x)) text → GoesOn old (ends_of m (drop k y)) text
-goes_later old l m x y more text k h grown kept g =
-    let long : k ≤ length y = (let e = ap length grown in omega (arith, e, length-append x more, h)) in
-    record {
-      stays = record {
-        quiet = quiet-trans old.end.server l.end.server m.end.server g.stays.quiet kept.stays.quiet;
-        kept = kept.stays.kept ∙ g.stays.kept;
-      };
-      coming = g.coming ∙ ap (λ (b : List ℕ). text ++ b) (sym (drop-append-le k x l.unseen h) ∙ ap (drop k) (sym kept.coming) ∙ drop-append-le k y m.unseen long);
-    }
+-- ---- one reply more
 
--- ---- how much is kept
+-- nothing was read so far
+pub passed_none : (uses : Uses) (T : List Reply → Type 0) (honest : Type 0) (ends : Ends) (read : List ℕ) → read ≡ [] → T [] → Passed uses T read (λ text. honest → GoesOn ends ends text)
+passed_none uses T honest ends read e t = record { replies = []; untagged = tt; text = []; spelled = refl; used = e; told = t; goes = λ h. goes_first ends }
 
-read_if : (uses : Uses) (b : Bool) (r : Reply) (rs : List Reply) → is_used uses r ≡ b → AreRead uses rs → AreRead uses (if b then r ∷ rs else rs)
-read_if uses true r rs e h = (e, h)
-read_if uses false r rs e h = h
+one : (len : ℕ) (G : List ℕ → Type 0) (old new : List ℕ) (w : WholeRead len G old new) → AreReplies (w.reply ∷ []) w.text
+one len G old new w = record { front = w.text; back = []; parts = sym (append-nil w.text); first = w.spells.spelled; fits = w.spells.fits; others = refl }
 
-filter_read : (uses : Uses) (rs : List Reply) → AreRead uses (filter (is_used uses) rs)
-filter_read uses [] = tt
-filter_read uses (r ∷ rs) = read_if uses (is_used uses r) r (filter (is_used uses) rs) refl (filter_read uses rs)
+telling_more : (T : List Reply → Type 0) (rs : List Reply) (r : Reply) → T (telling rs ++ telling (r ∷ [])) → T (telling (rs ++ r ∷ []))
+telling_more T rs r h = subst T (sym (filter-append (is_used messages_read) rs (r ∷ []))) h
 
-pub more_may : (a b : ℕ) (bytes : List ℕ) → a ≤ b → OneMore a bytes → OneMore b bytes
-more_may a b bytes le o = record { begun = o.begun; piece = o.piece; parts = o.parts; none = o.none; short = (let s = o.short in omega (arith, s, le)) }
+module _ (uses : Uses) (tag : List ℕ) (kind : Kind) (used : Bool) (len : ℕ) (R : Reply → Type 0) (Goes : List ℕ → Type 0) (old new : List ℕ) (b : Reads uses tag kind used len R Goes old new)
+    (T U : List Reply → Type 0) (tells : (told : List Reply) → T told → R b.whole.reply → U (told ++ telling (b.whole.reply ∷ [])))
+    (G H : List ℕ → Type 0) (goes : (x y : List ℕ) → G x → Goes y → H (x ++ y)) (p : Passed uses T old G) where
+  abbrev reply : Reply
+  reply = b.whole.reply
 
-pub first_more : (most : ℕ) (bytes : List ℕ) → length bytes ≤ most → OneMore most bytes
-first_more most bytes le = record { begun = []; piece = bytes; parts = refl; none = none_empty; short = le }
+  abbrev text : List ℕ
+  text = b.whole.text
 
-pub bounded_first : (uses : Uses) (heard : List ℕ) → IsBounded uses (max 4096 (length heard)) heard
-bounded_first uses heard = record {
-  replies = [];
-  read = tt;
-  kept = [];
-  spelled = refl;
-  others = [];
-  few = omega arith;
-  more = heard;
-  late = first_more (max 4096 (length heard)) heard (omega arith);
-  parts = refl;
-}
+  told : U (telling (p.replies ++ reply ∷ []))
+  told = telling_more U p.replies reply (tells (telling p.replies) p.told b.told)
 
--- behind so many kept bytes, and so many of others
-pub bounded_at : (uses : Uses) (most : ℕ) (heard : List ℕ) (kept gap : ℕ) (G : List ℕ → Type 0) → Passed uses (take kept heard) G → gap < 4096 → kept + gap ≤ length heard
-    → OneMore most (drop (kept + gap) heard) → IsBounded uses most heard
-bounded_at uses most heard kept gap G p few within o = record {
-  replies = filter (is_used uses) p.replies;
-  read = filter_read uses p.replies;
-  kept = take kept heard;
-  spelled = p.used;
-  others = take gap (drop kept heard);
-  few = (let e = length-take gap (drop kept heard) in omega (arith, e, few));
-  more = drop (kept + gap) heard;
-  late = o;
-  parts = sym (take-append-drop kept heard) ∙ ap (λ (l : List ℕ). take kept heard ++ l) (sym (take-append-drop gap (drop kept heard)) ∙ ap (λ (l : List ℕ). take gap (drop kept heard) ++ l) (drop-drop gap kept heard));
-}
+  spelled : AreReplies (p.replies ++ reply ∷ []) (p.text ++ text)
+  spelled = replies-join p.replies (reply ∷ []) p.text text p.spelled (one len Goes old new b.whole)
 
--- where a whole reply was read behind them, only what came with its end is left
-pub behind_short : (uses : Uses) (tag : List ℕ) (kind : Kind) (used : Bool) (most : ℕ) (bytes : List ℕ) (len : ℕ) → OneMore most bytes → Reads uses tag kind used bytes len → length (drop len bytes) ≤ most
-behind_short uses tag kind used most bytes len o b =
-    elim (cases_lt (length o.begun) len) [
-      | inl lt ↦ (let e = ap length o.parts in let s = o.short in let w = b.begins.within in omega (arith, e, s, w, lt, length-append o.begun o.piece, length-drop len bytes))
-      | inr le ↦
-          let front : take len bytes ≡ take len o.begun = ap (take len) o.parts ∙ take-append-le len o.begun o.piece le in
-          absurd (o.none b.begins.reply (take len bytes) (drop len o.begun) b.begins.spelled b.begins.fits (sym (take-append-drop len o.begun) ∙ ap (λ (l : List ℕ). l ++ drop len o.begun) (sym front)))
-    ]
+  kept_by : (u : Bool) → AreReplies (filter (is_used uses) p.replies ++ (if u then reply ∷ [] else [])) (old ++ (if u then text else []))
+  kept_by true = replies-join (filter (is_used uses) p.replies) (reply ∷ []) old text p.used (one len Goes old new b.whole)
+  kept_by false = replies-join (filter (is_used uses) p.replies) [] old [] p.used refl
 
--- ---- a reply was heard and passed over
+  -- it is kept where the call keeps it
+  used_more : AreReplies (filter (is_used uses) (p.replies ++ reply ∷ [])) (old ++ (if used then text else []))
+  used_more =
+      subst (λ (l : List Reply). AreReplies l (old ++ (if used then text else [])))
+      (sym (filter-append (is_used uses) p.replies (reply ∷ []) ∙ ap (λ (v : Bool). filter (is_used uses) p.replies ++ (if v then reply ∷ [] else [])) b.used_is)) (kept_by used)
 
-front_kept : (x y more : List ℕ) (k : ℕ) → k ≤ length x → y ≡ x ++ more → take k y ≡ take k x
-front_kept x y more k h e = ap (take k) e ∙ take-append-le k x more h
-
-module _ (old_honest honest : Type 0) (was : honest → old_honest) (uses : Uses) (first : Ends) (l m : Line) (x y more : List ℕ) (held : Held) (fits : held.kept + held.gap ≤ length x) (grown : y ≡ x ++ more)
-    (keeps : honest → Keeps (ends_of l x) (ends_of m y)) (p : Passed uses (take held.kept x) (λ text. old_honest → GoesOn first (ends_of l (drop (held.kept + held.gap) x)) text)) where
-  pub still_fits : held.kept + held.gap ≤ length y
-  still_fits = let e = ap length grown in omega (arith, e, length-append x more, fits)
-
-  -- what is to be heard behind what was read
-  pub still_goes : (text : List ℕ) → (old_honest → GoesOn first (ends_of l (drop (held.kept + held.gap) x)) text) → honest → GoesOn first (ends_of m (drop (held.kept + held.gap) y)) text
-  still_goes text g h = goes_later first l m x y more text (held.kept + held.gap) fits grown (keeps h) (g (was h))
-
-  module _ (tag : List ℕ) (kind : Kind) (used : Bool) (len : ℕ) (b : Reads uses tag kind used (drop (held.kept + held.gap) y) len) where
-    pub heard_fits : held.kept + held.gap + len ≤ length y
-    heard_fits = omega (arith, b.begins.within, still_fits, length-drop (held.kept + held.gap) y)
-
-    module _ (kept : Bool) (new : Held) (now : List ℕ) (passes_so : Passes held kept len y new now) where
-      front_is : take new.kept now ≡ take held.kept x ++ (if kept then take len (drop (held.kept + held.gap) y) else [])
-      front_is = passes_so.front ∙ ap (λ (f : List ℕ). f ++ (if kept then take len (drop (held.kept + held.gap) y) else [])) (front_kept x y more held.kept (omega (arith, fits)) grown)
-
-      goes_behind : (text : List ℕ) → (old_honest → GoesOn first (ends_of l (drop (held.kept + held.gap) x)) text) → honest
-          → GoesOn first (ends_of m (drop (new.kept + new.gap) now)) (text ++ take len (drop (held.kept + held.gap) y))
-      goes_behind text g h =
-          goes_more first m (drop (held.kept + held.gap) y) (drop (new.kept + new.gap) now) text len (passes_so.behind ∙ sym (drop-drop len (held.kept + held.gap) y)) (still_goes text g h)
-
-    -- it is passed over
-    pub passed_on : (new : Held) (now : List ℕ) → Passes held used len y new now → passes kind ≡ true
-        → Passed uses (take new.kept now) (λ text. honest → GoesOn first (ends_of m (drop (new.kept + new.gap) now)) text)
-    passed_on new now s e =
-        passed_more uses tag kind used (drop (held.kept + held.gap) y) len b (take held.kept x) (take new.kept now)
-        (λ text. old_honest → GoesOn first (ends_of l (drop (held.kept + held.gap) x)) text) (λ text. honest → GoesOn first (ends_of m (drop (new.kept + new.gap) now)) text)
-        (front_is used new now s) e (goes_behind used new now s) p
-
-    -- it is what was waited for
-    pub came_on : (P : Reply → Type 0) (new : Held) (now : List ℕ) → Passes held true len y new now → P b.begins.reply
-        → Came uses P (take new.kept now) (λ text. honest → GoesOn first (ends_of m (drop new.kept now)) text)
-    came_on P new now s e =
-        let none = s.closed refl in
-        let all : new.kept + new.gap ≡ new.kept = omega (arith, none) in
-        subst (λ (n : ℕ). Came uses P (take new.kept now) (λ text. honest → GoesOn first (ends_of m (drop n now)) text)) all
-        (came_last uses tag kind used (drop (held.kept + held.gap) y) len b P (take held.kept x) (take new.kept now)
-        (λ text. old_honest → GoesOn first (ends_of l (drop (held.kept + held.gap) x)) text) (λ text. honest → GoesOn first (ends_of m (drop (new.kept + new.gap) now)) text)
-        (front_is true new now s) e (goes_behind true new now s) p)
-
-    pub came_within : (new : Held) (now : List ℕ) → Passes held true len y new now → new.kept ≤ length now
-    came_within new now s = omega (arith, s.within)
-
-  -- ---- how much is kept
-
-  pub still_passed : Passed uses (take held.kept y) (λ text. honest → GoesOn first (ends_of m (drop (held.kept + held.gap) y)) text)
-  still_passed = record {
-    replies = p.replies;
-    untagged = p.untagged;
-    text = p.text;
-    spelled = p.spelled;
-    used = subst (AreReplies (filter (is_used uses) p.replies)) (sym (front_kept x y more held.kept (omega (arith, fits)) grown)) p.used;
-    goes = still_goes p.text p.goes;
+  -- it is passed over
+  passed_more : (now : List ℕ) → now ≡ old ++ (if used then text else []) → passes kind ≡ true → Passed uses U now H
+  passed_more now is e = record {
+    replies = p.replies ++ reply ∷ [];
+    untagged = untagged-more p.replies reply p.untagged (passes_is tag reply ∙ ap passes b.is ∙ e);
+    text = p.text ++ text;
+    spelled = spelled;
+    used = subst (AreReplies (filter (is_used uses) (p.replies ++ reply ∷ []))) (sym is) used_more;
+    told = told;
+    goes = goes p.text text p.goes b.whole.goes;
   }
 
-module _ (uses : Uses) (x y more : List ℕ) (held : Held) (fits : held.kept + held.gap ≤ length x) (grown : y ≡ x ++ more) (few : held.gap < 4096) (most : ℕ) (o : OneMore most (drop (held.kept + held.gap) y)) where
-  module _ (G : List ℕ → Type 0) (p : Passed uses (take held.kept x) G) where
-    kept_used : AreReplies (filter (is_used uses) p.replies) (take held.kept y)
-    kept_used = subst (AreReplies (filter (is_used uses) p.replies)) (sym (front_kept x y more held.kept (omega (arith, fits)) grown)) p.used
+  -- it is what was waited for
+  came_last : (P : Reply → Type 0) → P reply → Came uses U P new H
+  came_last P is = record {
+    passed = p.replies;
+    untagged = p.untagged;
+    last = reply;
+    is = is;
+    text = p.text ++ text;
+    spelled = spelled;
+    used = subst (AreReplies (filter (is_used uses) p.replies ++ reply ∷ [])) (sym b.whole.read) (kept_by true);
+    told = told;
+    goes = goes p.text text p.goes b.whole.goes;
+  }
 
-    -- nothing more was read
-    pub bounded_still : IsBounded uses most y
-    bounded_still =
-        bounded_at uses most y held.kept held.gap G (record { replies = p.replies; untagged = p.untagged; text = p.text; spelled = p.spelled; used = kept_used; goes = p.goes }) few
-        (let e = ap length grown in omega (arith, e, length-append x more, fits)) o
+-- ---- what is kept of it
 
-    -- what was to be dropped is gone
-    pub bounded_cut : (len : ℕ) (new : Held) (now : List ℕ) → Passes held true len y new now → IsBounded uses most now
-    bounded_cut len new now s = record {
-      replies = filter (is_used uses) p.replies;
-      read = filter_read uses p.replies;
-      kept = take held.kept y;
-      spelled = kept_used;
-      others = [];
-      few = omega arith;
-      more = drop (held.kept + held.gap) y;
-      late = o;
-      parts =
-          let d = drop (held.kept + held.gap) y in
-          let none = s.closed refl in
-          let all : new.kept ≡ new.kept + new.gap = omega (arith, none) in
-          let behind : drop new.kept now ≡ drop len d = ap (λ (n : ℕ). drop n now) all ∙ s.behind ∙ sym (drop-drop len (held.kept + held.gap) y) in
-          sym (take-append-drop new.kept now) ∙ ap (λ (l : List ℕ). l ++ drop new.kept now) s.front ∙ ap (λ (l : List ℕ). (take held.kept y ++ take len d) ++ l) behind
-          ∙ append_assoc (take held.kept y) (take len d) (drop len d) ∙ ap (λ (l : List ℕ). take held.kept y ++ l) (take-append-drop len d);
-    }
+kept_or : (used : Bool) (len : ℕ) (G : List ℕ → Type 0) (old : List ℕ) (b now : Buffer) (w : WholeRead len G old b.read) → now ≡ (if used then b else drops_last len b) → now.read ≡ old ++ (if used then w.text else [])
+kept_or true len G old b now w e = ap (λ (x : Buffer). x.read) e ∙ w.read
+kept_or false len G old b now w e =
+    let long = w.long in
+    let size : length b.read - len ≡ length old = (let s = ap length w.read in omega (arith, s, long, length-append old w.text)) in
+    ap (λ (x : Buffer). x.read) e ∙ ap (λ (n : ℕ). take n b.read) size ∙ ap (take (length old)) w.read ∙ take-append-le (length old) old w.text (omega arith) ∙ take_all (length old) old (omega arith) ∙ sym (append-nil old)
 
-  pub later_short : (tag : List ℕ) (kind : Kind) (used kept : Bool) (len : ℕ) (new : Held) (now : List ℕ) → Reads uses tag kind used (drop (held.kept + held.gap) y) len → Passes held kept len y new now
-      → length (drop (new.kept + new.gap) now) ≤ most
-  later_short tag kind used kept len new now b s =
-      subst (λ (l : List ℕ). length l ≤ most) (drop-drop len (held.kept + held.gap) y ∙ sym s.behind) (behind_short uses tag kind used most (drop (held.kept + held.gap) y) len o b)
+pub unread_same : (used : Bool) (len : ℕ) (b now : Buffer) → now ≡ (if used then b else drops_last len b) → now.unread ≡ b.unread
+unread_same true len b now e = ap (λ (x : Buffer). x.unread) e
+unread_same false len b now e = ap (λ (x : Buffer). x.unread) e
+
+pub fits_last : (len : ℕ) (G : List ℕ → Type 0) (old new : List ℕ) → WholeRead len G old new → len ≤ length new
+fits_last len G old new w = let e = ap length w.read in let long = w.long in omega (arith, e, long, length-append old w.text)
+
+-- the same, of a link that kept its word and a sink that took the reply
+module _ {S : Type 0} (took : S → List Reply → S → Type 0) (s0 s1 s2 : S) (was_honest honest : Type 0) (was : honest → was_honest) (first mid now : Ends) (uses : Uses) (tag : List ℕ) (kind : Kind) (used : Bool) (len : ℕ)
+    (old new : List ℕ) (b : Reads uses tag kind used len (λ reply. (s : S) (told : List Reply) → took s told s1 → took s (told ++ telling (reply ∷ [])) s2) (λ text. honest → GoesOn mid now text) old new)
+    (p : Passed uses (λ told. took s0 told s1) old (λ text. was_honest → GoesOn first mid text)) where
+  goes_on : (x y : List ℕ) → (was_honest → GoesOn first mid x) → (honest → GoesOn mid now y) → honest → GoesOn first now (x ++ y)
+  goes_on x y g k h = goes_then first mid now x y (g (was h)) (k h)
+
+  passed_on : (read : List ℕ) → read ≡ old ++ (if used then b.whole.text else []) → passes kind ≡ true → Passed uses (λ told. took s0 told s2) read (λ text. honest → GoesOn first now text)
+  passed_on read is e =
+      passed_more uses tag kind used len _ (λ text. honest → GoesOn mid now text) old new b (λ told. took s0 told s1) (λ told. took s0 told s2) (λ told t r. r s0 told t)
+      (λ text. was_honest → GoesOn first mid text) (λ text. honest → GoesOn first now text) goes_on p read is e
+
+  pub came_on : (P : Reply → Type 0) → P b.whole.reply → Came uses (λ told. took s0 told s2) P new (λ text. honest → GoesOn first now text)
+  came_on P is =
+      came_last uses tag kind used len _ (λ text. honest → GoesOn mid now text) old new b (λ told. took s0 told s1) (λ told. took s0 told s2) (λ told t r. r s0 told t)
+      (λ text. was_honest → GoesOn first mid text) (λ text. honest → GoesOn first now text) goes_on p P is
+
+-- and then kept or dropped
+pub passed_here : {S : Type 0} (took : S → List Reply → S → Type 0) (s0 s1 s2 : S) (was_honest honest : Type 0) (was : honest → was_honest) (first mid : Ends) (line : Line) (uses : Uses) (tag : List ℕ) (kind : Kind) (used : Bool) (len : ℕ)
+    (old : List ℕ) (heard now : Buffer) → now ≡ (if used then heard else drops_last len heard)
+    → Reads uses tag kind used len (λ reply. (s : S) (told : List Reply) → took s told s1 → took s (told ++ telling (reply ∷ [])) s2) (λ text. honest → GoesOn mid (ends_of line heard.unread) text) old heard.read
+    → Passed uses (λ told. took s0 told s1) old (λ text. was_honest → GoesOn first mid text) → passes kind ≡ true
+    → Passed uses (λ told. took s0 told s2) now.read (λ text. honest → GoesOn first (ends_of line now.unread) text)
+passed_here took s0 s1 s2 was_honest honest was first mid line uses tag kind used len old heard now is b p e =
+    subst (λ (l : List ℕ). Passed uses (λ told. took s0 told s2) now.read (λ text. honest → GoesOn first (ends_of line l) text)) (sym (unread_same used len heard now is))
+    (passed_on took s0 s1 s2 was_honest honest was first mid (ends_of line heard.unread) uses tag kind used len old heard.read b p now.read
+    (kept_or used len (λ text. honest → GoesOn mid (ends_of line heard.unread) text) old heard now b.whole is) e)
+
+-- ---- what came
+
+-- what was read
+abbrev pub front_of : (uses : Uses) (T : List Reply → Type 0) (P : Reply → Type 0) (kept : List ℕ) (G : List ℕ → Type 0) → Came uses T P kept G → EndsIn P kept
+front_of uses T P kept G a = record { passed = filter (is_used uses) a.passed; untagged = untagged_used uses a.passed a.untagged; last = a.last; is = a.is; spelled = a.used }
+
+-- all that was heard
+abbrev pub text_of : (uses : Uses) (T : List Reply → Type 0) (P : Reply → Type 0) (kept : List ℕ) (G : List ℕ → Type 0) (a : Came uses T P kept G) → EndsIn P a.text
+text_of uses T P kept G a = record { passed = a.passed; untagged = a.untagged; last = a.last; is = a.is; spelled = a.spelled }
+
+pub came_at : (uses : Uses) (T : List Reply → Type 0) (P : Reply → Type 0) (kept : List ℕ) (H : Type 0) (G : List ℕ → Type 0) → Came uses T P kept (λ text. H → G text) → H → Came uses T P kept G
+came_at uses T P kept H G a h = record { passed = a.passed; untagged = a.untagged; last = a.last; is = a.is; text = a.text; spelled = a.spelled; used = a.used; told = a.told; goes = a.goes h }
+
+-- what was told
+pub came_told : (uses : Uses) (T : List Reply → Type 0) (tag : List ℕ) (was is : Told) (read : List ℕ) (H : Type 0) (old new : Ends) → was ≡ is
+    → Came uses T (IsTold tag was) read (λ text. H → GoesOn old new text) → H → Came uses T (IsTold tag is) read (GoesOn old new)
+came_told uses T tag was is read H old new e a h =
+    subst (λ (t : Told). Came uses T (IsTold tag t) read (GoesOn old new)) e (came_at uses T (IsTold tag was) read H (GoesOn old new) a h)
+
+pub came_hears : (uses : Uses) (T : List Reply → Type 0) (P : Reply → Type 0) (kept : List ℕ) (old new : Ends) (a : Came uses T P kept (GoesOn old new)) → Hears (a.passed ++ a.last ∷ []) old new
+came_hears uses T P kept old new a = record { stays = a.goes.stays; bytes = a.text; spelled = a.spelled; heard = a.goes.coming }
+
+-- those that the call keeps, with the tagged one
+pub came_used : (uses : Uses) (T : List Reply → Type 0) (tag : List ℕ) (status : Status) (kept : List ℕ) (G : List ℕ → Type 0) (a : Came uses T (λ r. kind_of tag r ≡ Mine status) kept G)
+    → AreReplies (filter (is_used uses) (a.passed ++ a.last ∷ [])) kept
+came_used uses T tag status kept G a =
+    subst (λ (l : List Reply). AreReplies l kept) (sym (used_last uses a.passed a.last (tagged_used uses a.last tag (mine_tagged tag a.last status a.is)))) a.used

@@ -21,23 +21,23 @@ unused uses h n (inl e) = ap (is_used uses) e
 unused uses h n (inr w) = let bad = w.said_is in cc
 
 -- those of the replies that answer the command
-record Own (uses : Uses) (heard own : List Reply) : Type 0 where
+record Own (heard own : List Reply) : Type 0 where
   replies : List Reply
-  used : filter (is_used uses) heard ≡ filter (is_used uses) replies
+  used : (uses : Uses) → filter (is_used uses) heard ≡ filter (is_used uses) replies
   left_out : LeavesOut replies own
 
-behind_exists : (uses : Uses) (m : Option FarMailbox) (heard own : List Reply) → LeavesOut heard (exists_of m ++ own) → Own uses heard own
-behind_exists uses None heard own l = record { replies = heard; used = refl; left_out = l }
-behind_exists uses (Some m) [] own l = absurd l
-behind_exists uses (Some m) (h ∷ hs) own l = record {
+behind_exists : (m : Option FarMailbox) (heard own : List Reply) → LeavesOut heard (exists_of m ++ own) → Own heard own
+behind_exists None heard own l = record { replies = heard; used = λ uses. refl; left_out = l }
+behind_exists (Some m) [] own l = absurd l
+behind_exists (Some m) (h ∷ hs) own l = record {
   replies = hs;
-  used = ap (λ (b : Bool). if b then h ∷ filter (is_used uses) hs else filter (is_used uses) hs) (unused uses h (length m.store.messages) l.0);
+  used = λ uses. ap (λ (b : Bool). if b then h ∷ filter (is_used uses) hs else filter (is_used uses) hs) (unused uses h (length m.store.messages) l.0);
   left_out = l.1;
 }
 
-behind_news : (uses : Uses) (b : Bool) (m : Option FarMailbox) (heard own : List Reply) → LeavesOut heard ((if b then exists_of m else []) ++ own) → Own uses heard own
-behind_news uses true m heard own l = behind_exists uses m heard own l
-behind_news uses false m heard own l = record { replies = heard; used = refl; left_out = l }
+behind_news : (b : Bool) (m : Option FarMailbox) (heard own : List Reply) → LeavesOut heard ((if b then exists_of m else []) ++ own) → Own heard own
+behind_news true m heard own l = behind_exists m heard own l
+behind_news false m heard own l = record { replies = heard; used = λ uses. refl; left_out = l }
 
 -- ---- the command was done
 
@@ -55,16 +55,16 @@ module _ (c : Command) (old new : Server) where
   may_perform (inl q) = inl (ap told q)
   may_perform (inr d) = inr (record { said = d.did.own; step = performed d.said d.did })
 
-  -- of the replies that were heard the call reads those that it reads of these
-  pub record HasPerformed (uses : Uses) (heard : List Reply) : Type 0 where
+  -- whatever a call keeps, of the replies that were heard it keeps those that it keeps of these
+  pub record HasPerformed (heard : List Reply) : Type 0 where
     pub replies : List Reply
-    pub used : filter (is_used uses) heard ≡ filter (is_used uses) replies
+    pub used : (uses : Uses) → filter (is_used uses) heard ≡ filter (is_used uses) replies
     pub did : PerformsSo c replies (told old) (told new)
 
-  pub has_performed : (uses : Uses) (heard : List Reply) → DidSo c heard old new → HasPerformed uses heard
-  has_performed uses heard d =
+  pub has_performed : (heard : List Reply) → DidSo c heard old new → HasPerformed heard
+  has_performed heard d =
       let said : d.said ≡ news old ++ d.did.own = d.did.replies_are ∙ ap (λ (s : Server). news s ++ d.did.own) d.did.quiet in
-      let own = behind_news uses old.has_news (selected old) heard d.did.own (subst (LeavesOut heard) said d.left_out) in
+      let own = behind_news old.has_news (selected old) heard d.did.own (subst (LeavesOut heard) said d.left_out) in
       record {
         replies = own.replies;
         used = own.used;

@@ -1,61 +1,52 @@
--- Replies that are kept in the buffer.
-use Rattle.std.specs.Prelude.{◌≡◌, ◌≤◌, ◌<◌, ◌+◌, ◌⊎◌, ℕ, Bool, true, List, [], ◌∷◌, ◌++◌, length, take, drop, filter, if◌then◌else◌}
-use Rattle.wire_reader.specs.Lexical.{outside}
+-- Replies that were read, and are kept in the buffer.
+use Rattle.std.specs.Prelude.{◌≡◌, ◌≤◌, ◌⊎◌, ℕ, Bool, true, false, List, [], ◌∷◌, ◌++◌, length, take, filter}
 use Rattle.imap_replies.specs.declared.word.Status.{Status}
 use Rattle.imap_replies.specs.declared.reply.Reply.{Reply}
-use Rattle.imap_replies.specs.Replies.{ReplyText}
 use Rattle.imap_session.specs.Heard.{AreUntagged, AreReplies}
 use Rattle.imap_session.specs.Lines.{Stays}
 use Rattle.exchange_laws.specs.Ends.{Ends}
-use Rattle.imap_link.specs.declared.fault.FarFault.{FarFault}
-use Rattle.imap_link.specs.declared.fault.FarFault.TheVariants as faults
-use Rattle.imap_link.specs.declared.front.Kind.{Kind}
-use Rattle.imap_link.specs.declared.front.Kind.TheVariants.{Go, Mine, Bye}
-use Rattle.imap_link.specs.declared.front.Front.{Front}
-use Rattle.imap_link.specs.declared.front.Front.TheVariants as fronts
+use Rattle.reply_buf.specs.Fronts.{Spells, NoneWhole}
+use Rattle.reply_buf.specs.Buffers.{Buffer, held_in}
+use Rattle.imap_link.specs.declared.kind.Kind.{Kind}
+use Rattle.imap_link.specs.declared.kind.Kind.TheVariants.{Go, Mine, Bye}
 use Rattle.imap_link.specs.declared.wire.Told.{Told}
 use Rattle.imap_link.specs.declared.wire.Told.TheVariants as tells
 use Rattle.imap_link.specs.declared.uses.Uses.{Uses}
-use Rattle.imap_link.specs.declared.held.Held.{Held}
 use Rattle.imap_link.specs.ReplyKinds.{kind_of, IsAwaited}
 use Rattle.imap_link.specs.UsedReplies.{is_used}
+use Rattle.imap_link.specs.Sinks.{telling}
 
--- the bytes begin with a reply of this kind and length
-pub record Begins (tag : List ℕ) (kind : Kind) (bytes : List ℕ) (len : ℕ) : Type 0 where
+-- ---- one reply
+
+-- A reply of so many bytes was read, behind those before; `Goes` says what became of its text.
+pub record WholeRead (len : ℕ) (Goes : List ℕ → Type 0) (old new : List ℕ) : Type 0 where
   pub reply : Reply
-  pub within : len ≤ length bytes
-  pub spelled : ReplyText reply (take len bytes)
-  pub fits : outside (take len bytes) ≤ 65536
-  pub is : kind_of tag reply ≡ kind
+  pub text : List ℕ
+  pub spells : Spells reply text
+  pub long : length text ≡ len
+  pub read : new ≡ old ++ text
+  pub goes : Goes text
 
--- the same, and whether the call reads the reply
-pub record Reads (uses : Uses) (tag : List ℕ) (kind : Kind) (used : Bool) (bytes : List ℕ) (len : ℕ) : Type 0 where
-  pub begins : Begins tag kind bytes len
-  pub used_is : is_used uses begins.reply ≡ used
+-- the same, of this kind; whether the call keeps it; and T holds of it
+pub record Reads (uses : Uses) (tag : List ℕ) (kind : Kind) (used : Bool) (len : ℕ) (T : Reply → Type 0) (Goes : List ℕ → Type 0) (old new : List ℕ) : Type 0 where
+  pub whole : WholeRead len Goes old new
+  pub is : kind_of tag whole.reply ≡ kind
+  pub used_is : is_used uses whole.reply ≡ used
+  pub told : T whole.reply
 
--- no reply that fits stands whole at their front
-abbrev pub NoneWhole : List ℕ → Type 0
-NoneWhole bytes = (reply : Reply) (front back : List ℕ) → ReplyText reply front → outside front ≤ 65536 → bytes ≡ front ++ back → ⊥
+-- this text was heard: what is to be heard now stands behind it
+pub record GoesOn (old new : Ends) (text : List ℕ) : Type 0 where
+  pub stays : Stays old.end new.end
+  pub coming : old.coming ≡ text ++ new.coming
 
-abbrev pub Looks : (uses : Uses) → (tag bytes : List ℕ) → Front → Type 0
-Looks uses tag bytes fronts.Begun = NoneWhole bytes
-Looks uses tag bytes (fronts.Whole kind used len) = Reads uses tag kind used bytes len
+-- more came, and what is to be heard is the same
+pub record Keeps (old new : Ends) : Type 0 where
+  pub stays : Stays old.end new.end
+  pub coming : new.coming ≡ old.coming
 
--- no reply that fits stands at their front, and they begin none
-abbrev pub IsFaulty : List ℕ → Type 0
-IsFaulty bytes = (reply : Reply) (front back more : List ℕ) → ReplyText reply front → outside front ≤ 65536 → bytes ++ more ≡ front ++ back → ⊥
+-- ---- replies up to one
 
--- why no reply is read at their front: they break the protocol, or memory ran out
-abbrev pub IsBreach : FarFault → List ℕ → Type 0
-IsBreach faults.Stopped bytes = ⊥
-IsBreach faults.Refused bytes = ⊥
-IsBreach faults.Protocol bytes = IsFaulty bytes
-IsBreach faults.TooLong bytes = IsFaulty bytes
-IsBreach faults.NoRev2 bytes = ⊥
-IsBreach faults.ReadOnly bytes = ⊥
-IsBreach faults.NoMemory bytes = Unit {0}
-
--- the bytes are such replies, and then one of which P holds
+-- the bytes are untagged replies, and then one of which P holds
 pub record EndsIn (P : Reply → Type 0) (bytes : List ℕ) : Type 0 where
   pub passed : List Reply
   pub untagged : AreUntagged passed
@@ -69,25 +60,38 @@ IsAnswerText tag status = EndsIn (λ r. kind_of tag r ≡ Mine status)
 abbrev pub IsGoText : (tag : List ℕ) → List ℕ → Type 0
 IsGoText tag = EndsIn (λ r. kind_of tag r ≡ Go)
 
--- the buffer begins with what was waited for
-abbrev pub Tells : (tag heard : List ℕ) → Told → Type 0
-Tells tag heard (tells.Answer len status) = (len ≤ length heard) × IsAnswerText tag status (take len heard)
-Tells tag heard (tells.Go len) = (len ≤ length heard) × IsGoText tag (take len heard)
+-- what was read ends in what was waited for
+abbrev pub Tells : (tag read : List ℕ) → Told → Type 0
+Tells tag read (tells.Answer status) = IsAnswerText tag status read
+Tells tag read tells.Go = IsGoText tag read
 
--- ---- replies that the call does not read are dropped
+abbrev pub IsTold : (tag : List ℕ) → Told → Reply → Type 0
+IsTold tag (tells.Answer status) reply = kind_of tag reply ≡ Mine status
+IsTold tag tells.Go reply = kind_of tag reply ≡ Go
 
--- The buffer begins with the replies that the call reads, of those that this record names. Their whole text is not kept, and
--- `Goes` says what became of it.
-pub record Passed (uses : Uses) (kept : List ℕ) (Goes : List ℕ → Type 0) : Type 0 where
+-- the server has said `* BYE`
+abbrev pub SaysBye : (tag read : List ℕ) → Type 0
+SaysBye tag read = EndsIn (λ r. kind_of tag r ≡ Bye) read
+
+-- nothing comes, or what is waited for
+abbrev pub Expects : (tag coming : List ℕ) → Type 0
+Expects tag coming = (coming ≡ []) ⊎ EndsIn (λ r. IsAwaited (kind_of tag r)) coming
+
+-- ---- replies that the call does not keep are dropped
+
+-- What was read is the replies that the call keeps, of those that this record names. Their whole text is not kept, and
+-- `Goes` says what became of it; T holds of those that tell of messages.
+pub record Passed (uses : Uses) (T : List Reply → Type 0) (kept : List ℕ) (Goes : List ℕ → Type 0) : Type 0 where
   pub replies : List Reply
   pub untagged : AreUntagged replies
   pub text : List ℕ
   pub spelled : AreReplies replies text
   pub used : AreReplies (filter (is_used uses) replies) kept
+  pub told : T (telling replies)
   pub goes : Goes text
 
 -- the same, and then one of which P holds
-pub record Came (uses : Uses) (P : Reply → Type 0) (kept : List ℕ) (Goes : List ℕ → Type 0) : Type 0 where
+pub record Came (uses : Uses) (T : List Reply → Type 0) (P : Reply → Type 0) (kept : List ℕ) (Goes : List ℕ → Type 0) : Type 0 where
   pub passed : List Reply
   pub untagged : AreUntagged passed
   pub last : Reply
@@ -95,45 +99,8 @@ pub record Came (uses : Uses) (P : Reply → Type 0) (kept : List ℕ) (Goes : L
   pub text : List ℕ
   pub spelled : AreReplies (passed ++ last ∷ []) text
   pub used : AreReplies (filter (is_used uses) passed ++ last ∷ []) kept
+  pub told : T (telling (passed ++ last ∷ []))
   pub goes : Goes text
-
--- this text was heard: what is to be heard now stands behind it
-pub record GoesOn (old new : Ends) (text : List ℕ) : Type 0 where
-  pub stays : Stays old.end new.end
-  pub coming : old.coming ≡ text ++ new.coming
-
-abbrev pub nothing_read : Held
-nothing_read = record { kept = 0; gap = 0 }
-
--- A reply of so many bytes, which stands behind what was read, is passed over: it is kept or not.
-pub record Passes (old : Held) (kept : Bool) (len : ℕ) (heard : List ℕ) (new : Held) (now : List ℕ) : Type 0 where
-  pub front : take new.kept now ≡ take old.kept heard ++ (if kept then take len (drop (old.kept + old.gap) heard) else [])
-  pub behind : drop (new.kept + new.gap) now ≡ drop (old.kept + old.gap + len) heard
-  pub within : new.kept + new.gap ≤ length now
-  pub short : new.gap < 4096
-  pub closed : kept ≡ true → new.gap ≡ 0
-
-abbrev pub length_of : Told → ℕ
-length_of (tells.Answer len status) = len
-length_of (tells.Go len) = len
-
-abbrev pub IsTold : (tag : List ℕ) → Told → Reply → Type 0
-IsTold tag (tells.Answer len status) reply = kind_of tag reply ≡ Mine status
-IsTold tag (tells.Go len) reply = kind_of tag reply ≡ Go
-
--- the server has said `* BYE`
-pub record SaysBye (tag heard : List ℕ) : Type 0 where
-  pub len : ℕ
-  pub ends : EndsIn (λ r. kind_of tag r ≡ Bye) (take len heard)
-
--- nothing comes, or what is waited for
-abbrev pub Expects : (tag coming : List ℕ) → Type 0
-Expects tag coming = (coming ≡ []) ⊎ EndsIn (λ r. IsAwaited (kind_of tag r)) coming
-
--- more came, and what is to be heard is the same
-pub record Keeps (old new : Ends) : Type 0 where
-  pub stays : Stays old.end new.end
-  pub coming : new.coming ≡ old.coming
 
 -- ---- how much is kept
 
@@ -146,18 +113,20 @@ pub record OneMore (most : ℕ) (bytes : List ℕ) : Type 0 where
   pub none : NoneWhole begun
   pub short : length piece ≤ most
 
+-- such bytes stand behind these
+pub record Behind (front : List ℕ) (most : ℕ) (bytes : List ℕ) : Type 0 where
+  pub more : List ℕ
+  pub parts : bytes ≡ front ++ more
+  pub late : OneMore most more
+
 abbrev pub AreRead : Uses → List Reply → Type 0
 AreRead uses [] = Unit {0}
 AreRead uses (reply ∷ replies) = (is_used uses reply ≡ true) × AreRead uses replies
 
--- The buffer: replies that the call reads; then fewer than 4096 bytes of others; then at most one reply more.
-pub record IsBounded (uses : Uses) (most : ℕ) (heard : List ℕ) : Type 0 where
+-- What is held: replies that the call keeps, and then at most one reply more.
+pub record IsBounded (uses : Uses) (most : ℕ) (heard : Buffer) : Type 0 where
   pub replies : List Reply
   pub read : AreRead uses replies
   pub kept : List ℕ
   pub spelled : AreReplies replies kept
-  pub others : List ℕ
-  pub few : length others < 4096
-  pub more : List ℕ
-  pub late : OneMore most more
-  pub parts : heard ≡ kept ++ (others ++ more)
+  pub late : Behind kept most (held_in heard)

@@ -1,5 +1,5 @@
 -- A command that is sent, and the replies to it.
-use Rattle.std.specs.Prelude.{◌≡◌, ℕ, false, List, [], ◌++◌, take, drop, filter, Result, Ok, Err}
+use Rattle.std.specs.Prelude.{◌≡◌, ℕ, false, List, [], ◌++◌, filter, Result, Ok, Err}
 use Rattle.imap_commands.specs.declared.command.Command.{Command}
 use Rattle.imap_replies.specs.declared.word.Status.{Status}
 use Rattle.imap_replies.specs.declared.reply.Reply.{Reply}
@@ -11,12 +11,12 @@ use Rattle.imap_session.specs.Lines.{Line, told_server}
 use Rattle.exchange_laws.specs.Ends.{ends_of, IsAt, IsIdle, IsText, AsksAtEnd, MayHave, is_logout}
 use Rattle.imap_link.specs.declared.fault.FarFault.{FarFault}
 use Rattle.imap_link.specs.declared.fault.FarFault.TheVariants.{Stopped, Refused, Protocol, TooLong, NoRev2, ReadOnly, NoMemory}
-use Rattle.imap_link.specs.declared.wire.Answered.{Answered}
 use Rattle.imap_link.specs.declared.wire.Told.{Told}
 use Rattle.imap_link.specs.declared.wire.Told.TheVariants as tells
 use Rattle.imap_link.specs.declared.uses.Uses.{Uses}
 use Rattle.imap_link.specs.UsedReplies.{is_used, uses_of}
 use Rattle.imap_link.specs.Buffers.{IsAnswerText}
+use Rattle.imap_link.specs.Sinks.{telling}
 use Rattle.imap_link.specs.Outcomes.{Outcome, Never}
 
 -- Each server here is one that has told its news, if it had any: calls pass over that.
@@ -32,11 +32,13 @@ pub record PerformsSo (c : Command) (heard : List Reply) (old new : Server) : Ty
   pub step : Step old c said new
   pub left_out : LeavesOut heard said
 
--- The server did the command. These bytes are those of its replies that the call reads, of which the last has this status.
-pub record Replied (c : Command) (status : Status) (bytes : List ℕ) (old new : Server) : Type 0 where
+-- The server did the command. These bytes are those of its replies that the call keeps, of which the last has this status, and
+-- T holds of those that tell of messages.
+pub record Replied (c : Command) (status : Status) (T : List Reply → Type 0) (bytes : List ℕ) (old new : Server) : Type 0 where
   pub text : IsAnswerText c.tag status bytes
   pub replies : List Reply
   pub spelled : AreReplies (filter (is_used (uses_of c.request)) replies) bytes
+  pub told : T (telling replies)
   pub did : PerformsSo c replies old new
 
 -- the bytes are what is missing of the command, behind what the server has read; its call reads these replies
@@ -46,40 +48,41 @@ pub record Completes (c : Command) (uses : Uses) (tag from rest : List ℕ) : Ty
   pub tag_is : c.tag ≡ tag
   pub uses_is : uses_of c.request ≡ uses
 
--- the outcome of a command whose rest is sent; `new_heard` is the buffer after it
-abbrev pub Exchanges : (uses : Uses) → (tag rest : List ℕ) → Result Answered FarFault → (old : Line) (old_heard : List ℕ) (new : Line) (new_heard : List ℕ) → Type 0
-Exchanges uses tag rest result old old_heard new new_heard =
-    (c : Command) (from : List ℕ) → Completes c uses tag from rest → IsAt from (ends_of old old_heard)
-    → Outcome (λ a. Replied c a.status (take a.len new_heard)) Never (Performs c) result (told_server old) (told_server new)
+-- The outcome of a command whose rest is sent, where `coming` came and was not read before it: `read` is what was read of the
+-- replies to it.
+abbrev pub Exchanges : (uses : Uses) → (tag rest : List ℕ) → (T : List Reply → Type 0) → Result Status FarFault → (old : Line) (coming : List ℕ) (new : Line) (read : List ℕ) → Type 0
+Exchanges uses tag rest T result old coming new read =
+    (c : Command) (from : List ℕ) → Completes c uses tag from rest → IsAt from (ends_of old coming)
+    → Outcome (λ status. Replied c status T read) Never (Performs c) result (told_server old) (told_server new)
 
 -- where it has an answer, nothing is on the way behind that
-abbrev pub StaysIdle : (uses : Uses) → (tag rest : List ℕ) → (n : ℕ) → (old : Line) (old_heard : List ℕ) (new : Line) (new_heard : List ℕ) → Type 0
-StaysIdle uses tag rest n old old_heard new new_heard =
-    (c : Command) (from : List ℕ) → Completes c uses tag from rest → is_logout c.request ≡ false → IsAt from (ends_of old old_heard) → IsIdle (ends_of new (drop n new_heard))
+abbrev pub StaysIdle : (uses : Uses) → (tag rest : List ℕ) → (old : Line) (old_coming : List ℕ) (new : Line) (new_coming : List ℕ) → Type 0
+StaysIdle uses tag rest old old_coming new new_coming =
+    (c : Command) (from : List ℕ) → Completes c uses tag from rest → is_logout c.request ≡ false → IsAt from (ends_of old old_coming) → IsIdle (ends_of new new_coming)
 
 -- ---- a literal
 
 -- the server waits for the literal, and nothing is on the way behind its `+`
-pub record Waits (front : List ℕ) (n : ℕ) (old new : Line) (new_heard : List ℕ) : Type 0 where
+pub record Waits (front : List ℕ) (old new : Line) (coming : List ℕ) : Type 0 where
   pub quiet : Quiet (told_server old) (told_server new)
-  pub at : IsAt front (ends_of new (drop n new_heard))
+  pub at : IsAt front (ends_of new coming)
 
-abbrev pub AsksOr : (c : Command) (front : List ℕ) → Result Told FarFault → (old new : Line) (new_heard : List ℕ) → Type 0
-AsksOr c front (Ok (tells.Go n)) old new heard = Waits front n old new heard
-AsksOr c front (Ok (tells.Answer n status)) old new heard = ⊥
-AsksOr c front (Err Stopped) old new heard = MayHave (Performs c) (told_server old) (told_server new)
-AsksOr c front (Err Refused) old new heard = ⊥
-AsksOr c front (Err Protocol) old new heard = ⊥
-AsksOr c front (Err TooLong) old new heard = ⊥
-AsksOr c front (Err NoRev2) old new heard = ⊥
-AsksOr c front (Err ReadOnly) old new heard = ⊥
-AsksOr c front (Err NoMemory) old new heard = MayHave (Performs c) (told_server old) (told_server new)
+abbrev pub AsksOr : (c : Command) (front : List ℕ) → Result Told FarFault → (old new : Line) (coming : List ℕ) → Type 0
+AsksOr c front (Ok tells.Go) old new coming = Waits front old new coming
+AsksOr c front (Ok (tells.Answer status)) old new coming = ⊥
+AsksOr c front (Err Stopped) old new coming = MayHave (Performs c) (told_server old) (told_server new)
+AsksOr c front (Err Refused) old new coming = ⊥
+AsksOr c front (Err Protocol) old new coming = ⊥
+AsksOr c front (Err TooLong) old new coming = ⊥
+AsksOr c front (Err NoRev2) old new coming = ⊥
+AsksOr c front (Err ReadOnly) old new coming = ⊥
+AsksOr c front (Err NoMemory) old new coming = MayHave (Performs c) (told_server old) (told_server new)
 
 -- the front of a command is sent, up to where its literal is asked for
-abbrev pub AsksFor : (front : List ℕ) → Result Told FarFault → (old : Line) (old_heard : List ℕ) (new : Line) (new_heard : List ℕ) → Type 0
-AsksFor front result old old_heard new new_heard =
-    (c : Command) (rest : List ℕ) (n : ℕ) → IsText c (front ++ rest) → (rest ≡ [] → ⊥) → AsksAtEnd front n → IsIdle (ends_of old old_heard)
-    → AsksOr c front result old new new_heard
+abbrev pub AsksFor : (front : List ℕ) → Result Told FarFault → (old : Line) (old_coming : List ℕ) (new : Line) (new_coming : List ℕ) → Type 0
+AsksFor front result old old_coming new new_coming =
+    (c : Command) (rest : List ℕ) (n : ℕ) → IsText c (front ++ rest) → (rest ≡ [] → ⊥) → AsksAtEnd front n → IsIdle (ends_of old old_coming)
+    → AsksOr c front result old new new_coming
 
 -- ---- a new connection
 

@@ -2,7 +2,8 @@ pub mod Faults
 pub mod ReplyKinds
 pub mod UsedReplies
 pub mod Buffers
-pub mod Searches
+pub mod Breaches
+pub mod Sinks
 pub mod Outcomes
 pub mod Exchanges
 pub mod Sending

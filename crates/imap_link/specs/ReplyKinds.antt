@@ -4,8 +4,8 @@ use Rattle.std.specs.Cmp.Lexicographic.{pointwise}
 use Rattle.imap_replies.specs.declared.word.NoticeKind.TheVariants as notices
 use Rattle.imap_replies.specs.declared.reply.Reply.{Reply}
 use Rattle.imap_replies.specs.declared.reply.Reply.TheVariants.{Continue, Tagged, Notice, Capability, Enabled, List as Listed, Flags, Exists, Expunge, Fetch, Other, OtherNumbered}
-use Rattle.imap_link.specs.declared.front.Kind.{Kind}
-use Rattle.imap_link.specs.declared.front.Kind.TheVariants.{Hello, Bye, Passed, Go, Mine, Stray}
+use Rattle.imap_link.specs.declared.kind.Kind.{Kind}
+use Rattle.imap_link.specs.declared.kind.Kind.TheVariants.{Hello, Bye, Passed, Go, Mine, Stray}
 
 abbrev pub kind_of : (tag : List ℕ) → Reply → Kind
 kind_of tag (Continue text) = Go

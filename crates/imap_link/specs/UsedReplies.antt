@@ -1,5 +1,7 @@
--- Which replies to a command its call reads (RFC 9051, section 7).
+-- Which replies to a command its call keeps (RFC 9051, section 7).
 use Rattle.std.specs.Prelude.{Bool, true, false, ◌&&◌}
+use Rattle.imap_commands.specs.declared.command.FetchItems.{FetchItems}
+use Rattle.imap_commands.specs.declared.command.FetchItems.TheVariants as wanted
 use Rattle.imap_commands.specs.declared.command.Request.{Request}
 use Rattle.imap_commands.specs.declared.command.Request.TheVariants as requests
 use Rattle.imap_replies.specs.declared.word.NoticeKind.TheVariants as notices
@@ -26,7 +28,13 @@ opening_read = record answer_alone { opening = true }
 abbrev pub messages_read : Uses
 messages_read = record answer_alone { messages = true }
 
--- what the call that asks for this reads
+-- FETCH of whole messages: their octets are lent from the buffer; what else is told of messages, is taken as it is heard
+abbrev pub fetch_uses : FetchItems → Uses
+fetch_uses wanted.Listing = answer_alone
+fetch_uses wanted.Body = messages_read
+fetch_uses wanted.Head = answer_alone
+
+-- what the call that asks for this keeps
 abbrev pub uses_of : Request → Uses
 uses_of requests.Capability = abilities_read
 uses_of requests.Noop = answer_alone
@@ -37,7 +45,7 @@ uses_of (requests.List pattern) = names_read
 uses_of (requests.Create mailbox) = answer_alone
 uses_of (requests.Select mailbox) = opening_read
 uses_of (requests.Append mailbox flags message) = answer_alone
-uses_of (requests.Fetch set what) = messages_read
+uses_of (requests.Fetch set what) = fetch_uses what
 uses_of (requests.Store set mode flags) = answer_alone
 uses_of (requests.Expunge set) = answer_alone
 
@@ -55,7 +63,7 @@ abbrev pub tells_opening : ResponseText → Bool
 tells_opening (Plain text) = false
 tells_opening (Coded code text) = is_of_opening code
 
--- The call reads this reply. It reads `+` and tagged ones in any case.
+-- The call keeps this reply. It keeps `+` and tagged ones in any case.
 abbrev pub is_used : Uses → Reply → Bool
 is_used uses (Continue text) = true
 is_used uses (Tagged tag status text) = true

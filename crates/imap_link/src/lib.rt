@@ -2,9 +2,8 @@
 #![tactic(auto)]
 
 pub mod fault;
-pub mod front;
-mod held;
+pub mod kind;
 pub mod link;
-mod place;
+pub mod sink;
 pub mod uses;
 pub mod wire;

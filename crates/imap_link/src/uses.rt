@@ -1,14 +1,15 @@
-//! Which replies to a command its call reads.
+//! Which replies to a command its call keeps.
 
 ghost use Rattle.std.specs.Prelude.{◌≡◌};
 ghost use Rattle.imap_link.specs.UsedReplies.{answer_alone, uses_of, is_of_opening, is_used};
 
-use imap_commands::command::Request;
+use imap_commands::command::{FetchItems, Request};
 use imap_replies::reply::Reply;
 use imap_replies::response::{Code, ResponseText};
 use imap_replies::word::NoticeKind;
 
-/// The kinds of untagged replies that a call reads. A reply of another kind is dropped as soon as it is read.
+/// The kinds of untagged replies that a call keeps until it has read them behind the tagged one. A reply of another kind is dropped as
+/// soon as it was heard.
 #[derive(Clone, Copy)]
 pub struct Uses {
     /// CAPABILITY: what the server can do.
@@ -17,7 +18,7 @@ pub struct Uses {
     pub names: bool,
     /// `* OK` with a code that says something of the mailbox that is selected.
     pub opening: bool,
-    /// FETCH: what is told of messages.
+    /// FETCH: what is told of messages, where their octets are lent. A listing is taken as it is heard (`ReplySink`).
     pub messages: bool,
 }
 
@@ -34,7 +35,7 @@ impl Uses {
         }
     }
 
-    /// What the call that asks for this reads.
+    /// What the call that asks for this keeps.
     pub fn of(request: &Request) -> Uses
         ensures { result ≡ uses_of request.now }
     {
@@ -52,7 +53,7 @@ impl Uses {
                 opening: true,
                 ..none
             },
-            Request::Fetch(_, _) => Uses {
+            Request::Fetch(_, FetchItems::Body) => Uses {
                 messages: true,
                 ..none
             },
@@ -60,7 +61,7 @@ impl Uses {
         }
     }
 
-    /// Whether the call reads this reply. It reads `+` and the tagged one in any case.
+    /// Whether the call keeps this reply. It keeps `+` and the tagged one in any case.
     pub(crate) fn takes(self, reply: &Reply<'_>) -> bool
         ensures { result ≡ is_used self reply.now }
     {

@@ -16,6 +16,7 @@ pub use imap_replies::reply::Reply;
 pub use imap_replies::response::{Code, ResponseText};
 pub use imap_replies::word::{NoticeKind, Status};
 pub use imap_replies::writing::write_reply;
+pub use reply_buf::buffer::ReplyBuf;
 pub use wire_reader::answer::{Read, WireFault};
 pub use wire_reader::scanner::Scanner;
 pub use wire_strings::astring::AString;

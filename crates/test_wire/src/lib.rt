@@ -27,6 +27,9 @@
 //!                        the bytes with each one changed to others, a line for each
 //! R * 2 EXISTS\0d\0a     the same of the reader of replies
 //! c A1 NOOP\0d\0a        what the reader of commands answers to the whole alone; r alike of replies
+//! b * 2 EXISTS\0d\0a     what a buffer of replies answers to the whole, where it comes in pieces of 1, 2 and 7 bytes, a line for
+//!                        each size: how many bytes it holds then, and how many once those that were read are dropped; where
+//!                        the reader of replies answers otherwise, or of another reply, its answer stands behind
 //! listings 4             makes four FETCH replies of a listing
 //! body 50                makes a FETCH reply with a body of 50 octets
 //! read all               reads what was made, from memory
@@ -39,6 +42,7 @@
 //! long. `bench/wire-answers.py` decides these in another way; the lines from `listings` on are there for `bench/wire.py`.
 #![tactic(auto)]
 
+mod buffered;
 mod command;
 mod feed;
 mod made;

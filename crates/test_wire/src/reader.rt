@@ -76,22 +76,25 @@ impl Reader {
     }
 
     fn tell<T: Drop>(&mut self, told: &mut Told, answer: Result<Read<T>, WireFault>) {
-        let (letter, number) = match answer {
-            Ok(Read::Whole(_, used)) => ("w ", Some(used)),
-            Ok(Read::WantsLiteral(octets)) => ("a ", Some(octets as usize)),
-            Ok(Read::Partial) => ("p", None),
-            Err(WireFault::Syntax(at)) => ("s ", Some(at)),
-            Err(WireFault::LiteralTooLong(at)) => ("t ", Some(at)),
-            Err(WireFault::LineTooLong) => ("l", None),
-            Err(WireFault::NoMemory) => {
-                self.is_lost = true;
-                ("", None)
-            }
-        };
-        told.text(letter);
-        if let Some(number) = number {
-            told.number(number as u64);
-        }
+        self.is_lost |= matches!(answer, Err(WireFault::NoMemory));
+        tell_answer(told, &answer);
+    }
+}
+
+/// Adds the letter of an answer, and the number behind it if it has one.
+pub fn tell_answer<T>(told: &mut Told, answer: &Result<Read<T>, WireFault>) {
+    let (letter, number) = match answer {
+        Ok(Read::Whole(_, used)) => ("w ", Some(*used)),
+        Ok(Read::WantsLiteral(octets)) => ("a ", Some(*octets as usize)),
+        Ok(Read::Partial) => ("p", None),
+        Err(WireFault::Syntax(at)) => ("s ", Some(*at)),
+        Err(WireFault::LiteralTooLong(at)) => ("t ", Some(*at)),
+        Err(WireFault::LineTooLong) => ("l", None),
+        Err(WireFault::NoMemory) => ("", None),
+    };
+    told.text(letter);
+    if let Some(number) = number {
+        told.number(number as u64);
     }
 }
 

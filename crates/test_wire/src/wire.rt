@@ -1,5 +1,6 @@
 //! What plays a script of `wire`.
 
+use crate::buffered::answer_buffered;
 use crate::feed::Buffer;
 use crate::made_replies::{body, listings};
 use crate::reader::Reader;
@@ -110,6 +111,10 @@ impl Player for Wire {
             "line" if line.text() == "feeds" => {
                 let feeds = count_line_feeds(self.replies.as_str().as_bytes());
                 tell_count(told, "", feeds, " line feeds");
+            }
+            "b" => {
+                let bytes = unescape(self.alloc, line.rest())?;
+                answer_buffered(self.alloc, told, &bytes)?;
             }
             letter => self.example(letter, line, told)?,
         }

@@ -1,7 +1,8 @@
-use Rattle.std.proofs.Common.{◌≡◌, take, Some}
+use Rattle.std.proofs.Common.{◌≡◌, take, None, Some}
 use Rattle.std.specs.List.{fold}
-use Rattle.imap_answers.specs.Bodies.{body_more, text_of}
+use Rattle.std.specs.Option.{option_map}
+use Rattle.imap_answers.specs.Bodies.{body_more}
 use Rattle.imap_answers.proofs.bodies.body_in.Given as goal
 
 abbrev pub invariant-loop-item : goal.invariant-loop-item
-invariant-loop-item l = Some (text_of l.body) ≡ fold body_more (Some (text_of l.fn.before)) (take l.item-index l.items)
+invariant-loop-item l = Some (option_map (λ b. b.now) l.body) ≡ fold body_more (Some None) (take l.item-index l.items)

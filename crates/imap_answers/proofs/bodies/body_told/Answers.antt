@@ -1,22 +1,53 @@
-use Rattle.std.proofs.Common.{ℕ, List, Option, Some, sym, ◌∙◌, ap, subst, Result, Err, arith}
-use Rattle.std.specs.Prelude.{Vec}
-use Rattle.std.specs.Global.{Global}
+use Rattle.std.proofs.Common.{ℕ, ◌+◌, List, Option, Some, None, sym, ◌∙◌, ap, subst, Result, Err, arith, Bor}
+use Rattle.std.specs.Option.{option_map}
 use Rattle.std.proofs.lemmas.Result.{err_from_is_err_and}
 use Rattle.imap_link.specs.declared.fault.FarFault.{FarFault}
-use Rattle.imap_answers.specs.Bodies.{body_told, bodies_more, text_of}
+use Rattle.imap_answers.specs.declared.bodies.FoundBody.{FoundBody}
+use Rattle.imap_answers.specs.Bodies.{body_told, bodies_more, found_at}
 use Rattle.imap_answers.specs.Readings.{ReadsAs}
-use Rattle.imap_answers.proofs.BodyTold.{reply_stops, reads_on}
+use Rattle.imap_answers.proofs.BodyTold.{FoundSo, none_found, told_all, speaks_on, first_left, told_none_of, found_before, found_now, within_bytes, reads_on}
+use Rattle.imap_answers.proofs.bodies.body_told.Goals.{in-Some+in_ok-found_in, in_default}
 use Rattle.imap_answers.proofs.bodies.body_told.Goals as goal
 
-pub returns-in_err-body : goal.returns-in_err-body
-returns-in_err-body c = record {
-  told =
-      let p = err_from_is_err_and c.from_residual.result c.from_residual.ensures.1 in
-      let rs = c.args.replies.now in
-      let uid = c.args.uid in
-      let so_far : Option (Option (List ℕ)) = Some (text_of c.loop-reply.body) in
-      subst (λ (r : Result (Option (Vec ℕ Global)) FarFault). ReadsAs text_of r (body_told uid rs)) (sym (p.1 ∙ ap Err p.2))
-      (reads_on (Option (Vec ℕ Global)) (Option (Vec ℕ Global)) (Option (List ℕ)) (Option (List ℕ)) text_of text_of (bodies_more uid so_far c.reply-item.result) (body_told uid rs)
-      (λ none. reply_stops uid rs c.loop-reply.reply-index c.reply-item.result so_far (omega arith) c.reply-item.is c.loop-reply.invariant none)
-      c.in_err-body.field-0.0 c.in_err-body.ensures.told);
-}
+pub loop-init : goal.loop-init
+loop-init c = (omega arith, none_found c.args.uid c.args.bytes.now)
+
+pub returns-then-done-bytes-clause-told : goal.returns-then-done-bytes-clause-told
+returns-then-done-bytes-clause-told c rs h = told_all c.args.uid c.args.bytes.now c.loop.done c.loop.found rs (c.loop.invariant.1 rs h) c.if-done-bytes.true
+
+pub first_reply-requires-clause-speaks : goal.first_reply-requires-clause-speaks
+first_reply-requires-clause-speaks c = speaks_on c.args.uid c.args.bytes.now c.loop.done c.loop.found c.requires.replies (c.loop.invariant.1 c.requires.replies c.requires.spelled)
+
+pub returns-in_err-octets-clause-told : goal.returns-in_err-octets-clause-told
+returns-in_err-octets-clause-told c rs h =
+    let p = err_from_is_err_and c.from_residual-in_err-octets.result c.from_residual-in_err-octets.ensures.1 in
+    let bytes = c.args.bytes.now in
+    let uid = c.args.uid in
+    let reply = c.in_ok-reply.reply in
+    let so = c.loop.invariant.1 rs h in
+    let first = first_left uid bytes c.loop.done c.loop.found rs so reply c.in_ok-reply.len c.in_ok-reply.ensures.first in
+    subst (λ (r : Result (Option FoundBody) FarFault). ReadsAs (found_at bytes) r (body_told uid rs)) (sym (p.1 ∙ ap Err p.2))
+    (reads_on (Option (Bor (List ℕ))) (Option FoundBody) (Option (List ℕ)) (Option (List ℕ)) (option_map (λ b. b.now)) (found_at bytes) (bodies_more uid (Some None) reply) (body_told uid rs)
+    (told_none_of uid bytes c.loop.done c.loop.found rs so reply c.in_ok-reply.len first)
+    c.in_err-octets.field-0.0 c.in_err-octets.ensures.told)
+
+pub loop-preserved : goal.loop-preserved
+loop-preserved c =
+    let bytes = c.args.bytes.now in
+    let uid = c.args.uid in
+    let reply = c.in_ok-reply.reply in
+    let len = c.in_ok-reply.len in (
+      within_bytes bytes c.loop.done len c.loop.invariant.0 c.in_ok-reply.ensures.within,
+      λ rs h.
+          let so = c.loop.invariant.1 rs h in
+          let first = first_left uid bytes c.loop.done c.loop.found rs so reply len c.in_ok-reply.ensures.first in
+          let tells = λ (x : Option (Bor (List ℕ))). Some (option_map (λ b. b.now) x) in
+          let goes_on = λ (x : Option FoundBody). FoundSo uid bytes (c.loop.done + len) x rs in
+          elim c.match-branch-3.branch [
+            | in-Some+in_ok-found_in w ↦
+                subst goes_on (sym w.found-is)
+                (found_now uid bytes c.loop.done c.loop.found rs so reply len first w.in_ok-found_in.field-0 w.in-Some.octets.now (c.in_ok-octets.ensures.told ∙ ap tells w.in-Some.is) w.in_ok-found_in.ensures)
+            | in_default w ↦
+                subst goes_on (sym w.found-is) (found_before uid bytes c.loop.done c.loop.found rs so reply len first (c.in_ok-octets.ensures.told ∙ ap tells w.in_default.is))
+          ],
+    )

@@ -1,7 +1,8 @@
-use Rattle.std.proofs.Common.{◌≡◌, take, None, Some}
-use Rattle.std.specs.List.{fold}
-use Rattle.imap_answers.specs.Bodies.{bodies_more, text_of}
+use Rattle.std.proofs.Common.{◌≤◌, length, List}
+use Rattle.imap_replies.specs.declared.reply.Reply.{Reply}
+use Rattle.imap_session.specs.Heard.{AreReplies}
+use Rattle.imap_answers.proofs.BodyTold.{FoundSo}
 use Rattle.imap_answers.proofs.bodies.body_told.Given as goal
 
-abbrev pub invariant-loop-reply : goal.invariant-loop-reply
-invariant-loop-reply l = Some (text_of l.body) ≡ fold (bodies_more l.uid) (Some None) (take l.reply-index l.replies)
+abbrev pub invariant-loop : goal.invariant-loop
+invariant-loop l = (l.done ≤ length l.bytes) × ((rs : List Reply) → AreReplies rs l.bytes → FoundSo l.uid l.bytes l.done l.found rs)

@@ -3,6 +3,7 @@ use Rattle.std.proofs.Common.{◌≡◌, Some, None}
 use Rattle.std.specs.Prelude.{if◌then◌else◌}
 use Rattle.mailcore.specs.Operations.{bytes_of}
 use Rattle.mailbox.specs.Operations.{Loads}
+use Rattle.imap_client.specs.Fetches.{body_of}
 use Rattle.far_side.proofs.OpenCalls.{Called, loaded, reads, still_logged_in, still_named}
 use Rattle.far_side.proofs.far_side.FarSideMailbox.load.Goals as goal
 
@@ -38,4 +39,4 @@ returns-clause-call g c =
       still = said.same.3;
       counts = said.counts;
     } in
-    rw c.told_by.ensures (reads k g.met.L.Link.sound (Loads c.args.uid new.body.items) (λ is_there s. (if is_there then Some new.body.items else None) ≡ bytes_of c.args.uid s) (loaded c.args.uid new.body.items) c.load.result said.ends said.outcome)
+    rw c.told_by.ensures (reads k g.met.L.Link.sound (Loads c.args.uid (body_of new)) (λ is_there s. (if is_there then Some (body_of new) else None) ≡ bytes_of c.args.uid s) (loaded c.args.uid (body_of new)) c.load.result said.ends said.outcome)

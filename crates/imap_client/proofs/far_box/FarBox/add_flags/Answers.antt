@@ -14,7 +14,7 @@ invariant_of-self g c = record {
       let now = c.change.new.self in
       let a = c.change.ensures.outcome honest in
       goes_on (Unit {0}) _ (store_keeps modes.Add c.args.flags (one_uid c.args.uid)) c.args.self.now.name.items c.args.self.now.validity c.args.self.now.next 1
-      (state_of_parts was.is_ready was.tags (g.L.Link.stops was.wire.link) was.wire.heard.items) (state_of_parts now.is_ready now.tags (g.L.Link.stops now.wire.link) now.wire.heard.items)
+      (state_of_parts was.is_ready was.tags (g.L.Link.stops was.wire.link) was.wire.heard.read) (state_of_parts now.is_ready now.tags (g.L.Link.stops now.wire.link) now.wire.heard.read)
       a.mid (told_server (g.L.Link.line now.wire.link)) c.change.result c.change.ensures.ends ready
       (λ before. selected_then g.L.Link.visitors c.args.self.now.name.items c.args.self.now.validity c.args.self.now.next (told_server (g.L.Link.line was.wire.link)) a.mid a.visits (c.args.self.now.selected is_selected before (c.change.ensures.was_honest honest)))
       (λ m is. a.then m is _ refl);

@@ -28,7 +28,7 @@ invariant_of-self g c = record {
       let new = (told_server (g.L.Link.line now.wire.link)) in
       let a = c.in_err-told.ensures.outcome honest in
       let old = a.mid in
-      err_selected (state_of_parts was.is_ready was.tags (g.L.Link.stops was.wire.link) was.wire.heard.items) (state_of_parts now.is_ready now.tags (g.L.Link.stops now.wire.link) now.wire.heard.items) old new
+      err_selected (state_of_parts was.is_ready was.tags (g.L.Link.stops was.wire.link) was.wire.heard.read) (state_of_parts now.is_ready now.tags (g.L.Link.stops now.wire.link) now.wire.heard.read) old new
       it.name.items it.validity it.next c.args.flags (text_left c.args.copy) c.in_err-told.field-0.0 c.in_err-told.ensures.ends ready
       (λ before. selected_then g.L.Link.visitors it.name.items it.validity it.next begin old a.visits (it.selected is_selected before (c.in_err-told.ensures.was_honest honest)))
       (λ s m is. a.then (subst (λ (n : List ℕ). IsSelected n it.validity it.next old) (sym c.deref.ensures.value) s) m is);
@@ -47,7 +47,7 @@ invariant_of-self-in-Some g c = record {
       let a = c.in_ok-told.ensures.outcome honest in
       let old = a.mid in
       subst (λ (k : ℕ). IsSelected it.name.items it.validity k new) (ap (next_known it.next) c.in-Some.is ∙ ap (λ (u : ℕ). u + 1) (sym c.get.ensures.number))
-      (ok_selected (state_of_parts was.is_ready was.tags (g.L.Link.stops was.wire.link) was.wire.heard.items) (state_of_parts now.is_ready now.tags (g.L.Link.stops now.wire.link) now.wire.heard.items) old new
+      (ok_selected (state_of_parts was.is_ready was.tags (g.L.Link.stops was.wire.link) was.wire.heard.read) (state_of_parts now.is_ready now.tags (g.L.Link.stops now.wire.link) now.wire.heard.read) old new
       it.name.items it.validity it.next c.args.flags (text_left c.args.copy) c.in_ok-told.told c.in_ok-told.ensures.ends
       (λ before. selected_then g.L.Link.visitors it.name.items it.validity it.next begin old a.visits (it.selected is_selected before (c.in_ok-told.ensures.was_honest honest)))
       (λ s m is. a.then (subst (λ (n : List ℕ). IsSelected n it.validity it.next old) (sym c.deref.ensures.value) s) m is));
@@ -66,7 +66,7 @@ invariant_of-self-in_default g c = record {
       let a = c.in_ok-told.ensures.outcome honest in
       let old = a.mid in
       subst (λ (k : ℕ). IsSelected it.name.items it.validity k new) (none_known it.next c.in_ok-told.told c.in_default.not-Some)
-      (ok_selected (state_of_parts was.is_ready was.tags (g.L.Link.stops was.wire.link) was.wire.heard.items) (state_of_parts now.is_ready now.tags (g.L.Link.stops now.wire.link) now.wire.heard.items) old new
+      (ok_selected (state_of_parts was.is_ready was.tags (g.L.Link.stops was.wire.link) was.wire.heard.read) (state_of_parts now.is_ready now.tags (g.L.Link.stops now.wire.link) now.wire.heard.read) old new
       it.name.items it.validity it.next c.args.flags (text_left c.args.copy) c.in_ok-told.told c.in_ok-told.ensures.ends
       (λ before. selected_then g.L.Link.visitors it.name.items it.validity it.next begin old a.visits (it.selected is_selected before (c.in_ok-told.ensures.was_honest honest)))
       (λ s m is. a.then (subst (λ (n : List ℕ). IsSelected n it.validity it.next old) (sym c.deref.ensures.value) s) m is));
@@ -82,7 +82,7 @@ returns-in_err-told-clause-outcome g c honest is_selected =
     let begin = (told_server (g.L.Link.line was.wire.link)) in
     let new = (told_server (g.L.Link.line now.wire.link)) in
     subst (λ (r : Result (Option ℕ) FarFault). Among g.L.Link.visitors (λ s t. (m : FarMailbox) → selected s ≡ Some m → Outcome (Adds m c.args.flags (text_left c.args.copy)) (NoUidLeft m) (AddsSome m c.args.flags (text_left c.args.copy)) r s t) begin new) (sym (p.1 ∙ ap Err p.2))
-    (among_where (Option ℕ) (state_of_parts was.is_ready was.tags (g.L.Link.stops was.wire.link) was.wire.heard.items) (state_of_parts now.is_ready now.tags (g.L.Link.stops now.wire.link) now.wire.heard.items) begin new
+    (among_where (Option ℕ) (state_of_parts was.is_ready was.tags (g.L.Link.stops was.wire.link) was.wire.heard.read) (state_of_parts now.is_ready now.tags (g.L.Link.stops now.wire.link) now.wire.heard.read) begin new
     g.L.Link.visitors (λ s. IsSelected c.deref.result.now it.validity it.next s) (λ m. Adds m c.args.flags (text_left c.args.copy)) (λ m. NoUidLeft m) (λ m. AddsSome m c.args.flags (text_left c.args.copy)) (Err c.in_err-told.field-0.0)
     c.in_err-told.ensures.ends (λ failed. ap (λ s. told_server (g.L.Link.line s.wire.link)) (c.in_err-told.ensures.stuck failed))
     (λ before mid visits. subst (λ (n : List ℕ). IsSelected n it.validity it.next mid) (sym c.deref.ensures.value)
@@ -98,7 +98,7 @@ returns-clause-outcome g c =
     let now = c.add.new.self in
     let begin = (told_server (g.L.Link.line was.wire.link)) in
     let new = (told_server (g.L.Link.line now.wire.link)) in
-    among_where (Option ℕ) (state_of_parts was.is_ready was.tags (g.L.Link.stops was.wire.link) was.wire.heard.items) (state_of_parts now.is_ready now.tags (g.L.Link.stops now.wire.link) now.wire.heard.items) begin new
+    among_where (Option ℕ) (state_of_parts was.is_ready was.tags (g.L.Link.stops was.wire.link) was.wire.heard.read) (state_of_parts now.is_ready now.tags (g.L.Link.stops now.wire.link) now.wire.heard.read) begin new
     g.L.Link.visitors (λ s. IsSelected c.deref.result.now it.validity it.next s) (λ m. Adds m c.args.flags (text_left c.args.copy)) (λ m. NoUidLeft m) (λ m. AddsSome m c.args.flags (text_left c.args.copy)) (Ok c.in_ok-told.told)
     c.in_ok-told.ensures.ends (λ failed. ap (λ s. told_server (g.L.Link.line s.wire.link)) (c.in_ok-told.ensures.stuck failed))
     (λ before mid visits. subst (λ (n : List ℕ). IsSelected n it.validity it.next mid) (sym c.deref.ensures.value)

@@ -1,11 +1,19 @@
-use Rattle.std.proofs.Common.{◌≡◌, ◌∙◌, List, ℕ, Option, Some, None, Bool, ap, refl, sym}
+use Rattle.std.proofs.Common.{◌≡◌, ◌∙◌, List, Option, ℕ, Some, None, Bool, ap, refl, sym, true, false}
 use Rattle.std.specs.Prelude.{if◌then◌else◌}
+use Rattle.imap_client.specs.Fetches.{body_of}
 use Rattle.imap_client.proofs.far_box.FarBox.fetch.Goals as goal
+
+-- the bytes that are lent are those that were found
+lent_so : (bytes lent : List ℕ) (is_there : Bool) (told : Option (List ℕ)) → lent ≡ bytes → is_there ≡ true → (if is_there then Some bytes else None) ≡ told → Some lent ≡ told
+lent_so bytes lent is_there told same there h = ap (λ (b : List ℕ). Some b) same ∙ sym (ap (λ (b : Bool). if b then Some bytes else None) there) ∙ h
+
+none_so : (bytes : List ℕ) (is_there : Bool) (told : Option (List ℕ)) → is_there ≡ false → (if is_there then Some bytes else None) ≡ told → None ≡ told
+none_so bytes is_there told there h = sym (ap (λ (b : Bool). if b then Some bytes else None) there) ∙ h
 
 pub returns-then-branch : goal.returns-then-branch
 returns-then-branch g c =
     let e = c.in_ok-load.ensures in
-    let items = c.load.new.self.body.items in (
+    let bytes = body_of c.load.new.self in (
       (
         refl,
         λ _. tt,
@@ -22,7 +30,7 @@ returns-then-branch g c =
                 visits = a.visits;
                 then = λ m is store range.
                     let told = a.then m is store range in
-                    (ap (λ (b : List ℕ). Some b) c.body.ensures ∙ sym (ap (λ (b : Bool). if b then Some items else None) c.if-branch.true) ∙ told.0, told.1);
+                    (lent_so bytes _ _ _ c.body.ensures c.if-branch.true told.0, told.1);
               },
         ),
       ),
@@ -32,7 +40,7 @@ returns-then-branch g c =
 pub returns-else-branch : goal.returns-else-branch
 returns-else-branch g c =
     let e = c.in_ok-load.ensures in
-    let items = c.load.new.self.body.items in (
+    let bytes = body_of c.load.new.self in (
       (
         refl,
         λ _. tt,
@@ -49,7 +57,7 @@ returns-else-branch g c =
                 visits = a.visits;
                 then = λ m is store range.
                     let told = a.then m is store range in
-                    (sym (ap (λ (b : Bool). if b then Some items else None) c.if-branch.false) ∙ told.0, told.1);
+                    (none_so bytes _ _ c.if-branch.false told.0, told.1);
               },
         ),
       ),

@@ -1,4 +1,4 @@
-use Rattle.std.proofs.Common.{◌≡◌, inr, ℕ, ◌+◌, Option, Some, sym, ◌∙◌, ap, subst, take, Result, Ok, Err}
+use Rattle.std.proofs.Common.{◌≡◌, inr, ℕ, ◌+◌, Option, Some, sym, ◌∙◌, ap, subst, Result, Ok, Err}
 use Rattle.std.proofs.lemmas.Result.{err_from_is_err_and}
 use Rattle.imap_replies.specs.declared.word.Status.TheVariants as statuses
 use Rattle.mailcore.specs.CopyPieces.{text_left}
@@ -17,25 +17,25 @@ use Rattle.imap_client.proofs.Selecting.{speaks_of}
 use Rattle.imap_session.specs.Visits.{Among}
 use Rattle.imap_client.proofs.session.Session.add.Goals as goal
 
-pub given-requires-clause-speaks : goal.given-requires-clause-speaks
-given-requires-clause-speaks g c = speaks_of (tag_text c.ask_to_add.new.self.tags) statuses.Ok _ c.in_ok-len.ensures.answer.1
+pub given-requires : goal.given-requires
+given-requires g c = speaks_of (tag_text c.ask_to_add.new.self.tags) statuses.Ok _ c.in_ok-ask_to_add.ensures.answer
 
-pub returns-in_err-len-clause-outcome : goal.returns-in_err-len-clause-outcome
-returns-in_err-len-clause-outcome g c honest =
-    let w = c.in_err-len.ensures.outcome honest in
+pub returns-in_err-ask_to_add-clause-outcome : goal.returns-in_err-ask_to_add-clause-outcome
+returns-in_err-ask_to_add-clause-outcome g c honest =
+    let w = c.in_err-ask_to_add.ensures.outcome honest in
     record {
       mid = w.mid;
       visits = w.visits;
       then = λ sel m is.
           let p = err_from_is_err_and c.from_residual.result c.from_residual.ensures.1 in
-          let f = c.in_err-len.field-0.0 in
+          let f = c.in_err-ask_to_add.field-0.0 in
           let a = c.args.addition.now in
           let n = c.args.self.now.tags + 1 in
           let old = w.mid in
           let new = (told_server (g.L.Link.line c.ask_to_add.new.self.wire.link)) in
-          let heard = c.ask_to_add.new.self.wire.heard.items in
+          let heard = c.ask_to_add.new.self.wire.heard.read in
           subst (λ (r : Result (Option ℕ) FarFault). Outcome (Adds m a.flags (text_left a.octets)) (NoUidLeft m) (AddsSome m a.flags (text_left a.octets)) r old new) (sym (p.1 ∙ ap Err p.2))
-          (outcome_err ℕ (Option ℕ) (λ len. AddedSo n a.name.now m a.flags (text_left a.octets) (take len heard)) (Adds m a.flags (text_left a.octets)) (NoUidLeft m) (AddsSome m a.flags (text_left a.octets)) old new f
+          (outcome_err (Unit {0}) (Option ℕ) (λ _. AddedSo n a.name.now m a.flags (text_left a.octets) heard) (Adds m a.flags (text_left a.octets)) (NoUidLeft m) (AddsSome m a.flags (text_left a.octets)) old new f
           (add_exchanged n a.name.now a.flags (text_left a.octets) old m sel.0 is (Err f) heard new w.then));
     }
 
@@ -44,13 +44,13 @@ returns-in_err-given-clause-ends g c =
     let p = err_from_is_err_and c.from_residual-in_err-given.result c.from_residual-in_err-given.ensures.1 in
     let was = c.args.self.now in
     let now = c.ask_to_add.new.self in
-    subst (λ (r : Result (Option ℕ) FarFault). EndsSo 1 (state_of_parts was.is_ready was.tags (g.L.Link.stops was.wire.link) was.wire.heard.items) (state_of_parts now.is_ready now.tags (g.L.Link.stops now.wire.link) now.wire.heard.items) r)
+    subst (λ (r : Result (Option ℕ) FarFault). EndsSo 1 (state_of_parts was.is_ready was.tags (g.L.Link.stops was.wire.link) was.wire.heard.read) (state_of_parts now.is_ready now.tags (g.L.Link.stops now.wire.link) now.wire.heard.read) r)
     (sym (p.1 ∙ ap Err (p.2 ∙ c.in_err-given.ensures.err)))
-    (record { was_ready = c.in_ok-len.ensures.asked.was_ready; is_ready = c.in_ok-len.ensures.asked.begun })
+    (record { was_ready = c.in_ok-ask_to_add.ensures.asked.was_ready; is_ready = c.in_ok-ask_to_add.ensures.asked.begun })
 
 pub returns-in_err-given-clause-outcome : goal.returns-in_err-given-clause-outcome
 returns-in_err-given-clause-outcome g c honest =
-    let w = c.in_ok-len.ensures.outcome honest in
+    let w = c.in_ok-ask_to_add.ensures.outcome honest in
     record {
       mid = w.mid;
       visits = w.visits;
@@ -60,10 +60,10 @@ returns-in_err-given-clause-outcome g c honest =
           let n = c.args.self.now.tags + 1 in
           let old = w.mid in
           let new = (told_server (g.L.Link.line c.ask_to_add.new.self.wire.link)) in
-          let heard = c.ask_to_add.new.self.wire.heard.items in
-          let done_so = add_exchanged n a.name.now a.flags (text_left a.octets) old m sel.0 is (Ok c.in_ok-len.len) heard new w.then in
+          let heard = c.ask_to_add.new.self.wire.heard.read in
+          let done_so = add_exchanged n a.name.now a.flags (text_left a.octets) old m sel.0 is (Ok tt) heard new w.then in
           subst (λ (r : Result (Option ℕ) FarFault). Outcome (Adds m a.flags (text_left a.octets)) (NoUidLeft m) (AddsSome m a.flags (text_left a.octets)) r old new) (sym (p.1 ∙ ap Err (p.2 ∙ c.in_err-given.ensures.err)))
-          (inr (some_of n a.name.now a.flags (text_left a.octets) old m sel.0 is (take c.in_ok-len.len heard) new done_so));
+          (inr (some_of n a.name.now a.flags (text_left a.octets) old m sel.0 is heard new done_so));
     }
 
 pub returns-in_err-told-clause-ends : goal.returns-in_err-told-clause-ends
@@ -72,13 +72,13 @@ returns-in_err-told-clause-ends g c =
     let was = c.args.self.now in
     let now = c.ask_to_add.new.self in
     let fault = told_fails c.in_ok-given.given c.args.validity c.args.next c.in_err-told.field-0.0 (sym c.uid_told.ensures ∙ c.in_err-told.was) in
-    subst (λ (r : Result (Option ℕ) FarFault). EndsSo 1 (state_of_parts was.is_ready was.tags (g.L.Link.stops was.wire.link) was.wire.heard.items) (state_of_parts now.is_ready now.tags (g.L.Link.stops now.wire.link) now.wire.heard.items) r)
+    subst (λ (r : Result (Option ℕ) FarFault). EndsSo 1 (state_of_parts was.is_ready was.tags (g.L.Link.stops was.wire.link) was.wire.heard.read) (state_of_parts now.is_ready now.tags (g.L.Link.stops now.wire.link) now.wire.heard.read) r)
     (sym (p.1 ∙ ap Err (p.2 ∙ fault)))
-    (record { was_ready = c.in_ok-len.ensures.asked.was_ready; is_ready = c.in_ok-len.ensures.asked.begun })
+    (record { was_ready = c.in_ok-ask_to_add.ensures.asked.was_ready; is_ready = c.in_ok-ask_to_add.ensures.asked.begun })
 
 pub returns-in_err-told-clause-outcome : goal.returns-in_err-told-clause-outcome
 returns-in_err-told-clause-outcome g c honest =
-    let w = c.in_ok-len.ensures.outcome honest in
+    let w = c.in_ok-ask_to_add.ensures.outcome honest in
     record {
       mid = w.mid;
       visits = w.visits;
@@ -87,9 +87,9 @@ returns-in_err-told-clause-outcome g c honest =
           let n = c.args.self.now.tags + 1 in
           let old = w.mid in
           let new = (told_server (g.L.Link.line c.ask_to_add.new.self.wire.link)) in
-          let heard = c.ask_to_add.new.self.wire.heard.items in
-          let done_so = add_exchanged n a.name.now a.flags (text_left a.octets) old m sel.0 is (Ok c.in_ok-len.len) heard new w.then in
-          let told = told_so n a.name.now m a.flags (text_left a.octets) (take c.in_ok-len.len heard) old new c.args.validity c.args.next sel is done_so c.in_ok-given.given c.in_ok-given.ensures.told in
+          let heard = c.ask_to_add.new.self.wire.heard.read in
+          let done_so = add_exchanged n a.name.now a.flags (text_left a.octets) old m sel.0 is (Ok tt) heard new w.then in
+          let told = told_so n a.name.now m a.flags (text_left a.octets) heard old new c.args.validity c.args.next sel is done_so c.in_ok-given.given c.in_ok-given.ensures.told in
           absurd (never_protocol done_so.uid _ c.in_err-told.field-0.0 told (sym c.uid_told.ensures ∙ c.in_err-told.was));
     }
 
@@ -98,16 +98,16 @@ returns-clause-outcome g c =
     let a = c.args.addition.now in
     let n = c.args.self.now.tags + 1 in
     let old = (told_server (g.L.Link.line c.args.self.now.wire.link)) in
-    let heard = c.ask_to_add.new.self.wire.heard.items in
-    subst (λ l. g.L.Link.honest l → Among g.L.Link.visitors (λ old new. IsSelected a.name.now c.args.validity c.args.next old → (m : FarMailbox) → selected old ≡ Some m → Adds m a.flags (text_left a.octets) c.in_ok-told.told old new) old (told_server (g.L.Link.line l))) (sym c.done.ensures.link)
+    let heard = c.ask_to_add.new.self.wire.heard.read in
+    subst (λ w. g.L.Link.honest w.link → Among g.L.Link.visitors (λ old new. IsSelected a.name.now c.args.validity c.args.next old → (m : FarMailbox) → selected old ≡ Some m → Adds m a.flags (text_left a.octets) c.in_ok-told.told old new) old (told_server (g.L.Link.line w.link))) (sym c.done.ensures.wire)
     (λ honest.
-    let w = c.in_ok-len.ensures.outcome honest in
+    let w = c.in_ok-ask_to_add.ensures.outcome honest in
     record {
       mid = w.mid;
       visits = w.visits;
       then = λ sel m is.
           let new = (told_server (g.L.Link.line c.ask_to_add.new.self.wire.link)) in
-          let done_so = add_exchanged n a.name.now a.flags (text_left a.octets) w.mid m sel.0 is (Ok c.in_ok-len.len) heard new w.then in
-          let told = told_so n a.name.now m a.flags (text_left a.octets) (take c.in_ok-len.len heard) w.mid new c.args.validity c.args.next sel is done_so c.in_ok-given.given c.in_ok-given.ensures.told in
-          adds_so n a.name.now m a.flags (text_left a.octets) (take c.in_ok-len.len heard) w.mid new _ c.in_ok-told.told done_so told (sym c.uid_told.ensures ∙ c.in_ok-told.was);
+          let done_so = add_exchanged n a.name.now a.flags (text_left a.octets) w.mid m sel.0 is (Ok tt) heard new w.then in
+          let told = told_so n a.name.now m a.flags (text_left a.octets) heard w.mid new c.args.validity c.args.next sel is done_so c.in_ok-given.given c.in_ok-given.ensures.told in
+          adds_so n a.name.now m a.flags (text_left a.octets) heard w.mid new _ c.in_ok-told.told done_so told (sym c.uid_told.ensures ∙ c.in_ok-told.was);
     })

@@ -1,4 +1,4 @@
-use Rattle.std.proofs.Common.{◌≡◌, inl, inr, ℕ, ◌+◌, List, true, false, sym, ◌∙◌, ap, subst, take, Result, Ok, Err}
+use Rattle.std.proofs.Common.{◌≡◌, inl, inr, ℕ, ◌+◌, List, true, false, sym, ◌∙◌, ap, subst, Result, Ok, Err}
 use Rattle.std.proofs.lemmas.Result.{err_from_is_err_and}
 use Rattle.imap_replies.specs.declared.word.Status.TheVariants as statuses
 use Rattle.imap_session.specs.Servers.{is_logged_in}
@@ -23,14 +23,14 @@ use Rattle.imap_client.proofs.session.Session.choose.Goals as goal
 abbrev told : Chosen → Opening
 told x = opened x.validity x.next
 
-pub returns-in_err-len-clause-heard : goal.returns-in_err-len-clause-heard
-returns-in_err-len-clause-heard g c =
+pub returns-in_err-ask-clause-heard : goal.returns-in_err-ask-clause-heard
+returns-in_err-ask-clause-heard g c =
     let p = err_from_is_err_and c.from_residual.result c.from_residual.ensures.1 in
     let n = c.args.self.now.tags + 1 in
     let old = c.args.self.now.transcript in
     let new = c.ask.new.self.transcript in
     subst (λ (r : Result Chosen FarFault). EndsBy (of_select n told) r old new) (sym (p.1 ∙ ap Err p.2))
-    (command_ends n c.ask.new.self.wire.heard.items Chosen (of_select n told) (λ b h. h) (λ b h. inl h) c.in_err-len.field-0.0 old new c.in_err-len.ensures.heard)
+    (command_ends n c.ask.new.self.wire.heard.read Chosen (of_select n told) (λ b h. h) (λ b h. inl h) c.in_err-ask.field-0.0 old new c.in_err-ask.ensures.heard)
 
 pub returns-in_err-opening-clause-heard : goal.returns-in_err-opening-clause-heard
 returns-in_err-opening-clause-heard g c =
@@ -39,16 +39,16 @@ returns-in_err-opening-clause-heard g c =
     let old = c.args.self.now.transcript in
     let new = c.ask.new.self.transcript in
     subst (λ (r : Result Chosen FarFault). EndsBy (of_select n told) r old new) (sym (p.1 ∙ ap Err (p.2 ∙ c.in_err-opening.ensures.err)))
-    (inr (answers_ok n c.in_ok-len.len c.ask.new.self.wire.heard.items old new c.in_ok-len.ensures.heard))
+    (inr (answers_ok n c.ask.new.self.wire.heard.read old new c.in_ok-ask.ensures.heard))
 
 pub returns-in_default-clause-heard : goal.returns-in_default-clause-heard
 returns-in_default-clause-heard g c =
-    lacks_next Chosen told (c.args.self.now.tags + 1) c.in_ok-len.len c.ask.new.self.wire.heard.items c.args.self.now.transcript c.ask.new.self.transcript c.in_ok-len.ensures.heard c.in_ok-opening.opening c.in_ok-opening.ensures.told
+    lacks_next Chosen told (c.args.self.now.tags + 1) c.ask.new.self.wire.heard.read c.args.self.now.transcript c.ask.new.self.transcript c.in_ok-ask.ensures.heard c.in_ok-opening.opening c.in_ok-opening.ensures.told
     c.in_default.not-Some
 
 pub returns-in_default-validity-clause-heard : goal.returns-in_default-validity-clause-heard
 returns-in_default-validity-clause-heard g c =
-    lacks_validity Chosen told (c.args.self.now.tags + 1) c.in_ok-len.len c.ask.new.self.wire.heard.items c.args.self.now.transcript c.ask.new.self.transcript c.in_ok-len.ensures.heard c.in_ok-opening.opening c.in_ok-opening.ensures.told
+    lacks_validity Chosen told (c.args.self.now.tags + 1) c.ask.new.self.wire.heard.read c.args.self.now.transcript c.ask.new.self.transcript c.in_ok-ask.ensures.heard c.in_ok-opening.opening c.in_ok-opening.ensures.told
     c.in_default-validity.not-Some
 
 pub returns-then-opening-clause-heard : goal.returns-then-opening-clause-heard
@@ -56,7 +56,7 @@ returns-then-opening-clause-heard g c =
     let n = c.args.self.now.tags + 1 in
     let old = c.args.self.now.transcript in
     subst (λ (t : List (List ℕ)). EndsBy (of_select n told) (Err faults.ReadOnly) old t) (sym c.done.ensures.transcript)
-    (is_read_only Chosen told n c.in_ok-len.len c.ask.new.self.wire.heard.items old c.ask.new.self.transcript c.in_ok-len.ensures.heard c.in_ok-opening.opening c.in_ok-opening.ensures.told
+    (is_read_only Chosen told n c.ask.new.self.wire.heard.read old c.ask.new.self.transcript c.in_ok-ask.ensures.heard c.in_ok-opening.opening c.in_ok-opening.ensures.told
     c.in-Some-validity.validity c.in-Some.next c.in-Some.is c.in-Some-validity.is c.if-opening.true)
 
 pub returns-clause-heard : goal.returns-clause-heard
@@ -64,28 +64,28 @@ returns-clause-heard g c =
     let n = c.args.self.now.tags + 1 in
     let old = c.args.self.now.transcript in
     subst (λ (t : List (List ℕ)). Hears (Says n statuses.Ok (λ rs. opening_of rs ≡ opened c.in-Some-validity.validity c.in-Some.next)) old t) (sym c.done.ensures.transcript)
-    (is_opened Chosen told n c.in_ok-len.len c.ask.new.self.wire.heard.items old c.ask.new.self.transcript c.in_ok-len.ensures.heard c.in_ok-opening.opening c.in_ok-opening.ensures.told
+    (is_opened Chosen told n c.ask.new.self.wire.heard.read old c.ask.new.self.transcript c.in_ok-ask.ensures.heard c.in_ok-opening.opening c.in_ok-opening.ensures.told
     c.in-Some-validity.validity c.in-Some.next c.in-Some.is c.in-Some-validity.is c.if-opening.false)
 
-pub opening-requires-clause-speaks : goal.opening-requires-clause-speaks
-opening-requires-clause-speaks g c = speaks_of (tag_text c.ask.new.self.tags) statuses.Ok _ c.in_ok-len.ensures.answer.1
+pub opening-requires : goal.opening-requires
+opening-requires g c = speaks_of (tag_text c.ask.new.self.tags) statuses.Ok _ c.in_ok-ask.ensures.answer
 
-pub returns-in_err-len-clause-outcome : goal.returns-in_err-len-clause-outcome
-returns-in_err-len-clause-outcome g c honest logged =
-    let a = c.in_err-len.ensures.outcome honest in
+pub returns-in_err-ask-clause-outcome : goal.returns-in_err-ask-clause-outcome
+returns-in_err-ask-clause-outcome g c honest logged =
+    let a = c.in_err-ask.ensures.outcome honest in
     let still = ap (λ (c : Condition). is_logged_in c) a.visits.condition ∙ logged in
     record {
       mid = a.mid;
       visits = a.visits;
       then =
           let p = err_from_is_err_and c.from_residual.result c.from_residual.ensures.1 in
-          let f = c.in_err-len.field-0.0 in
+          let f = c.in_err-ask.field-0.0 in
           let name = c.args.name.now in
           let old = a.mid in
           let new = (told_server (g.L.Link.line c.ask.new.self.wire.link)) in
           subst (λ (r : Result Chosen FarFault). Outcome (λ x. Selects name x.validity x.next) (NoMailbox name) (Chooses name) r old new) (sym (p.1 ∙ ap Err p.2))
-          (outcome_err ℕ Chosen (λ len. ChosenBy name (tag_text (c.args.self.now.tags + 1)) (take len c.ask.new.self.wire.heard.items)) (λ x. Selects name x.validity x.next) (NoMailbox name) (Chooses name) old new f
-          (select_exchanged (c.args.self.now.tags + 1) name old still (Err f) c.ask.new.self.wire.heard.items new a.then));
+          (outcome_err (Unit {0}) Chosen (λ _. ChosenBy name (tag_text (c.args.self.now.tags + 1)) c.ask.new.self.wire.heard.read) (λ x. Selects name x.validity x.next) (NoMailbox name) (Chooses name) old new f
+          (select_exchanged (c.args.self.now.tags + 1) name old still (Err f) c.ask.new.self.wire.heard.read new a.then));
     }
 
 pub returns-in_err-opening-clause-ends : goal.returns-in_err-opening-clause-ends
@@ -93,13 +93,13 @@ returns-in_err-opening-clause-ends g c =
     let p = err_from_is_err_and c.from_residual-in_err-opening.result c.from_residual-in_err-opening.ensures.1 in
     let was = c.args.self.now in
     let now = c.ask.new.self in
-    subst (λ (r : Result Chosen FarFault). EndsSo 1 (state_of_parts was.is_ready was.tags (g.L.Link.stops was.wire.link) was.wire.heard.items) (state_of_parts now.is_ready now.tags (g.L.Link.stops now.wire.link) now.wire.heard.items) r)
+    subst (λ (r : Result Chosen FarFault). EndsSo 1 (state_of_parts was.is_ready was.tags (g.L.Link.stops was.wire.link) was.wire.heard.read) (state_of_parts now.is_ready now.tags (g.L.Link.stops now.wire.link) now.wire.heard.read) r)
     (sym (p.1 ∙ ap Err (p.2 ∙ c.in_err-opening.ensures.err)))
-    (record { was_ready = c.in_ok-len.ensures.asked.was_ready; is_ready = c.in_ok-len.ensures.asked.begun })
+    (record { was_ready = c.in_ok-ask.ensures.asked.was_ready; is_ready = c.in_ok-ask.ensures.asked.begun })
 
 pub returns-in_err-opening-clause-outcome : goal.returns-in_err-opening-clause-outcome
 returns-in_err-opening-clause-outcome g c honest logged =
-    let a = c.in_ok-len.ensures.outcome honest in
+    let a = c.in_ok-ask.ensures.outcome honest in
     let still = ap (λ (c : Condition). is_logged_in c) a.visits.condition ∙ logged in
     record {
       mid = a.mid;
@@ -109,14 +109,14 @@ returns-in_err-opening-clause-outcome g c honest logged =
           let name = c.args.name.now in
           let old = a.mid in
           let new = (told_server (g.L.Link.line c.ask.new.self.wire.link)) in
-          let chosen = select_exchanged (c.args.self.now.tags + 1) name old still (Ok c.in_ok-len.len) c.ask.new.self.wire.heard.items new a.then in
+          let chosen = select_exchanged (c.args.self.now.tags + 1) name old still (Ok tt) c.ask.new.self.wire.heard.read new a.then in
           subst (λ (r : Result Chosen FarFault). Outcome (λ x. Selects name x.validity x.next) (NoMailbox name) (Chooses name) r old new) (sym (p.1 ∙ ap Err (p.2 ∙ c.in_err-opening.ensures.err)))
           (inr (effect_so name _ _ old new chosen));
     }
 
 pub returns-in_default-clause-outcome : goal.returns-in_default-clause-outcome
 returns-in_default-clause-outcome g c honest logged =
-    let a = c.in_ok-len.ensures.outcome honest in
+    let a = c.in_ok-ask.ensures.outcome honest in
     let still = ap (λ (c : Condition). is_logged_in c) a.visits.condition ∙ logged in
     record {
       mid = a.mid;
@@ -125,14 +125,14 @@ returns-in_default-clause-outcome g c honest logged =
           let name = c.args.name.now in
           let old = a.mid in
           let new = (told_server (g.L.Link.line c.ask.new.self.wire.link)) in
-          let chosen = select_exchanged (c.args.self.now.tags + 1) name old still (Ok c.in_ok-len.len) c.ask.new.self.wire.heard.items new a.then in
+          let chosen = select_exchanged (c.args.self.now.tags + 1) name old still (Ok tt) c.ask.new.self.wire.heard.read new a.then in
           let told = told_so name _ _ old new chosen c.in_ok-opening.opening c.in_ok-opening.ensures.told in
           c.in_default.not-Some _ (ap (λ (o : Opening). o.next) told);
     }
 
 pub returns-in_default-validity-clause-outcome : goal.returns-in_default-validity-clause-outcome
 returns-in_default-validity-clause-outcome g c honest logged =
-    let a = c.in_ok-len.ensures.outcome honest in
+    let a = c.in_ok-ask.ensures.outcome honest in
     let still = ap (λ (c : Condition). is_logged_in c) a.visits.condition ∙ logged in
     record {
       mid = a.mid;
@@ -141,7 +141,7 @@ returns-in_default-validity-clause-outcome g c honest logged =
           let name = c.args.name.now in
           let old = a.mid in
           let new = (told_server (g.L.Link.line c.ask.new.self.wire.link)) in
-          let chosen = select_exchanged (c.args.self.now.tags + 1) name old still (Ok c.in_ok-len.len) c.ask.new.self.wire.heard.items new a.then in
+          let chosen = select_exchanged (c.args.self.now.tags + 1) name old still (Ok tt) c.ask.new.self.wire.heard.read new a.then in
           let told = told_so name _ _ old new chosen c.in_ok-opening.opening c.in_ok-opening.ensures.told in
           c.in_default-validity.not-Some _ (ap (λ (o : Opening). o.validity) told);
     }
@@ -150,16 +150,16 @@ pub returns-then-opening-clause-outcome : goal.returns-then-opening-clause-outco
 returns-then-opening-clause-outcome g c =
     let name = c.args.name.now in
     let old = (told_server (g.L.Link.line c.args.self.now.wire.link)) in
-    subst (λ l. g.L.Link.honest l → is_logged_in old.condition ≡ true → Among g.L.Link.visitors (λ old new. ⊥) old (told_server (g.L.Link.line l))) (sym c.done.ensures.link)
+    subst (λ w. g.L.Link.honest w.link → is_logged_in old.condition ≡ true → Among g.L.Link.visitors (λ old new. ⊥) old (told_server (g.L.Link.line w.link))) (sym c.done.ensures.wire)
     (λ honest logged.
-    let a = c.in_ok-len.ensures.outcome honest in
+    let a = c.in_ok-ask.ensures.outcome honest in
     let still = ap (λ (c : Condition). is_logged_in c) a.visits.condition ∙ logged in
     record {
       mid = a.mid;
       visits = a.visits;
       then =
           let new = (told_server (g.L.Link.line c.ask.new.self.wire.link)) in
-          let chosen = select_exchanged (c.args.self.now.tags + 1) name a.mid still (Ok c.in_ok-len.len) c.ask.new.self.wire.heard.items new a.then in
+          let chosen = select_exchanged (c.args.self.now.tags + 1) name a.mid still (Ok tt) c.ask.new.self.wire.heard.read new a.then in
           let told = told_so name _ _ a.mid new chosen c.in_ok-opening.opening c.in_ok-opening.ensures.told in
           let both : false ≡ true = sym (ap (λ (o : Opening). o.is_read_only) told) ∙ c.if-opening.true in
           cc;
@@ -169,15 +169,15 @@ pub returns-clause-chosen : goal.returns-clause-chosen
 returns-clause-chosen g c =
     let name = c.args.name.now in
     let old = (told_server (g.L.Link.line c.args.self.now.wire.link)) in
-    subst (λ l. g.L.Link.honest l → Among g.L.Link.visitors (Selects name c.in-Some-validity.validity c.in-Some.next) old (told_server (g.L.Link.line l))) (sym c.done.ensures.link)
+    subst (λ w. g.L.Link.honest w.link → Among g.L.Link.visitors (Selects name c.in-Some-validity.validity c.in-Some.next) old (told_server (g.L.Link.line w.link))) (sym c.done.ensures.wire)
     (λ honest.
-    let a = c.in_ok-len.ensures.outcome honest in
+    let a = c.in_ok-ask.ensures.outcome honest in
     record {
       mid = a.mid;
       visits = a.visits;
       then =
           let new = (told_server (g.L.Link.line c.ask.new.self.wire.link)) in
-          let chosen = ok_chosen (c.args.self.now.tags + 1) name a.mid c.in_ok-len.len c.ask.new.self.wire.heard.items new a.then in
+          let chosen = ok_chosen (c.args.self.now.tags + 1) name a.mid tt c.ask.new.self.wire.heard.read new a.then in
           let told = told_so name _ _ a.mid new chosen c.in_ok-opening.opening c.in_ok-opening.ensures.told in
           selects_so name _ _ a.mid new chosen c.in-Some-validity.validity c.in-Some.next c.in_ok-opening.opening told c.in-Some-validity.is c.in-Some.is;
     })
@@ -186,16 +186,16 @@ pub returns-clause-outcome : goal.returns-clause-outcome
 returns-clause-outcome g c =
     let name = c.args.name.now in
     let old = (told_server (g.L.Link.line c.args.self.now.wire.link)) in
-    subst (λ l. g.L.Link.honest l → is_logged_in old.condition ≡ true → Among g.L.Link.visitors (Selects name c.in-Some-validity.validity c.in-Some.next) old (told_server (g.L.Link.line l))) (sym c.done.ensures.link)
+    subst (λ w. g.L.Link.honest w.link → is_logged_in old.condition ≡ true → Among g.L.Link.visitors (Selects name c.in-Some-validity.validity c.in-Some.next) old (told_server (g.L.Link.line w.link))) (sym c.done.ensures.wire)
     (λ honest logged.
-    let a = c.in_ok-len.ensures.outcome honest in
+    let a = c.in_ok-ask.ensures.outcome honest in
     let still = ap (λ (c : Condition). is_logged_in c) a.visits.condition ∙ logged in
     record {
       mid = a.mid;
       visits = a.visits;
       then =
           let new = (told_server (g.L.Link.line c.ask.new.self.wire.link)) in
-          let chosen = select_exchanged (c.args.self.now.tags + 1) name a.mid still (Ok c.in_ok-len.len) c.ask.new.self.wire.heard.items new a.then in
+          let chosen = select_exchanged (c.args.self.now.tags + 1) name a.mid still (Ok tt) c.ask.new.self.wire.heard.read new a.then in
           let told = told_so name _ _ a.mid new chosen c.in_ok-opening.opening c.in_ok-opening.ensures.told in
           selects_so name _ _ a.mid new chosen c.in-Some-validity.validity c.in-Some.next c.in_ok-opening.opening told c.in-Some-validity.is c.in-Some.is;
     })

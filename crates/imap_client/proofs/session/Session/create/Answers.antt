@@ -1,4 +1,4 @@
-use Rattle.std.proofs.Common.{◌≡◌, ℕ, ◌+◌, true, sym, ◌∙◌, ap, subst, Result, Ok, Err}
+use Rattle.std.proofs.Common.{◌≡◌, ◌+◌, true, sym, ◌∙◌, ap, subst, Result, Ok, Err}
 use Rattle.std.proofs.lemmas.Result.{err_from_is_err_and}
 use Rattle.imap_session.specs.Servers.{is_logged_in}
 use Rattle.imap_session.specs.Lines.{told_server}
@@ -11,35 +11,35 @@ use Rattle.imap_session.specs.Visits.{Among}
 use Rattle.imap_session.specs.Servers.{Condition}
 use Rattle.imap_client.proofs.session.Session.create.Goals as goal
 
-pub returns-in_err-len-clause-outcome : goal.returns-in_err-len-clause-outcome
-returns-in_err-len-clause-outcome g c honest logged =
-    let a = c.in_err-len.ensures.outcome honest in
+pub returns-in_err-ask-clause-outcome : goal.returns-in_err-ask-clause-outcome
+returns-in_err-ask-clause-outcome g c honest logged =
+    let a = c.in_err-ask.ensures.outcome honest in
     let still = ap (λ (c : Condition). is_logged_in c) a.visits.condition ∙ logged in
     record {
       mid = a.mid;
       visits = a.visits;
       then =
           let p = err_from_is_err_and c.from_residual.result c.from_residual.ensures.1 in
-          let f = c.in_err-len.field-0.0 in
+          let f = c.in_err-ask.field-0.0 in
           let name = c.args.name.now in
           let old = a.mid in
           let new = (told_server (g.L.Link.line c.ask.new.self.wire.link)) in
           subst (λ (r : Result (Unit {0}) FarFault). Outcome (λ x. Makes name) (CannotMake name) (Makes name) r old new) (sym (p.1 ∙ ap Err p.2))
-          (outcome_err ℕ (Unit {0}) (λ len. Makes name) (λ x. Makes name) (CannotMake name) (Makes name) old new f
-          (create_exchanged (c.args.self.now.tags + 1) name old still (Err f) c.ask.new.self.wire.heard.items new a.then));
+          (outcome_err (Unit {0}) (Unit {0}) (λ _. Makes name) (λ x. Makes name) (CannotMake name) (Makes name) old new f
+          (create_exchanged (c.args.self.now.tags + 1) name old still (Err f) c.ask.new.self.wire.heard.read new a.then));
     }
 
 pub returns-clause-outcome : goal.returns-clause-outcome
 returns-clause-outcome g c =
     let name = c.args.name.now in
     let old = (told_server (g.L.Link.line c.args.self.now.wire.link)) in
-    subst (λ l. g.L.Link.honest l → is_logged_in old.condition ≡ true → Among g.L.Link.visitors (Makes name) old (told_server (g.L.Link.line l))) (sym c.done.ensures.link)
+    subst (λ w. g.L.Link.honest w.link → is_logged_in old.condition ≡ true → Among g.L.Link.visitors (Makes name) old (told_server (g.L.Link.line w.link))) (sym c.done.ensures.wire)
     (λ honest logged.
-    let a = c.in_ok-len.ensures.outcome honest in
+    let a = c.in_ok-ask.ensures.outcome honest in
     let still = ap (λ (c : Condition). is_logged_in c) a.visits.condition ∙ logged in
     record {
       mid = a.mid;
       visits = a.visits;
       then =
-          create_exchanged (c.args.self.now.tags + 1) name a.mid still (Ok c.in_ok-len.len) c.ask.new.self.wire.heard.items (told_server (g.L.Link.line c.ask.new.self.wire.link)) a.then;
+          create_exchanged (c.args.self.now.tags + 1) name a.mid still (Ok tt) c.ask.new.self.wire.heard.read (told_server (g.L.Link.line c.ask.new.self.wire.link)) a.then;
     })

@@ -4,7 +4,7 @@ use Rattle.imap_replies.specs.declared.word.Status.TheVariants as statuses
 use Rattle.imap_session.specs.Servers.{is_logged_in}
 use Rattle.imap_session.specs.Lines.{told_server}
 use Rattle.imap_link.specs.declared.fault.FarFault.{FarFault}
-use Rattle.imap_link.specs.declared.wire.Answered.{Answered}
+use Rattle.imap_replies.specs.declared.word.Status.{Status}
 use Rattle.imap_link.specs.Outcomes.{Outcome, Never}
 use Rattle.imap_client.specs.Logins.{Remains}
 use Rattle.imap_client.specs.States.{EndsSo}
@@ -17,60 +17,58 @@ use Rattle.imap_session.specs.Visits.{Among}
 use Rattle.imap_session.specs.Servers.{Condition}
 use Rattle.imap_client.proofs.session.Session.enable.Goals as goal
 
-pub returns-in_err-answered-clause-heard : goal.returns-in_err-answered-clause-heard
-returns-in_err-answered-clause-heard g c =
+pub returns-in_err-status-clause-heard : goal.returns-in_err-status-clause-heard
+returns-in_err-status-clause-heard g c =
     let p = err_from_is_err_and c.from_residual.result c.from_residual.ensures.1 in
     let n = c.args.self.now.tags + 1 in
     let old = c.args.self.now.transcript in
     let new = c.ask_status.new.self.transcript in
     subst (λ (r : Result (Unit {0}) FarFault). EndsBy (of_enable n) r old new) (sym (p.1 ∙ ap Err p.2))
-    (unheard (Unit {0}) (of_enable n) c.ask_status.new.self.wire.heard.items old new c.in_err-answered.field-0.0 c.in_err-answered.ensures.heard)
+    (unheard (Unit {0}) (of_enable n) c.ask_status.new.self.wire.heard.read old new c.in_err-status.field-0.0 c.in_err-status.ensures.heard)
 
 pub returns-in_default-clause-heard : goal.returns-in_default-clause-heard
 returns-in_default-clause-heard g c =
-    let a = c.in_ok-answered.answered in
-    let e = c.in_ok-answered.ensures in
-    declines_so (c.args.self.now.tags + 1) a.len (tag_text c.ask_status.new.self.tags) (ap tag_text e.asked.tags) a.status c.ask_status.new.self.wire.heard.items e.answer.1 c.args.self.now.transcript c.ask_status.new.self.transcript
+    let e = c.in_ok-status.ensures in
+    declines_so (c.args.self.now.tags + 1) (tag_text c.ask_status.new.self.tags) (ap tag_text e.asked.tags) c.in_ok-status.status c.ask_status.new.self.wire.heard.read e.answer c.args.self.now.transcript c.ask_status.new.self.transcript
     e.heard c.in_default.not-Ok
 
 pub returns-in-Ok-clause-heard : goal.returns-in-Ok-clause-heard
 returns-in-Ok-clause-heard g c =
     let n = c.args.self.now.tags + 1 in
-    let a = c.in_ok-answered.answered in
-    let e = c.in_ok-answered.ensures in
+    let e = c.in_ok-status.ensures in
     let old = c.args.self.now.transcript in
     subst (λ (t : List (List ℕ)). Hears (Answers n statuses.Ok) old t) (sym c.done.ensures.transcript)
-    (answers_so n a.len (tag_text c.ask_status.new.self.tags) (ap tag_text e.asked.tags) a.status c.ask_status.new.self.wire.heard.items e.answer.1 old c.ask_status.new.self.transcript e.heard statuses.Ok c.in-Ok.is)
+    (answers_so n (tag_text c.ask_status.new.self.tags) (ap tag_text e.asked.tags) c.in_ok-status.status c.ask_status.new.self.wire.heard.read e.answer old c.ask_status.new.self.transcript e.heard statuses.Ok c.in-Ok.is)
 
-pub returns-in_err-answered-clause-ends : goal.returns-in_err-answered-clause-ends
-returns-in_err-answered-clause-ends g c =
+pub returns-in_err-status-clause-ends : goal.returns-in_err-status-clause-ends
+returns-in_err-status-clause-ends g c =
     let p = err_from_is_err_and c.from_residual.result c.from_residual.ensures.1 in
     let was = c.args.self.now in
     let now = c.ask_status.new.self in
-    let old = state_of_parts was.is_ready was.tags (g.L.Link.stops was.wire.link) was.wire.heard.items in
-    let new = state_of_parts now.is_ready now.tags (g.L.Link.stops now.wire.link) now.wire.heard.items in
-    subst (λ (r : Result (Unit {0}) FarFault). EndsSo 1 old new r) (sym (p.1 ∙ ap Err p.2)) (asked_ends Answered (Unit {0}) old new c.in_err-answered.field-0.0 c.in_err-answered.ensures.asked)
+    let old = state_of_parts was.is_ready was.tags (g.L.Link.stops was.wire.link) was.wire.heard.read in
+    let new = state_of_parts now.is_ready now.tags (g.L.Link.stops now.wire.link) now.wire.heard.read in
+    subst (λ (r : Result (Unit {0}) FarFault). EndsSo 1 old new r) (sym (p.1 ∙ ap Err p.2)) (asked_ends Status (Unit {0}) old new c.in_err-status.field-0.0 c.in_err-status.ensures.asked)
 
-pub returns-in_err-answered-clause-outcome : goal.returns-in_err-answered-clause-outcome
-returns-in_err-answered-clause-outcome g c honest logged =
-    let a = c.in_err-answered.ensures.outcome honest in
+pub returns-in_err-status-clause-outcome : goal.returns-in_err-status-clause-outcome
+returns-in_err-status-clause-outcome g c honest logged =
+    let a = c.in_err-status.ensures.outcome honest in
     let still = ap (λ (c : Condition). is_logged_in c) a.visits.condition ∙ logged in
     record {
       mid = a.mid;
       visits = a.visits;
       then =
           let p = err_from_is_err_and c.from_residual.result c.from_residual.ensures.1 in
-          let f = c.in_err-answered.field-0.0 in
+          let f = c.in_err-status.field-0.0 in
           let old = a.mid in
           let new = (told_server (g.L.Link.line c.ask_status.new.self.wire.link)) in
           subst (λ (r : Result (Unit {0}) FarFault). Outcome (λ x. Remains) Never Remains r old new) (sym (p.1 ∙ ap Err p.2))
-          (outcome_err Answered (Unit {0}) (λ a s t. (a.status ≡ statuses.Ok) × Remains s t) (λ x. Remains) Never Remains old new f
-          (enable_answered (c.args.self.now.tags + 1) old still (Err f) c.ask_status.new.self.wire.heard.items new a.then));
+          (outcome_err Status (Unit {0}) (λ a s t. (a ≡ statuses.Ok) × Remains s t) (λ x. Remains) Never Remains old new f
+          (enable_answered (c.args.self.now.tags + 1) old still (Err f) c.ask_status.new.self.wire.heard.read new a.then));
     }
 
 pub returns-in_default-clause-outcome : goal.returns-in_default-clause-outcome
 returns-in_default-clause-outcome g c honest logged =
-    let a = c.in_ok-answered.ensures.outcome honest in
+    let a = c.in_ok-status.ensures.outcome honest in
     let still = ap (λ (c : Condition). is_logged_in c) a.visits.condition ∙ logged in
     record {
       mid = a.mid;
@@ -78,21 +76,21 @@ returns-in_default-clause-outcome g c honest logged =
       then =
           let old = a.mid in
           let new = (told_server (g.L.Link.line c.ask_status.new.self.wire.link)) in
-          let told = enable_answered (c.args.self.now.tags + 1) old still (Ok c.in_ok-answered.answered) c.ask_status.new.self.wire.heard.items new a.then in
+          let told = enable_answered (c.args.self.now.tags + 1) old still (Ok c.in_ok-status.status) c.ask_status.new.self.wire.heard.read new a.then in
           c.in_default.not-Ok told.0;
     }
 
 pub returns-in-Ok-clause-outcome : goal.returns-in-Ok-clause-outcome
 returns-in-Ok-clause-outcome g c =
     let old = (told_server (g.L.Link.line c.args.self.now.wire.link)) in
-    subst (λ l. g.L.Link.honest l → is_logged_in old.condition ≡ true → Among g.L.Link.visitors (λ old new. Remains old new) old (told_server (g.L.Link.line l))) (sym c.done.ensures.link)
+    subst (λ w. g.L.Link.honest w.link → is_logged_in old.condition ≡ true → Among g.L.Link.visitors (λ old new. Remains old new) old (told_server (g.L.Link.line w.link))) (sym c.done.ensures.wire)
     (λ honest logged.
-    let a = c.in_ok-answered.ensures.outcome honest in
+    let a = c.in_ok-status.ensures.outcome honest in
     let still = ap (λ (c : Condition). is_logged_in c) a.visits.condition ∙ logged in
     record {
       mid = a.mid;
       visits = a.visits;
       then =
-          let told = enable_answered (c.args.self.now.tags + 1) a.mid still (Ok c.in_ok-answered.answered) c.ask_status.new.self.wire.heard.items (told_server (g.L.Link.line c.ask_status.new.self.wire.link)) a.then in
+          let told = enable_answered (c.args.self.now.tags + 1) a.mid still (Ok c.in_ok-status.status) c.ask_status.new.self.wire.heard.read (told_server (g.L.Link.line c.ask_status.new.self.wire.link)) a.then in
           told.1;
     })

@@ -5,7 +5,7 @@ use Rattle.imap_replies.specs.declared.word.Status.TheVariants as statuses
 use Rattle.imap_session.specs.Lines.{told_server}
 use Rattle.exchange_laws.specs.Ends.{ends_of}
 use Rattle.imap_link.specs.declared.fault.FarFault.{FarFault}
-use Rattle.imap_link.specs.declared.wire.Answered.{Answered}
+use Rattle.imap_replies.specs.declared.word.Status.{Status}
 use Rattle.imap_link.specs.Outcomes.{Outcome, Never}
 use Rattle.imap_client.specs.Leaving.{Leaves, LeftSo}
 use Rattle.imap_client.proofs.Changed.{outcome_err}
@@ -19,81 +19,81 @@ use Rattle.std.proofs.Common.{inl, refl}
 use Rattle.imap_client.proofs.Visited.{unsent}
 use Rattle.imap_client.proofs.session.Session.leave.Goals as goal
 
-pub returns-in_err-answered-clause-left : goal.returns-in_err-answered-clause-left
-returns-in_err-answered-clause-left g c =
-    let p = err_from_is_err_and c.from_residual-in_err-answered.result c.from_residual-in_err-answered.ensures.1 in
-    let f = c.in_err-answered.field-0.0 in
+pub returns-in_err-status-clause-left : goal.returns-in_err-status-clause-left
+returns-in_err-status-clause-left g c =
+    let p = err_from_is_err_and c.from_residual-in_err-status.result c.from_residual-in_err-status.ensures.1 in
+    let f = c.in_err-status.field-0.0 in
     let was = c.args.self.now in
-    let old = state_at was.is_ready was.tags (g.L.Link.stops was.wire.link) was.wire.heard.items in
-    let new = state_at was.is_ready was.tags (g.L.Link.stops c.finish.new.self.link) c.finish.new.self.heard.items in
+    let old = state_at was.is_ready was.tags (g.L.Link.stops was.wire.link) was.wire.heard.read in
+    let new = state_at was.is_ready was.tags (g.L.Link.stops c.finish.new.self.link) c.finish.new.self.heard.read in
     subst (λ (r : Result (Unit {0}) FarFault). LeftSo c.args.command.now.tag old new r) (sym (p.1 ∙ ap Err p.2))
-    (left_err (Unit {0}) c.args.command.now.tag old new f c.in_err-answered.ensures.known (λ e. c.in_err-answered.ensures.stopped (ap Err e)))
+    (left_err (Unit {0}) c.args.command.now.tag old new f c.in_err-status.ensures.known (λ e. c.in_err-status.ensures.stopped (ap Err e)))
 
-pub returns-in_err-answered-clause-outcome : goal.returns-in_err-answered-clause-outcome
-returns-in_err-answered-clause-outcome g c honest =
-    let p = err_from_is_err_and c.from_residual-in_err-answered.result c.from_residual-in_err-answered.ensures.1 in
-    let f = c.in_err-answered.field-0.0 in
+pub returns-in_err-status-clause-outcome : goal.returns-in_err-status-clause-outcome
+returns-in_err-status-clause-outcome g c honest =
+    let p = err_from_is_err_and c.from_residual-in_err-status.result c.from_residual-in_err-status.ensures.1 in
+    let f = c.in_err-status.field-0.0 in
     let command = c.args.command.now in
     let new = (told_server (g.L.Link.line c.finish.new.self.link)) in
-    let heard = c.finish.new.self.heard.items in
-    let completes = logout_completes command c.requires.logout c.answer_alone.result c.deref.result.now c.answer_alone.ensures (subst (Written command) (sym c.deref.ensures.value) c.in_ok-text.ensures) in
-    let at = idle_of (ends_of (g.L.Link.line c.args.self.now.wire.link) c.args.self.now.wire.heard.items) (c.requires.idle (c.in_err-answered.ensures.was_honest honest)) in
-    let a = c.in_err-answered.ensures.outcome honest in
+    let heard = c.finish.new.self.heard.read in
+    let completes = logout_completes command c.requires.logout c.answer_alone-uses.result c.deref.result.now c.answer_alone-uses.ensures (subst (Written command) (sym c.deref.ensures.value) c.in_ok-text.ensures) in
+    let at = idle_of (ends_of (g.L.Link.line c.args.self.now.wire.link) c.args.self.now.wire.heard.unread) (c.requires.idle (c.in_err-status.ensures.was_honest honest)) in
+    let a = c.in_err-status.ensures.outcome honest in
     let old = told a.mid in
     record {
       mid = old;
       visits = both_told g.L.Link.visitors (g.L.Link.line c.args.self.now.wire.link).end.server a.mid a.visits;
       then =
           subst (λ (r : Result (Unit {0}) FarFault). Outcome (λ x. Leaves) Never Leaves r old new) (sym (p.1 ∙ ap Err p.2))
-          (outcome_err Answered (Unit {0}) (λ a s t. (a.status ≡ statuses.Ok) × Leaves s t) (λ x. Leaves) Never Leaves old new f
-          (left_answered command c.requires.logout old (Err f) heard new (a.then command [] completes (at_then g.L.Link.visitors [] (g.L.Link.line c.args.self.now.wire.link) c.args.self.now.wire.heard.items a.mid a.visits at))));
+          (outcome_err Status (Unit {0}) (λ a s t. (a ≡ statuses.Ok) × Leaves s t) (λ x. Leaves) Never Leaves old new f
+          (left_answered command c.requires.logout old (Err f) heard new (a.then command [] completes (at_then g.L.Link.visitors [] (g.L.Link.line c.args.self.now.wire.link) c.args.self.now.wire.heard.unread a.mid a.visits at))));
     }
 
 pub returns-in-Ok-clause-outcome : goal.returns-in-Ok-clause-outcome
 returns-in-Ok-clause-outcome g c honest =
     let command = c.args.command.now in
     let new = (told_server (g.L.Link.line c.finish.new.self.link)) in
-    let completes = logout_completes command c.requires.logout c.answer_alone.result c.deref.result.now c.answer_alone.ensures (subst (Written command) (sym c.deref.ensures.value) c.in_ok-text.ensures) in
-    let at = idle_of (ends_of (g.L.Link.line c.args.self.now.wire.link) c.args.self.now.wire.heard.items) (c.requires.idle (c.in_ok-answered.ensures.was_honest honest)) in
-    let a = c.in_ok-answered.ensures.outcome honest in
+    let completes = logout_completes command c.requires.logout c.answer_alone-uses.result c.deref.result.now c.answer_alone-uses.ensures (subst (Written command) (sym c.deref.ensures.value) c.in_ok-text.ensures) in
+    let at = idle_of (ends_of (g.L.Link.line c.args.self.now.wire.link) c.args.self.now.wire.heard.unread) (c.requires.idle (c.in_ok-status.ensures.was_honest honest)) in
+    let a = c.in_ok-status.ensures.outcome honest in
     let old = told a.mid in
     record {
       mid = old;
       visits = both_told g.L.Link.visitors (g.L.Link.line c.args.self.now.wire.link).end.server a.mid a.visits;
       then =
-          (left_answered command c.requires.logout old (Ok c.in_ok-answered.answered) c.finish.new.self.heard.items new (a.then command [] completes (at_then g.L.Link.visitors [] (g.L.Link.line c.args.self.now.wire.link) c.args.self.now.wire.heard.items a.mid a.visits at))).1;
+          (left_answered command c.requires.logout old (Ok c.in_ok-status.status) c.finish.new.self.heard.read new (a.then command [] completes (at_then g.L.Link.visitors [] (g.L.Link.line c.args.self.now.wire.link) c.args.self.now.wire.heard.unread a.mid a.visits at))).1;
     }
 
 pub returns-in-No-clause-outcome : goal.returns-in-No-clause-outcome
 returns-in-No-clause-outcome g c honest =
     let command = c.args.command.now in
     let new = (told_server (g.L.Link.line c.finish.new.self.link)) in
-    let completes = logout_completes command c.requires.logout c.answer_alone.result c.deref.result.now c.answer_alone.ensures (subst (Written command) (sym c.deref.ensures.value) c.in_ok-text.ensures) in
-    let at = idle_of (ends_of (g.L.Link.line c.args.self.now.wire.link) c.args.self.now.wire.heard.items) (c.requires.idle (c.in_ok-answered.ensures.was_honest honest)) in
-    let a = c.in_ok-answered.ensures.outcome honest in
+    let completes = logout_completes command c.requires.logout c.answer_alone-uses.result c.deref.result.now c.answer_alone-uses.ensures (subst (Written command) (sym c.deref.ensures.value) c.in_ok-text.ensures) in
+    let at = idle_of (ends_of (g.L.Link.line c.args.self.now.wire.link) c.args.self.now.wire.heard.unread) (c.requires.idle (c.in_ok-status.ensures.was_honest honest)) in
+    let a = c.in_ok-status.ensures.outcome honest in
     let old = told a.mid in
     record {
       mid = old;
       visits = both_told g.L.Link.visitors (g.L.Link.line c.args.self.now.wire.link).end.server a.mid a.visits;
       then =
-          no_is_not c.in_ok-answered.answered.status c.in-No.is
-          (left_answered command c.requires.logout old (Ok c.in_ok-answered.answered) c.finish.new.self.heard.items new (a.then command [] completes (at_then g.L.Link.visitors [] (g.L.Link.line c.args.self.now.wire.link) c.args.self.now.wire.heard.items a.mid a.visits at))).0;
+          no_is_not c.in_ok-status.status c.in-No.is
+          (left_answered command c.requires.logout old (Ok c.in_ok-status.status) c.finish.new.self.heard.read new (a.then command [] completes (at_then g.L.Link.visitors [] (g.L.Link.line c.args.self.now.wire.link) c.args.self.now.wire.heard.unread a.mid a.visits at))).0;
     }
 
 pub returns-clause-outcome : goal.returns-clause-outcome
 returns-clause-outcome g c honest =
     let command = c.args.command.now in
     let new = (told_server (g.L.Link.line c.finish.new.self.link)) in
-    let completes = logout_completes command c.requires.logout c.answer_alone.result c.deref.result.now c.answer_alone.ensures (subst (Written command) (sym c.deref.ensures.value) c.in_ok-text.ensures) in
-    let at = idle_of (ends_of (g.L.Link.line c.args.self.now.wire.link) c.args.self.now.wire.heard.items) (c.requires.idle (c.in_ok-answered.ensures.was_honest honest)) in
-    let a = c.in_ok-answered.ensures.outcome honest in
+    let completes = logout_completes command c.requires.logout c.answer_alone-uses.result c.deref.result.now c.answer_alone-uses.ensures (subst (Written command) (sym c.deref.ensures.value) c.in_ok-text.ensures) in
+    let at = idle_of (ends_of (g.L.Link.line c.args.self.now.wire.link) c.args.self.now.wire.heard.unread) (c.requires.idle (c.in_ok-status.ensures.was_honest honest)) in
+    let a = c.in_ok-status.ensures.outcome honest in
     let old = told a.mid in
     record {
       mid = old;
       visits = both_told g.L.Link.visitors (g.L.Link.line c.args.self.now.wire.link).end.server a.mid a.visits;
       then =
-          bad_is_not c.in_ok-answered.answered.status c.in-Bad.is
-          (left_answered command c.requires.logout old (Ok c.in_ok-answered.answered) c.finish.new.self.heard.items new (a.then command [] completes (at_then g.L.Link.visitors [] (g.L.Link.line c.args.self.now.wire.link) c.args.self.now.wire.heard.items a.mid a.visits at))).0;
+          bad_is_not c.in_ok-status.status c.in-Bad.is
+          (left_answered command c.requires.logout old (Ok c.in_ok-status.status) c.finish.new.self.heard.read new (a.then command [] completes (at_then g.L.Link.visitors [] (g.L.Link.line c.args.self.now.wire.link) c.args.self.now.wire.heard.unread a.mid a.visits at))).0;
     }
 
 pub returns-in_err-text-clause-outcome : goal.returns-in_err-text-clause-outcome

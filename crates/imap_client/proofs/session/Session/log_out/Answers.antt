@@ -1,4 +1,4 @@
-use Rattle.std.proofs.Common.{◌≡◌, ◌∙◌, ◌+◌, ap, inl, refl, subst, sym, Err}
+use Rattle.std.proofs.Common.{◌∙◌, ap, inl, refl, subst, sym, Err}
 use Rattle.std.proofs.lemmas.Result.{err_from_is_err_and}
 use Rattle.imap_session.specs.Lines.{told_server}
 use Rattle.imap_session.specs.Visits.{Among}

@@ -73,8 +73,8 @@ returns-in_err-ask_abilities-clause-ends g c =
     let f = c.in_err-ask_abilities.field-0.0 in
     let was = c.args.self.now in
     let now = c.ask_abilities.new.self in
-    let old = state_of_parts was.is_ready was.tags (g.L.Link.stops was.wire.link) was.wire.heard.items in
-    let new = state_of_parts now.is_ready now.tags (g.L.Link.stops now.wire.link) now.wire.heard.items in
+    let old = state_of_parts was.is_ready was.tags (g.L.Link.stops was.wire.link) was.wire.heard.read in
+    let new = state_of_parts now.is_ready now.tags (g.L.Link.stops now.wire.link) now.wire.heard.read in
     subst (λ (r : Result (Unit {0}) FarFault). EndsSo 3 old new r) (sym (p.1 ∙ ap Err p.2)) (ends_more (Unit {0}) (Unit {0}) 1 3 old new f (omega arith) c.in_err-ask_abilities.ensures.ends)
 
 pub returns-in_err-authenticate-clause-outcome : goal.returns-in_err-authenticate-clause-outcome
@@ -101,9 +101,9 @@ returns-in_err-authenticate-clause-ends g c =
     let was = c.args.self.now in
     let then = c.ask_abilities.new.self in
     let now = c.authenticate.new.self in
-    let old = state_of_parts was.is_ready was.tags (g.L.Link.stops was.wire.link) was.wire.heard.items in
-    let mid = state_of_parts then.is_ready then.tags (g.L.Link.stops then.wire.link) then.wire.heard.items in
-    let new = state_of_parts now.is_ready now.tags (g.L.Link.stops now.wire.link) now.wire.heard.items in
+    let old = state_of_parts was.is_ready was.tags (g.L.Link.stops was.wire.link) was.wire.heard.read in
+    let mid = state_of_parts then.is_ready then.tags (g.L.Link.stops then.wire.link) then.wire.heard.read in
+    let new = state_of_parts now.is_ready now.tags (g.L.Link.stops now.wire.link) now.wire.heard.read in
     subst (λ (r : Result (Unit {0}) FarFault). EndsSo 3 old new r) (sym (p.1 ∙ ap Err p.2))
     (ends_more (Unit {0}) (Unit {0}) 2 3 old new f (omega arith) (then_ends (Unit {0}) 1 1 old mid new (Err f) c.in_ok-ask_abilities.ensures.ends c.in_err-authenticate.ensures.ends))
 
@@ -129,8 +129,8 @@ returns-clause-ends g c =
     let then = c.ask_abilities.new.self in
     let late = c.authenticate.new.self in
     let now = c.enable.new.self in
-    let old = state_of_parts was.is_ready was.tags (g.L.Link.stops was.wire.link) was.wire.heard.items in
-    let mid = state_of_parts then.is_ready then.tags (g.L.Link.stops then.wire.link) then.wire.heard.items in
-    let last = state_of_parts late.is_ready late.tags (g.L.Link.stops late.wire.link) late.wire.heard.items in
-    let new = state_of_parts now.is_ready now.tags (g.L.Link.stops now.wire.link) now.wire.heard.items in
+    let old = state_of_parts was.is_ready was.tags (g.L.Link.stops was.wire.link) was.wire.heard.read in
+    let mid = state_of_parts then.is_ready then.tags (g.L.Link.stops then.wire.link) then.wire.heard.read in
+    let last = state_of_parts late.is_ready late.tags (g.L.Link.stops late.wire.link) late.wire.heard.read in
+    let new = state_of_parts now.is_ready now.tags (g.L.Link.stops now.wire.link) now.wire.heard.read in
     then_ends (Unit {0}) 1 2 old mid new c.enable.result c.in_ok-ask_abilities.ensures.ends (then_ends (Unit {0}) 1 1 mid last new c.enable.result c.in_ok-authenticate.ensures.ends c.enable.ensures.ends)

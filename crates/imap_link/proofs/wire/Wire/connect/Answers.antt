@@ -1,12 +1,11 @@
-use Rattle.std.proofs.Common.{◌≡◌, ◌⊎◌, inr, arith, sym, subst, Result, Err, List, ℕ, [], drop}
+use Rattle.std.proofs.Common.{◌≡◌, ◌∙◌, inr, arith, ap, sym, subst, Result, Err}
 use Rattle.std.proofs.lemmas.Result.{err_from_is_err_and}
 use Rattle.imap_session.specs.Lines.{told_server}
-use Rattle.exchange_laws.specs.Ends.{ends_of, IsAt}
+use Rattle.exchange_laws.specs.Ends.{ends_of}
+use Rattle.reply_buf.specs.Buffers.{Buffer}
 use Rattle.imap_link.specs.declared.fault.FarFault.{FarFault}
 use Rattle.imap_link.specs.declared.fault.FarFault.TheVariants.{Stopped, Protocol}
-use Rattle.imap_link.specs.declared.front.Kind.{Kind}
 use Rattle.imap_link.specs.Faults.{IsStop}
-use Rattle.imap_link.specs.Buffers.{Begins, IsFaulty, Keeps}
 use Rattle.imap_link.specs.Outcomes.{Outcome, Never}
 use Rattle.imap_link.specs.Exchanges.{Restarts}
 use Rattle.imap_link.proofs.Exits.{only_stop}
@@ -23,22 +22,18 @@ returns-in_err-kind-clause-outcome g c honest =
     let mid = g.L.Link.line c.reconnect.new.self in
     let new = g.L.Link.line c.hear.new.self.link in
     let starts = c.in_ok-reconnect.ensures.ok was in
-    let none = c.clear.ensures.items in
-    let stop = only_stop f _ (greets_well old mid starts) (subst (λ (l : List ℕ). IsStop f ⊎ IsFaulty (drop 0 (ends_of mid l).coming)) none (c.in_err-kind.ensures.fault honest)) in
+    let stop = only_stop f _ (greets_well old mid starts c.new.result.unread (ap (λ (b : Buffer). b.unread) c.new.ensures)) (c.in_err-kind.ensures.fault honest) in
     subst (λ (r : Result (Unit {0}) FarFault). Outcome (λ _. Restarts) Never Restarts r (told_server old) (told_server new)) (sym p.1)
     (stop_outcome {T = Unit {0}} (λ _. Restarts) Never Restarts p.0 (told_server old) (told_server new) (subst IsStop (sym p.2) stop) (inr (restarts old mid starts new.end.server (c.in_err-kind.ensures.quiet honest))))
 
 pub returns-in-Hello-clause-idle : goal.returns-in-Hello-clause-idle
-returns-in-Hello-clause-idle g c =
-    subst (λ l. g.L.Link.honest l → IsAt [] (ends_of (g.L.Link.line l) c.forget.new.self.heard.items)) (sym c.forget.ensures.link) (λ honest.
-    subst (λ (x : List ℕ). IsAt [] (ends_of (g.L.Link.line c.hear.new.self.link) x)) (sym c.forget.ensures.heard)
-    (greeted_idle (g.L.Link.line c.args.self.now.link) (g.L.Link.line c.reconnect.new.self) (c.in_ok-reconnect.ensures.ok (c.in_ok-kind.ensures.was_honest honest)) c.args.tag.now c.in_ok-kind.kind
-    (g.L.Link.line c.hear.new.self.link) c.hear.new.self.heard.items c.in_ok-kind.len c.in_ok-kind.ensures.heard.begins
-    (subst (λ (x : List ℕ). Keeps (ends_of (g.L.Link.line c.reconnect.new.self) x) (ends_of (g.L.Link.line c.hear.new.self.link) c.hear.new.self.heard.items)) c.clear.ensures.items (c.in_ok-kind.ensures.same honest))))
+returns-in-Hello-clause-idle g c honest =
+    greeted_idle (g.L.Link.line c.args.self.now.link) (g.L.Link.line c.reconnect.new.self) (c.in_ok-reconnect.ensures.ok (c.in_ok-kind.ensures.was_honest honest)) c.new.result.unread (ap (λ (b : Buffer). b.unread) c.new.ensures)
+    (ends_of (g.L.Link.line c.hear.new.self.link) c.hear.new.self.heard.unread) c.in_ok-kind.field-0-2 c.new.result.read c.hear.new.self.heard.read (g.L.Link.honest c.hear.new.self.link) c.in_ok-kind.ensures.heard.whole honest
 
 pub returns-in-Bye-clause-stopped : goal.returns-in-Bye-clause-stopped
 returns-in-Bye-clause-stopped g c stopped =
-    inr (says_bye c.args.tag.now c.hear.new.self.heard.items c.in_ok-kind.len (subst (λ (k : Kind). Begins c.args.tag.now k c.hear.new.self.heard.items c.in_ok-kind.len) c.in-Bye.is c.in_ok-kind.ensures.heard.begins))
+    inr (says_bye c.args.tag.now c.in_ok-kind.field-0-2 _ c.new.result.read c.hear.new.self.heard.read c.in_ok-kind.ensures.heard.whole (ap (λ (b : Buffer). b.read) c.new.ensures) (c.in_ok-kind.ensures.heard.is ∙ c.in-Bye.is))
 
 apart : (let r : Result (Unit {0}) FarFault = Err Protocol in r) ≡ Err Stopped → ⊥
 apart e = cc
@@ -50,9 +45,9 @@ returns-in_default g c = record {
   steady = tt;
   outcome = λ honest.
       absurd (c.in_default.not-Hello
-      (greets_so (g.L.Link.line c.args.self.now.link) (g.L.Link.line c.reconnect.new.self) (c.in_ok-reconnect.ensures.ok (c.in_ok-kind.ensures.was_honest honest)) c.args.tag.now c.in_ok-kind.kind
-      (g.L.Link.line c.hear.new.self.link) c.hear.new.self.heard.items c.in_ok-kind.len c.in_ok-kind.ensures.heard.begins
-      (subst (λ (x : List ℕ). Keeps (ends_of (g.L.Link.line c.reconnect.new.self) x) (ends_of (g.L.Link.line c.hear.new.self.link) c.hear.new.self.heard.items)) c.clear.ensures.items (c.in_ok-kind.ensures.same honest))));
+      (greets_so (g.L.Link.line c.args.self.now.link) (g.L.Link.line c.reconnect.new.self) (c.in_ok-reconnect.ensures.ok (c.in_ok-kind.ensures.was_honest honest)) c.new.result.unread (ap (λ (b : Buffer). b.unread) c.new.ensures)
+      (ends_of (g.L.Link.line c.hear.new.self.link) c.hear.new.self.heard.unread) c.in_ok-kind.field-0-2 c.new.result.read c.hear.new.self.heard.read (g.L.Link.honest c.hear.new.self.link) c.in_ok-kind.ensures.heard.whole honest
+      c.args.tag.now c.in_ok-kind.kind c.in_ok-kind.ensures.heard.is));
   idle = tt;
   known = tt;
   stopped = λ e. absurd (apart e);

@@ -1,9 +1,0 @@
-use Rattle.std.proofs.Common.{◌++◌, map, sym, ◌∙◌, ap, append-nil}
-use Rattle.std.specs.Map.{keys_of}
-use Rattle.imap_answers.proofs.Listed.{rising_by_keys}
-use Rattle.imap_answers.proofs.items.items_of.Goals as goal
-
-pub from_vec-requires : goal.from_vec-requires
-from_vec-requires c =
-    let all = sym (append-nil (map (λ i. i.uid) c.loop-uid.items.items)) ∙ sym (ap (λ es. map (λ i. i.uid) c.loop-uid.items.items ++ keys_of es) c.in-None.ensures.steps.0) ∙ c.loop-uid.invariant.1 in
-    rising_by_keys c.loop-uid.items.items _ all c.len.ensures.ordered

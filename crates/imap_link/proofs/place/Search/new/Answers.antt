@@ -1,6 +1,0 @@
-use Rattle.std.proofs.Common.{arith}
-use Rattle.imap_link.proofs.Searched.{none_empty}
-use Rattle.imap_link.proofs.place.Search.new.Goals as goal
-
-pub returns : goal.returns
-returns c = λ bytes. record { within = omega arith; scanner_is = c.new.ensures; none = none_empty }

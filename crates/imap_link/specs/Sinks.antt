@@ -1,0 +1,12 @@
+-- Who is told replies as they are heard.
+use Rattle.std.specs.Prelude.{List, filter}
+use Rattle.imap_replies.specs.declared.reply.Reply.{Reply}
+use Rattle.imap_link.specs.UsedReplies.{messages_read, is_used}
+
+-- those of the replies that tell of messages, `+` and tagged ones
+abbrev pub telling : List Reply → List Reply
+telling replies = filter (is_used messages_read) replies
+
+-- nothing is said of them
+abbrev pub any_replies : List Reply → Type 0
+any_replies replies = Unit {0}

@@ -1,0 +1,41 @@
+//! Who is told what a server says of messages, reply by reply as it is heard.
+
+ghost use Rattle.std.specs.Prelude.{◌++◌, ◌∷◌, [], List, OnOk};
+ghost use Rattle.imap_replies.specs.declared.reply.Reply.{Reply};
+ghost use Rattle.imap_link.specs.Sinks.{telling};
+
+use imap_replies::reply::Reply;
+use std::alloc::AllocError;
+
+/// Who is told the replies to a command, one after another, as they are heard. It takes what it needs of each, so that no reply
+/// has to be kept.
+pub trait ReplySink {
+    /// Told these replies, in this order, the first became the second: FETCH replies, `+` and tagged ones. Others say nothing of
+    /// messages.
+    ghost took: { Self → List Reply → Self → Type 0 };
+
+    /// Told nothing, it stays as it is.
+    ghost none: { (sink : Self) → took sink [] sink };
+
+    /// Takes one reply more.
+    ///
+    /// `AllocError`: memory ran out.
+    fn take(&mut self, reply: &Reply<'_>) -> Result<(), AllocError>
+        ensures { OnOk result ((first : Self) (told : List Reply) → took first told self.old → took first (told ++ telling (reply.now ∷ [])) self.new) };
+}
+
+/// Nobody is told.
+#[derive(Drop)]
+pub struct NoSink {}
+
+impl ReplySink for NoSink {
+    ghost use Rattle.imap_link.specs.Sinks.{any_replies};
+
+    ghost took = { λ _ replies _. any_replies replies };
+
+    ghost none = { λ _. tt };
+
+    fn take(&mut self, _reply: &Reply<'_>) -> Result<(), AllocError> {
+        Ok(())
+    }
+}

@@ -1,0 +1,7 @@
+pub mod Places
+pub mod Searched
+pub mod Faulty
+pub mod Looked
+pub mod Exits
+pub mod Views
+pub mod Answered

@@ -1,0 +1,81 @@
+//! What a buffer of replies answers, to which an example comes in pieces.
+
+use crate::reader::tell_answer;
+use imap_wire::{Read, Reply, ReplyBuf, WireFault, read_reply, write_reply};
+use std::alloc::Global;
+use test_scripts::failure::Failure;
+use test_scripts::told::Told;
+
+/// How many bytes a piece has.
+const SIZES: &[usize] = &[1, 2, 7];
+
+/// Tells, for each size of the pieces, what the buffer answers at the end, how many bytes it holds then, and how many once
+/// those that were read are dropped; and where the reader answers otherwise to the whole.
+pub fn answer_buffered(alloc: Global, told: &mut Told, bytes: &[u8]) -> Result<(), Failure> {
+    let whole = shown(alloc, &read_reply(alloc, bytes))?;
+    for size in SIZES {
+        let mut buffer = ReplyBuf::new(alloc);
+        put_pieces(&mut buffer, bytes, *size)?;
+        told.begin();
+        tell_next(alloc, told, &mut buffer, whole.as_str())?;
+        told.text(", held ");
+        told.number(buffer.held() as u64);
+        buffer.forget();
+        told.text(", then ");
+        told.number(buffer.held() as u64);
+        told.end();
+    }
+    Ok(())
+}
+
+/// Tells the next answer, and that of the reader where it is another one.
+fn tell_next(
+    alloc: Global,
+    told: &mut Told,
+    buffer: &mut ReplyBuf,
+    whole: &str,
+) -> Result<(), Failure> {
+    let answer = buffer.next();
+    tell_answer(told, &answer);
+    let answer = shown(alloc, &answer)?;
+    if answer.as_str() != whole {
+        told.text(", and the reader ");
+        told.text(whole);
+    }
+    Ok(())
+}
+
+/// Puts the bytes in, in pieces of this size, and reads before each piece.
+fn put_pieces(buffer: &mut ReplyBuf, bytes: &[u8], size: usize) -> Result<(), Failure> {
+    let mut rest = bytes;
+    for _ in 0..bytes.len() {
+        let piece = rest.get(..size).unwrap_or(rest);
+        if piece.is_empty() {
+            break;
+        }
+        if matches!(buffer.step(), Err(WireFault::NoMemory)) {
+            return Err(Failure::NoMemory);
+        }
+        if buffer.put(piece).is_err() {
+            return Err(Failure::NoMemory);
+        }
+        rest = rest.get(size..).unwrap_or_default();
+    }
+    Ok(())
+}
+
+/// An answer as it is told, and its reply as it is written.
+fn shown(alloc: Global, answer: &Result<Read<Reply<'_>>, WireFault>) -> Result<Told, Failure> {
+    let mut shown = Told::new(alloc);
+    tell_answer(&mut shown, answer);
+    if let Ok(Read::Whole(reply, _)) = answer {
+        let mut written = Vec::new(alloc);
+        write_reply(reply, &mut written)?;
+        shown.text(" ");
+        shown.quoted(written.as_slice());
+    }
+    if matches!(answer, Err(WireFault::NoMemory)) {
+        return Err(Failure::NoMemory);
+    }
+    Ok(shown)
+}
