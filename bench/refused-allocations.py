@@ -3,16 +3,16 @@
 
 usage: bench/refused-allocations.py PROGRAM INPUT..
 
-PROGRAM is mbplan with worlds for INPUT, mbtrial with trials, or a program of tests (crates/tests_of_*) with a script of one library:
-those of bench/few-*.txt, or any part of the stdin of its crate from a line `script NAME` on. It is run on each INPUT, once without a
-refusal and then with the first allocation refused, with the second, and so on until a run meets no refusal. A run with a refusal has
-to give the unbroken run's output and status, or nothing on standard output, `NAME: no memory` on standard error and status 1. In a
-script of `server`, as bench/few-sessions.txt, a server may answer `no memory` itself: up to there the output has to be the unbroken
-run's, and from there on the server is closed until the next connection. In one of `client`, as bench/few-client-calls.txt, a call may
-answer `NoMemory`: up to there the case has to be the unbroken run's, from there on its calls are stopped or not made up to the next
-connection, and the other cases are the unbroken run's. With mbtrial and trials, as bench/few-trials/*, the run may also go on
-otherwise, or tell a fault and print the world as it then stands, from which a further run has to come to the same end:
-`wanting_trials.py` says what is asked.
+PROGRAM is mbplan with worlds for INPUT, or a program of tests (crates/tests_of_*) with a script of one library: those of
+bench/few-*.txt, or any part of the stdin of its crate from a line `script NAME` on. For tests_of_runs INPUT may be trials too
+(NAME.trial), as bench/few-trials/*, or `worlds`: the nine of bench/stops.py. It is run on each INPUT, once without a refusal and then
+with the first allocation refused, with the second, and so on until a run meets no refusal. A run with a refusal has to give the
+unbroken run's output and status, or nothing on standard output, `NAME: no memory` on standard error and status 1. In a script of
+`server`, as bench/few-sessions.txt, a server may answer `no memory` itself: up to there the output has to be the unbroken run's, and
+from there on the server is closed until the next connection. In one of `client`, as bench/few-client-calls.txt, a call may answer
+`NoMemory`: up to there the case has to be the unbroken run's, from there on its calls are stopped or not made up to the next
+connection, and the other cases are the unbroken run's. A trial may tell want of memory (`fault 8`) and the world as it then stands:
+another run over the same devices has to come to the same end, as `wanting_trials.py` says.
 """
 import os
 import subprocess
@@ -20,7 +20,8 @@ import sys
 import tempfile
 from collections import Counter
 
-from wanting_trials import Wanting
+from stops import WORLDS
+from wanting_trials import Wanting, script_of
 
 SHIM = r"""
 #include <stddef.h>
@@ -112,13 +113,22 @@ def goes_on_calling(whole, found):
     return True
 
 
-def check(program, world, shim):
-    """How many refused allocations of a run over this input end it wrongly; each is told."""
-    with open(world, "rb") as file:
+def inputs_of(name):
+    """The inputs of this name, each with its own name, and the trial that it plays if it is one."""
+    if name == "worlds":
+        return [(world, script_of(text + "tries 1\n").encode(), text + "tries 1\n") for world, text in WORLDS.items()]
+    with open(name, "rb") as file:
         text = file.read()
+    if name.endswith(".trial"):
+        return [(name, script_of(text.decode()).encode(), text.decode())]
+    return [(name, text, None)]
+
+
+def check(program, shim, world, text, trial):
+    """How many refused allocations of a run over this input end it wrongly; each is told."""
     whole = run(program, text, shim, 0)
     wanting = (1, b"", os.path.basename(program).encode() + b": no memory\n", True)
-    trial = Wanting(program, text.decode(), whole[1].decode()) if os.path.basename(program) == "mbtrial" else None
+    wants = Wanting(program, trial, whole[1].decode()) if trial else None
     number = 0
     told = 0
     wrong = 0
@@ -133,7 +143,7 @@ def check(program, world, shim):
             continue
         if found[:3] == whole[:3] or goes_on(whole, found) or goes_on_calling(whole, found):
             continue
-        how = trial.how(found[0], found[1].decode(), found[2].decode()) if trial else None
+        how = wants.how(found[0], found[1].decode(), found[2].decode()) if wants else None
         if how is None:
             wrong += 1
             print(f"{world}: allocation {number} refused: status {found[0]}, {found[1]!r}, {found[2]!r}")
@@ -153,7 +163,7 @@ def main():
         with open(source, "w", encoding="ascii") as file:
             file.write(SHIM)
         subprocess.run(["cc", "-shared", "-fPIC", "-O1", "-o", shim, source], check=True)
-        wrong = sum(check(program, world, shim) for world in sys.argv[2:])
+        wrong = sum(check(program, shim, *given) for name in sys.argv[2:] for given in inputs_of(name))
     if wrong:
         sys.exit(f"{wrong} refused allocations were not told as they should be")
 

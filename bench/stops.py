@@ -21,8 +21,9 @@ import sys
 
 TOP = os.path.dirname(os.path.dirname(os.path.abspath(__file__)))
 PLAIN = "sync Full\nexpunge None\n"
-CALLS = ("folder.write_tmp", "folder.rename", "folder.remove", "folder.replace_meta", "shelf.append", "shelf.replace", "shelf.remove",
-         "SELECT", "FETCH", "STORE", "EXPUNGE", "APPEND")
+CALLS = ("folder.names", "folder.read", "folder.write_tmp", "folder.rename", "folder.remove", "folder.replace_meta",
+         "shelf.append", "shelf.read", "shelf.replace", "shelf.remove",
+         "CAPABILITY", "LOGIN", "ENABLE", "SELECT", "FETCH", "STORE", "EXPUNGE", "APPEND")
 WORLDS = {
     "first pull": PLAIN + 'far 1 3\nf 1 S "a\\0d\\0a"\nf 2 - "b\\0d\\0a"\nnear 1 1\nstate 0 0 0 0 0\nend\n',
     "flags on both sides": PLAIN + 'far 1 6\nf 5 S "a\\0d\\0a"\nnear 1 8\nn 7 F "a\\0a"\nstate 3 1 1 5 7\ne 5 7 -\nend\n',
@@ -36,7 +37,8 @@ WORLDS = {
 }
 # no run of a world here makes so many calls of one name
 MOST_CALLS = 100
-MARK = re.compile(r"X-TUID: [A-Za-z0-9_-]{12}")
+# the line of a mark, at the beginning of a text
+MARK = re.compile(r'^"X-TUID: [A-Za-z0-9_-]{12}')
 
 
 class World:
@@ -74,23 +76,39 @@ def renamed(opening, ended, found, letter, side):
     return {**{uid: uid for uid in range(next_uid)}, **dict(zip(theirs, ours))} if len(theirs) == len(ours) else None
 
 
+def copies_in(opening, world, letter, side):
+    """The UIDs of the copies that a run made: it gave them, and of the near ones each has an entry with a far message of the opening. The
+    others are files that waited."""
+    given = {uid for uid in world.messages(letter) if uid >= opening.sides[side][1]}
+    if side == "far":
+        return given
+    return given & {near for far, near, _ in world.entries if 0 < far < opening.sides["far"][1]}
+
+
+def without_marks(opening, world, letter, side):
+    """The messages of a side, the copies without their marks."""
+    copies = copies_in(opening, world, letter, side)
+    return {uid: (flags, MARK.sub('"X-TUID:', text, count=1) if uid in copies else text) for uid, (flags, text) in world.messages(letter).items()}
+
+
 def unlike(opening, ended, found):
     """Why what is found is not alike to the unbroken end, or nothing."""
-    maps = {}
+    maps, marks = {}, []
     for letter, side, most in (("f", "far", 3), ("n", "near", 4)):
         to = maps[side] = renamed(opening, ended, found, letter, side)
         if to is None:
             return f"{side}: another number of messages"
-        bare = lambda messages: {uid: (flags, MARK.sub("X-TUID:", text, count=1)) for uid, (flags, text) in messages.items()}
-        if {to[uid]: message for uid, message in bare(ended.messages(letter)).items()} != bare(found.messages(letter)):
+        bare = without_marks(opening, ended, letter, side)
+        if {to[uid]: message for uid, message in bare.items()} != without_marks(opening, found, letter, side):
             return f"{side}: other messages"
         if found.sides[side][0] != ended.sides[side][0]:
             return f"{side}: another validity"
-        if found.sides[side][1] <= max([*found.messages(letter), found.state[most], 0]) or found.sides[side][1] < opening.sides[side][1]:
+        named = [*found.messages(letter), *(entry[most - 3] for entry in found.entries), found.state[most]]
+        if found.sides[side][1] <= max(named) or found.sides[side][1] < opening.sides[side][1]:
             return f"{side}: the next UID is too low"
-        marks = [m for flags, text in found.messages(letter).values() for m in MARK.findall(text)[:1]]
-        if len(set(marks)) != len(marks):
-            return f"{side}: a mark twice"
+        marks += [m for uid in copies_in(opening, found, letter, side) for m in MARK.findall(found.messages(letter)[uid][1])[:1]]
+    if len(set(marks)) != len(marks):
+        return "a mark twice"
     mapped = sorted((maps["far"][far], maps["near"][near], flags) for far, near, flags in ended.entries)
     if mapped != sorted(found.entries):
         return "other entries"

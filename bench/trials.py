@@ -122,7 +122,7 @@ def journals(world, left):
           r'fault 4 0 / far 1 2 / f 1 - "a\0d\0a" / near 1 1 / state 18446744073709551615 1 1 0 0 / end', 1)
     refused("no tries", world, 8)
     refused("tries of zero", world + " / tries 0", 8)
-    refused("call that cannot stop", world + " / tries 1 / stop before folder.names 1", 9)
+    refused("call that cannot stop", world + " / tries 1 / stop before folder.sync 1", 9)
     refused("part of a call without parts", world + " / tries 1 / stop part folder.write_tmp 1 3", 9)
     refused("tries with a leading zero", world + " / tries 01", 8)
     refused("two journals", world + ' / tries 1 / journal "" / journal ""', 10)

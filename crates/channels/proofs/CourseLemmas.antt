@@ -1,5 +1,5 @@
 -- What was asked, one thing behind another, and how it ended.
-use Rattle.std.proofs.Common.{◌≡◌, Bool, true, false, is_some, ◌||◌, List, [], ◌∷◌, ◌++◌, Result, Ok, Err, OnOk, refl, ap, sym, ◌∙◌, subst, append-nil, if◌then◌else◌}
+use Rattle.std.proofs.Common.{◌≡◌, Bool, true, false, is_some, ◌||◌, List, [], ◌∷◌, ◌++◌, Result, Ok, Err, OnOk, refl, ap, sym, ◌∙◌, subst, append-nil, inl, inr, if◌then◌else◌}
 use Rattle.std.proofs.lemmas.Grind.{fold-append}
 use Rattle.std.specs.List.{fold}
 use Rattle.mailcore.specs.declared.side.Side.TheVariants.{Far, Near}
@@ -11,7 +11,7 @@ use Rattle.channels.specs.declared.fault.BoxFault.TheVariants.{Absent, Removed, 
 use Rattle.channels.specs.declared.verdict.Verdict.{Verdict}
 use Rattle.channels.specs.declared.verdict.Verdict.TheVariants.{Clean, Faulty, Over}
 use Rattle.channels.specs.Asks.{finding, making, makings}
-use Rattle.channels.specs.Courses.{Begun, BoxEnds, Course, Follows, Goes, Makes, asking_if, making_course, onward, onward_by}
+use Rattle.channels.specs.Courses.{Begun, BoxEnds, Course, Follows, Goes, IsMadeBy, IsMadeUpTo, Makes, asking_if, making_course, onward, onward_by}
 use Rattle.channels.specs.Outcomes.{IsToldOf, outcome_of, outcome_of_box_fault, verdict_of}
 use Rattle.channels.specs.Verdicts.{both}
 
@@ -97,6 +97,28 @@ Follows-ends noted old new Unopened first next n h =
 
 -- ---- of a mailbox that is made
 
+abbrev making_by : Place → (far near : Bool) → (found_new made_far made_near ran : Outcome) → Course
+making_by place far near found_new made_far made_near ran =
+    making_course place (record { far = far; near = near }) (record { found_new = found_new; made_far = made_far; made_near = made_near; ran = ran })
+
+-- what was made is so by how it ended
+made_by : (place : Place) (far near : Bool) (found_new made_far made_near ran : Outcome)
+    → IsMadeBy (making_by place far near found_new made_far made_near ran).outcome place (record { far = far; near = near }) (making_by place far near found_new made_far made_near ran).asked
+made_by place false false found_new made_far made_near ran = refl
+made_by place true near Failed made_far made_near ran = inr (inl refl)
+made_by place true near Unopened made_far made_near ran = inr (inl refl)
+made_by place true near Done Failed made_near ran = inr (inr (inl refl))
+made_by place true near Done Unopened made_near ran = inr (inr (inl refl))
+made_by place true false Done Done made_near ran = refl
+made_by place true true Done Done Done ran = refl
+made_by place true true Done Done Failed ran = inr (inr (inr refl))
+made_by place true true Done Done Unopened ran = inr (inr (inr refl))
+made_by place false true Failed made_far made_near ran = inr (inl refl)
+made_by place false true Unopened made_far made_near ran = inr (inl refl)
+made_by place false true Done made_far Done ran = refl
+made_by place false true Done made_far Failed ran = inr (inr (inr refl))
+made_by place false true Done made_far Unopened ran = inr (inr (inr refl))
+
 -- it may not be made
 pub Makes-uncovered : {L : Type 0} (noted : L → Asked → L) (place : Place) (absent : Sides) (old new : L)
     → is_some (uncovered absent place.of.channel.create) ≡ true → new ≡ old → Makes noted place absent Failed old new
@@ -105,6 +127,7 @@ Makes-uncovered noted place absent old new e h =
     record {
       ends = ends;
       follows = subst (λ b. Follows noted old new Failed (if b then record { asked = []; outcome = Failed } else making_course place absent ends)) (sym e) (record { grown = h; ended = refl });
+      made = subst (λ b. IsMadeUpTo Failed place absent (if b then record { asked = []; outcome = Failed } else making_course place absent ends).asked) (sym e) (inl refl);
     }
 
 Makes-covered : {L : Type 0} (noted : L → Asked → L) (place : Place) (absent : Sides) (ends : BoxEnds) (outcome : Outcome) (old new : L)
@@ -113,6 +136,9 @@ Makes-covered : {L : Type 0} (noted : L → Asked → L) (place : Place) (absent
 Makes-covered noted place absent ends outcome old new e h = record {
   ends = ends;
   follows = subst (λ b. Follows noted old new outcome (if b then record { asked = []; outcome = Failed } else making_course place absent ends)) (sym e) h;
+  made = subst (λ b. IsMadeBy outcome place absent (if b then record { asked = []; outcome = Failed } else making_course place absent ends).asked) (sym e)
+      (subst (λ o. IsMadeBy o place absent (making_course place absent ends).asked) (sym h.ended)
+      (made_by place absent.far absent.near ends.found_new ends.made_far ends.made_near ends.ran));
 }
 
 abbrev found_course : Place → Sides → Outcome → Course

@@ -16,7 +16,7 @@ use Rattle.choosing.specs.Scope.{options_of, uncovered}
 use Rattle.stores.specs.Asked.{Asked, Ended, FarListed, FoundNew, IsJoined, IsUnjoined, Joined, Made, NearListed, Outcome, Done, Failed, Unopened, Place, Ran}
 use Rattle.channels.specs.declared.verdict.Verdict.{Verdict}
 use Rattle.channels.specs.declared.verdict.Verdict.TheVariants.{Clean, Faulty, Over}
-use Rattle.channels.specs.Asks.{Ways, run_attempts, ways_of}
+use Rattle.channels.specs.Asks.{Ways, making, makings, run_attempts, ways_of}
 use Rattle.channels.specs.Founds.{absent_in}
 use Rattle.channels.specs.Outcomes.{IsToldOf}
 use Rattle.channels.specs.Refusals.{IsToldUndone, IsUndone}
@@ -54,6 +54,22 @@ pub record BoxEnds : Type 0 where
 abbrev pub making_course : Place → (absent : Sides) → BoxEnds → Course
 making_course place absent ends = onward (asking_if (absent.far || absent.near) (FoundNew place) ends.found_new)
     (onward (asking_if absent.far (Made Far place) ends.made_far) (asking_if absent.near (Made Near place) ends.made_near))
+
+-- what was asked of a mailbox that is not made on each side on which it is absent: nothing, since Create does not cover one; or whether it
+-- is a new one, which it is not, or is not known; or that it is made far, which it is not; or that it is made near, which it is not, and
+-- then it is made far, where it was absent there, and nothing takes that back
+abbrev pub IsMadeUpTo : (fault : Outcome) → Place → (absent : Sides) → List Asked → Type 0
+IsMadeUpTo fault place absent asked =
+    (asked ≡ [])
+    ⊎ ((asked ≡ FoundNew place fault ∷ [])
+    ⊎ ((asked ≡ FoundNew place Done ∷ Made Far place fault ∷ [])
+    ⊎ (asked ≡ FoundNew place Done ∷ making Far absent.far place ++ Made Near place fault ∷ [])))
+
+-- it is made on all these sides, or so far
+abbrev pub IsMadeBy : Outcome → Place → (absent : Sides) → List Asked → Type 0
+IsMadeBy Done place absent asked = asked ≡ makings place absent
+IsMadeBy Failed place absent asked = IsMadeUpTo Failed place absent asked
+IsMadeBy Unopened place absent asked = IsMadeUpTo Unopened place absent asked
 
 -- if it is absent on a side that Create does not cover, nothing is made
 abbrev pub covered_course : Place → (absent : Sides) → BoxEnds → Course
@@ -212,10 +228,11 @@ pub record Follows {L : Type 0} (noted : L → Asked → L) (old new : L) (outco
   pub grown : new ≡ fold noted old course.asked
   pub ended : outcome ≡ course.outcome
 
--- a mailbox was made where it is absent
+-- a mailbox was made where it is absent, or so far as its making did not end
 pub record Makes {L : Type 0} (noted : L → Asked → L) (place : Place) (absent : Sides) (outcome : Outcome) (old new : L) : Type 0 where
   pub ends : BoxEnds
   pub follows : Follows noted old new outcome (covered_course place absent ends)
+  pub made : IsMadeBy outcome place absent (covered_course place absent ends).asked
 
 -- all of it was asked, and then what stands at servers was ended
 pub record GoesToEnd {L : Type 0} (noted : L → Asked → L) (is_such : Verdict → List Asked → Type 0) (status : ℕ) (old new : L) : Type 0 where

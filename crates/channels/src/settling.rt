@@ -231,7 +231,8 @@ fn run_box<S: Stores, R: Rng, O: Write, E: Write>(
 
 /// Makes a mailbox on the sides on which it is absent, the far one first. Where Create does not cover one of them, or a former run has
 /// synchronised it, nothing is made: a mailbox that was removed on purpose must not come back, and messages of a folder that was
-/// removed by mistake must not count as removed.
+/// removed by mistake must not count as removed. Where the near side cannot be made, the far one stays as it was made: the next command
+/// finds the near side absent, and asks for that one alone.
 fn make_absent<S: Stores, O: Write, E: Write>(
     place: ChannelBox<'_>,
     absent: Sides,

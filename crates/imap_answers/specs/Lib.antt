@@ -3,6 +3,7 @@ pub mod Readings
 pub mod Openings
 pub mod Fetching
 pub mod Listings
+pub mod Showing
 pub mod Markings
 pub mod Bodies
 pub mod Given

@@ -1,7 +1,6 @@
 -- Where replies to UID FETCH show a mark.
 use Rattle.std.specs.Prelude.{◌≡◌, ℕ, min, Bool, false, ◌&&◌, ◌||◌, nat_le, nat_lt, List, length, Option, None, Some, if◌then◌else◌}
 use Rattle.std.specs.List.{fold, list_any}
-use Rattle.mailcore.specs.Content.{mark_of}
 use Rattle.mailcore.specs.Operations.{is_mark}
 use Rattle.wire_strings.specs.Quotes.{unescaped}
 use Rattle.wire_strings.specs.declared.string.WireString.{WireString}
@@ -12,21 +11,12 @@ use Rattle.imap_replies.specs.declared.reply.Reply.{Reply}
 use Rattle.imap_replies.specs.declared.reply.Reply.TheVariants.{Fetch}
 use Rattle.imap_answers.specs.Fetching.{told_of}
 use Rattle.imap_answers.specs.Listings.{is_uid}
+use Rattle.imap_answers.specs.Showing.{mark_shown, nothing_shown, shown_more}
 use Rattle.imap_answers.specs.declared.marks.MarkSearch.{MarkSearch}
-
--- the mark that the beginning of a message bears
-abbrev pub mark_told : Option WireString → Option (List ℕ)
-mark_told None = None
-mark_told (Some (Literal bytes)) = mark_of bytes
-mark_told (Some (Quoted raw)) = mark_of raw
 
 -- an item is the beginning of a message with this mark
 abbrev pub bears : (mark : List ℕ) → FetchItem → Bool
-bears mark (items.Uid uid) = false
-bears mark (items.Flags flags) = false
-bears mark (items.Size size) = false
-bears mark (items.Body body) = false
-bears mark (items.Head head) = is_mark (mark_told head) mark
+bears mark item = is_mark (mark_shown item) mark
 
 abbrev pub uid_marked : (mark : List ℕ) (from : ℕ) → Option ℕ → List FetchItem → Option ℕ
 uid_marked mark from None list = None
@@ -87,12 +77,16 @@ mark_found mark from replies = if list_any has_long_head replies then None else 
 
 -- it was told nothing
 abbrev pub new_search : (mark : List ℕ) (from : ℕ) → MarkSearch
-new_search mark from = record { mark = mark; from = from; is_long = false; least = None }
+new_search mark from = record { mark = mark; from = from; is_long = false; least = None; shown = nothing_shown }
 
 -- told these replies, the first became the second
 abbrev pub TookHeads : (first : MarkSearch) → List Reply → (second : MarkSearch) → Type 0
 TookHeads first replies second =
-    second ≡ record first { is_long = list_any has_long_head replies || first.is_long; least = fold (least_more first.mark first.from) first.least replies }
+    second ≡ record first {
+      is_long = list_any has_long_head replies || first.is_long;
+      least = fold (least_more first.mark first.from) first.least replies;
+      shown = fold (shown_more first.from) first.shown replies;
+    }
 
 -- the search for this mark, once it was told these replies
 abbrev pub Sought : (mark : List ℕ) (from : ℕ) → List Reply → MarkSearch → Type 0

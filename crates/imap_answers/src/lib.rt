@@ -9,4 +9,5 @@ pub mod marks;
 pub mod names;
 pub mod opening;
 pub mod reading;
+mod shown;
 pub mod told;

@@ -1,28 +1,33 @@
 //! Where replies to UID FETCH show a mark: the mark of a message is in its first 22 octets (RFC 9051, section 6.4.5).
 
-ghost use Rattle.std.specs.Prelude.{◌≡◌, ℕ, List, length, IfErr};
+ghost use Rattle.std.specs.Prelude.{◌≡◌, ◌<◌, ◌≤◌, ℕ, List, length, All, IfErr, OnOk};
 ghost use Rattle.std.specs.List.{list_any};
+ghost use Rattle.mailcore.specs.declared.mailbox.Message.{Message};
+ghost use Rattle.mailcore.specs.Content.{mark_of};
+ghost use Rattle.passed_marks.specs.Passed.{ArePassed, IsOneOf};
 ghost use Rattle.imap_replies.specs.declared.reply.Reply.{Reply};
 ghost use Rattle.wire_strings.specs.Quotes.{unescaped};
-ghost use Rattle.imap_answers.specs.Markings.{is_long, is_long_head, has_long_head, mark_told, bears, marked_uid, lesser, uid_found, mark_found, new_search, Sought};
+ghost use Rattle.imap_answers.specs.Markings.{is_long, is_long_head, has_long_head, bears, marked_uid, lesser, uid_found, mark_found, new_search, Sought};
 ghost use Rattle.imap_answers.specs.Readings.{ReadsAs, IsReadFault};
+ghost use Rattle.imap_answers.specs.Showing.{reach};
 
+use crate::shown::{ShownMarks, mark_shown};
 use crate::told::Told;
 use imap_link::fault::FarFault;
 use imap_link::sink::ReplySink;
 use imap_replies::fetch::FetchItem;
 use imap_replies::reply::Reply;
-use mailcore::copies::mark_of;
 use mailcore::tuid::Tuid;
 use mailcore::uid::Uid;
-use std::alloc::AllocError;
+use passed_marks::PassedMarks;
+use std::alloc::{AllocError, Global};
 use wire_strings::string::WireString;
 
 /// How many octets of each message are asked for.
 const HEAD_SIZE: usize = 22;
 
 /// The search for the least UID of at least `from` under which a reply shows the mark. It is told the replies as they are heard, and
-/// keeps none.
+/// keeps none: of all marks that are shown it keeps 12 bytes each.
 #[derive(Drop)]
 pub struct MarkSearch {
     mark: Tuid,
@@ -31,11 +36,12 @@ pub struct MarkSearch {
     is_long: bool,
     // The least UID so far.
     least: Option<u32>,
+    shown: ShownMarks,
 }
 
 impl MarkSearch {
     /// One that was told nothing.
-    pub fn new(mark: Tuid, from: u32) -> MarkSearch
+    pub fn new(alloc: Global, mark: Tuid, from: u32) -> MarkSearch
         ensures { result ≡ new_search mark from }
     {
         MarkSearch {
@@ -43,13 +49,28 @@ impl MarkSearch {
             from,
             is_long: false,
             least: None,
+            shown: ShownMarks::new(alloc),
         }
     }
 
-    /// The UID that was found.
+    /// The UID that was found. The search went past all messages from `from` on up to the greatest UID that was shown, and `passed` notes
+    /// them. It stays below `next`, the next UID of the mailbox as far as it is known.
     ///
     /// `Protocol`: a reply shows more octets than were asked for, or the UID is 4294967295.
-    pub fn found(&self) -> Result<Option<Uid>, FarFault>
+    pub fn end(&self, passed: &mut PassedMarks, next: u32) -> Result<Option<Uid>, FarFault>
+        ensures told { (mark : List ℕ) (from : ℕ) (rs : List Reply) → Sought mark from rs self.now → ReadsAs (λ uid. uid) result (mark_found mark from rs) }
+        ensures err { IfErr result IsReadFault }
+        ensures passed { (known : ℕ) (messages : List Message) → next ≤ known → ArePassed known messages passed.old
+            → All (λ m. passed.old.below ≤ m.uid → m.uid < reach next self.now.shown.top → IsOneOf self.now.shown.marks (mark_of m.bytes)) messages
+            → OnOk result (ArePassed known messages passed.new) }
+    {
+        let found = self.found()?;
+        self.shown.pass(passed, next)?;
+        Ok(found)
+    }
+
+    // The UID that was found.
+    fn found(&self) -> Result<Option<Uid>, FarFault>
         ensures told { (mark : List ℕ) (from : ℕ) (rs : List Reply) → Sought mark from rs self.now → ReadsAs (λ uid. uid) result (mark_found mark from rs) }
         ensures err { IfErr result IsReadFault }
     {
@@ -71,7 +92,7 @@ impl ReplySink for MarkSearch {
     fn take(&mut self, reply: &Reply<'_>) -> Result<(), AllocError> {
         self.is_long = self.is_long || has_long_head(reply);
         self.least = lesser(self.least, marked_uid(reply, self.mark, self.from));
-        Ok(())
+        self.shown.add(reply, self.from)
     }
 }
 
@@ -164,21 +185,7 @@ fn any_bears(items: &[FetchItem<'_>], mark: Tuid) -> bool
 fn bears(item: &FetchItem<'_>, mark: Tuid) -> bool
     ensures { result ≡ bears mark item.now }
 {
-    match item {
-        FetchItem::Head(head) => mark_told(head) == Some(mark),
-        _ => false,
-    }
-}
-
-/// The mark that the beginning of a message bears.
-fn mark_told(head: &Option<WireString<'_>>) -> Option<Tuid>
-    ensures { result ≡ mark_told head.now }
-{
-    match head {
-        Some(WireString::Literal(octets)) => mark_of(octets.bytes()),
-        Some(WireString::Quoted(quoted)) => mark_of(quoted.raw()),
-        None => None,
-    }
+    mark_shown(item) == Some(mark)
 }
 
 /// The UID that was found. `Protocol`: it is 4294967295.

@@ -206,7 +206,7 @@ told_by validity next known uid given e least below (inr g) =
 validity_is : (m : FarMailbox) (x : Option FarMailbox) (v : ℕ) → x ≡ Some m → option_map (λ y. y.store.validity) x ≡ Some v → v ≡ m.store.validity
 validity_is m x v e h = let both : (let y : Option ℕ = Some m.store.validity in y) ≡ Some v = sym (ap (option_map (λ y. y.store.validity)) e) ∙ h in cc
 
-next_at_most : (m : FarMailbox) (x : Option FarMailbox) (n : ℕ) → x ≡ Some m → is_next n x ≡ true → n ≤ m.store.next
+pub next_at_most : (m : FarMailbox) (x : Option FarMailbox) (n : ℕ) → x ≡ Some m → is_next n x ≡ true → n ≤ m.store.next
 next_at_most m x n e h = leb-true n m.store.next (sym (ap (is_next n) e) ∙ h)
 
 pub told_so : (n : ℕ) (name : List ℕ) (m : FarMailbox) (flags : ℕ) (message bytes : List ℕ) (old new : Server) (validity next : ℕ) → IsSelected name validity next old → selected old ≡ Some m
@@ -299,20 +299,24 @@ module _ (was now : State) (old new : Server) (name : List ℕ) (validity next f
   abbrev OutSo : FarFault → Type 0
   OutSo f = IsSelected name validity next old → (m : FarMailbox) → selected old ≡ Some m → Outcome {T = Option ℕ} (Adds m flags message) (NoUidLeft m) (AddsSome m flags message) (Err f) old new
 
-  pub err_selected : (f : FarFault) → EndsSo {T = Option ℕ} 1 was now (Err f) → now.is_ready ≡ true → (was.is_ready ≡ true → IsSelected name validity next old) → OutSo f → IsSelected name validity next new
-  err_selected faults.Stopped e ready sel out = absurd (no_more now.is_ready ready e.is_ready)
-  err_selected faults.Refused e ready sel out =
+  -- what holds of the server
+  pub err_keeps : (P : Server → Type 0) (f : FarFault) → EndsSo {T = Option ℕ} 1 was now (Err f) → now.is_ready ≡ true → (was.is_ready ≡ true → IsSelected name validity next old) → (was.is_ready ≡ true → P old) → OutSo f → P new
+  err_keeps P faults.Stopped e ready sel holds out = absurd (no_more now.is_ready ready e.is_ready)
+  err_keeps P faults.Refused e ready sel holds out =
       let is = sel e.was_ready in
       let there = there_of name validity next old is in
-      subst (IsSelected name validity next) (sym (out is there.mailbox there.is).0) is
-  err_selected faults.Protocol e ready sel out = absurd (no_more now.is_ready ready e.is_ready)
-  err_selected faults.TooLong e ready sel out = absurd (no_more now.is_ready ready e.is_ready)
-  err_selected faults.NoRev2 e ready sel out = absurd (no_more now.is_ready ready e.is_ready)
-  err_selected faults.ReadOnly e ready sel out =
+      subst P (sym (out is there.mailbox there.is).0) (holds e.was_ready)
+  err_keeps P faults.Protocol e ready sel holds out = absurd (no_more now.is_ready ready e.is_ready)
+  err_keeps P faults.TooLong e ready sel holds out = absurd (no_more now.is_ready ready e.is_ready)
+  err_keeps P faults.NoRev2 e ready sel holds out = absurd (no_more now.is_ready ready e.is_ready)
+  err_keeps P faults.ReadOnly e ready sel holds out =
       let is = sel e.was_ready in
       let there = there_of name validity next old is in
       absurd (out is there.mailbox there.is)
-  err_selected faults.NoMemory e ready sel out = absurd (no_more now.is_ready ready e.is_ready)
+  err_keeps P faults.NoMemory e ready sel holds out = absurd (no_more now.is_ready ready e.is_ready)
+
+  pub err_selected : (f : FarFault) → EndsSo {T = Option ℕ} 1 was now (Err f) → now.is_ready ≡ true → (was.is_ready ≡ true → IsSelected name validity next old) → OutSo f → IsSelected name validity next new
+  err_selected f e ready sel out = err_keeps (IsSelected name validity next) f e ready sel sel out
 
   -- and behind an answer
   pub ok_selected : (told : Option ℕ) → EndsSo 1 was now (Ok told) → (was.is_ready ≡ true → IsSelected name validity next old)

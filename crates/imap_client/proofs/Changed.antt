@@ -151,21 +151,30 @@ there_by s (Some m) next e h = record { mailbox = m; is = e }
 pub there_of : (name : List ℕ) (validity next : ℕ) (s : Server) → IsSelected name validity next s → There s
 there_of name validity next s h = there_by s (selected s) next refl h.2
 
+-- the session goes on, and the mailbox was changed
+pub record Became (change : Store → Store) (name : List ℕ) (validity next : ℕ) (was : State) (old new : Server) : Type 0 where
+  pub was_ready : was.is_ready ≡ true
+  pub was_selected : IsSelected name validity next old
+  pub after : new ≡ with_selected change old
+
 -- behind a call that ended so, where the session goes on
-pub goes_on : (T : Type 0) (change : Store → Store) → Keeps change → (name : List ℕ) (validity next commands : ℕ) (was now : State) (old new : Server) (result : Result T FarFault) → EndsSo commands was now result → now.is_ready ≡ true
+pub became : (T : Type 0) (change : Store → Store) (name : List ℕ) (validity next commands : ℕ) (was now : State) (old new : Server) (result : Result T FarFault) → EndsSo commands was now result → now.is_ready ≡ true
     → (was.is_ready ≡ true → IsSelected name validity next old)
     → ((m : FarMailbox) → selected old ≡ Some m → Outcome {T = T} (λ x. Becomes change) Never (Becomes change) result old new)
-    → IsSelected name validity next new
-goes_on T change k name validity next commands was now old new (Ok x) e ready sel out =
+    → Became change name validity next was old new
+became T change name validity next commands was now old new (Ok x) e ready sel out =
     let is = sel e.was_ready in let there = there_of name validity next old is in
-    subst (IsSelected name validity next) (sym (out there.mailbox there.is)) (still_selected change k name validity next old is)
-goes_on T change k name validity next commands was now old new (Err faults.Stopped) e ready sel out = let f = e.is_ready in let both : false ≡ true = sym f ∙ ready in cc
-goes_on T change k name validity next commands was now old new (Err faults.Refused) e ready sel out = let there = there_of name validity next old (sel e.was_ready) in absurd (out there.mailbox there.is)
-goes_on T change k name validity next commands was now old new (Err faults.Protocol) e ready sel out = let f = e.is_ready in let both : false ≡ true = sym f ∙ ready in cc
-goes_on T change k name validity next commands was now old new (Err faults.TooLong) e ready sel out = let f = e.is_ready in let both : false ≡ true = sym f ∙ ready in cc
-goes_on T change k name validity next commands was now old new (Err faults.NoRev2) e ready sel out = let f = e.is_ready in let both : false ≡ true = sym f ∙ ready in cc
-goes_on T change k name validity next commands was now old new (Err faults.ReadOnly) e ready sel out = let there = there_of name validity next old (sel e.was_ready) in absurd (out there.mailbox there.is)
-goes_on T change k name validity next commands was now old new (Err faults.NoMemory) e ready sel out = let f = e.is_ready in let both : false ≡ true = sym f ∙ ready in cc
+    record { was_ready = e.was_ready; was_selected = is; after = out there.mailbox there.is }
+became T change name validity next commands was now old new (Err faults.Stopped) e ready sel out = let f = e.is_ready in let both : false ≡ true = sym f ∙ ready in cc
+became T change name validity next commands was now old new (Err faults.Refused) e ready sel out = let there = there_of name validity next old (sel e.was_ready) in absurd (out there.mailbox there.is)
+became T change name validity next commands was now old new (Err faults.Protocol) e ready sel out = let f = e.is_ready in let both : false ≡ true = sym f ∙ ready in cc
+became T change name validity next commands was now old new (Err faults.TooLong) e ready sel out = let f = e.is_ready in let both : false ≡ true = sym f ∙ ready in cc
+became T change name validity next commands was now old new (Err faults.NoRev2) e ready sel out = let f = e.is_ready in let both : false ≡ true = sym f ∙ ready in cc
+became T change name validity next commands was now old new (Err faults.ReadOnly) e ready sel out = let there = there_of name validity next old (sel e.was_ready) in absurd (out there.mailbox there.is)
+became T change name validity next commands was now old new (Err faults.NoMemory) e ready sel out = let f = e.is_ready in let both : false ≡ true = sym f ∙ ready in cc
+
+pub goes_on : (change : Store → Store) → Keeps change → (name : List ℕ) (validity next : ℕ) (was : State) (old new : Server) → Became change name validity next was old new → IsSelected name validity next new
+goes_on change k name validity next was old new b = subst (IsSelected name validity next) (sym b.after) (still_selected change k name validity next old b.was_selected)
 
 -- ---- what flags and removals keep
 

@@ -19,8 +19,10 @@ pub mod Fetched
 pub mod Numbered
 pub mod Rows
 pub mod Marks
+pub mod ShownAll
 pub mod BodyTold
 pub mod Staying
+pub mod Passing
 pub mod Removing
 pub mod Naming
 pub mod LoggingOut

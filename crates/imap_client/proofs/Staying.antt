@@ -17,26 +17,30 @@ use Rattle.imap_answers.specs.Listings.{next_above, ListsFrom}
 use Rattle.imap_client.specs.States.{State, EndsSo}
 use Rattle.imap_client.proofs.Changed.{there_of}
 
-module _ (name : List ℕ) (validity next : ℕ) (was now : State) (old new : Server) (ready : now.is_ready ≡ true)
-    (sel : was.is_ready ≡ true → IsSelected name validity next old) (same : (m : FarMailbox) → selected old ≡ Some m → new ≡ old) where
-  stays_by : was.is_ready ≡ true → IsSelected name validity next new
-  stays_by was_ready =
-      let is = sel was_ready in
-      let there = there_of name validity next old is in
-      subst (IsSelected name validity next) (sym (same there.mailbox there.is)) is
+module _ (P : Server → Type 0) (name : List ℕ) (validity next : ℕ) (was now : State) (old new : Server) (ready : now.is_ready ≡ true)
+    (sel : was.is_ready ≡ true → IsSelected name validity next old) (holds : was.is_ready ≡ true → P old) (same : (m : FarMailbox) → selected old ≡ Some m → new ≡ old) where
+  keeps_by : was.is_ready ≡ true → P new
+  keeps_by was_ready =
+      let there = there_of name validity next old (sel was_ready) in
+      subst P (sym (same there.mailbox there.is)) (holds was_ready)
 
-  failed : now.is_ready ≡ false → IsSelected name validity next new
+  failed : now.is_ready ≡ false → P new
   failed not_ready = let both : false ≡ true = sym not_ready ∙ ready in cc
 
-  pub stays : (T : Type 0) (commands : ℕ) (result : Result T FarFault) → EndsSo commands was now result → IsSelected name validity next new
-  stays T commands (Ok x) e = stays_by e.was_ready
-  stays T commands (Err faults.Stopped) e = failed e.is_ready
-  stays T commands (Err faults.Refused) e = stays_by e.was_ready
-  stays T commands (Err faults.Protocol) e = failed e.is_ready
-  stays T commands (Err faults.TooLong) e = failed e.is_ready
-  stays T commands (Err faults.NoRev2) e = failed e.is_ready
-  stays T commands (Err faults.ReadOnly) e = stays_by e.was_ready
-  stays T commands (Err faults.NoMemory) e = failed e.is_ready
+  -- what holds of the server
+  pub keeps : (T : Type 0) (commands : ℕ) (result : Result T FarFault) → EndsSo commands was now result → P new
+  keeps T commands (Ok x) e = keeps_by e.was_ready
+  keeps T commands (Err faults.Stopped) e = failed e.is_ready
+  keeps T commands (Err faults.Refused) e = keeps_by e.was_ready
+  keeps T commands (Err faults.Protocol) e = failed e.is_ready
+  keeps T commands (Err faults.TooLong) e = failed e.is_ready
+  keeps T commands (Err faults.NoRev2) e = failed e.is_ready
+  keeps T commands (Err faults.ReadOnly) e = keeps_by e.was_ready
+  keeps T commands (Err faults.NoMemory) e = failed e.is_ready
+
+pub stays : (name : List ℕ) (validity next : ℕ) (was now : State) (old new : Server) → now.is_ready ≡ true → (was.is_ready ≡ true → IsSelected name validity next old)
+    → ((m : FarMailbox) → selected old ≡ Some m → new ≡ old) → (T : Type 0) (commands : ℕ) (result : Result T FarFault) → EndsSo commands was now result → IsSelected name validity next new
+stays name validity next was now old new ready sel same = keeps (IsSelected name validity next) name validity next was now old new ready sel sel same
 
 -- ---- listings
 

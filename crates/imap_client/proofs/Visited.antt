@@ -93,9 +93,12 @@ module _ (v : Visitors) where
       let low = rise_low m.store.next _ n.store.next g.rise in
       le-leb next n.store.next (omega (arith, least, low))
 
+  pub selected_gains : (s t : Server) → Visits v s t → MayGain (selected s) (selected t)
+  selected_gains s t h = subst (λ (c : Condition). MayGain (selected s) (selected_in t.mailboxes c)) (sym h.condition) (gains_in s.condition s.mailboxes t.mailboxes h.gains)
+
   pub selected_then : (name : List ℕ) (validity next : ℕ) (s t : Server) → Visits v s t → IsSelected name validity next s → IsSelected name validity next t
   selected_then name validity next s t h is =
-      let g : MayGain (selected s) (selected t) = subst (λ (c : Condition). MayGain (selected s) (selected_in t.mailboxes c)) (sym h.condition) (gains_in s.condition s.mailboxes t.mailboxes h.gains) in (
+      let g : MayGain (selected s) (selected t) = selected_gains s t h in (
         ap selected_name h.condition ∙ is.0,
         same_validity (selected s) (selected t) g ∙ is.1,
         later_next next (selected s) (selected t) g is.2,

@@ -2,6 +2,8 @@
 use Rattle.std.specs.Prelude.{◌≡◌, ℕ, Bool, true, false, nat_le, List, [], ◌∷◌, Option, None, Some}
 use Rattle.std.specs.Option.{option_map}
 use Rattle.mailcore.specs.Stores.{Store}
+use Rattle.passed_marks.specs.declared.passed_marks.PassedMarks.{PassedMarks}
+use Rattle.passed_marks.specs.Passed.{ArePassed}
 use Rattle.wire_tokens.specs.declared.uid_set.SetEnd.TheVariants.{Number}
 use Rattle.wire_tokens.specs.declared.uid_set.SetItem.{SetItem}
 use Rattle.wire_tokens.specs.declared.uid_set.SetItem.TheVariants.{One}
@@ -28,6 +30,10 @@ is_next next (Some m) = nat_le next m.store.next
 abbrev pub IsSelected : (name : List ℕ) (validity next : ℕ) → Server → Type 0
 IsSelected name validity next s =
     (selected_name s.condition ≡ Some name) × (option_map (λ m. m.store.validity) (selected s) ≡ Some validity) × (is_next next (selected s) ≡ true)
+
+-- the messages of the selected mailbox that searches for a mark went past
+abbrev pub Passes : PassedMarks → Server → Type 0
+Passes passed s = (m : FarMailbox) → selected s ≡ Some m → ArePassed m.store.next m.store.messages passed
 
 -- the mailbox of this name was selected, with this validity and next UID
 pub record Selects (name : List ℕ) (validity next : ℕ) (old new : Server) : Type 0 where

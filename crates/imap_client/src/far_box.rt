@@ -12,7 +12,7 @@ ghost use Rattle.imap_link.specs.Exchanges.{Restarts};
 ghost use Rattle.imap_link.specs.Outcomes.{Outcome, Never};
 ghost use Rattle.mailcore.specs.Stores.{Store};
 ghost use Rattle.imap_client.specs.Calls.{CanAsk, each_one};
-ghost use Rattle.imap_client.specs.Boxes.{IsSelected, Selects, Chooses, NoMailbox, Becomes, Changing, one_uid, commands_for};
+ghost use Rattle.imap_client.specs.Boxes.{IsSelected, Passes, Selects, Chooses, NoMailbox, Becomes, Changing, one_uid, commands_for};
 ghost use Rattle.imap_answers.specs.Openings.{opening_of, IsPositive};
 ghost use Rattle.imap_client.specs.Logins.{Authenticates, Rejects};
 ghost use Rattle.imap_client.specs.Requests.{IsWord};
@@ -32,6 +32,7 @@ use imap_link::fault::FarFault;
 use imap_link::link::Link;
 use mailcore::flags::Flags;
 use mailcore::uid::Uid;
+use passed_marks::PassedMarks;
 
 /// A far mailbox: a session, and the mailbox that is selected in it. It is closed where none is.
 ///
@@ -48,10 +49,14 @@ pub struct FarBox<L: Link> {
     pub(crate) next: u32,
     // Where the bytes of the message that was fetched last stand in the replies that were read last.
     pub(crate) body: FoundBody,
+    // The messages that searches for a mark went past since the mailbox was selected.
+    pub(crate) passed: PassedMarks,
     pub ghost named: { IsWord name.items },
     pub ghost selected: { is_selected ≡ true → session.is_ready ≡ true → L.honest session.wire.link
         → IsSelected name.items validity next (L.line session.wire.link).end.server } by { Prim.hlevel props },
     pub ghost numbers: { (0 < validity) × (0 < next) },
+    pub ghost are_passed: { is_selected ≡ true → session.is_ready ≡ true → L.honest session.wire.link
+        → Passes passed (L.line session.wire.link).end.server } by { Prim.hlevel props },
 }
 
 /// What is known of a mailbox that was selected.
@@ -95,6 +100,7 @@ impl<L: Link> Session<L> {
                     validity,
                     next,
                 } = chosen;
+                let passed = PassedMarks::new(session.wire.alloc);
                 Ok(FarBox {
                     session,
                     is_selected: true,
@@ -102,6 +108,7 @@ impl<L: Link> Session<L> {
                     validity,
                     next,
                     body: FoundBody::At { from: 0, len: 0 },
+                    passed,
                 })
             }
             Err(fault) => Err((fault, session)),
@@ -199,6 +206,7 @@ impl<L: Link> FarBox<L> {
             validity: 1,
             next: 1,
             body: FoundBody::At { from: 0, len: 0 },
+            passed: PassedMarks::new(alloc),
         }
     }
 
@@ -265,6 +273,7 @@ impl<L: Link> FarBox<L> {
         self.name = name;
         self.validity = validity;
         self.next = next;
+        self.passed = PassedMarks::new(self.session.wire.alloc);
         self.is_selected = true;
         Ok(())
     }

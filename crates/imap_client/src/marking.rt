@@ -1,6 +1,6 @@
 //! Where a mark stands in the selected mailbox: the mark of a message is in its first 22 octets (RFC 9051, section 6.4.5).
 
-ghost use Rattle.std.specs.Prelude.{◌≡◌, ◌≤◌, Some, false};
+ghost use Rattle.std.specs.Prelude.{◌≡◌, ◌<◌, ◌≤◌, Some, true, false};
 ghost use Rattle.imap_session.specs.Mailboxes.{FarMailbox};
 ghost use Rattle.imap_session.specs.Servers.{selected};
 ghost use Rattle.imap_session.specs.Visits.{Among};
@@ -11,6 +11,7 @@ ghost use Rattle.mailcore.specs.Stores.{IsStore};
 ghost use Rattle.imap_client.specs.Logins.{Remains};
 ghost use Rattle.imap_answers.specs.Readings.{Tells};
 ghost use Rattle.imap_client.specs.States.{EndsSo};
+ghost use Rattle.passed_marks.specs.Passed.{ArePassed};
 
 use crate::call::Call;
 use crate::far_box::FarBox;
@@ -20,12 +21,20 @@ use imap_link::fault::FarFault;
 use imap_link::link::Link;
 use mailcore::tuid::Tuid;
 use mailcore::uid::Uid;
+use passed_marks::PassedMarks;
 
 impl<L: Link> Session<L> {
     ghost use Rattle.imap_client.specs.Sessions.{state_of, server_of};
 
-    /// Where the mark stands in the selected mailbox, from this UID on. It is sought reply by reply, as they are heard.
-    pub(crate) fn mark(&mut self, mark: Tuid, from: u32) -> Result<Option<Uid>, FarFault>
+    /// Where the mark stands in the selected mailbox, behind the messages that were passed; those that are shown are passed then. The
+    /// next UID of the mailbox is at least `next`. The mark is sought reply by reply, as they are heard.
+    pub(crate) fn mark(
+        &mut self,
+        mark: Tuid,
+        passed: &mut PassedMarks,
+        next: u32,
+    ) -> Result<Option<Uid>, FarFault>
+        requires { 0 < passed.old.below }
         ensures was_honest { L.honest self.new.wire.link → L.honest self.old.wire.link }
         ensures counts { L.stops self.old.wire.link ≤ L.stops self.new.wire.link }
         ensures stuck { self.old.is_ready ≡ false → self.new ≡ self.old }
@@ -33,12 +42,16 @@ impl<L: Link> Session<L> {
         ensures remains { L.honest self.new.wire.link → Among L.visitors (λ s t. (m : FarMailbox) → selected s ≡ Some m → Remains s t)
             (server_of self.old) (server_of self.new) }
         ensures outcome { L.honest self.new.wire.link → Among L.visitors (λ s t. (m : FarMailbox) → selected s ≡ Some m → IsStore m.store
-            → AreInRange m.store.messages → Outcome (Tells (λ found. found ≡ marked_from mark from m.store)) Never Remains result s t)
+            → AreInRange m.store.messages → Outcome (Tells (λ found. found ≡ marked_from mark passed.old.below m.store)) Never Remains result s t)
             (server_of self.old) (server_of self.new) }
+        ensures passed { L.honest self.new.wire.link → Among L.visitors (λ s t. (m : FarMailbox) → selected s ≡ Some m → Remains s t
+            × (next ≤ m.store.next → ArePassed m.store.next m.store.messages passed.old → self.new.is_ready ≡ true
+            → ArePassed m.store.next m.store.messages passed.new)) (server_of self.old) (server_of self.new) }
     {
-        let mut search = MarkSearch::new(mark, from);
+        let from = passed.below;
+        let mut search = MarkSearch::new(self.wire.alloc, mark, from);
         self.ask_telling(&Call::Heads(from), &mut search)?;
-        let found = search.found()?;
+        let found = search.end(passed, next)?;
         self.done();
         Ok(found)
     }
@@ -47,8 +60,9 @@ impl<L: Link> Session<L> {
 impl<L: Link> FarBox<L> {
     ghost use Rattle.imap_client.specs.Sessions.{state_of, server_of};
 
-    /// The least UID of at least `from` whose message has the mark: one UID FETCH of the first 22 octets. A message below `from`
-    /// that the server sends, since `*` names the last one, never counts.
+    /// The least UID of at least `from` whose message has the mark: one UID FETCH of the first 22 octets. It asks for the messages
+    /// behind those of which earlier searches know that they do not have it. A message below these that the server sends, since `*`
+    /// names the last one, never counts.
     ///
     /// `Protocol`: the server shows more than 22 octets of a message, or tells the mark under 4294967295, too.
     pub fn find_mark(&mut self, mark: Tuid, from: u32) -> Result<Option<Uid>, FarFault>
@@ -65,6 +79,8 @@ impl<L: Link> FarBox<L> {
             → Outcome (Tells (λ found. found ≡ marked_from mark from m.store)) Never Remains result s t)
             (server_of self.old.session) (server_of self.new.session) }
     {
-        self.session.mark(mark, from)
+        self.passed.keep_if(self.is_selected);
+        self.passed.begin(mark, from.max(1));
+        self.session.mark(mark, &mut self.passed, self.next)
     }
 }

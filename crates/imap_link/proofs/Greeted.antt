@@ -15,12 +15,10 @@ use Rattle.imap_link.specs.ReplyKinds.{kind_of}
 use Rattle.reply_buf.specs.Fronts.{IsFaulty}
 use Rattle.imap_link.specs.Buffers.{WholeRead, GoesOn, SaysBye}
 use Rattle.imap_link.specs.Exchanges.{Restarts}
+use Rattle.imap_link.proofs.Passing.{one}
 
 abbrev ready : Reply
 ready = Notice notices.Ok (Plain (codes "ready"))
-
-one_reply : (len : ℕ) (G : List ℕ → Type 0) (old new : List ℕ) (w : WholeRead len G old new) → AreReplies (w.reply ∷ []) w.text
-one_reply len G old new w = record { front = w.text; back = []; parts = sym (append-nil w.text); first = w.spells.spelled; fits = w.spells.fits; others = refl }
 
 pub says_bye : (tag : List ℕ) (len : ℕ) (G : List ℕ → Type 0) (before read : List ℕ) (w : WholeRead len G before read) → before ≡ [] → kind_of tag w.reply ≡ Bye → SaysBye tag read
 says_bye tag len G before read w none e = record {
@@ -28,7 +26,7 @@ says_bye tag len G before read w none e = record {
   untagged = tt;
   last = w.reply;
   is = e;
-  spelled = subst (AreReplies (w.reply ∷ [])) (sym (w.read ∙ ap (λ (l : List ℕ). l ++ w.text) none)) (one_reply len G before read w);
+  spelled = subst (AreReplies (w.reply ∷ [])) (sym (w.read ∙ ap (λ (l : List ℕ). l ++ w.text) none)) (one len G before read w);
 }
 
 module _ (old mid : Line) (s : Starts old mid) (unread : List ℕ) (none : unread ≡ []) where
@@ -40,7 +38,7 @@ module _ (old mid : Line) (s : Starts old mid) (unread : List ℕ) (none : unrea
     hears = record {
       stays = (w.goes h).stays;
       bytes = w.text;
-      spelled = one_reply len (λ text. honest → GoesOn (ends_of mid unread) now text) before read w;
+      spelled = one len (λ text. honest → GoesOn (ends_of mid unread) now text) before read w;
       heard = ap (λ (l : List ℕ). l ++ mid.unseen) (sym none) ∙ (w.goes h).coming;
     }
 

@@ -1,16 +1,13 @@
 -- One reply that was read.
-use Rattle.std.proofs.Common.{◌≡◌, ◌≤◌, ◌⊎◌, inl, inr, ℕ, ◌-◌, Bool, List, [], ◌∷◌, ◌++◌, refl, sym, ◌∙◌, ap, subst, arith, append_assoc, append-nil, length, take, drop, take-append-drop, length-append, Result, Ok, Err}
+use Rattle.std.proofs.Common.{◌≡◌, ℕ, ◌-◌, List, ◌++◌, refl, sym, ◌∙◌, ap, subst, arith, append_assoc, length, take, drop, take-append-drop, length-append}
 use Rattle.std.proofs.lemmas.List.{length-take, take_all}
 use Rattle.std.proofs.Transfers.{drop-appended}
 use Rattle.wire_reader.specs.declared.answer.WireFault.{WireFault}
-use Rattle.wire_reader.specs.declared.answer.WireFault.TheVariants as faults
 use Rattle.imap_replies.specs.declared.reply.Reply.{Reply}
 use Rattle.imap_session.specs.Lines.{Line}
 use Rattle.exchange_laws.specs.Ends.{Ends, ends_of}
 use Rattle.reply_buf.specs.Buffers.{Buffer, reads}
-use Rattle.reply_buf.specs.Fronts.{Spells, IsWhole, IsFaulty, IsBreach}
-use Rattle.imap_link.specs.declared.fault.FarFault.{FarFault}
-use Rattle.imap_link.specs.Faults.{heard_fault, IsStop}
+use Rattle.reply_buf.specs.Fronts.{Spells, IsWhole}
 use Rattle.imap_link.specs.Buffers.{WholeRead, GoesOn, Keeps}
 
 module _ (honest : Type 0) (first : Ends) (line : Line) (old : List ℕ) (b new : Buffer) (len : ℕ) where
@@ -47,18 +44,3 @@ last_whole len G old read w =
 -- it is the one that is read again
 pub last_is : (len : ℕ) (G : List ℕ → Type 0) (old read : List ℕ) (w : WholeRead len G old read) (reply : Reply) → ((r : Reply) → Spells r (drop (length read - len) read) → reply ≡ r) → reply ≡ w.reply
 last_is len G old read w reply same = same w.reply (subst (Spells w.reply) (sym (last_text old w.text read len w.read w.long)) w.spells)
-
--- ---- bytes at which no reply is read
-
-faulty_longer : (bytes more : List ℕ) → IsFaulty bytes → IsFaulty (bytes ++ more)
-faulty_longer bytes more f reply front back rest h fits e = f reply front back (more ++ rest) h fits (sym (append_assoc bytes more rest) ∙ e)
-
-faulty_coming : (first : Ends) (line : Line) (unread : List ℕ) → Keeps first (ends_of line unread) → IsFaulty unread → IsFaulty first.coming
-faulty_coming first line unread k f = subst IsFaulty k.coming (faulty_longer unread line.unseen f)
-
--- they are so in all that comes
-pub breach_or : (f : WireFault) (first : Ends) (line : Line) (unread : List ℕ) → IsBreach f unread → Keeps first (ends_of line unread) → IsStop (heard_fault f) ⊎ IsFaulty first.coming
-breach_or (faults.Syntax at) first line unread b k = inr (faulty_coming first line unread k b)
-breach_or faults.LineTooLong first line unread b k = inr (faulty_coming first line unread k b)
-breach_or (faults.LiteralTooLong at) first line unread b k = inr (faulty_coming first line unread k b)
-breach_or faults.NoMemory first line unread b k = inl tt

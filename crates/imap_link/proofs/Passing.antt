@@ -1,5 +1,5 @@
 -- Replies that are passed over, of which those that the call keeps stay.
-use Rattle.std.proofs.Common.{◌≡◌, ◌≤◌, ℕ, ◌-◌, Bool, true, false, List, [], ◌∷◌, ◌++◌, refl, sym, ◌∙◌, ap, subst, arith, append_assoc, append-nil, length, take, length-append, Some}
+use Rattle.std.proofs.Common.{◌≡◌, ℕ, ◌-◌, Bool, true, false, List, [], ◌∷◌, ◌++◌, refl, sym, ◌∙◌, ap, subst, arith, append_assoc, append-nil, length, take, length-append, Some}
 use Rattle.std.specs.Prelude.{filter, if◌then◌else◌}
 use Rattle.std.proofs.lemmas.List.{take-append-le, take_all}
 use Rattle.std.proofs.lemmas.List.Elements.{filter-append}
@@ -67,7 +67,7 @@ goes_then a b c x y g h = record {
 pub passed_none : (uses : Uses) (T : List Reply → Type 0) (honest : Type 0) (ends : Ends) (read : List ℕ) → read ≡ [] → T [] → Passed uses T read (λ text. honest → GoesOn ends ends text)
 passed_none uses T honest ends read e t = record { replies = []; untagged = tt; text = []; spelled = refl; used = e; told = t; goes = λ h. goes_first ends }
 
-one : (len : ℕ) (G : List ℕ → Type 0) (old new : List ℕ) (w : WholeRead len G old new) → AreReplies (w.reply ∷ []) w.text
+pub one : (len : ℕ) (G : List ℕ → Type 0) (old new : List ℕ) (w : WholeRead len G old new) → AreReplies (w.reply ∷ []) w.text
 one len G old new w = record { front = w.text; back = []; parts = sym (append-nil w.text); first = w.spells.spelled; fits = w.spells.fits; others = refl }
 
 telling_more : (T : List Reply → Type 0) (rs : List Reply) (r : Reply) → T (telling rs ++ telling (r ∷ [])) → T (telling (rs ++ r ∷ []))
@@ -136,9 +136,6 @@ kept_or false len G old b now w e =
 pub unread_same : (used : Bool) (len : ℕ) (b now : Buffer) → now ≡ (if used then b else drops_last len b) → now.unread ≡ b.unread
 unread_same true len b now e = ap (λ (x : Buffer). x.unread) e
 unread_same false len b now e = ap (λ (x : Buffer). x.unread) e
-
-pub fits_last : (len : ℕ) (G : List ℕ → Type 0) (old new : List ℕ) → WholeRead len G old new → len ≤ length new
-fits_last len G old new w = let e = ap length w.read in let long = w.long in omega (arith, e, long, length-append old w.text)
 
 -- the same, of a link that kept its word and a sink that took the reply
 module _ {S : Type 0} (took : S → List Reply → S → Type 0) (s0 s1 s2 : S) (was_honest honest : Type 0) (was : honest → was_honest) (first mid now : Ends) (uses : Uses) (tag : List ℕ) (kind : Kind) (used : Bool) (len : ℕ)

@@ -2,7 +2,7 @@ pub mod Faults
 pub mod ReplyKinds
 pub mod UsedReplies
 pub mod Buffers
-pub mod Breaches
+pub mod Wires
 pub mod Sinks
 pub mod Outcomes
 pub mod Exchanges

@@ -19,7 +19,7 @@ pub trait ReplySink {
 
     /// Takes one reply more.
     ///
-    /// `AllocError`: memory ran out.
+    /// `AllocError`: memory ran out, and what was taken so far is of no use.
     fn take(&mut self, reply: &Reply<'_>) -> Result<(), AllocError>
         ensures { OnOk result ((first : Self) (told : List Reply) → took first told self.old → took first (told ++ telling (reply.now ∷ [])) self.new) };
 }

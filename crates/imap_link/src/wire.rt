@@ -6,7 +6,7 @@ ghost use Rattle.wire_reader.specs.Spelling.{crlf};
 ghost use Rattle.imap_replies.specs.declared.reply.Reply.{Reply};
 ghost use Rattle.imap_session.specs.Servers.{Quiet};
 ghost use Rattle.imap_session.specs.Lines.{told_server};
-ghost use Rattle.exchange_laws.specs.Ends.{ends_of, IsIdle};
+ghost use Rattle.exchange_laws.specs.Ends.{IsIdle};
 ghost use Rattle.reply_buf.specs.Buffers.{held_in, drops_last};
 ghost use Rattle.reply_buf.specs.Fronts.{IsFaulty};
 ghost use Rattle.imap_link.specs.Faults.{IsStop, IsHearing};
@@ -16,6 +16,7 @@ ghost use Rattle.imap_link.specs.UsedReplies.{answer_alone};
 ghost use Rattle.imap_link.specs.Outcomes.{Outcome, Never};
 ghost use Rattle.imap_link.specs.Exchanges.{Exchanges, StaysIdle, AsksFor, Restarts};
 ghost use Rattle.imap_link.specs.Sending.{AfterVisits};
+ghost use Rattle.imap_link.specs.Wires.{ends_in};
 
 use crate::fault::FarFault;
 use crate::kind::{Kind, kind_of};
@@ -64,8 +65,7 @@ impl<L: Link> Wire<L> {
         ensures counts { L.stops self.old.link ≤ L.stops self.new.link }
         ensures steady { OnOk result (L.stops self.new.link ≡ L.stops self.old.link) }
         ensures quiet { L.honest self.new.link → Quiet (L.line self.old.link).end.server (L.line self.new.link).end.server }
-        ensures same { OnOk result (L.honest self.new.link → Keeps (ends_of (L.line self.old.link) self.old.heard.unread)
-            (ends_of (L.line self.new.link) self.new.heard.unread)) }
+        ensures same { OnOk result (L.honest self.new.link → Keeps (ends_in L.line self.old) (ends_in L.line self.new)) }
         ensures read { self.new.heard.read ≡ self.old.heard.read }
         ensures grows { (bytes : List ℕ) × (length bytes ≤ 4096) × (self.new.heard.unread ≡ self.old.heard.unread ++ bytes) }
         ensures fault { IfErr result IsStop }
@@ -86,9 +86,8 @@ impl<L: Link> Wire<L> {
         ensures steady { OnOk result (L.stops self.new.link ≡ L.stops self.old.link) }
         ensures quiet { L.honest self.new.link → Quiet (L.line self.old.link).end.server (L.line self.new.link).end.server }
         ensures late { Behind self.old.heard.read (max 4096 (length self.old.heard.unread)) (held_in self.new.heard) }
-        ensures heard { IfOk result (λ len. WholeRead len (λ text. L.honest self.new.link → GoesOn (ends_of (L.line self.old.link) self.old.heard.unread)
-            (ends_of (L.line self.new.link) self.new.heard.unread) text) self.old.heard.read self.new.heard.read) }
-        ensures fault { IfErr result (λ fault. L.honest self.new.link → IsStop fault ⊎ IsFaulty (ends_of (L.line self.old.link) self.old.heard.unread).coming) }
+        ensures heard { IfOk result (λ len. WholeRead len (λ text. L.honest self.new.link → GoesOn (ends_in L.line self.old) (ends_in L.line self.new) text) self.old.heard.read self.new.heard.read) }
+        ensures fault { IfErr result (λ fault. L.honest self.new.link → IsStop fault ⊎ IsFaulty (ends_in L.line self.old).coming) }
         ensures known { IfErr result IsHearing }
         ensures stopped { IsErrOf result FarFault.Stopped → L.stops self.old.link < L.stops self.new.link }
     {
@@ -115,9 +114,8 @@ impl<L: Link> Wire<L> {
         ensures late { Behind self.old.heard.read (max 4096 (length self.old.heard.unread)) (held_in self.new.heard) }
         ensures heard { IfOk result (λ r. Reads uses tag.now r.0 r.1 r.2
             (λ reply. (first : S) (told : List Reply) → S.took first told sink.old → S.took first (told ++ telling (reply ∷ [])) sink.new)
-            (λ text. L.honest self.new.link → GoesOn (ends_of (L.line self.old.link) self.old.heard.unread)
-            (ends_of (L.line self.new.link) self.new.heard.unread) text) self.old.heard.read self.new.heard.read) }
-        ensures fault { IfErr result (λ fault. L.honest self.new.link → IsStop fault ⊎ IsFaulty (ends_of (L.line self.old.link) self.old.heard.unread).coming) }
+            (λ text. L.honest self.new.link → GoesOn (ends_in L.line self.old) (ends_in L.line self.new) text) self.old.heard.read self.new.heard.read) }
+        ensures fault { IfErr result (λ fault. L.honest self.new.link → IsStop fault ⊎ IsFaulty (ends_in L.line self.old).coming) }
         ensures known { IfErr result IsHearing }
         ensures stopped { IsErrOf result FarFault.Stopped → L.stops self.old.link < L.stops self.new.link }
     {
@@ -143,9 +141,8 @@ impl<L: Link> Wire<L> {
         ensures quiet { L.honest self.new.link → Quiet (L.line self.old.link).end.server (L.line self.new.link).end.server }
         ensures told { IfOk result (λ told. Tells tag.now self.new.heard.read told) }
         ensures came { IfOk result (λ told. Came uses (λ told. S.took sink.old told sink.new) (IsTold tag.now told) self.new.heard.read
-            (λ text. L.honest self.new.link → GoesOn (ends_of (L.line self.old.link) self.old.heard.unread)
-            (ends_of (L.line self.new.link) self.new.heard.unread) text)) }
-        ensures fault { IfErr result (λ fault. L.honest self.new.link → Expects tag.now (ends_of (L.line self.old.link) self.old.heard.unread).coming → IsStop fault) }
+            (λ text. L.honest self.new.link → GoesOn (ends_in L.line self.old) (ends_in L.line self.new) text)) }
+        ensures fault { IfErr result (λ fault. L.honest self.new.link → Expects tag.now (ends_in L.line self.old).coming → IsStop fault) }
         ensures bounded { IsBounded uses (max 4096 (length self.old.heard.unread)) self.new.heard }
         ensures known { IfErr result IsHearing }
         ensures stopped { IsErrOf result FarFault.Stopped → (L.stops self.old.link < L.stops self.new.link) ⊎ SaysBye tag.now self.new.heard.read }
@@ -255,7 +252,7 @@ impl<L: Link> Wire<L> {
         ensures steady { OnOk result (L.stops self.new.link ≡ L.stops self.old.link) }
         ensures outcome { L.honest self.new.link → Outcome (λ _. Restarts) Never Restarts result
             (told_server (L.line self.old.link)) (told_server (L.line self.new.link)) }
-        ensures idle { OnOk result (L.honest self.new.link → IsIdle (ends_of (L.line self.new.link) self.new.heard.unread)) }
+        ensures idle { OnOk result (L.honest self.new.link → IsIdle (ends_in L.line self.new)) }
         ensures known { IfErr result IsHearing }
         ensures stopped { IsErrOf result FarFault.Stopped → (L.stops self.old.link < L.stops self.new.link) ⊎ SaysBye tag.now self.new.heard.read }
     {

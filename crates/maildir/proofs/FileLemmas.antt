@@ -8,7 +8,7 @@ use Rattle.std.proofs.lemmas.List.Elements.{filter_passes, All-get_or}
 use Rattle.std.proofs.lemmas.Bool.Decides.{nat_tests}
 use Rattle.std.specs.List.{position_or_len, remove}
 use Rattle.std.proofs.lemmas.List.Sums.{fails_before_first}
-use Rattle.std.proofs.lemmas.List.Quantifiers.{all_pairs_push, position-Some}
+use Rattle.std.proofs.lemmas.List.Quantifiers.{all_pairs_push}
 use Rattle.std.proofs.lemmas.List.Kept.{AllPairs-filter}
 use Rattle.maildir.specs.declared.folder.Place.{Place}
 use Rattle.maildir.specs.declared.folder.Place.TheVariants.{New, Cur}
@@ -42,10 +42,10 @@ at_from_name at file e = subst (λ (a : FileName). is_at a.place a.name file ≡
 
 -- ---- what stays apart
 
-apart_head : (x : File) (xs : List File) → AreApart (x ∷ xs) → (k : ℕ) (d : File) → k < length xs → name_of_file x ≡ name_of_file (get_or xs k d) → ⊥
+pub apart_head : (x : File) (xs : List File) → AreApart (x ∷ xs) → (k : ℕ) (d : File) → k < length xs → name_of_file x ≡ name_of_file (get_or xs k d) → ⊥
 apart_head x xs apart k d below = apart 0 (suc k) d (omega arith) (omega arith)
 
-apart_tail : (x : File) (xs : List File) → AreApart (x ∷ xs) → AreApart xs
+pub apart_tail : (x : File) (xs : List File) → AreApart (x ∷ xs) → AreApart xs
 apart_tail x xs apart = λ i j d less below. apart (suc i) (suc j) d (omega arith) (omega arith)
 
 pub apart_added : (files : List File) (file : File) → AreApart files → AreApart (without file.place file.name files ++ file ∷ [])
@@ -120,16 +120,6 @@ moved_at from to (y ∷ ys) (suc i) d below e apart =
     other true f = absurd (apart_head y ys apart i d (omega arith) (at_true from y f ∙ sym (at_true from (get_or ys i d) e)))
     other false f = f
 
--- where the file to rename is
-pub moved_where : (from to : FileName) (ys : List File) (i : ℕ) (file : File) → position (is_at from.place from.name) ys ≡ Some i → file ≡ get_or ys i file → AreApart ys
-    → set ys i (record { place = to.place; name = to.name; bytes = file.bytes }) ≡ map (moved from to) ys
-moved_where from to ys i file found is apart =
-    let at = position-Some (is_at from.place from.name) ys i file found in
-    let here : is_at from.place from.name file ≡ true = subst (λ (x : File). is_at from.place from.name x ≡ true) (sym is) at.1 in
-    sym (moved_at from to ys i file at.0 at.1 apart
-    ∙ ap (λ (x : File). set ys i (moved from to x)) (sym is)
-    ∙ ap (λ (x : File). set ys i x) (rw here refl))
-
 pub moved_nowhere : (from to : FileName) (ys : List File) → position (is_at from.place from.name) ys ≡ None → map (moved from to) ys ≡ ys
 moved_nowhere from to ys none =
     moved_none from to ys (λ k d below. fails_before_first (is_at from.place from.name) ys k d (past k below (ltb (position_or_len (is_at from.place from.name) ys) (length ys)) refl none))
@@ -160,12 +150,6 @@ removed_at at (y ∷ ys) (suc i) d below e apart =
     other : (b : Bool) → is_at at.place at.name y ≡ b → is_at at.place at.name y ≡ false
     other true f = absurd (apart_head y ys apart i d (omega arith) (at_true at y f ∙ sym (at_true at (get_or ys i d) e)))
     other false f = f
-
-pub removed_found : (at : FileName) (ys : List File) (i : ℕ) → position (is_at at.place at.name) ys ≡ Some i → AreApart ys → remove ys i ≡ without at.place at.name ys
-removed_found at ys i found apart =
-    let d : File = record { place = at.place; name = at.name; bytes = [] } in
-    let first = position-Some (is_at at.place at.name) ys i d found in
-    removed_at at ys i d first.0 first.1 apart
 
 -- ---- a new name that is another's, or the file's own
 

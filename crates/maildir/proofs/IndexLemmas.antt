@@ -1,11 +1,13 @@
 -- What a change of a map with byte strings as keys leaves at any name.
-use Rattle.std.proofs.Common.{◌≡◌, ℕ, Bool, true, false, cond, List, [], ◌∷◌, Option, None, Some, refl, sym, subst, ◌∙◌, ◌⊎◌, inl, inr}
+use Rattle.std.proofs.Common.{◌≡◌, ℕ, Bool, true, false, cond, List, [], ◌∷◌, Option, None, Some, refl, sym, ap, subst, ◌∙◌, ◌⊎◌, inl, inr, arith}
 use Rattle.std.specs.Prelude.{nat_eq, Vec}
 use Rattle.std.specs.Global.{Global}
+use Rattle.std.specs.Option.{option_map}
 use Rattle.std.specs.Cmp.Lexicographic.{pointwise, bytes_decides, nat_list_eq_equiv}
 use Rattle.std.specs.HashMap.{HashMap, UpdatesBy, get}
 use Rattle.std.specs.Map.{lookup, IsKeyTest, AreApart, KeepsOthers}
-use Rattle.maildir.specs.NameIndexes.{found_in}
+use Rattle.maildir.specs.declared.name_index.NameIndex.{NameIndex}
+use Rattle.maildir.specs.NameIndexes.{KeepsRoom, found_in}
 
 abbrev pub Key : Type 0
 Key = Vec ℕ Global
@@ -66,3 +68,17 @@ found_in_updated m n at value updates name = by_name (pointwise nat_eq name at) 
     by_name : (b : Bool) → pointwise nat_eq name at ≡ b → found_in name n ≡ cond (pointwise nat_eq name at) value (found_in name m)
     by_name true same = rw same (subst (λ l. found_in l n ≡ value) (sym ((bytes_decides name at).0 same)) updates.1)
     by_name false differs = rw differs (others_kept (is_key at) m.entries n.entries updates.3 (is_key name) (key_test name) (apart differs))
+
+-- the value of a key that is there is another one
+pub found_in_renumbered : {S : Type 0} (m n : HashMap Key ℕ S) (at : List ℕ) (before spot : ℕ) → found_in at m ≡ Some before → UpdatesBy same_key (is_key at) m n (Some spot)
+    → (name : List ℕ) → found_in name n ≡ cond (pointwise nat_eq name at) (option_map (λ b. spot) (found_in name m)) (found_in name m)
+found_in_renumbered m n at before spot there updates name = by_name (pointwise nat_eq name at) refl
+  where
+    by_name : (b : Bool) → pointwise nat_eq name at ≡ b → found_in name n ≡ cond (pointwise nat_eq name at) (option_map (λ b. spot) (found_in name m)) (found_in name m)
+    by_name true same =
+        let here : found_in name m ≡ Some before = ap (λ (l : List ℕ). found_in l m) ((bytes_decides name at).0 same) ∙ there in
+        rw same at (found_in_updated m n at (Some spot) updates name) ∙ rw (same, here) refl
+    by_name false differs = rw differs at (found_in_updated m n at (Some spot) updates name) ∙ rw differs refl
+
+pub room_kept : (old mid new : NameIndex) → KeepsRoom old mid → KeepsRoom mid new → KeepsRoom old new
+room_kept old mid new first then = (let a = first.0 in let b = then.0 in omega (arith, a, b), let a = first.1 in let b = then.1 in omega (arith, a, b))

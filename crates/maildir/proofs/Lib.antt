@@ -9,4 +9,5 @@ pub mod NameLemmas
 pub mod NumberLemmas
 pub mod PermutedLemmas
 pub mod PlaceLemmas
+pub mod SlotLemmas
 pub mod ToldLemmas

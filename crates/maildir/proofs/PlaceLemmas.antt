@@ -1,12 +1,10 @@
 -- Where the first element that passes stands in a list that changes.
-use Rattle.std.proofs.Common.{◌≡◌, ℕ, zero, suc, ◌+◌, ◌-◌, ◌<◌, ◌≤◌, Bool, true, false, not, cond, ltb, List, [], ◌∷◌, ◌++◌, length, get_or, set, map, None, Some, refl, sym, ap, subst, ◌∙◌, inl, inr, arith}
+use Rattle.std.proofs.Common.{◌≡◌, ℕ, zero, suc, ◌+◌, ◌<◌, Bool, true, false, not, cond, List, [], ◌∷◌, ◌++◌, length, get_or, set, map, None, Some, refl, sym, ap, ◌∙◌, inl, inr, arith}
 use Rattle.std.specs.Prelude.{position, find, is_some, filter}
-use Rattle.std.specs.List.{position_from, remove, list_any}
-use Rattle.std.specs.Option.{option_map}
+use Rattle.std.specs.List.{position_from, list_any}
 use Rattle.std.proofs.lemmas.Iterator.Adapters.{position_from-zero}
 use Rattle.std.proofs.lemmas.Bool.{cases_Bool}
 use Rattle.std.proofs.lemmas.List.Quantifiers.{position-Some}
-use Rattle.maildir.specs.NameIndexes.{closed}
 
 some_none : {A : Type 0} {x : A} → Some x ≡ None → ⊥
 some_none e = cc
@@ -25,45 +23,6 @@ module _ {X : Type 0} (t : X → Bool) where
   -- each that does not pass stays
   pub position_filtered : (xs : List X) → position t (filter (λ x. not (t x)) xs) ≡ None
   position_filtered xs = position_is (filter (λ x. not (t x)) xs) ∙ from_filtered 0 xs
-
-  -- ---- one element goes
-
-  closed_above : (gap n : ℕ) → gap ≤ n → closed gap (n + 1) ≡ n
-  closed_above gap n above = cases (ltb gap (n + 1)) refl
-    where
-      cases : (b : Bool) → ltb gap (n + 1) ≡ b → cond (ltb gap (n + 1)) (n + 1 - 1) (n + 1) ≡ n
-      cases true e = rw e (omega arith)
-      cases false e = absurd (grind arith)
-
-  closed_below : (gap n : ℕ) → n ≤ gap → closed gap n ≡ n
-  closed_below gap n below = cases (ltb gap n) refl
-    where
-      cases : (b : Bool) → ltb gap n ≡ b → cond (ltb gap n) (n - 1) n ≡ n
-      cases true e = absurd (grind arith)
-      cases false e = rw e refl
-
-  from_down : (gap n : ℕ) (xs : List X) → gap ≤ n → position_from t n xs ≡ option_map (closed gap) (position_from t (n + 1) xs)
-  from_down gap n [] above = refl
-  from_down gap n (x ∷ xs) above = elim (cases_Bool (t x)) [
-    | inl e ↦ rw e (ap (λ (m : ℕ). Some m) (sym (closed_above gap n above)))
-    | inr e ↦ rw e (from_down gap (n + 1) xs (omega arith))
-  ]
-
-  from_removed : (n : ℕ) (xs : List X) (i : ℕ) (d : X) → i < length xs → t (get_or xs i d) ≡ false
-      → position_from t n (remove xs i) ≡ option_map (closed (n + i)) (position_from t n xs)
-  from_removed n [] i d below e = absurd (omega arith)
-  from_removed n (x ∷ xs) zero d below e = rw e (from_down (n + 0) n xs (omega arith))
-  from_removed n (x ∷ xs) (suc i) d below e = elim (cases_Bool (t x)) [
-    | inl f ↦ rw f (ap (λ (m : ℕ). Some m) (sym (closed_below (n + suc i) n (omega arith))))
-    | inr f ↦ let same : n + 1 + i ≡ n + suc i = omega arith in
-        rw f (subst (λ (gap : ℕ). position_from t (n + 1) (remove xs i) ≡ option_map (closed gap) (position_from t (n + 1) xs)) same (from_removed (n + 1) xs i d (omega arith) e))
-  ]
-
-  pub position_removed : (xs : List X) (i : ℕ) (d : X) → i < length xs → t (get_or xs i d) ≡ false
-      → position t (remove xs i) ≡ option_map (closed i) (position t xs)
-  position_removed xs i d below e =
-      position_is (remove xs i) ∙ from_removed 0 xs i d below e
-      ∙ subst (λ (gap : ℕ). option_map (closed gap) (position_from t 0 xs) ≡ option_map (closed i) (position t xs)) (omega arith) (ap (option_map (closed i)) (sym (position_is xs)))
 
   -- ---- one is added at the end
 

@@ -2,9 +2,9 @@ pub mod Cut
 pub mod DiskFolders
 pub mod FlaggedNames
 pub mod FolderCalls
+pub mod FileLists
 pub mod Folders
 pub mod Gains
-pub mod IndexedFiles
 pub mod Letters
 pub mod MemFiles
 pub mod MemFolders
@@ -12,4 +12,5 @@ pub mod Metas
 pub mod NameIndexes
 pub mod Names
 pub mod Number
+pub mod Slots
 pub mod VisitedFolders

@@ -4,10 +4,11 @@ use Rattle.device.specs.Calls.{Seen}
 use Rattle.device.specs.Conditions.{seen_in}
 use Rattle.maildir.specs.declared.folder.File.{File}
 use Rattle.maildir.specs.Folders.{Stored, without}
+use Rattle.maildir.specs.MemFiles.{files_of}
 use Rattle.maildir.specs.declared.mem_folder.MemFolder.{MemFolder}
 
 abbrev pub stored_in : MemFolder → Stored
-stored_in m = record { is_there = m.is_there; files = m.files.files.items; copy = m.copy; meta = m.meta }
+stored_in m = record { is_there = m.is_there; files = files_of m.files; copy = m.copy; meta = m.meta }
 
 -- a folder that is there, without a file
 abbrev pub empty : Stored

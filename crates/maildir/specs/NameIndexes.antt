@@ -1,5 +1,5 @@
 -- What an index of names says.
-use Rattle.std.specs.Prelude.{◌≡◌, ◌<◌, ◌≤◌, ℕ, ◌-◌, Bool, ◌&&◌, nat_eq, nat_lt, List, Option, Vec, if◌then◌else◌}
+use Rattle.std.specs.Prelude.{◌≡◌, ◌<◌, ◌≤◌, ℕ, Bool, ◌&&◌, nat_eq, List, Option, Vec}
 use Rattle.std.specs.Global.{Global}
 use Rattle.std.specs.Cmp.Lexicographic.{pointwise}
 use Rattle.std.specs.HashMap.{HashMap, get_by, spare}
@@ -23,10 +23,6 @@ named place name = record { place = place; name = name }
 -- this is the file's place and name
 abbrev pub is_named : FileName → Place → List ℕ → Bool
 is_named file place name = is_place place file.place && pointwise nat_eq name file.name
-
--- an index after the one before it has gone
-abbrev pub closed : ℕ → ℕ → ℕ
-closed gap spot = if nat_lt gap spot then spot - 1 else spot
 
 abbrev pub SaysSame : (old new : NameIndex) → Type 0
 SaysSame old new = (place : Place) (name : List ℕ) → found_at place name new ≡ found_at place name old

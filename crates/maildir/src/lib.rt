@@ -6,6 +6,7 @@ mod cut;
 pub mod disk_folder;
 pub mod disk_stop;
 mod entries;
+pub mod file_list;
 pub mod folder;
 mod found_names;
 mod kinds;

@@ -4,8 +4,10 @@ ghost use Rattle.std.specs.Prelude.{◌≡◌, ◌↔◌, ◌<◌, ◌^◌, true
 ghost use Rattle.std.specs.List.{list_any};
 ghost use Rattle.std.specs.Option.{option_map};
 ghost use Rattle.mailcore.specs.CopyPieces.{text_left};
+ghost use Rattle.maildir.specs.FileLists.{files_left};
 ghost use Rattle.maildir.specs.Folders.{name_of_file, is_there, renamed, bytes_of, text_of};
 
+use crate::file_list::FileList;
 use crate::folder::{File, FileName, Folder, Location, Origin, Place, Source};
 use crate::mem_files::MemFiles;
 use device::DeviceFault;
@@ -137,10 +139,10 @@ impl MemFolder {
     }
 
     /// Its files in `new` and `cur`.
-    pub fn files(&self) -> &[File]
-        ensures { result.now ≡ (stored_in self.now).files }
+    pub fn files(&self) -> FileList<'_>
+        ensures { files_left result ≡ (stored_in self.now).files }
     {
-        self.files.as_slice()
+        self.files.list()
     }
 
     /// The text of its meta file.
@@ -175,7 +177,7 @@ impl MemFolder {
         if !self.is_there {
             return Ok(None);
         }
-        match names_of(self.alloc, self.files.as_slice()) {
+        match names_of(self.alloc, self.files()) {
             Ok(names) => Ok(Some(names)),
             Err(_) => Err(self.stopping.lack()),
         }
@@ -362,8 +364,8 @@ fn stops_before(moment: Option<Moment>) -> bool
 }
 
 // The names of files.
-fn names_of(alloc: Global, files: &[File]) -> Result<Vec<FileName>, AllocError>
-    ensures { IfOk result (λ names. names.items ≡ map name_of_file files.now) }
+fn names_of(alloc: Global, files: FileList<'_>) -> Result<Vec<FileName>, AllocError>
+    ensures { IfOk result (λ names. names.items ≡ map name_of_file (files_left files.entry)) }
 {
     let mut names = Vec::with_capacity(alloc, files.len())?;
     for file in files {

@@ -5,7 +5,7 @@ ghost use Rattle.std.specs.Cmp.Lexicographic.{pointwise};
 ghost use Rattle.std.specs.HashMap.{spare};
 ghost use Rattle.maildir.specs.declared.folder.Place.{Place};
 ghost use Rattle.std.specs.Option.{option_map};
-ghost use Rattle.maildir.specs.NameIndexes.{closed, found_at, found_in, HasRoom, is_named, KeepsRoom, named, SaysSame};
+ghost use Rattle.maildir.specs.NameIndexes.{found_at, found_in, HasRoom, is_named, KeepsRoom, named, SaysSame};
 
 use crate::folder::Place;
 use std::alloc::{AllocError, Global};
@@ -73,13 +73,16 @@ impl NameIndex {
         }
     }
 
-    // Moves each file behind this index one down, since the one there went.
-    pub(crate) fn close_gap(&mut self, gap: usize)
-        ensures moved { (p : Place) (n : List ℕ) → found_at p n self.new ≡ option_map (closed gap) (found_at p n self.old) }
+    // Says that the file of this place and name, if it has an index, stands here.
+    pub(crate) fn renumber(&mut self, place: Place, name: &[u8], spot: usize)
+        ensures moved { (p : Place) (n : List ℕ) → found_at p n self.new ≡ cond (is_named (named place name.now) p n)
+            (option_map (λ before. spot) (found_at p n self.old)) (found_at p n self.old) }
         ensures room { KeepsRoom self.old self.new }
     {
-        close_gap_of_spots(&mut self.fresh, gap);
-        close_gap_of_spots(&mut self.current, gap);
+        match place {
+            Place::New => renumber_spot(&mut self.fresh, name, spot),
+            Place::Cur => renumber_spot(&mut self.current, name, spot),
+        }
     }
 }
 
@@ -107,14 +110,12 @@ fn remove_spot(spots: &mut Spots, name: &[u8])
     let _ = spots.remove(name);
 }
 
-fn close_gap_of_spots(spots: &mut Spots, gap: usize)
-    ensures moved { (n : List ℕ) → found_in n spots.new ≡ option_map (closed gap) (found_in n spots.old) }
+fn renumber_spot(spots: &mut Spots, name: &[u8], spot: usize)
+    ensures moved { (n : List ℕ) → found_in n spots.new ≡ cond (pointwise nat_eq n name.now) (option_map (λ before. spot) (found_in n spots.old))
+        (found_in n spots.old) }
     ensures room { spare spots.old ≤ spare spots.new }
 {
-    spots.retain(|_, spot| {
-        if *spot > gap {
-            *spot -= 1;
-        }
-        true
-    });
+    if let Some(before) = spots.get_mut(name) {
+        *before = spot;
+    }
 }

@@ -1,16 +1,16 @@
 -- What a server in memory does is what the law of a link asks.
-use Rattle.std.proofs.Common.{◌≡◌, ℕ, List, [], ◌∷◌, ◌++◌, take, drop, Option, None, Some, Result, Ok, Err, OnErr, refl, sym, ◌∙◌, ap, subst, append_assoc, append-nil, take-append-drop, inl}
-use Rattle.imap_replies.specs.declared.reply.Reply.{Reply}
+use Rattle.std.proofs.Common.{◌≡◌, ℕ, List, [], ◌∷◌, ◌++◌, take, drop, Option, None, Some, Result, Ok, Err, OnErr, refl, sym, ◌∙◌, ap, subst, append_assoc, append-nil, take-append-drop}
 use Rattle.imap_session.specs.Servers.{Server}
 use Rattle.imap_session.specs.Unread.{Kept}
 use Rattle.imap_session.specs.Serving.{End, Runs, Feeds, FeedsSome}
-use Rattle.imap_session.specs.Heard.{LeavesOut}
 use Rattle.imap_session.specs.Lines.{Line, Sends}
 use Rattle.imap_server.specs.declared.server.ServerFault.{ServerFault}
 use Rattle.imap_server.specs.declared.server.ServerFault.TheVariants.{Closed}
 use Rattle.imap_server.specs.Taking.{Host, Fed}
 use Rattle.imap_server.proofs.Feeding.{no_portion, run_more, feeds_some}
 use Rattle.mem_link.specs.MemLines.{kept_in, end_at, line_at}
+use Rattle.mem_link.specs.Losing.{SendsAll}
+use Rattle.mem_link.specs.Muting.{Hears}
 
 -- ---- a connection that there is
 
@@ -27,23 +27,24 @@ fed_ends old new bytes out f =
 
 -- ---- all of what is sent
 
-none_left_out : (said : List Reply) → LeavesOut said said
-none_left_out [] = tt
-none_left_out (reply ∷ replies) = (inl refl, none_left_out replies)
+pub sends_of : (old new : Host) (bytes out unread after : List ℕ) → Fed old bytes out new → Hears out unread after → Sends bytes (line_at old unread) (line_at new after)
+sends_of old new bytes out unread after f h =
+    let heard = h.heard f.said f.spelled in
+    record {
+      read = bytes;
+      lost = [];
+      said = f.said;
+      heard = heard.heard;
+      out = h.out;
+      split = sym (append-nil bytes);
+      feeds = fed_ends old new bytes out f;
+      left_out = heard.left_out;
+      spelled = heard.spelled;
+      replied = h.replied;
+    }
 
-pub sends_of : (old new : Host) (bytes out unread after : List ℕ) → Fed old bytes out new → after ≡ unread ++ out → Sends bytes (line_at old unread) (line_at new after)
-sends_of old new bytes out unread after f e = record {
-  read = bytes;
-  lost = [];
-  said = f.said;
-  heard = f.said;
-  out = out;
-  split = sym (append-nil bytes);
-  feeds = fed_ends old new bytes out f;
-  left_out = none_left_out f.said;
-  spelled = f.spelled;
-  replied = e;
-}
+pub sends_all : (old new : Host) (bytes out unread after : List ℕ) → Fed old bytes out new → after ≡ unread ++ out → SendsAll bytes (line_at old unread) (line_at new after)
+sends_all old new bytes out unread after f e = record { said = f.said; out = out; feeds = fed_ends old new bytes out f; spelled = f.spelled; replied = e }
 
 -- ---- a part of it
 

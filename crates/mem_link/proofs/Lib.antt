@@ -1,3 +1,4 @@
+pub mod MutingLemmas
 pub mod Giving
 pub mod Visiting
 pub mod Taking

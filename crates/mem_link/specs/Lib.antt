@@ -3,3 +3,4 @@ pub mod Served
 pub mod Losing
 pub mod MemLinks
 pub mod Others
+pub mod Muting

@@ -1,5 +1,5 @@
 -- A link that loses nothing.
-use Rattle.std.specs.Prelude.{◌≡◌, ◌<◌, ◌++◌, ℕ, true, List, [], None, Some}
+use Rattle.std.specs.Prelude.{◌≡◌, ◌<◌, ◌++◌, ℕ, true, false, List, [], None, Some}
 use Rattle.imap_replies.specs.declared.reply.Reply.{Reply}
 use Rattle.imap_session.specs.Unread.{Kept}
 use Rattle.imap_session.specs.Serving.{Feeds}
@@ -8,9 +8,11 @@ use Rattle.imap_session.specs.Lines.{Line}
 use Rattle.mem_link.specs.declared.schedule.Schedule.{Schedule}
 use Rattle.mem_link.specs.declared.mem_link.MemLink.{MemLink}
 
--- it has no stops, and cuts no answer
+-- it has no stops, cuts no answer, and leaves nothing out of one
 pub record StopsNowhere (schedule : Schedule) : Type 0 where
   pub no_stops : schedule.stops.items ≡ []
+  pub no_mutes : schedule.mutes ≡ None
+  pub no_mute : schedule.is_muted ≡ false
   pub no_cut : schedule.cut ≡ None
   pub no_room : schedule.room ≡ None
 

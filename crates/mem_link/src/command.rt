@@ -1,10 +1,18 @@
 //! Which command is sent.
 
+ghost use Rattle.std.specs.Prelude.{◌<◌};
+
 use texts::number::read_u32;
 
 /// The name of a command at which a link can stop.
 #[derive(Clone, Copy, PartialEq, Eq)]
 pub enum CommandName {
+    /// CAPABILITY.
+    Capability,
+    /// LOGIN.
+    Login,
+    /// ENABLE.
+    Enable,
     /// SELECT.
     Select,
     /// UID FETCH.
@@ -26,14 +34,14 @@ pub struct Nth {
     pub number: u64,
 }
 
+/// How many names there are.
+const NAMES: usize = 8;
+
 /// How many commands of each name were sent.
 #[derive(Drop)]
 pub(crate) struct Counts {
-    select: u64,
-    fetch: u64,
-    store: u64,
-    expunge: u64,
-    append: u64,
+    /// Each at the place of its name.
+    sent: [u64; NAMES],
 }
 
 impl CommandName {
@@ -45,7 +53,11 @@ impl CommandName {
             b"UID" => words.next()?,
             word => word,
         };
-        match word {
+        // Of a command without arguments the line ends behind its name.
+        match word.strip_suffix(b"\r\n".as_slice()).unwrap_or(word) {
+            b"CAPABILITY" => Some(CommandName::Capability),
+            b"LOGIN" => Some(CommandName::Login),
+            b"ENABLE" => Some(CommandName::Enable),
             b"SELECT" => Some(CommandName::Select),
             b"FETCH" => Some(CommandName::Fetch),
             b"STORE" => Some(CommandName::Store),
@@ -54,46 +66,43 @@ impl CommandName {
             _ => None,
         }
     }
+
+    /// Its place among the names.
+    fn place(self) -> usize
+        ensures { result < 8 }
+    {
+        match self {
+            CommandName::Capability => 0,
+            CommandName::Login => 1,
+            CommandName::Enable => 2,
+            CommandName::Select => 3,
+            CommandName::Fetch => 4,
+            CommandName::Store => 5,
+            CommandName::Expunge => 6,
+            CommandName::Append => 7,
+        }
+    }
 }
 
 impl Counts {
     /// None was sent.
     pub(crate) fn new() -> Counts {
-        Counts {
-            select: 0,
-            fetch: 0,
-            store: 0,
-            expunge: 0,
-            append: 0,
-        }
+        Counts { sent: [0; NAMES] }
     }
 
     /// Which one the next command of this name is.
     pub(crate) fn next(&self, name: CommandName) -> Nth {
-        let count = match name {
-            CommandName::Select => self.select,
-            CommandName::Fetch => self.fetch,
-            CommandName::Store => self.store,
-            CommandName::Expunge => self.expunge,
-            CommandName::Append => self.append,
-        };
+        let sent = self.sent[name.place()];
         Nth {
             name,
-            number: count.saturating_add(1),
+            number: sent.saturating_add(1),
         }
     }
 
     /// Counts a command that is sent, and tells which one it is.
     pub(crate) fn push(&mut self, name: CommandName) -> Nth {
         let next = self.next(name);
-        let count = match name {
-            CommandName::Select => &mut self.select,
-            CommandName::Fetch => &mut self.fetch,
-            CommandName::Store => &mut self.store,
-            CommandName::Expunge => &mut self.expunge,
-            CommandName::Append => &mut self.append,
-        };
-        *count = next.number;
+        self.sent[name.place()] = next.number;
         next
     }
 }

@@ -5,6 +5,7 @@ pub mod arrivals;
 pub mod command;
 pub mod loop_link;
 pub mod mem_link;
+mod muting;
 pub mod schedule;
 mod sending;
 mod unread;

@@ -1,6 +1,8 @@
 //! A link to a server in memory.
 
-ghost use Rattle.std.specs.Prelude.{◌≡◌, ◌<◌, ◌≤◌, ◌^◌, ℕ, true, None, length, take, IsOk, IfOk, IfErr, OnOk, OnErr, IsErrOf, IfSome, Ok, Err};
+ghost use Rattle.std.specs.Prelude.{◌≡◌, ◌<◌, ◌≤◌, ◌^◌, ◌++◌, ℕ, true, None, List, length, take, IsOk, IfOk, IfErr, OnOk, OnErr, IsErrOf, IfSome, Ok, Err};
+ghost use Rattle.imap_replies.specs.declared.reply.Reply.{Reply};
+ghost use Rattle.imap_session.specs.Heard.{AreReplies};
 ghost use Rattle.imap_session.specs.Serving.{FeedsSome};
 ghost use Rattle.imap_session.specs.Servers.{Quiet};
 ghost use Rattle.imap_session.specs.Lines.{Sends, Receives, Starts};
@@ -12,6 +14,7 @@ ghost use Rattle.imap_server.specs.Boxes.{AreServed};
 ghost use Rattle.std.proofs.Props.{props};
 
 use crate::command::Nth;
+use crate::muting::muted;
 use crate::schedule::Schedule;
 use crate::unread::Unread;
 use device::stop_count::StopCount;
@@ -26,10 +29,11 @@ pub(crate) const PIECE_BYTES: usize = 4096;
 /// A link to a server in memory, which stops where its schedule says.
 ///
 /// It is honest, whatever the schedule: what is sent is fed to the server up to where the link stops, and what the server says
-/// is handed out in order, up to there. Nothing is connected before `reconnect`. Where the server has said all that it will say
+/// is handed out in order, up to there, where the schedule says so without APPENDUID. Nothing is connected before `reconnect`. Where the server has said all that it will say
 /// before more is sent, `recv` answers `Stopped`.
 #[derive(Drop)]
 pub struct MemLink {
+    alloc: Global,
     server: Server,
     unread: Unread,
     schedule: Schedule,
@@ -43,6 +47,7 @@ pub struct MemLink {
 impl MemLink {
     ghost use Rattle.mem_link.specs.MemLinks.{line_of, stops_of};
     ghost use Rattle.mem_link.specs.Losing.{StopsNowhere, LosesNothing, IsOpen, SendsAll};
+    ghost use Rattle.mem_link.specs.Muting.{Hears, IsHeard};
 
     /// A link to this server, with these stops. The mailboxes of every server that was made are served.
     pub fn new(alloc: Global, server: Server, schedule: Schedule) -> MemLink
@@ -52,6 +57,7 @@ impl MemLink {
         ensures loses_nothing { StopsNowhere schedule → LosesNothing result }
     {
         MemLink {
+            alloc,
             server,
             unread: Unread::new(alloc),
             schedule,
@@ -182,9 +188,36 @@ impl MemLink {
         }
     }
 
+    /// What comes of an answer of the server: the answer, or the same without APPENDUID.
+    #[tactic(auto, using(crate::proofs::MutingLemmas::heard_muted, crate::proofs::MutingLemmas::heard_all))]
+    fn heard(&self, answer: Vec<u8>) -> Result<Vec<u8>, AllocError>
+        ensures heard { IfOk result (λ out. (said : List Reply) → AreReplies said answer.items → IsHeard said out.items) }
+        ensures all { LosesNothing self.now → IfOk result (λ out. out.items ≡ answer.items) }
+    {
+        if self.schedule.is_muted() {
+            muted(self.alloc, &answer)
+        } else {
+            Ok(answer)
+        }
+    }
+
+    /// The server answers so, and what comes of it is unread then.
+    fn hear(&mut self, answer: Vec<u8>) -> Result<(), AllocError>
+        ensures heard { OnOk result (Hears answer.items self.old.unread self.new.unread) }
+        ensures all { LosesNothing self.old → OnOk result (self.new.unread ≡ self.old.unread ++ answer.items) }
+        ensures server { self.new.server ≡ self.old.server }
+        ensures stops { self.new.stops ≡ self.old.stops }
+        ensures open { self.new.is_open ≡ self.old.is_open }
+        ensures loses_nothing { LosesNothing self.old → LosesNothing self.new }
+    {
+        let heard = self.heard(answer)?;
+        self.schedule.answer(self.unread.len(), &heard);
+        self.unread.push(heard)
+    }
+
     /// Feeds bytes to the server, whose answer is unread then.
     pub(crate) fn give(&mut self, bytes: &[u8]) -> Result<(), LinkFault>
-        ensures all { OnOk result (SendsAll bytes.now (line_of self.old) (line_of self.new)) }
+        ensures all { LosesNothing self.old → OnOk result (SendsAll bytes.now (line_of self.old) (line_of self.new)) }
         ensures ok { OnOk result (Sends bytes.now (line_of self.old) (line_of self.new)) }
         ensures err { OnErr result (FeedsSome (line_of self.old).end bytes.now (line_of self.new).end.server) }
         ensures steady { OnOk result (self.new.stops ≡ self.old.stops) }
@@ -195,13 +228,10 @@ impl MemLink {
         ensures loses_nothing { LosesNothing self.old → LosesNothing self.new }
     {
         match self.server.feed(bytes) {
-            Ok(answer) => {
-                self.schedule.answer(self.unread.len(), &answer);
-                match self.unread.push(answer) {
-                    Ok(()) => Ok(()),
-                    Err(AllocError) => Err(self.lack()),
-                }
-            }
+            Ok(answer) => match self.hear(answer) {
+                Ok(()) => Ok(()),
+                Err(AllocError) => Err(self.lack()),
+            },
             Err(ServerFault::NoMemory) => Err(self.lack()),
             Err(ServerFault::Closed) => Err(self.stop()),
         }
@@ -227,7 +257,7 @@ impl Link for MemLink {
     // It is fed to the server as a whole, or the answer is a fault. Nobody else is there.
     #[tactic(auto, using(crate::proofs::Visiting::nobody_sends, crate::proofs::Visiting::nobody_feeds))]
     fn send(&mut self, bytes: &[u8]) -> Result<(), LinkFault>
-        ensures all { OnOk result (SendsAll bytes.now (line_of self.old) (line_of self.new)) }
+        ensures all { LosesNothing self.old → OnOk result (SendsAll bytes.now (line_of self.old) (line_of self.new)) }
         ensures sends { OnOk result (Sends bytes.now (line_of self.old) (line_of self.new)) }
         ensures feeds { OnErr result (FeedsSome (line_of self.old).end bytes.now (line_of self.new).end.server) }
         ensures ok { OnOk result (SendsThen nobody bytes.now (line_of self.old) (line_of self.new)) }

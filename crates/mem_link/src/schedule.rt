@@ -1,6 +1,6 @@
-//! Where a link stops.
+//! Where a link stops, and which replies to APPENDs come without APPENDUID.
 
-ghost use Rattle.std.specs.Prelude.{◌≡◌, ◌<◌, ◌≤◌, [], None, length, IfSome};
+ghost use Rattle.std.specs.Prelude.{◌≡◌, ◌<◌, ◌≤◌, [], None, false, length, IfSome};
 
 use crate::command::{CommandName, Nth};
 use crate::sending::{Sending, Sent};
@@ -77,11 +77,15 @@ fn front_of_literal(append: u64, octets: usize, call: Sending) -> Option<usize> 
     if front < call.len { Some(front) } else { None }
 }
 
-/// The stops of a link, and what it counts for them. Where more than one meets a call, the one that lets the fewest bytes
-/// through acts.
+/// The stops of a link, the APPENDs whose replies come without APPENDUID (RFC 9051, section 7.1), and what it counts for them. Where more
+/// than one stop meets a call, the one that lets the fewest bytes through acts.
 #[derive(Drop)]
 pub struct Schedule {
     stops: Vec<LinkStop>,
+    /// The APPENDs whose replies come without APPENDUID, each by its number; none is named so far where there is no list.
+    mutes: Option<Vec<u64>>,
+    /// Whether the answer to what was sent last comes without APPENDUID.
+    is_muted: bool,
     sent: Sent,
     received: usize,
     /// How many bytes of the tagged reply come, where the answer to what was sent last is cut.
@@ -99,11 +103,27 @@ impl Schedule {
     {
         Schedule {
             stops,
+            mutes: None,
+            is_muted: false,
             sent: Sent::new(),
             received: 0,
             cut: None,
             room: None,
         }
+    }
+
+    /// The same stops, where the replies to these APPENDs come without APPENDUID, each APPEND by its number, counted from 1.
+    pub fn muting(self, appends: Vec<u64>) -> Schedule {
+        let mut schedule = self;
+        schedule.mutes = Some(appends);
+        schedule
+    }
+
+    /// Whether the answer to what was sent last comes without APPENDUID.
+    pub(crate) fn is_muted(&self) -> bool
+        ensures { StopsNowhere self.now → result ≡ false }
+    {
+        self.is_muted
     }
 
     /// The command that begins with these bytes, if they are sent next and the link has not stopped.
@@ -125,6 +145,7 @@ impl Schedule {
         }
         let call = self.sent.push(bytes);
         self.cut = self.reply_to(call);
+        self.is_muted = self.mutes(call);
         let fronts = self.stops.iter().filter_map(|stop| stop.front_of(call));
         let front = fronts.min()?;
         Some(front.min(bytes.len()))
@@ -140,6 +161,24 @@ impl Schedule {
         }
         let cuts = self.stops.iter();
         cuts.filter_map(|stop| stop.reply_of(command.number)).min()
+    }
+
+    /// Whether the command that ends is an APPEND whose reply comes without APPENDUID.
+    fn mutes(&self, call: Sending) -> bool
+        ensures { StopsNowhere self.now → result ≡ false }
+    {
+        let Some(appends) = &self.mutes else {
+            return false;
+        };
+        match call.ends {
+            Some(
+                Nth {
+                    name: CommandName::Append,
+                    number,
+                },
+            ) => appends.contains(&number),
+            _ => false,
+        }
     }
 
     /// The server answers so to what was sent, and so many bytes are unread before.
@@ -186,6 +225,7 @@ impl Schedule {
     {
         self.received = self.received.saturating_add(lost);
         self.sent.end_command();
+        self.is_muted = false;
         self.cut = None;
         self.room = None;
     }

@@ -11,13 +11,13 @@ use Rattle.mailcore.specs.Operations.{with_flags, flagged, expunged}
 use Rattle.mailcore.specs.Stores.{Store, Waiting, numbered}
 use Rattle.near_box.specs.declared.known_mark.KnownMark.{KnownMark}
 use Rattle.near_box.specs.declared.known_mark.KnownMarks.{KnownMarks}
-use Rattle.near_box.specs.declared.passed_marks.PassedMarks.{PassedMarks}
 use Rattle.near_box.specs.declared.survey.Entry.{Entry}
 use Rattle.near_box.specs.Entries.{AreRising, message_at}
-use Rattle.near_box.specs.KnownMarks.{AreMarksAmong, AreMarksOf, AreMarksOfFile, ArePassed, BearsOther, IsMarkAmong, mark_at}
+use Rattle.near_box.specs.KnownMarks.{AreMarksAmong, AreMarksOf, AreMarksOfFile, IsMarkAmong, mark_at}
 use Rattle.mailcore.specs.Mailboxes.{Mailbox, some_admitted, delivered}
 use Rattle.maildir.specs.Folders.{Stored}
 use Rattle.near_box.proofs.KeptLemmas.{one_place}
+use Rattle.passed_marks.proofs.KeptPassed.{passed_delivered, passed_expunged, passed_flagged, passed_numbered}
 
 -- a message that has the UID bears the mark
 abbrev Bears : KnownMark → Message → Type 0
@@ -41,20 +41,6 @@ each_flagged change uid s known are =
           (All-weaker (Bears k) (λ m. Bears k (with_flags change uid m)) (keeps_flagged change uid k) s.messages is.marks);
     }) known are
 
-others_flagged : (change : ℕ → ℕ) (uid : ℕ) (p : PassedMarks) (mark : List ℕ) (m : Message) → BearsOther p mark m → BearsOther p mark (with_flags change uid m)
-others_flagged change uid p mark m bears = by_test (eqb m.uid uid)
-  where
-    by_test : (b : Bool) → BearsOther p mark (cond b (record m { flags = change m.flags }) m)
-    by_test true = bears
-    by_test false = bears
-
-passed_flagged : (change : ℕ → ℕ) (uid : ℕ) (s : Store) (p : PassedMarks) → ArePassed s.next s.messages p → ArePassed s.next (flagged change uid s).messages p
-passed_flagged change uid s p is = record {
-  below = is.below;
-  marks = λ mark other. All-map (BearsOther p mark) (with_flags change uid) s.messages
-      (All-weaker (BearsOther p mark) (λ m. BearsOther p mark (with_flags change uid m)) (others_flagged change uid p mark) s.messages (is.marks mark other));
-}
-
 pub marks_flagged : (change : ℕ → ℕ) (uid : ℕ) (s : Store) (known : KnownMarks) → AreMarksOf s known → AreMarksOf (flagged change uid s) known
 marks_flagged change uid s known are = record {
   each = each_flagged change uid s known.by_uid.items are.each;
@@ -69,14 +55,6 @@ each_expunged uids s known are =
     All-weaker (IsMarkAmong s.next s.messages) (IsMarkAmong s.next (expunged uids s).messages)
     (λ k is. record { below = is.below; marks = All-filter stays (Bears k) s.messages is.marks }) known are
 
-passed_expunged : (uids : List ℕ) (s : Store) (p : PassedMarks) → ArePassed s.next s.messages p → ArePassed s.next (expunged uids s).messages p
-passed_expunged uids s p is =
-    let stays : Message → Bool = λ m. not (list_any (λ uid. eqb m.uid uid) uids) in
-    record {
-      below = is.below;
-      marks = λ mark other. All-filter stays (BearsOther p mark) s.messages (is.marks mark other);
-    }
-
 pub marks_expunged : (uids : List ℕ) (s : Store) (known : KnownMarks) → AreMarksOf s known → AreMarksOf (expunged uids s) known
 marks_expunged uids s known are = record {
   each = each_expunged uids s known.by_uid.items are.each;
@@ -87,11 +65,6 @@ marks_expunged uids s known are = record {
 
 bears_later : (k : KnownMark) (next uid : ℕ) (flags : ℕ) (bytes : List ℕ) → k.uid < next → next ≤ uid → Bears k (record { uid = uid; flags = flags; bytes = bytes })
 bears_later k next uid flags bytes below above same = absurd (omega (arith, below, above, same))
-
-other_later : (p : PassedMarks) (mark : List ℕ) (next uid : ℕ) (flags : ℕ) (bytes : List ℕ) → (p.from < p.below → p.below ≤ next) → next ≤ uid
-    → BearsOther p mark (record { uid = uid; flags = flags; bytes = bytes })
-other_later p mark next uid flags bytes within above up under =
-    absurd (let below : p.below ≤ next = within (omega (arith, up, under)) in omega (arith, below, above, under))
 
 each_delivered : (bytes : List ℕ) (flags : ℕ) (n : Mailbox) (known : List KnownMark) → AreMarksAmong n.store.next n.store.messages known
     → AreMarksAmong (delivered bytes flags n).store.next (delivered bytes flags n).store.messages known
@@ -104,17 +77,6 @@ each_delivered bytes flags n known are =
       marks = All-append (Bears k) s.messages (m ∷ []) is.marks
           (All-cons (Bears k) m [] (bears_later k s.next s.next flags bytes is.below (omega arith)) (All-nil (Bears k)));
     }) known are
-
-passed_delivered : (bytes : List ℕ) (flags : ℕ) (n : Mailbox) (p : PassedMarks) → ArePassed n.store.next n.store.messages p
-    → ArePassed (delivered bytes flags n).store.next (delivered bytes flags n).store.messages p
-passed_delivered bytes flags n p is =
-    let s : Store = n.store in
-    let m : Message = record { uid = s.next; flags = flags; bytes = bytes } in
-    record {
-      below = λ some. let below : p.below ≤ s.next = is.below some in omega (arith, below);
-      marks = λ mark other. All-append (BearsOther p mark) s.messages (m ∷ []) (is.marks mark other)
-          (All-cons (BearsOther p mark) m [] (other_later p mark s.next s.next flags bytes is.below (omega arith)) (All-nil (BearsOther p mark)));
-    }
 
 pub marks_delivered : (bytes : List ℕ) (flags : ℕ) (n : Mailbox) (known : KnownMarks) → AreMarksOf n.store known → AreMarksOf (delivered bytes flags n).store known
 marks_delivered bytes flags n known are = record {
@@ -138,22 +100,6 @@ each_numbered count n known are =
       marks = All-append (Bears k) s.messages (numbered s.next (take count n.waiting)) is.marks
           (bears_numbered k s.next s.next (take count n.waiting) is.below (omega arith));
     }) known are
-
-others_numbered : (p : PassedMarks) (mark : List ℕ) (next uid : ℕ) (files : List Waiting) → (p.from < p.below → p.below ≤ next) → next ≤ uid → All (BearsOther p mark) (numbered uid files)
-others_numbered p mark next uid [] within above = All-nil (BearsOther p mark)
-others_numbered p mark next uid (file ∷ files) within above =
-    All-cons (BearsOther p mark) (record { uid = uid; flags = file.flags; bytes = file.bytes }) (numbered (uid + 1) files)
-    (other_later p mark next uid file.flags file.bytes within above) (others_numbered p mark next (uid + 1) files within (omega (arith, above)))
-
-passed_numbered : (count : ℕ) (n : Mailbox) (p : PassedMarks) → ArePassed n.store.next n.store.messages p
-    → ArePassed (some_admitted count n).store.next (some_admitted count n).store.messages p
-passed_numbered count n p is =
-    let s : Store = n.store in
-    record {
-      below = λ some. let below : p.below ≤ s.next = is.below some in omega (arith, below);
-      marks = λ mark other. All-append (BearsOther p mark) s.messages (numbered s.next (take count n.waiting)) (is.marks mark other)
-          (others_numbered p mark s.next s.next (take count n.waiting) is.below (omega arith));
-    }
 
 pub marks_numbered : (count : ℕ) (n : Mailbox) (known : KnownMarks) → AreMarksOf n.store known → AreMarksOf (some_admitted count n).store known
 marks_numbered count n known are = record {

@@ -15,7 +15,6 @@ pub mod NewNameLemmas
 pub mod NewUidLemmas
 pub mod OpenLemmas
 pub mod OrderLemmas
-pub mod PassedLemmas
 pub mod PutLemmas
 pub mod RangeLemmas
 pub mod ReadLemmas

@@ -6,9 +6,9 @@ ghost use Rattle.std.specs.List.Sorted.{IsSearchInRange};
 ghost use Rattle.mailcore.specs.declared.mailbox.Message.{Message};
 ghost use Rattle.near_box.specs.KnownMarks.{AreKnown, AreMarksAmong, IsMarkAmong};
 
-use crate::passed_marks::PassedMarks;
 use mailcore::tuid::Tuid;
 use mailcore::uid::Uid;
+use passed_marks::PassedMarks;
 use std::alloc::{AllocError, Global};
 
 /// What the file of a message told of its mark.
@@ -65,7 +65,7 @@ fn likely_place(known: &[KnownMark], number: u32) -> usize {
 }
 
 /// Keeps the mark of the message with this UID at this place.
-pub fn keep_mark(
+pub(crate) fn keep_mark(
     known: &mut Vec<KnownMark>,
     place: usize,
     uid: Uid,

@@ -8,7 +8,6 @@ mod near_box;
 mod near_calls;
 mod near_fault;
 mod opening;
-mod passed_marks;
 mod read_fault;
 mod reading;
 mod survey;

@@ -25,6 +25,9 @@ use Rattle.run_trial.specs.declared.setting.Setting.{Setting}
 
 -- a command by the name that a link has for it
 abbrev pub name_of : Command → CommandName
+name_of trial.Capability = link.Capability
+name_of trial.Login = link.Login
+name_of trial.Enable = link.Enable
 name_of trial.Select = link.Select
 name_of trial.Fetch = link.Fetch
 name_of trial.Store = link.Store

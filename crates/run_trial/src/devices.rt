@@ -16,6 +16,7 @@ ghost use Rattle.run_trial.specs.Settings.{device_at};
 use crate::failure::Failure;
 use crate::server::{TrialLink, account_of};
 use book::mem_shelf::MemShelf;
+use book::shelf::Shelf;
 use both::both::Both;
 use both::sides::Sides;
 use far_side::far_side::FarSide;
@@ -41,7 +42,7 @@ use written_worlds::write::{WrittenMailbox, WrittenWorld, write_parts};
 /// mailboxes and the state alike to the outcome that the rules name for it. Where others add messages under no mark of the run, it is
 /// over (docs/GUARANTEES.md). A fault leaves it underway. Behind the greatest run number there is no other run. It is told as stopped
 /// only where each attempt met a stop.
-pub(crate) fn settle_all<O: Outside>(
+pub fn settle_all<O: Outside>(
     alloc: Global,
     outside: O,
     options: &Options,
@@ -84,10 +85,10 @@ fn settle_from<O: Outside>(
 }
 
 /// The outside of a run, beside what the run came to.
-pub(crate) type Run<L, F> = (Both<L, F, MemShelf>, Result<Settled, RunFault>);
+pub type Run<L, F> = (Both<L, F, MemShelf>, Result<Settled, RunFault>);
 
 /// The outside of a run over this link, this folder and this shelf. Nothing is open, and no call was made.
-pub(crate) fn together<L: TrialLink + Drop, F: Folder + Drop>(
+pub fn together<L: TrialLink + Drop, F: Folder + Drop>(
     alloc: Global,
     link: L,
     folder: F,
@@ -106,15 +107,20 @@ pub(crate) fn together<L: TrialLink + Drop, F: Folder + Drop>(
 
 /// The near mailbox's folder, the shelf, and the far mailbox's link.
 #[derive(Drop)]
-pub(crate) struct Devices<L: TrialLink + Drop> {
-    pub(crate) link: L,
-    pub(crate) folder: MemFolder,
-    pub(crate) shelf: MemShelf,
+pub struct Devices<L: TrialLink + Drop> {
+    /// The link to the server of the far mailbox.
+    pub link: L,
+    /// The folder of the near mailbox.
+    pub folder: MemFolder,
+    /// The state, and the journal.
+    pub shelf: MemShelf,
 }
 
 impl<L: TrialLink + Drop> Devices<L> {
+    ghost use Rattle.maildir.specs.MemFolders.{stored_in};
+
     /// What the outside of a run stands on.
-    pub(crate) fn of(outside: Both<L, MemFolder, MemShelf>) -> Self {
+    pub fn of(outside: Both<L, MemFolder, MemShelf>) -> Self {
         let Sides { far, folder, shelf } = Sides::of(outside);
         Devices {
             link: far.into_link(),
@@ -135,16 +141,31 @@ impl<L: TrialLink + Drop> Devices<L> {
         })
     }
 
+    /// The outside of another run over these devices, which are reopened. All that the run before left stands there, the journal too.
+    pub fn again(self, alloc: Global) -> Result<Both<L, MemFolder, MemShelf>, Failure>
+        ensures { IfOk result (λ both. seen_of both ≡ seen_with
+            (device_at (L.line self.link).end.server (stored_in self.folder) (files_of self.shelf)) untouched) }
+    {
+        let Devices {
+            link,
+            mut folder,
+            mut shelf,
+        } = self;
+        folder.reopen();
+        shelf.reopen();
+        together(alloc, link, folder, shelf)
+    }
+
     /// How many calls have stopped.
-    pub(crate) fn stops(&self) -> usize {
+    pub fn stops(&self) -> usize {
         self.link
             .stops()
             .saturating_add(self.folder.stops())
             .saturating_add(self.shelf.stops())
     }
 
-    /// Adds the world that stands in them, from its line `far` on.
-    pub(crate) fn write(&self, alloc: Global, text: &mut String) -> Result<(), Failure> {
+    /// Adds the world that stands in them, from its line `far` on. `NoWorld`: what a device holds is none. This does not come of a trial.
+    pub fn write(&self, alloc: Global, text: &mut String) -> Result<(), Failure> {
         let Some(far) = self.link.server().mailboxes().first() else {
             return Err(Failure::NoWorld);
         };

@@ -13,23 +13,27 @@ use worlds::fault::WorldFault;
 
 /// Why nothing is told of a trial, as the program tells it.
 #[derive(Clone, Copy, Debug, PartialEq, Eq, Error)]
-pub(crate) enum Failure {
+pub enum Failure {
+    /// The arguments are none that the program takes.
     #[error("usage")]
     Usage,
+    /// Its text cannot be read.
     #[error("cannot read")]
     Input,
+    /// Its text is no trial, at the line of this number, counted from 1.
     #[error("world line {0}")]
     World(usize),
     /// A device of a trial holds what no world is. This does not come.
     #[error("no world")]
     NoWorld,
+    /// Memory ran out.
     #[error("no memory")]
     NoMemory,
 }
 
 impl Failure {
     /// The program's exit status.
-    pub(crate) fn status(self) -> u8
+    pub fn status(self) -> u8
         ensures { result ≡ failure_status self }
     {
         match self {

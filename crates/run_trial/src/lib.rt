@@ -3,11 +3,11 @@
 #![tactic(auto)]
 
 mod among;
-mod devices;
-mod failure;
-mod memory;
+pub mod devices;
+pub mod failure;
+pub mod memory;
 pub mod run;
 mod schedule;
-mod server;
-mod setting;
+pub mod server;
+pub mod setting;
 mod visited;

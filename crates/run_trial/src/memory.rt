@@ -29,7 +29,7 @@ use trial::trial::Trial;
 /// to the outcome that the rules name for that world, and a fault leaves the run underway, whatever the attempts and the stops. Behind
 /// the greatest run number there is no other run: a fault says so, or a call stopped before, and nothing has changed. It is told as
 /// stopped only where as many calls stopped as there were attempts.
-pub(crate) fn run_in_memory(alloc: Global, trial: Trial) -> Result<Run<MemLink, MemFolder>, Failure>
+pub fn run_in_memory(alloc: Global, trial: Trial) -> Result<Run<MemLink, MemFolder>, Failure>
     ensures done { trial.course.journal ≡ None → IsOpening (world_of trial.world)
         → IfOk result (λ run. OnOk run.1 (IsDone (world_of trial.world) trial.world.options (seen_of run.0).device)) }
     ensures left { trial.course.journal ≡ None → IsOpening (world_of trial.world) → trial.world.state.run + 1 < 2 ^ 64

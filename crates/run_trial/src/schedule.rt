@@ -1,4 +1,4 @@
-//! Where the link of a trial stops.
+//! Where the link of a trial stops, and which replies over it come without APPENDUID.
 
 ghost use Rattle.std.specs.Prelude.{◌≡◌};
 ghost use Rattle.run_trial.specs.Among.{name_of};
@@ -9,15 +9,19 @@ use mem_link::schedule as link;
 use std::alloc::{AllocError, Global};
 use trial::stop::{Command, Cut, LinkStop};
 
-/// The schedule of these stops.
-pub(crate) fn schedule_of(alloc: Global, stops: &[LinkStop]) -> Result<link::Schedule, AllocError> {
+/// The schedule of these stops, where the replies to the APPENDs of these numbers come without APPENDUID.
+pub(crate) fn schedule_of(
+    alloc: Global,
+    stops: &[LinkStop],
+    mutes: Vec<u64>,
+) -> Result<link::Schedule, AllocError> {
     let mut all = Vec::with_capacity(alloc, stops.len())?;
     for stop in stops {
         if let Some(stop) = stop_of(*stop) {
             all.push(stop)?;
         }
     }
-    Ok(link::Schedule::new(all))
+    Ok(link::Schedule::new(all).muting(mutes))
 }
 
 /// A stop as a link says it. There are no parts of a command.
@@ -52,6 +56,9 @@ pub(crate) fn name_of(command: Command) -> CommandName
     ensures { result ≡ name_of command }
 {
     match command {
+        Command::Capability => CommandName::Capability,
+        Command::Login => CommandName::Login,
+        Command::Enable => CommandName::Enable,
         Command::Select => CommandName::Select,
         Command::Fetch => CommandName::Fetch,
         Command::Store => CommandName::Store,

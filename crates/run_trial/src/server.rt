@@ -52,7 +52,7 @@ pub(crate) fn account_of(alloc: Global) -> Result<Account, AllocError>
 }
 
 /// A link to a server in this process.
-pub(crate) trait TrialLink: Link {
+pub trait TrialLink: Link {
     /// How many calls have stopped.
     fn stops(&self) -> usize;
 

@@ -24,35 +24,46 @@ use worlds::world::World;
 
 /// What the run of a trial is made over, before there is a link to the server.
 #[derive(Drop)]
-pub(crate) struct Setting {
-    pub(crate) far: FarSetting,
-    pub(crate) folder: MemFolder,
-    pub(crate) shelf: MemShelf,
+pub struct Setting {
+    /// The server with the far mailbox, and where the link to it stops.
+    pub far: FarSetting,
+    /// The folder of the near mailbox.
+    pub folder: MemFolder,
+    /// The state, and the journal.
+    pub shelf: MemShelf,
     /// The state that the shelf holds.
-    pub(crate) state: SyncState,
+    pub state: SyncState,
     /// What others add meanwhile.
-    pub(crate) arrivals: Arrivals,
+    pub arrivals: Arrivals,
 }
 
-/// The server, and where the link to it stops.
+/// The server, and how the link to it stops and leaves out APPENDUID.
 #[derive(Drop)]
-pub(crate) struct FarSetting {
-    pub(crate) server: Server,
-    pub(crate) schedule: Schedule,
+pub struct FarSetting {
+    /// The server.
+    pub server: Server,
+    /// Where the link to it stops, and which replies over it come without APPENDUID.
+    pub schedule: Schedule,
 }
 
-/// The server with this mailbox.
-fn far_with(alloc: Global, far: Mailbox, stops: &[LinkStop]) -> Result<FarSetting, Failure>
+/// The server with this mailbox, and the stops of the link to it, over which the replies to some APPENDs come without APPENDUID.
+fn far_with(
+    alloc: Global,
+    far: Mailbox,
+    stops: &[LinkStop],
+    mutes: Vec<u64>,
+) -> Result<FarSetting, Failure>
     ensures served { IfOk result (λ far. AreServed far.server.server.mailboxes) }
     ensures inbox { IfOk result (λ setting. setting.server.server.mailboxes ≡ inbox_of far) }
 {
     let server = server_with(alloc, far)?;
-    let schedule = schedule_of(alloc, stops)?;
+    let schedule = schedule_of(alloc, stops, mutes)?;
     Ok(FarSetting { server, schedule })
 }
 
-/// The setting of a trial, from its world and its course.
-pub(crate) fn setting_of(alloc: Global, trial: Trial) -> Result<Setting, Failure>
+/// The setting of a trial, from its world and its course. `NoWorld`: it has a message that cannot be sent. This does not come of a trial
+/// that was read.
+pub fn setting_of(alloc: Global, trial: Trial) -> Result<Setting, Failure>
     ensures served { IfOk result (λ setting. AreServed setting.far.server.server.mailboxes) }
     ensures holds { IfOk result (λ setting. IsSettingOf trial setting) }
     ensures arrivals { IfOk result (λ setting. setting.arrivals ≡ trial.course.arrivals) }
@@ -69,6 +80,7 @@ pub(crate) fn setting_of(alloc: Global, trial: Trial) -> Result<Setting, Failure
     let Course {
         journal,
         stops,
+        mutes,
         arrivals,
         tries: _,
     } = course;
@@ -81,7 +93,7 @@ pub(crate) fn setting_of(alloc: Global, trial: Trial) -> Result<Setting, Failure
         state.run,
         waiting.len(),
     );
-    let far = far_with(alloc, far, &stops.link);
+    let far = far_with(alloc, far, &stops.link, mutes);
     let folder = folder_with(alloc, near, waiting, stops.folder);
     let shelf = shelf_with(alloc, &state, journal, stops.shelf);
     Ok(Setting {

@@ -75,6 +75,9 @@ pub trait Stores: BoxLists {
         ensures { Self.asked self.new ≡ Self.noted (Self.asked self.old) (FoundNew (place_of place.entry) (outcome_of_state result)) };
 
     /// Makes this side of a mailbox, which is absent there. Only a side that the channel's Create covers is made.
+    ///
+    /// Behind a fault it is not known whether it was made: a server may have made it, and its answer was lost. The other side is as it
+    /// was, made or not, since no call of these removes a mailbox.
     fn make(&mut self, side: Side, place: ChannelBox<'_>) -> Result<(), StoreFault>
         requires { covers place.of.channel.now.create side ≡ true }
         ensures { Self.asked self.new ≡ Self.noted (Self.asked self.old) (Made side (place_of place.entry) (outcome_of_making result)) };

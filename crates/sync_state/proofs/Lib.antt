@@ -1,3 +1,4 @@
+pub mod AddingLemmas
 pub mod GoLemmas
 pub mod ItemLemmas
 pub mod JournalEnds

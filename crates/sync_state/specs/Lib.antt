@@ -1,3 +1,4 @@
+pub mod Adding
 pub mod BookFaults
 pub mod Cuts
 pub mod Faults

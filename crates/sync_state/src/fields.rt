@@ -1,6 +1,7 @@
 //! What stands in a line: words with one space between.
 
-ghost use Rattle.std.specs.Prelude.{◌≡◌, ◌≢◌, ◌++◌, ◌∷◌, [], ℕ, List, All, IfSome, IfNone, OnOk};
+ghost use Rattle.std.specs.Prelude.{◌≡◌, ◌≢◌, ◌++◌, ◌∷◌, [], ℕ, List, All, IfSome, IfNone};
+ghost use Rattle.sync_state.specs.Adding.{Adds};
 
 use std::alloc::AllocError;
 use texts::cut::cut;
@@ -20,7 +21,7 @@ pub trait Fields: Copy {
 
     /// Adds the spelling. `AllocError`: a growth was refused, and some of it may stand there.
     fn push_to(self, text: &mut Vec<u8>) -> Result<(), AllocError>
-        ensures { OnOk result (text.new.items ≡ text.old.items ++ spelling self) };
+        ensures { Adds result text.old.items (spelling self) text.new.items };
 
     ghost injective: { (a b : Self) → fits a → fits b → spelling a ≡ spelling b → a ≡ b };
 }

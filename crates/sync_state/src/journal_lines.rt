@@ -1,10 +1,11 @@
 //! The lines of a journal: steps, notes, and what logs a step.
 
-ghost use Rattle.std.specs.Prelude.{◌≡◌, ◌≢◌, ◌<◌, ◌^◌, ◌++◌, ◌∷◌, [], ℕ, IfSome, IfNone, OnOk, MatchBool, decimal};
+ghost use Rattle.std.specs.Prelude.{◌≡◌, ◌≢◌, ◌<◌, ◌^◌, ◌++◌, ◌∷◌, [], ℕ, IfSome, IfNone, MatchBool, decimal};
 ghost use Rattle.rules.specs.declared.plan.Step.{Step};
 ghost use Rattle.rules.specs.declared.plan.Step.TheVariants as step;
 ghost use Rattle.rules.specs.declared.plan.Note.{Note};
 ghost use Rattle.mailcore.specs.declared.side.Direction.{Direction};
+ghost use Rattle.sync_state.specs.Adding.{Adds};
 ghost use Rattle.sync_state.specs.declared.journal.Logged.{Logged};
 ghost use Rattle.sync_state.specs.JournalText.{IsStep, IsNote, FitsStep, LogsNew, step_line, note_line, log_line};
 
@@ -155,8 +156,8 @@ fn is_number(line: &[u8], start: &[u8], number: u64) -> bool
 }
 
 /// Adds the line of a step.
-pub fn push_step(text: &mut Vec<u8>, step: &Step) -> Result<(), AllocError>
-    ensures { OnOk result (text.new.items ≡ text.old.items ++ (step_line step.now ++ 10 ∷ [])) }
+pub(crate) fn push_step(text: &mut Vec<u8>, step: &Step) -> Result<(), AllocError>
+    ensures { Adds result text.old.items (step_line step.now ++ 10 ∷ []) text.new.items }
 {
     match *step {
         Step::New {
@@ -187,7 +188,7 @@ fn push_change(
     set: Flags,
     cleared: Flags,
 ) -> Result<(), AllocError>
-    ensures { OnOk result (text.new.items ≡ text.old.items ++ (step_line (step.Flags pair.0 pair.1.0 pair.1.1 set cleared) ++ 10 ∷ [])) }
+    ensures { Adds result text.old.items (step_line (step.Flags pair.0 pair.1.0 pair.1.1 set cleared) ++ 10 ∷ []) text.new.items }
 {
     let (direction, (far, near)) = pair;
     match (set.is_empty(), cleared.is_empty()) {
@@ -206,8 +207,8 @@ fn push_change(
 }
 
 /// Adds the line of a note.
-pub fn push_note(text: &mut Vec<u8>, note: &Note) -> Result<(), AllocError>
-    ensures { OnOk result (text.new.items ≡ text.old.items ++ (note_line note.now ++ 10 ∷ [])) }
+pub(crate) fn push_note(text: &mut Vec<u8>, note: &Note) -> Result<(), AllocError>
+    ensures { Adds result text.old.items (note_line note.now ++ 10 ∷ []) text.new.items }
 {
     match *note {
         Note::Record { far, near, flags } => push_line(text, b"n record ", (far, (near, flags))),
@@ -216,8 +217,10 @@ pub fn push_note(text: &mut Vec<u8>, note: &Note) -> Result<(), AllocError>
 }
 
 /// Adds the line that logs the step of this number.
+///
+/// `AllocError`: a growth was refused. What the text was stands at its front, and some of the line may stand behind it.
 pub fn push_logged(text: &mut Vec<u8>, number: u64, logged: Logged) -> Result<(), AllocError>
-    ensures { OnOk result (text.new.items ≡ text.old.items ++ (log_line number logged ++ 10 ∷ [])) }
+    ensures { Adds result text.old.items (log_line number logged ++ 10 ∷ []) text.new.items }
 {
     match logged {
         Logged::Copied(uid) => push_line(text, b"d ", (Number(number), uid)),

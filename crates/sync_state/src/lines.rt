@@ -1,6 +1,7 @@
 //! The lines of a text, one after another.
 
-ghost use Rattle.std.specs.Prelude.{◌≡◌, ◌+◌, ◌<◌, ◌^◌, ◌++◌, ◌∷◌, [], length, IfSome, IfNone, OnOk};
+ghost use Rattle.std.specs.Prelude.{◌≡◌, ◌+◌, ◌<◌, ◌^◌, ◌++◌, ◌∷◌, [], length, IfSome, IfNone};
+ghost use Rattle.sync_state.specs.Adding.{Adds};
 
 use crate::fields::Fields;
 use std::alloc::AllocError;
@@ -61,8 +62,12 @@ impl<'a> Lines<'a> {
 }
 
 /// Adds the line that is `start` with the spelling of a value.
-pub fn push_line<T: Fields>(text: &mut Vec<u8>, start: &[u8], value: T) -> Result<(), AllocError>
-    ensures { OnOk result (text.new.items ≡ text.old.items ++ ((start.now ++ T.spelling value) ++ 10 ∷ [])) }
+pub(crate) fn push_line<T: Fields>(
+    text: &mut Vec<u8>,
+    start: &[u8],
+    value: T,
+) -> Result<(), AllocError>
+    ensures { Adds result text.old.items ((start.now ++ T.spelling value) ++ 10 ∷ []) text.new.items }
 {
     text.extend_from_slice(start)?;
     value.push_to(text)?;

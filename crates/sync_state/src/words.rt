@@ -1,9 +1,10 @@
 //! The words of states and journals: numbers, UIDs, flags, marks, directions and sides.
 
-ghost use Rattle.std.specs.Prelude.{◌≡◌, ◌≢◌, ◌<◌, ◌^◌, ◌++◌, ◌∷◌, ℕ, IfSome, IfNone, OnOk, decimal};
+ghost use Rattle.std.specs.Prelude.{◌≡◌, ◌≢◌, ◌<◌, ◌^◌, ◌++◌, ◌∷◌, ℕ, IfSome, IfNone, decimal};
 ghost use Rattle.mailcore.specs.FlagNames.{letters_of};
 ghost use Rattle.mailcore.specs.FlagSet.{FLAGS};
 ghost use Rattle.mailcore.specs.Mark.{IsMark};
+ghost use Rattle.sync_state.specs.Adding.{Adds};
 ghost use Rattle.sync_state.specs.Words.{IsUid, IsPositive, IsRun, IsUidOrNone, flags_word, direction_word, side_word};
 
 use crate::fields::{Fields, Word};
@@ -211,8 +212,8 @@ impl Fields for Flags {
 }
 
 /// Adds the letters of flags.
-pub fn push_letters(text: &mut Vec<u8>, flags: Flags) -> Result<(), AllocError>
-    ensures { OnOk result (text.new.items ≡ text.old.items ++ letters_of flags) }
+pub(crate) fn push_letters(text: &mut Vec<u8>, flags: Flags) -> Result<(), AllocError>
+    ensures { Adds result text.old.items (letters_of flags) text.new.items }
 {
     for letter in flags.letters() {
         text.push(letter)?;

@@ -20,12 +20,16 @@
 //!
 //! ```text
 //! read state                 what is read of the file, and whether it is written so again; read journal alike
-//! beginnings state           the same of each beginning of it
+//! beginnings state           the same of each beginning of it, held against a rule: the lines behind this one, up to `.`
 //! disagreement               the first line of the journal that does not agree with the state
 //! has_text                   whether the plan has a text
 //! stops open                 what is left where the opening of a book stops at a call of its shelf, and how it is taken up
 //!                            again; stops and a call of a book alike
 //! ```
+//!
+//! A row of a rule says of the beginnings with so many whole lines how they are to be read: `N: ANSWER`, `N to N: ANSWER`, and
+//! `N torn: ANSWER` for those alone behind whose whole lines a part of one stands. Of rows about one beginning the first counts. A
+//! beginning that is read otherwise is told as `WRONG`.
 //!
 //! Calls of the shelf, while no book is open on it:
 //!
@@ -65,6 +69,7 @@ mod folder;
 mod plan_text;
 pub mod play;
 mod readings;
+mod rule;
 mod runs;
 mod stage;
 mod stops;

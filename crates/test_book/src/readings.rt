@@ -1,5 +1,6 @@
 //! How the texts of a state and a journal are read, and what is said of both.
 
+use crate::rule::Rule;
 use crate::runs::{Place, Runs};
 use book::agreement::disagreement;
 use book::shelf::File;
@@ -35,16 +36,19 @@ pub fn tell_reading(
     }
 }
 
-/// Tells what is read of each beginning of a text, the whole of it too.
+/// Tells what is read of each beginning of a text, the whole of it too, and where that is wrong by this rule.
 pub fn tell_beginnings(
     alloc: Global,
     told: &mut Told,
     file: File,
     text: &[u8],
+    rule: Rule<'_>,
 ) -> Result<(), Failure> {
     let mut runs = Runs::new(alloc, "the first");
     for length in 0..=text.len() {
-        tell_reading(alloc, &mut runs.next, file, &text[..length])?;
+        let beginning = &text[..length];
+        tell_reading(alloc, &mut runs.next, file, beginning)?;
+        rule.judge(beginning, &mut runs.next)?;
         runs.add(told, Place::Length(length));
     }
     runs.finish(told)

@@ -5,6 +5,7 @@ use crate::files::{read_file, shelf_with, tell_file, tell_files};
 use crate::folder;
 use crate::plan_text::Draft;
 use crate::readings::{tell_beginnings, tell_disagreement, tell_reading};
+use crate::rule::Rule;
 use crate::stops::Trial;
 use book::disk_shelf::DiskShelf;
 use book::mem_shelf::{MemShelf, ShelfCall};
@@ -45,6 +46,7 @@ impl Player for Stage<'_> {
             "state" => self.take_file(File::State, line, script),
             "journal" => self.take_file(File::Journal, line, script),
             "plan" => self.take_plan(script.block(b".")?),
+            "beginnings" => self.tell_beginnings(line, script),
             "stop" => self.add_stop(line),
             "shelf" => self.stand(line, &mut script.told),
             "folder" => Ok(folder::change(self.rt, line)?),
@@ -190,10 +192,6 @@ impl<'a> Stage<'a> {
     fn ask(&mut self, word: &str, line: &mut Words<'_>, told: &mut Told) -> Result<(), Failure> {
         match word {
             "read" => self.tell_reading(line, told),
-            "beginnings" => {
-                let file = read_file(line);
-                tell_beginnings(self.rt.alloc(), told, file, self.text(file, line))
-            }
             "disagreement" => self.tell_both(line, told),
             "has_text" => self.tell_has_text(line, told),
             "stops" => self.tell_stops(line, told),
@@ -225,6 +223,18 @@ impl<'a> Stage<'a> {
         let is_told = tell_reading(self.rt.alloc(), told, file, self.text(file, line));
         told.end();
         is_told
+    }
+
+    /// `FILE`, and a rule in the lines behind it.
+    fn tell_beginnings(
+        &self,
+        line: &mut Words<'_>,
+        script: &mut Script<'_>,
+    ) -> Result<(), Failure> {
+        let file = read_file(line);
+        let rule = Rule::read(script.block(b".")?)?;
+        let text = self.text(file, line);
+        tell_beginnings(self.rt.alloc(), &mut script.told, file, text, rule)
     }
 
     fn tell_both(&self, line: &mut Words<'_>, told: &mut Told) -> Result<(), Failure> {

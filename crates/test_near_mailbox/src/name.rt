@@ -20,7 +20,8 @@ pub fn tell_name(alloc: Global, text: &[u8], told: &mut Told) -> Result<(), Allo
     Ok(())
 }
 
-fn tell_parts(told: &mut Told, name: &Name<'_>) {
+/// Tells the UID and the letters of a name.
+pub fn tell_parts(told: &mut Told, name: &Name<'_>) {
     match name.uid {
         Some(uid) => {
             told.text(", UID ");

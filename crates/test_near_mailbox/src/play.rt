@@ -1,10 +1,11 @@
 //! How a script is played.
 
+use crate::beginnings::{Beginnings, Reading};
 use crate::disk::play_on_disk;
 use crate::ground::Ground;
 use crate::memory::Memory;
 use crate::name::tell_name;
-use crate::seat::Seat;
+use crate::seat::{Seat, read_validity};
 use crate::visited::Visited;
 use maildir::disk_folder::DiskFolder;
 use test_scripts::failure::Failure;
@@ -49,6 +50,7 @@ impl Player for Desk<'_> {
     fn play(&mut self, line: &mut Words<'_>, script: &mut Script<'_>) -> Result<(), Failure> {
         match line.word() {
             "folder" => self.set_folder(line),
+            "beginnings" => self.tell_beginnings(line, script),
             "name" => Ok(tell_name(self.rt.alloc(), line.rest(), &mut script.told)?),
             word => self.play_in_folder(word, line, script),
         }
@@ -82,6 +84,27 @@ impl Desk<'_> {
     /// Puts a folder in the place of the one that stands there.
     fn put(&mut self, stage: Stage) {
         self.stage = stage;
+    }
+
+    /// `name NAME` or `meta V "BYTES"`, and a rule in the lines behind it.
+    fn tell_beginnings(
+        &self,
+        line: &mut Words<'_>,
+        script: &mut Script<'_>,
+    ) -> Result<(), Failure> {
+        let alloc = self.rt.alloc();
+        let (reading, text) = match line.word() {
+            "name" => (Reading::Name, Vec::from_slice(alloc, line.rest())?),
+            "meta" => (Reading::Meta(read_validity(line)), line.bytes(alloc)?),
+            _ => return Err(Failure::Script),
+        };
+        let rule = script.block(b".")?;
+        let beginnings = Beginnings {
+            alloc,
+            reading,
+            text: &text,
+        };
+        beginnings.tell(rule, &mut script.told)
     }
 
     fn play_in_folder(

@@ -10,8 +10,8 @@ use test_scripts::words::Words;
 use trial::stop::Halt;
 
 /// A call that a script can stop.
-#[derive(Clone, Copy, PartialEq, Eq)]
-pub enum Call {
+#[derive(Clone, Copy)]
+enum Call {
     /// Of the mailbox of a side.
     Box(Side, BoxCall),
     /// Of the shelf.
@@ -19,7 +19,7 @@ pub enum Call {
 }
 
 /// All of them, with their names.
-pub const CALLS: [(&str, Call); 22] = [
+const CALLS: [(&str, Call); 22] = [
     ("far.open", Call::Box(Side::Far, BoxCall::Open)),
     ("far.list", Call::Box(Side::Far, BoxCall::List)),
     ("far.find_mark", Call::Box(Side::Far, BoxCall::FindMark)),
@@ -54,14 +54,6 @@ pub const CALLS: [(&str, Call); 22] = [
 fn call_named(name: &[u8]) -> Option<Call> {
     let (_, call) = CALLS.iter().find(|(word, _)| word.as_bytes() == name)?;
     Some(*call)
-}
-
-/// The name of a call.
-pub fn name_of(call: Call) -> &'static str {
-    match CALLS.iter().find(|(_, other)| *other == call) {
-        Some((name, _)) => name,
-        None => "",
-    }
 }
 
 /// Which calls of a mailbox stop, and which are refused.
@@ -136,7 +128,7 @@ impl Schedule {
     }
 
     /// Adds a stop behind the others.
-    pub fn stop(&mut self, stop: Stop<Call>) -> Result<(), Failure> {
+    fn stop(&mut self, stop: Stop<Call>) -> Result<(), Failure> {
         let Stop {
             call,
             number,

@@ -12,8 +12,6 @@
 //! | `stop part shelf.append k b` | its first b bytes are written, and it stops |
 //! | `refuse CALL k` | the k-th call of this name is refused |
 //! | `run N` | a run is made in up to N attempts, over what the one before it left |
-//! | `each stop` | a run over the world is made with a stop at each of its calls, before and behind its effect, and behind each count of bytes of an append: it is told how many stops there were, and which run left something else than the last `run` but for its marks |
-//! | `each pair of stops` | the same, and also with each two stops, the second of them before or behind a call |
 //!
 //! The calls of the far mailbox are `far.open`, `far.list`, `far.find_mark`, `far.load`, `far.append`, `far.add_flags`,
 //! `far.remove_flags` and `far.expunge`. Those of the near mailbox have the same names behind `near.`, and two more are `near.admit`
@@ -24,4 +22,3 @@
 pub mod calls;
 pub mod play;
 pub mod stage;
-mod sweep;

@@ -2,7 +2,6 @@
 
 use crate::calls::Schedule;
 use crate::stage::{Stage, left_in, stage_of};
-use crate::sweep::Sweep;
 use book::shelf::File;
 use std::alloc::Global;
 use test_scripts::failure::Failure;
@@ -55,7 +54,6 @@ impl Player for Runs {
             "stop" => self.schedule.read_stop(line),
             "refuse" => self.schedule.read_refusal(line),
             "run" => self.run(line.number(), &mut script.told),
-            "each" => self.sweep(line.rest(), &mut script.told),
             _ => Err(Failure::Script),
         }
     }
@@ -100,40 +98,11 @@ impl Runs {
             Err(failure) => Err(failure),
         }
     }
-
-    /// `stop` or `pair of stops`: makes the first run again with stops, and tells which came to something else than the last one.
-    fn sweep(&mut self, word: &[u8], told: &mut Told) -> Result<(), Failure> {
-        let is_paired = match word {
-            b"stop" => false,
-            b"pair of stops" => true,
-            _ => return Err(Failure::Script),
-        };
-        let Some(stage) = &self.stage else {
-            return Err(Failure::Script);
-        };
-        let left = left_in(self.alloc, &stage.parts)?;
-        let mut sweep = Sweep::new(self.alloc, &self.world, &left)?;
-        sweep_all(&mut sweep, told, is_paired)
-    }
 }
 
 /// Tells what a run came to, and what it left.
 fn tell_run(alloc: Global, told: &mut Told, stage: &Stage, ending: &Ending) -> Result<(), Failure> {
     told.lines(&ending.text(alloc)?);
     told.lines(&left_in(alloc, &stage.parts)?);
-    Ok(())
-}
-
-fn sweep_all(sweep: &mut Sweep<'_>, told: &mut Told, is_paired: bool) -> Result<(), Failure> {
-    let met = sweep.each(told, None)?;
-    if is_paired {
-        for first in met {
-            let _ = sweep.each(told, Some(first))?;
-        }
-    }
-    told.begin();
-    told.number(sweep.runs);
-    told.text(" runs with stops");
-    told.end();
     Ok(())
 }

@@ -1,4 +1,4 @@
-//! The tests of the server, the client, runs, trials and channels: it plays the script on standard input, each part by the library
+//! The tests of the server, the client, runs, trials, stopped runs, runs that are made again, and channels: it plays the script on standard input, each part by the library
 //! that its line `script NAME` means.
 #![tactic(auto)]
 
@@ -17,9 +17,12 @@ impl Libraries for Runs {
             b"server" => test_server::play::run(rt, script),
             b"mem_link" => test_server::play::run_links(rt, script),
             b"client" => test_client::play::run(rt, script),
+            b"lying" => test_lying::play::run(rt, script),
             b"cut_calls" => test_client::cut_calls::run_cuts(rt, script),
             b"run" => test_run::play::run(rt, script),
             b"trials" => test_trials::play::run(rt, script),
+            b"stops" => test_stops::play::run(rt, script),
+            b"wanting" => test_wanting::play::run(rt, script),
             b"channels" => test_channels::play::run(rt, script),
             _ => Err(Failure::Script),
         }

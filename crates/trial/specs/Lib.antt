@@ -4,3 +4,4 @@ pub mod Folders
 pub mod Shelves
 pub mod Worlds
 pub mod Laws
+pub mod Calls

@@ -9,6 +9,7 @@ use device::schedule::Stop;
 use mailcore::flags::Flags;
 use mailcore::mailbox::{Mailbox, Message};
 use mailcore::octets::Octets;
+use maildir::file_list::FileList;
 use maildir::folder::{File, Place};
 use maildir::letters::{flags_in, letters_with};
 use maildir::mem_folder::{FolderCall, MemFolder};
@@ -149,7 +150,7 @@ pub fn contents_of(alloc: Global, folder: &MemFolder) -> Result<Contents, AllocE
     }
 }
 
-fn messages_among(alloc: Global, files: &[File]) -> Result<Vec<Message>, AllocError> {
+fn messages_among(alloc: Global, files: FileList<'_>) -> Result<Vec<Message>, AllocError> {
     let mut messages = Vec::new(alloc);
     for file in files {
         let name = read_name(file.name.as_slice());
@@ -172,7 +173,7 @@ fn messages_among(alloc: Global, files: &[File]) -> Result<Vec<Message>, AllocEr
     Ok(messages)
 }
 
-fn waiting_among(alloc: Global, files: &[File]) -> Result<Vec<WaitingFile>, AllocError> {
+fn waiting_among(alloc: Global, files: FileList<'_>) -> Result<Vec<WaitingFile>, AllocError> {
     let mut waiting = Vec::new(alloc);
     for file in &waiting_files(alloc, files)? {
         let letters = match read_name(file.name.as_slice()) {
@@ -188,7 +189,7 @@ fn waiting_among(alloc: Global, files: &[File]) -> Result<Vec<WaitingFile>, Allo
 }
 
 /// The files without a UID, in the order of their names.
-fn waiting_files(alloc: Global, files: &[File]) -> Result<Vec<&File>, AllocError> {
+fn waiting_files(alloc: Global, files: FileList<'_>) -> Result<Vec<&File>, AllocError> {
     let mut waiting = Vec::new(alloc);
     for file in files {
         if matches!(

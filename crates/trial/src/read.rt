@@ -35,6 +35,7 @@ fn read_course(alloc: Global, lines: &mut Lines<'_>) -> Result<Course, WorldFaul
         tries: take_tries(lines)?,
         journal: None,
         stops: Stops::new(alloc),
+        mutes: Vec::new(alloc),
         arrivals: Arrivals::new(alloc),
     };
     match take_course(alloc, &mut course, lines) {
@@ -71,7 +72,7 @@ fn take_course(alloc: Global, course: &mut Course, lines: &mut Lines<'_>) -> Res
     }
 }
 
-/// Adds what a line says: the journal, what others add, or a stop.
+/// Adds what a line says: the journal, what others add, an APPEND without APPENDUID, or a stop.
 fn add_line(alloc: Global, course: &mut Course, line: Line<'_>) -> Result<(), WorldFault>
     ensures { IfErr result (IsOf line.entry.number) }
 {
@@ -80,6 +81,9 @@ fn add_line(alloc: Global, course: &mut Course, line: Line<'_>) -> Result<(), Wo
     }
     if let Some(text) = line.text.strip_prefix(b"arrive ") {
         return course.arrivals.add(alloc, text, line);
+    }
+    if let Some(text) = line.text.strip_prefix(b"mute ") {
+        return add_mute(course, text, line);
     }
     match stop_of(line.text) {
         Some(stop) => Ok(course.stops.push(stop)?),
@@ -101,6 +105,16 @@ fn add_journal(
     }
     course.journal = Some(read_bytes(alloc, text, line)?);
     Ok(())
+}
+
+/// Adds the number of an APPEND whose reply comes without APPENDUID.
+fn add_mute(course: &mut Course, text: &[u8], line: Line<'_>) -> Result<(), WorldFault>
+    ensures { IfErr result (IsOf line.entry.number) }
+{
+    match read_ordinal(text) {
+        Some(number) => Ok(course.mutes.push(number)?),
+        None => Err(line.fault()),
+    }
 }
 
 fn stop_of(text: &[u8]) -> Option<DeviceStop> {

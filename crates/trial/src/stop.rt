@@ -1,4 +1,15 @@
-//! Where the calls of a trial stop, as its lines say it.
+//! Where the calls of a trial stop, as its lines say it (docs/FORMATS.md, "Trial"). A call has one of these words:
+//!
+//! | Device | Calls |
+//! |---|---|
+//! | the folder of the near mailbox | `folder.names`, `folder.read`, `folder.write_tmp`, `folder.rename`, `folder.remove`, `folder.replace_meta` |
+//! | the shelf with state and journal | `shelf.read`, `shelf.append`, `shelf.replace`, `shelf.remove` |
+//! | the connection to the far mailbox | `CAPABILITY`, `LOGIN`, `ENABLE`, `SELECT`, `FETCH`, `STORE`, `EXPUNGE`, `APPEND` |
+//!
+//! Of a call that reads, a stop before and one after its effect are the same.
+
+ghost use Rattle.std.specs.Prelude.{◌≡◌, IfSome};
+ghost use Rattle.trial.specs.Calls.{command_word, folder_verb, folder_word, shelf_verb, shelf_word, stop_word};
 
 use crate::count::{read_count, read_ordinal};
 use book::mem_shelf::ShelfCall;
@@ -7,9 +18,15 @@ use maildir::mem_folder::FolderCall;
 use std::alloc::{AllocError, Global};
 use worlds::words::split_word;
 
-/// A command of IMAP that a trial can stop (RFC 9051, sections 6.3 and 6.4). Of the UID commands the name behind `UID` is told.
+/// A command of IMAP that a trial can stop (RFC 9051, sections 6.1 to 6.4). Of the UID commands the name behind `UID` is told.
 #[derive(Clone, Copy, PartialEq, Eq)]
 pub enum Command {
+    /// CAPABILITY.
+    Capability,
+    /// LOGIN.
+    Login,
+    /// ENABLE.
+    Enable,
     /// SELECT.
     Select,
     /// UID FETCH.
@@ -133,7 +150,9 @@ impl<'a> Halt<'a> {
     }
 
     /// This stop, of a call of some device.
-    pub fn of<C>(&self, call: C) -> Stop<C> {
+    pub fn of<C>(&self, call: C) -> Stop<C>
+        ensures { result ≡ record { call = call; number = self.now.number; moment = self.now.moment } }
+    {
         Stop {
             call,
             number: self.number,
@@ -142,22 +161,22 @@ impl<'a> Halt<'a> {
     }
 
     /// The stop of a trial. Of `shelf.append` alone there are parts.
-    fn device(&self) -> Option<DeviceStop> {
-        if self.call == b"shelf.append".as_slice() {
-            return Some(DeviceStop::Shelf(self.of(ShelfCall::Append)));
-        }
-        if matches!(self.moment, Moment::Part(_)) {
+    fn device(&self) -> Option<DeviceStop>
+        ensures { IfSome result (λ stop. stop_word stop ≡ self.now.call.now) }
+    {
+        let shelf = shelf_call_of(self.call);
+        let has_parts = matches!(shelf, Some(ShelfCall::Append));
+        if matches!(self.moment, Moment::Part(_)) && !has_parts {
             return None;
+        }
+        if let Some(call) = shelf {
+            return Some(DeviceStop::Shelf(self.of(call)));
         }
         if let Some(call) = folder_call_of(self.call) {
             return Some(DeviceStop::Folder(self.of(call)));
         }
-        let stop = match self.call {
-            b"shelf.replace" => DeviceStop::Shelf(self.of(ShelfCall::Replace)),
-            b"shelf.remove" => DeviceStop::Shelf(self.of(ShelfCall::Remove)),
-            name => DeviceStop::Link(LinkStop::Command(self.of(command_of(name)?))),
-        };
-        Some(stop)
+        let command = command_of(self.call)?;
+        Some(DeviceStop::Link(LinkStop::Command(self.of(command))))
     }
 }
 
@@ -181,19 +200,53 @@ pub fn read_cut(text: &[u8]) -> Option<DeviceStop> {
 }
 
 /// The call of the near mailbox's folder that has this name.
-pub fn folder_call_of(name: &[u8]) -> Option<FolderCall> {
-    match name {
-        b"folder.write_tmp" => Some(FolderCall::WriteTmp),
-        b"folder.rename" => Some(FolderCall::Rename),
-        b"folder.remove" => Some(FolderCall::Remove),
-        b"folder.replace_meta" => Some(FolderCall::ReplaceMeta),
+pub fn folder_call_of(name: &[u8]) -> Option<FolderCall>
+    ensures { IfSome result (λ call. folder_word call ≡ name.now) }
+{
+    folder_verb(name.strip_prefix(b"folder.".as_slice())?)
+}
+
+fn folder_verb(verb: &[u8]) -> Option<FolderCall>
+    ensures { IfSome result (λ call. folder_verb call ≡ verb.now) }
+{
+    match verb {
+        b"names" => Some(FolderCall::Names),
+        b"read" => Some(FolderCall::Read),
+        b"write_tmp" => Some(FolderCall::WriteTmp),
+        b"rename" => Some(FolderCall::Rename),
+        b"remove" => Some(FolderCall::Remove),
+        _ if verb == b"replace_meta".as_slice() => Some(FolderCall::ReplaceMeta),
+        _ => None,
+    }
+}
+
+/// The call of the shelf that has this name.
+fn shelf_call_of(name: &[u8]) -> Option<ShelfCall>
+    ensures { IfSome result (λ call. shelf_word call ≡ name.now) }
+{
+    shelf_verb(name.strip_prefix(b"shelf.".as_slice())?)
+}
+
+fn shelf_verb(verb: &[u8]) -> Option<ShelfCall>
+    ensures { IfSome result (λ call. shelf_verb call ≡ verb.now) }
+{
+    match verb {
+        b"read" => Some(ShelfCall::Read),
+        b"append" => Some(ShelfCall::Append),
+        b"replace" => Some(ShelfCall::Replace),
+        b"remove" => Some(ShelfCall::Remove),
         _ => None,
     }
 }
 
 /// The command that has this name.
-pub fn command_of(name: &[u8]) -> Option<Command> {
+pub fn command_of(name: &[u8]) -> Option<Command>
+    ensures { IfSome result (λ command. command_word command ≡ name.now) }
+{
     match name {
+        b"CAPABILITY" => Some(Command::Capability),
+        b"LOGIN" => Some(Command::Login),
+        b"ENABLE" => Some(Command::Enable),
         b"SELECT" => Some(Command::Select),
         b"FETCH" => Some(Command::Fetch),
         b"STORE" => Some(Command::Store),

@@ -24,6 +24,8 @@ pub struct Course {
     pub journal: Option<Vec<u8>>,
     /// Which calls stop.
     pub stops: Stops,
+    /// The APPENDs whose replies come without APPENDUID, each by its number, counted from 1 over the trial. That is no stop.
+    pub mutes: Vec<u64>,
     /// What others add meanwhile.
     pub arrivals: Arrivals,
 }

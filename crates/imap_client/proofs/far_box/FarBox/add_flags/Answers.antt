@@ -1,25 +1,39 @@
-use Rattle.std.proofs.Common.{refl}
+use Rattle.std.proofs.Common.{◌≡◌, true, refl}
 use Rattle.imap_commands.specs.declared.command.StoreMode.TheVariants as modes
 use Rattle.imap_session.specs.Lines.{told_server}
+use Rattle.imap_session.specs.NamedMessages.{stored}
 use Rattle.imap_client.specs.Boxes.{one_uid}
-use Rattle.imap_client.proofs.Changed.{state_of_parts, goes_on, store_keeps}
+use Rattle.imap_client.proofs.Changed.{Became, state_of_parts, became, goes_on, store_keeps}
+use Rattle.imap_client.proofs.Passing.{passes_on, passes_then, store_passes}
 use Rattle.imap_client.proofs.Visited.{selected_then}
 use Rattle.imap_client.proofs.far_box.FarBox.add_flags.Goals as goal
 
 pub invariant_of-self : goal.invariant_of-self
-invariant_of-self g c = record {
-  named = c.args.self.now.named;
-  selected = λ is_selected ready honest.
-      let was = c.args.self.now.session in
-      let now = c.change.new.self in
-      let a = c.change.ensures.outcome honest in
-      goes_on (Unit {0}) _ (store_keeps modes.Add c.args.flags (one_uid c.args.uid)) c.args.self.now.name.items c.args.self.now.validity c.args.self.now.next 1
-      (state_of_parts was.is_ready was.tags (g.L.Link.stops was.wire.link) was.wire.heard.read) (state_of_parts now.is_ready now.tags (g.L.Link.stops now.wire.link) now.wire.heard.read)
-      a.mid (told_server (g.L.Link.line now.wire.link)) c.change.result c.change.ensures.ends ready
-      (λ before. selected_then g.L.Link.visitors c.args.self.now.name.items c.args.self.now.validity c.args.self.now.next (told_server (g.L.Link.line was.wire.link)) a.mid a.visits (c.args.self.now.selected is_selected before (c.change.ensures.was_honest honest)))
-      (λ m is. a.then m is _ refl);
-  numbers = c.args.self.now.numbers;
-}
+invariant_of-self g c =
+    let it = c.args.self.now in
+    let was = it.session in
+    let now = c.change.new.self in
+    let before = told_server (g.L.Link.line was.wire.link) in
+    let new = told_server (g.L.Link.line now.wire.link) in
+    let change = stored modes.Add c.args.flags (one_uid c.args.uid) in
+    let done : it.is_selected ≡ true → now.is_ready ≡ true → (honest : g.L.Link.honest now.wire.link)
+    → Became change it.name.items it.validity it.next (state_of_parts was.is_ready was.tags (g.L.Link.stops was.wire.link) was.wire.heard.read) (c.change.ensures.outcome honest).mid new = λ is_selected ready honest.
+    let a = c.change.ensures.outcome honest in
+    became (Unit {0}) change it.name.items it.validity it.next 1
+    (state_of_parts was.is_ready was.tags (g.L.Link.stops was.wire.link) was.wire.heard.read) (state_of_parts now.is_ready now.tags (g.L.Link.stops now.wire.link) now.wire.heard.read)
+    a.mid new c.change.result c.change.ensures.ends ready
+    (λ ready_before. selected_then g.L.Link.visitors it.name.items it.validity it.next before a.mid a.visits (it.selected is_selected ready_before (c.change.ensures.was_honest honest)))
+    (λ m is. a.then m is _ refl) in
+    record {
+      named = it.named;
+      selected = λ is_selected ready honest.
+          goes_on change (store_keeps modes.Add c.args.flags (one_uid c.args.uid)) it.name.items it.validity it.next _ _ new (done is_selected ready honest);
+      numbers = it.numbers;
+      are_passed = λ is_selected ready honest.
+          let a = c.change.ensures.outcome honest in
+          passes_on it.passed change (store_passes it.passed modes.Add c.args.flags (one_uid c.args.uid)) it.name.items it.validity it.next _ a.mid new (done is_selected ready honest)
+          (λ ready_before. passes_then it.passed g.L.Link.visitors before a.mid a.visits (it.are_passed is_selected ready_before (c.change.ensures.was_honest honest)));
+    }
 
 pub returns-clause-outcome : goal.returns-clause-outcome
 returns-clause-outcome g c honest =

@@ -1,6 +1,6 @@
 use Rattle.std.proofs.Common.{ℕ, ◌+◌, List, sym, ◌∙◌, ap, subst, arith}
 use Rattle.imap_session.specs.Lines.{told_server}
-use Rattle.imap_client.specs.Boxes.{IsSelected}
+use Rattle.imap_client.specs.Boxes.{IsSelected, Passes}
 use Rattle.std.proofs.Common.{◌≡◌, true, Option, Some, Result, Ok, Err}
 use Rattle.std.proofs.lemmas.Result.{err_from_is_err_and}
 use Rattle.mailcore.specs.CopyPieces.{text_left}
@@ -12,7 +12,8 @@ use Rattle.imap_link.specs.Outcomes.{Outcome}
 use Rattle.imap_client.specs.Appending.{Adds, AddsSome, NoUidLeft}
 use Rattle.imap_client.proofs.Changed.{state_of_parts}
 use Rattle.imap_client.specs.Appending.{next_known}
-use Rattle.imap_client.proofs.Adding.{among_where, none_known, err_selected, ok_selected}
+use Rattle.imap_client.proofs.Adding.{among_where, none_known, err_keeps, err_selected, ok_selected}
+use Rattle.imap_client.proofs.Passing.{adds_passes, passes_then}
 use Rattle.imap_client.proofs.Visited.{selected_then}
 use Rattle.imap_client.proofs.far_box.FarBox.append_copy.Goals.{in-Some, in_default}
 use Rattle.imap_client.proofs.far_box.FarBox.append_copy.Goals as goal
@@ -33,6 +34,19 @@ invariant_of-self g c = record {
       (λ before. selected_then g.L.Link.visitors it.name.items it.validity it.next begin old a.visits (it.selected is_selected before (c.in_err-told.ensures.was_honest honest)))
       (λ s m is. a.then (subst (λ (n : List ℕ). IsSelected n it.validity it.next old) (sym c.deref.ensures.value) s) m is);
   numbers = c.args.self.now.numbers;
+  are_passed = λ is_selected ready honest.
+      let it = c.args.self.now in
+      let was = it.session in
+      let now = c.add.new.self in
+      let begin = (told_server (g.L.Link.line was.wire.link)) in
+      let new = (told_server (g.L.Link.line now.wire.link)) in
+      let a = c.in_err-told.ensures.outcome honest in
+      let old = a.mid in
+      err_keeps (state_of_parts was.is_ready was.tags (g.L.Link.stops was.wire.link) was.wire.heard.read) (state_of_parts now.is_ready now.tags (g.L.Link.stops now.wire.link) now.wire.heard.read) old new
+      it.name.items it.validity it.next c.args.flags (text_left c.args.copy) (Passes it.passed) c.in_err-told.field-0.0 c.in_err-told.ensures.ends ready
+      (λ before. selected_then g.L.Link.visitors it.name.items it.validity it.next begin old a.visits (it.selected is_selected before (c.in_err-told.ensures.was_honest honest)))
+      (λ before. passes_then it.passed g.L.Link.visitors begin old a.visits (it.are_passed is_selected before (c.in_err-told.ensures.was_honest honest)))
+      (λ s m is. a.then (subst (λ (n : List ℕ). IsSelected n it.validity it.next old) (sym c.deref.ensures.value) s) m is);
 }
 
 pub invariant_of-self-in-Some : goal.invariant_of-self-in-Some
@@ -52,6 +66,19 @@ invariant_of-self-in-Some g c = record {
       (λ before. selected_then g.L.Link.visitors it.name.items it.validity it.next begin old a.visits (it.selected is_selected before (c.in_ok-told.ensures.was_honest honest)))
       (λ s m is. a.then (subst (λ (n : List ℕ). IsSelected n it.validity it.next old) (sym c.deref.ensures.value) s) m is));
   numbers = (c.args.self.now.numbers.0, omega arith);
+  are_passed = λ is_selected ready honest.
+      let it = c.args.self.now in
+      let was = it.session in
+      let now = c.add.new.self in
+      let begin = (told_server (g.L.Link.line was.wire.link)) in
+      let new = (told_server (g.L.Link.line now.wire.link)) in
+      let a = c.in_ok-told.ensures.outcome honest in
+      let old = a.mid in
+      adds_passes it.passed it.name.items it.validity it.next c.args.flags (text_left c.args.copy) c.in_ok-told.told
+      (state_of_parts was.is_ready was.tags (g.L.Link.stops was.wire.link) was.wire.heard.read) (state_of_parts now.is_ready now.tags (g.L.Link.stops now.wire.link) now.wire.heard.read) old new c.in_ok-told.ensures.ends
+      (λ before. selected_then g.L.Link.visitors it.name.items it.validity it.next begin old a.visits (it.selected is_selected before (c.in_ok-told.ensures.was_honest honest)))
+      (λ before. passes_then it.passed g.L.Link.visitors begin old a.visits (it.are_passed is_selected before (c.in_ok-told.ensures.was_honest honest)))
+      (λ s m is. a.then (subst (λ (n : List ℕ). IsSelected n it.validity it.next old) (sym c.deref.ensures.value) s) m is);
 }
 
 pub invariant_of-self-in_default : goal.invariant_of-self-in_default
@@ -71,6 +98,19 @@ invariant_of-self-in_default g c = record {
       (λ before. selected_then g.L.Link.visitors it.name.items it.validity it.next begin old a.visits (it.selected is_selected before (c.in_ok-told.ensures.was_honest honest)))
       (λ s m is. a.then (subst (λ (n : List ℕ). IsSelected n it.validity it.next old) (sym c.deref.ensures.value) s) m is));
   numbers = c.args.self.now.numbers;
+  are_passed = λ is_selected ready honest.
+      let it = c.args.self.now in
+      let was = it.session in
+      let now = c.add.new.self in
+      let begin = (told_server (g.L.Link.line was.wire.link)) in
+      let new = (told_server (g.L.Link.line now.wire.link)) in
+      let a = c.in_ok-told.ensures.outcome honest in
+      let old = a.mid in
+      adds_passes it.passed it.name.items it.validity it.next c.args.flags (text_left c.args.copy) c.in_ok-told.told
+      (state_of_parts was.is_ready was.tags (g.L.Link.stops was.wire.link) was.wire.heard.read) (state_of_parts now.is_ready now.tags (g.L.Link.stops now.wire.link) now.wire.heard.read) old new c.in_ok-told.ensures.ends
+      (λ before. selected_then g.L.Link.visitors it.name.items it.validity it.next begin old a.visits (it.selected is_selected before (c.in_ok-told.ensures.was_honest honest)))
+      (λ before. passes_then it.passed g.L.Link.visitors begin old a.visits (it.are_passed is_selected before (c.in_ok-told.ensures.was_honest honest)))
+      (λ s m is. a.then (subst (λ (n : List ℕ). IsSelected n it.validity it.next old) (sym c.deref.ensures.value) s) m is);
 }
 
 pub returns-in_err-told-clause-outcome : goal.returns-in_err-told-clause-outcome

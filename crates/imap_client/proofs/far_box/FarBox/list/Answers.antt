@@ -1,4 +1,4 @@
-use Rattle.std.proofs.Common.{◌≡◌, List, map, refl, sym, ◌∙◌, ap, subst, Result, Err}
+use Rattle.std.proofs.Common.{◌≡◌, true, List, map, refl, sym, ◌∙◌, ap, subst, Result, Err}
 use Rattle.std.proofs.lemmas.Result.{err_from_is_err_and}
 use Rattle.mailcore.specs.declared.listing.Item.{Item}
 use Rattle.mailcore.specs.declared.listing.Listing.{Listing}
@@ -11,24 +11,32 @@ use Rattle.imap_answers.specs.Listings.{next_above, ListsFrom}
 use Rattle.imap_client.specs.Logins.{Remains}
 use Rattle.imap_answers.specs.Readings.{Tells}
 use Rattle.imap_client.proofs.Changed.{state_of_parts, outcome_err}
-use Rattle.imap_client.proofs.Staying.{stays, lists_so, shows_so}
+use Rattle.imap_client.specs.Boxes.{IsSelected, Passes}
+use Rattle.imap_client.proofs.Passing.{stays_known}
+use Rattle.imap_client.proofs.Staying.{lists_so, shows_so}
 use Rattle.imap_client.proofs.Visited.{selected_then}
 use Rattle.imap_client.proofs.far_box.FarBox.list.Goals as goal
 
 pub invariant_of-self : goal.invariant_of-self
-invariant_of-self g c = record {
-  named = c.args.self.now.named;
-  selected = λ is_selected ready honest.
-      let was = c.args.self.now.session in
-      let now = c.items.new.self in
-      let a = c.items.ensures.remains honest in
-      stays c.args.self.now.name.items c.args.self.now.validity c.args.self.now.next
-      (state_of_parts was.is_ready was.tags (g.L.Link.stops was.wire.link) was.wire.heard.read) (state_of_parts now.is_ready now.tags (g.L.Link.stops now.wire.link) now.wire.heard.read)
-      a.mid (told_server (g.L.Link.line now.wire.link)) ready
-      (λ before. selected_then g.L.Link.visitors c.args.self.now.name.items c.args.self.now.validity c.args.self.now.next (told_server (g.L.Link.line was.wire.link)) a.mid a.visits (c.args.self.now.selected is_selected before (c.items.ensures.was_honest honest)))
-      (λ m is. a.then m is) (List Item) 1 c.items.result c.items.ensures.ends;
-  numbers = c.args.self.now.numbers;
-}
+invariant_of-self g c =
+    let it = c.args.self.now in
+    let was = it.session in
+    let now = c.items.new.self in
+    let before = told_server (g.L.Link.line was.wire.link) in
+    let new = told_server (g.L.Link.line now.wire.link) in
+    let known : it.is_selected ≡ true → now.is_ready ≡ true → g.L.Link.honest now.wire.link → IsSelected it.name.items it.validity it.next new × Passes it.passed new = λ is_selected ready honest.
+    let a = c.items.ensures.remains honest in
+    let was_honest = c.items.ensures.was_honest honest in
+    stays_known g.L.Link.visitors it.name.items it.validity it.next it.passed
+    (state_of_parts was.is_ready was.tags (g.L.Link.stops was.wire.link) was.wire.heard.read) (state_of_parts now.is_ready now.tags (g.L.Link.stops now.wire.link) now.wire.heard.read)
+    before a.mid new ready a.visits (λ was_ready. (it.selected is_selected was_ready was_honest, it.are_passed is_selected was_ready was_honest))
+    (λ m is. a.then m is) (List Item) 1 c.items.result c.items.ensures.ends in
+    record {
+      named = it.named;
+      selected = λ is_selected ready honest. (known is_selected ready honest).0;
+      numbers = it.numbers;
+      are_passed = λ is_selected ready honest. (known is_selected ready honest).1;
+    }
 
 pub returns-in_err-items-clause-outcome : goal.returns-in_err-items-clause-outcome
 returns-in_err-items-clause-outcome g c honest is_selected =

@@ -1,4 +1,4 @@
-use Rattle.std.proofs.Common.{◌≡◌, Some, None, Bool, Option, sym, ◌∙◌, ap, subst, Result, Err}
+use Rattle.std.proofs.Common.{◌≡◌, true, Some, None, Bool, Option, sym, ◌∙◌, ap, subst, Result, Err}
 use Rattle.std.specs.Prelude.{if◌then◌else◌}
 use Rattle.std.proofs.lemmas.Result.{err_from_is_err_and}
 use Rattle.mailcore.specs.Operations.{bytes_of}
@@ -10,54 +10,72 @@ use Rattle.imap_answers.specs.Bodies.{body_at, found_at}
 use Rattle.imap_client.specs.Logins.{Remains}
 use Rattle.imap_answers.specs.Readings.{Tells}
 use Rattle.imap_client.proofs.Changed.{state_of_parts, outcome_err}
-use Rattle.imap_client.proofs.Staying.{stays}
-use Rattle.imap_client.proofs.Visited.{selected_then}
+use Rattle.imap_client.specs.Boxes.{IsSelected, Passes}
+use Rattle.imap_client.proofs.Passing.{stays_known}
 use Rattle.imap_client.proofs.far_box.FarBox.load.Goals as goal
 
 pub invariant_of-self : goal.invariant_of-self
-invariant_of-self g c = record {
-  named = c.args.self.now.named;
-  selected = λ is_selected ready honest.
-      let was = c.args.self.now.session in
-      let now = c.body.new.self in
-      let a = c.body.ensures.remains honest in
-      stays c.args.self.now.name.items c.args.self.now.validity c.args.self.now.next
-      (state_of_parts was.is_ready was.tags (g.L.Link.stops was.wire.link) was.wire.heard.read) (state_of_parts now.is_ready now.tags (g.L.Link.stops now.wire.link) now.wire.heard.read)
-      a.mid (told_server (g.L.Link.line now.wire.link)) ready
-      (λ before. selected_then g.L.Link.visitors c.args.self.now.name.items c.args.self.now.validity c.args.self.now.next (told_server (g.L.Link.line was.wire.link)) a.mid a.visits (c.args.self.now.selected is_selected before (c.body.ensures.was_honest honest)))
-      (λ m is. a.then m is) (Option FoundBody) 1 c.body.result c.body.ensures.ends;
-  numbers = c.args.self.now.numbers;
-}
+invariant_of-self g c =
+    let it = c.args.self.now in
+    let was = it.session in
+    let now = c.body.new.self in
+    let before = told_server (g.L.Link.line was.wire.link) in
+    let new = told_server (g.L.Link.line now.wire.link) in
+    let known : it.is_selected ≡ true → now.is_ready ≡ true → g.L.Link.honest now.wire.link → IsSelected it.name.items it.validity it.next new × Passes it.passed new = λ is_selected ready honest.
+    let a = c.body.ensures.remains honest in
+    let was_honest = c.body.ensures.was_honest honest in
+    stays_known g.L.Link.visitors it.name.items it.validity it.next it.passed
+    (state_of_parts was.is_ready was.tags (g.L.Link.stops was.wire.link) was.wire.heard.read) (state_of_parts now.is_ready now.tags (g.L.Link.stops now.wire.link) now.wire.heard.read)
+    before a.mid new ready a.visits (λ was_ready. (it.selected is_selected was_ready was_honest, it.are_passed is_selected was_ready was_honest))
+    (λ m is. a.then m is) (Option FoundBody) 1 c.body.result c.body.ensures.ends in
+    record {
+      named = it.named;
+      selected = λ is_selected ready honest. (known is_selected ready honest).0;
+      numbers = it.numbers;
+      are_passed = λ is_selected ready honest. (known is_selected ready honest).1;
+    }
 
 pub invariant_of-self-in-Some : goal.invariant_of-self-in-Some
-invariant_of-self-in-Some g c = record {
-  named = c.args.self.now.named;
-  selected = λ is_selected ready honest.
-      let was = c.args.self.now.session in
-      let now = c.body.new.self in
-      let a = c.body.ensures.remains honest in
-      stays c.args.self.now.name.items c.args.self.now.validity c.args.self.now.next
-      (state_of_parts was.is_ready was.tags (g.L.Link.stops was.wire.link) was.wire.heard.read) (state_of_parts now.is_ready now.tags (g.L.Link.stops now.wire.link) now.wire.heard.read)
-      a.mid (told_server (g.L.Link.line now.wire.link)) ready
-      (λ before. selected_then g.L.Link.visitors c.args.self.now.name.items c.args.self.now.validity c.args.self.now.next (told_server (g.L.Link.line was.wire.link)) a.mid a.visits (c.args.self.now.selected is_selected before (c.body.ensures.was_honest honest)))
-      (λ m is. a.then m is) (Option FoundBody) 1 c.body.result c.body.ensures.ends;
-  numbers = c.args.self.now.numbers;
-}
+invariant_of-self-in-Some g c =
+    let it = c.args.self.now in
+    let was = it.session in
+    let now = c.body.new.self in
+    let before = told_server (g.L.Link.line was.wire.link) in
+    let new = told_server (g.L.Link.line now.wire.link) in
+    let known : it.is_selected ≡ true → now.is_ready ≡ true → g.L.Link.honest now.wire.link → IsSelected it.name.items it.validity it.next new × Passes it.passed new = λ is_selected ready honest.
+    let a = c.body.ensures.remains honest in
+    let was_honest = c.body.ensures.was_honest honest in
+    stays_known g.L.Link.visitors it.name.items it.validity it.next it.passed
+    (state_of_parts was.is_ready was.tags (g.L.Link.stops was.wire.link) was.wire.heard.read) (state_of_parts now.is_ready now.tags (g.L.Link.stops now.wire.link) now.wire.heard.read)
+    before a.mid new ready a.visits (λ was_ready. (it.selected is_selected was_ready was_honest, it.are_passed is_selected was_ready was_honest))
+    (λ m is. a.then m is) (Option FoundBody) 1 c.body.result c.body.ensures.ends in
+    record {
+      named = it.named;
+      selected = λ is_selected ready honest. (known is_selected ready honest).0;
+      numbers = it.numbers;
+      are_passed = λ is_selected ready honest. (known is_selected ready honest).1;
+    }
 
 pub invariant_of-self-in-None : goal.invariant_of-self-in-None
-invariant_of-self-in-None g c = record {
-  named = c.args.self.now.named;
-  selected = λ is_selected ready honest.
-      let was = c.args.self.now.session in
-      let now = c.body.new.self in
-      let a = c.body.ensures.remains honest in
-      stays c.args.self.now.name.items c.args.self.now.validity c.args.self.now.next
-      (state_of_parts was.is_ready was.tags (g.L.Link.stops was.wire.link) was.wire.heard.read) (state_of_parts now.is_ready now.tags (g.L.Link.stops now.wire.link) now.wire.heard.read)
-      a.mid (told_server (g.L.Link.line now.wire.link)) ready
-      (λ before. selected_then g.L.Link.visitors c.args.self.now.name.items c.args.self.now.validity c.args.self.now.next (told_server (g.L.Link.line was.wire.link)) a.mid a.visits (c.args.self.now.selected is_selected before (c.body.ensures.was_honest honest)))
-      (λ m is. a.then m is) (Option FoundBody) 1 c.body.result c.body.ensures.ends;
-  numbers = c.args.self.now.numbers;
-}
+invariant_of-self-in-None g c =
+    let it = c.args.self.now in
+    let was = it.session in
+    let now = c.body.new.self in
+    let before = told_server (g.L.Link.line was.wire.link) in
+    let new = told_server (g.L.Link.line now.wire.link) in
+    let known : it.is_selected ≡ true → now.is_ready ≡ true → g.L.Link.honest now.wire.link → IsSelected it.name.items it.validity it.next new × Passes it.passed new = λ is_selected ready honest.
+    let a = c.body.ensures.remains honest in
+    let was_honest = c.body.ensures.was_honest honest in
+    stays_known g.L.Link.visitors it.name.items it.validity it.next it.passed
+    (state_of_parts was.is_ready was.tags (g.L.Link.stops was.wire.link) was.wire.heard.read) (state_of_parts now.is_ready now.tags (g.L.Link.stops now.wire.link) now.wire.heard.read)
+    before a.mid new ready a.visits (λ was_ready. (it.selected is_selected was_ready was_honest, it.are_passed is_selected was_ready was_honest))
+    (λ m is. a.then m is) (Option FoundBody) 1 c.body.result c.body.ensures.ends in
+    record {
+      named = it.named;
+      selected = λ is_selected ready honest. (known is_selected ready honest).0;
+      numbers = it.numbers;
+      are_passed = λ is_selected ready honest. (known is_selected ready honest).1;
+    }
 
 pub returns-in_err-found-clause-outcome : goal.returns-in_err-found-clause-outcome
 returns-in_err-found-clause-outcome g c honest =

@@ -1,4 +1,5 @@
-use Rattle.std.proofs.Common.{◌≡◌, ℕ, Option, Some, ◌+◌, List, sym, ◌∙◌, ap, subst, Result, Ok, Err}
+use Rattle.std.proofs.Common.{◌≡◌, ◌≤◌, ℕ, true, Option, Some, ◌+◌, List, sym, ◌∙◌, ap, subst, Result, Ok, Err}
+use Rattle.std.proofs.lemmas.Bool.{false≢true}
 use Rattle.std.proofs.lemmas.Result.{err_from_is_err_and}
 use Rattle.mailcore.specs.Operations.{marked_from}
 use Rattle.mailcore.specs.Ranges.{AreInRange}
@@ -20,6 +21,8 @@ use Rattle.imap_client.specs.Tags.{tag_text}
 use Rattle.imap_client.proofs.Changed.{outcome_err}
 use Rattle.imap_client.proofs.Fetched.{replies_for, FetchTells, fetch_exchanged, fetch_unchanged, reads_so, reads_err}
 use Rattle.imap_client.proofs.Marks.{finds_mark}
+use Rattle.imap_client.proofs.ShownAll.{shows_passed}
+use Rattle.passed_marks.specs.Passed.{ArePassed}
 use Rattle.imap_client.proofs.session.Session.mark.Goals as goal
 
 pub returns-in_err-ask_telling-clause-outcome : goal.returns-in_err-ask_telling-clause-outcome
@@ -36,10 +39,10 @@ returns-in_err-ask_telling-clause-outcome g c honest =
           let old = a.mid in
           let new = (told_server (g.L.Link.line c.ask_telling.new.self.wire.link)) in
           let took : List Reply → Type 0 = λ told. TookHeads c.new-search.result told c.ask_telling.new.sink in
-          let so = λ (found : Option ℕ). found ≡ marked_from c.args.mark c.args.from m.store in
+          let so = λ (found : Option ℕ). found ≡ marked_from c.args.mark c.args.passed.now.below m.store in
           subst (λ (r : Result (Option ℕ) FarFault). Outcome (Tells so) Never Remains r old new) (sym (p.1 ∙ ap Err p.2))
-          (outcome_err (Unit {0}) (Option ℕ) (λ x. Tells (λ _. FetchTells n m (from_on c.args.from) wanted.Head took read) x) (Tells so) Never Remains old new f
-          (fetch_exchanged n old m is (from_on c.args.from) wanted.Head took (Err f) read new a.then));
+          (outcome_err (Unit {0}) (Option ℕ) (λ x. Tells (λ _. FetchTells n m (from_on c.args.passed.now.below) wanted.Head took read) x) (Tells so) Never Remains old new f
+          (fetch_exchanged n old m is (from_on c.args.passed.now.below) wanted.Head took (Err f) read new a.then));
     }
 
 pub returns-in_err-found-clause-outcome : goal.returns-in_err-found-clause-outcome
@@ -55,10 +58,10 @@ returns-in_err-found-clause-outcome g c honest =
           let new = (told_server (g.L.Link.line c.ask_telling.new.self.wire.link)) in
           let search = c.ask_telling.new.sink in
           let mark = c.args.mark in
-          let from = c.args.from in
-          let so = λ (found : Option ℕ). found ≡ marked_from c.args.mark c.args.from m.store in
-          let rs = replies_for m (from_on c.args.from) wanted.Head (tag_text n) in
-          let told = fetch_exchanged n old m is (from_on c.args.from) wanted.Head (λ told. TookHeads c.new-search.result told search) (Ok tt) c.ask_telling.new.self.wire.heard.read new a.then in
+          let from = c.args.passed.now.below in
+          let so = λ (found : Option ℕ). found ≡ marked_from c.args.mark c.args.passed.now.below m.store in
+          let rs = replies_for m (from_on c.args.passed.now.below) wanted.Head (tag_text n) in
+          let told = fetch_exchanged n old m is (from_on c.args.passed.now.below) wanted.Head (λ told. TookHeads c.new-search.result told search) (Ok tt) c.ask_telling.new.self.wire.heard.read new a.then in
           subst (λ (r : Result (Option ℕ) FarFault). Outcome (Tells so) Never Remains r old new) (sym (p.1 ∙ ap Err p.2))
           (reads_err (Option ℕ) (Option ℕ) (λ uid. uid) (mark_found mark from rs) (marked_from mark from m.store) (finds_mark mark from m (tag_text n) store range) old new told.1
           c.in_err-found.field-0.0 (c.in_err-found.ensures.told mark from rs (subst (λ (first : MarkSearch). TookHeads first rs search) c.new-search.ensures told.0.0)));
@@ -70,8 +73,8 @@ returns-clause-outcome g c =
     let old = (told_server (g.L.Link.line c.args.self.now.wire.link)) in
     let search = c.ask_telling.new.sink in
     let mark = c.args.mark in
-    let from = c.args.from in
-    subst (λ w. g.L.Link.honest w.link → Among g.L.Link.visitors (λ old new. (m : FarMailbox) → selected old ≡ Some m → IsStore m.store → AreInRange m.store.messages → Tells (λ (found : Option ℕ). found ≡ marked_from c.args.mark c.args.from m.store) c.in_ok-found.found old new) old (told_server (g.L.Link.line w.link))) (sym c.done.ensures.wire)
+    let from = c.args.passed.now.below in
+    subst (λ w. g.L.Link.honest w.link → Among g.L.Link.visitors (λ old new. (m : FarMailbox) → selected old ≡ Some m → IsStore m.store → AreInRange m.store.messages → Tells (λ (found : Option ℕ). found ≡ marked_from c.args.mark c.args.passed.now.below m.store) c.in_ok-found.found old new) old (told_server (g.L.Link.line w.link))) (sym c.done.ensures.wire)
     (λ honest.
     let a = c.in_ok-ask_telling.ensures.outcome honest in
     record {
@@ -79,8 +82,8 @@ returns-clause-outcome g c =
       visits = a.visits;
       then = λ m is store range.
           let new = (told_server (g.L.Link.line c.ask_telling.new.self.wire.link)) in
-          let rs = replies_for m (from_on c.args.from) wanted.Head (tag_text n) in
-          let told = fetch_exchanged n a.mid m is (from_on c.args.from) wanted.Head (λ told. TookHeads c.new-search.result told search) (Ok tt) c.ask_telling.new.self.wire.heard.read new a.then in
+          let rs = replies_for m (from_on c.args.passed.now.below) wanted.Head (tag_text n) in
+          let told = fetch_exchanged n a.mid m is (from_on c.args.passed.now.below) wanted.Head (λ told. TookHeads c.new-search.result told search) (Ok tt) c.ask_telling.new.self.wire.heard.read new a.then in
           reads_so (Option ℕ) (Option ℕ) (λ uid. uid) (mark_found mark from rs) (marked_from mark from m.store) (finds_mark mark from m (tag_text n) store range) a.mid new told.1
           c.in_ok-found.found (c.in_ok-found.ensures.told mark from rs (subst (λ (first : MarkSearch). TookHeads first rs search) c.new-search.ensures told.0.0));
     })
@@ -92,7 +95,7 @@ returns-in_err-ask_telling-clause-remains g c honest =
       mid = a.mid;
       visits = a.visits;
       then = λ m is.
-          fetch_unchanged (c.args.self.now.tags + 1) a.mid m is (from_on c.args.from) wanted.Head (λ told. TookHeads c.new-search.result told c.ask_telling.new.sink) (Err c.in_err-ask_telling.field-0.0)
+          fetch_unchanged (c.args.self.now.tags + 1) a.mid m is (from_on c.args.passed.now.below) wanted.Head (λ told. TookHeads c.new-search.result told c.ask_telling.new.sink) (Err c.in_err-ask_telling.field-0.0)
           c.ask_telling.new.self.wire.heard.read (told_server (g.L.Link.line c.ask_telling.new.self.wire.link)) a.then;
     }
 
@@ -103,7 +106,7 @@ returns-in_err-found-clause-remains g c honest =
       mid = a.mid;
       visits = a.visits;
       then = λ m is.
-          fetch_unchanged (c.args.self.now.tags + 1) a.mid m is (from_on c.args.from) wanted.Head (λ told. TookHeads c.new-search.result told c.ask_telling.new.sink) (Ok tt)
+          fetch_unchanged (c.args.self.now.tags + 1) a.mid m is (from_on c.args.passed.now.below) wanted.Head (λ told. TookHeads c.new-search.result told c.ask_telling.new.sink) (Ok tt)
           c.ask_telling.new.self.wire.heard.read (told_server (g.L.Link.line c.ask_telling.new.self.wire.link)) a.then;
     }
 
@@ -117,6 +120,61 @@ returns-clause-remains g c =
       mid = a.mid;
       visits = a.visits;
       then = λ m is.
-          fetch_unchanged (c.args.self.now.tags + 1) a.mid m is (from_on c.args.from) wanted.Head (λ told. TookHeads c.new-search.result told c.ask_telling.new.sink) (Ok tt)
+          fetch_unchanged (c.args.self.now.tags + 1) a.mid m is (from_on c.args.passed.now.below) wanted.Head (λ told. TookHeads c.new-search.result told c.ask_telling.new.sink) (Ok tt)
           c.ask_telling.new.self.wire.heard.read (told_server (g.L.Link.line c.ask_telling.new.self.wire.link)) a.then;
+    })
+
+pub returns-in_err-ask_telling-clause-passed : goal.returns-in_err-ask_telling-clause-passed
+returns-in_err-ask_telling-clause-passed g c honest =
+    let a = c.in_err-ask_telling.ensures.outcome honest in
+    record {
+      mid = a.mid;
+      visits = a.visits;
+      then = λ m is. (
+        fetch_unchanged (c.args.self.now.tags + 1) a.mid m is (from_on c.args.passed.now.below) wanted.Head (λ told. TookHeads c.new-search.result told c.ask_telling.new.sink) (Err c.in_err-ask_telling.field-0.0)
+            c.ask_telling.new.self.wire.heard.read (told_server (g.L.Link.line c.ask_telling.new.self.wire.link)) a.then,
+        λ small passed ready. passed,
+      );
+    }
+
+pub returns-in_err-found-clause-passed : goal.returns-in_err-found-clause-passed
+returns-in_err-found-clause-passed g c honest =
+    let a = c.in_ok-ask_telling.ensures.outcome honest in
+    record {
+      mid = a.mid;
+      visits = a.visits;
+      then = λ m is. (
+        fetch_unchanged (c.args.self.now.tags + 1) a.mid m is (from_on c.args.passed.now.below) wanted.Head (λ told. TookHeads c.new-search.result told c.ask_telling.new.sink) (Ok tt)
+            c.ask_telling.new.self.wire.heard.read (told_server (g.L.Link.line c.ask_telling.new.self.wire.link)) a.then,
+        λ small passed ready. absurd (false≢true (sym c.in_ok-ask_telling.ensures.asked.begun ∙ ready)),
+      );
+    }
+
+pub returns-clause-passed : goal.returns-clause-passed
+returns-clause-passed g c =
+    let old = (told_server (g.L.Link.line c.args.self.now.wire.link)) in
+    subst
+    (λ w. g.L.Link.honest w.link → Among g.L.Link.visitors
+    (λ s t. (m : FarMailbox) → selected s ≡ Some m → Remains s t
+    × (c.args.next ≤ m.store.next → ArePassed m.store.next m.store.messages c.args.passed.now → c.done.new.self.is_ready ≡ true → ArePassed m.store.next m.store.messages c.end.new.passed)) old (told_server (g.L.Link.line w.link)))
+    (sym c.done.ensures.wire)
+    (λ honest.
+    let n = c.args.self.now.tags + 1 in
+    let a = c.in_ok-ask_telling.ensures.outcome honest in
+    let from = c.args.passed.now.below in
+    let search = c.ask_telling.new.sink in
+    let read = c.ask_telling.new.self.wire.heard.read in
+    let new = (told_server (g.L.Link.line c.ask_telling.new.self.wire.link)) in
+    let took : List Reply → Type 0 = λ told. TookHeads c.new-search.result told search in
+    record {
+      mid = a.mid;
+      visits = a.visits;
+      then = λ m is.
+          let told = fetch_exchanged n a.mid m is (from_on from) wanted.Head took (Ok tt) read new a.then in (
+            told.1,
+            λ small passed ready.
+                c.in_ok-found.ensures.passed m.store.next m.store.messages small passed
+                (shows_passed from c.args.next m (tag_text n) c.requires c.args.mark search
+                (subst (λ (first : MarkSearch). TookHeads first (replies_for m (from_on from) wanted.Head (tag_text n)) search) c.new-search.ensures told.0.0)),
+          );
     })

@@ -1,0 +1,2 @@
+pub mod KeptPassed
+pub mod PassedLemmas

@@ -1,0 +1,65 @@
+//! A rule that a script states of the beginnings of a text: how they are to be read.
+
+use test_scripts::failure::Failure;
+use test_scripts::told::Told;
+use test_scripts::words::Words;
+
+/// The rows of a rule. Each says of the beginnings with so many whole lines how they are to be read: `N: ANSWER` or `N to N: ANSWER`,
+/// and `N torn: ANSWER` of those alone behind whose whole lines a part of one stands. Of rows about one beginning the first counts.
+#[derive(Clone, Copy)]
+pub struct Rule<'a> {
+    rows: &'a str,
+}
+
+impl<'a> Rule<'a> {
+    /// Reads a rule. `Script`: these are no such rows.
+    pub fn read(rows: &'a [u8]) -> Result<Rule<'a>, Failure> {
+        match str::from_utf8(rows) {
+            Ok(rows) => Ok(Rule { rows }),
+            Err(_) => Err(Failure::Script),
+        }
+    }
+
+    /// Adds to what was told of a beginning what is wrong with it by the rule, if anything is. `Script`: a row is none.
+    pub fn judge(self, beginning: &[u8], told: &mut Told) -> Result<(), Failure> {
+        match self.answer(beginning)? {
+            Some(answer) if answer == told.as_str() => {}
+            Some(answer) => {
+                told.text(", WRONG, by the rule ");
+                told.text(answer);
+            }
+            None => told.text(", WRONG, the rule says nothing of it"),
+        }
+        Ok(())
+    }
+
+    /// How this beginning is to be read.
+    fn answer(self, beginning: &[u8]) -> Result<Option<&'a str>, Failure> {
+        let lines = beginning.iter().filter(|byte| **byte == b'\n').count();
+        let is_torn = !matches!(beginning, [] | [.., b'\n']);
+        for row in self.rows.lines() {
+            let (head, answer) = row.split_once(": ").ok_or(Failure::Script)?;
+            if is_about(head, lines, is_torn)? {
+                return Ok(Some(answer));
+            }
+        }
+        Ok(None)
+    }
+}
+
+/// Whether a row that begins so is about a beginning with so many whole lines, behind which a part of one stands or not.
+fn is_about(head: &str, lines: usize, is_torn: bool) -> Result<bool, Failure> {
+    let mut words = Words::new(head.as_bytes());
+    let first = words.count();
+    let mut last = first;
+    let mut is_about_torn = false;
+    if !words.is_over() {
+        match words.word() {
+            "to" => last = words.count(),
+            "torn" => is_about_torn = true,
+            _ => words.refuse(),
+        }
+    }
+    words.end()?;
+    Ok(first <= lines && lines <= last && (is_torn || !is_about_torn))
+}

@@ -1,0 +1,99 @@
+//! What stands near, and a server that says what a script says.
+
+use crate::near::{Devices, Near};
+use crate::whole_run::{account, settle};
+use book::shelf::File;
+use far_side::far_side::FarSide;
+use std::alloc::Global;
+use std::cell::RefCell;
+use std::mem;
+use test_client::script_link::ScriptLink;
+use test_client::tape::Tape;
+use test_scripts::failure::Failure;
+use test_scripts::told::Told;
+use test_scripts::words::Words;
+
+/// The tape that a run's link goes over, and what stands near.
+#[derive(Drop)]
+pub(crate) struct Stage<'t> {
+    alloc: Global,
+    tape: &'t RefCell<Tape>,
+    near: Near,
+}
+
+impl<'t> Stage<'t> {
+    /// Nothing near.
+    pub(crate) fn new(alloc: Global, tape: &'t RefCell<Tape>) -> Stage<'t> {
+        Stage {
+            alloc,
+            tape,
+            near: Near::Nothing,
+        }
+    }
+
+    /// Plays a line that begins with this word, and tells what it answers. Gives whether it was a run. `Script`: it has no meaning here.
+    pub(crate) fn play(
+        &mut self,
+        word: &str,
+        line: &mut Words<'_>,
+        told: &mut Told,
+    ) -> Result<bool, Failure> {
+        match word {
+            "near" => self.near = Near::read(self.alloc, line)?,
+            "message" => self.near.push(self.alloc, line)?,
+            "settle" => self.settle(told)?,
+            "state" => self.tell_file(File::State, told)?,
+            "journal" => self.tell_file(File::Journal, told)?,
+            _ => self.talk(word, line)?,
+        }
+        Ok(word == "settle")
+    }
+
+    /// A line of what goes over the link in the next run.
+    fn talk(&self, word: &str, line: &mut Words<'_>) -> Result<(), Failure> {
+        let is_talk = match self.tape.try_borrow_mut() {
+            Ok(mut tape) => tape.talk(word, line)?,
+            Err(_) => false,
+        };
+        if is_talk {
+            Ok(())
+        } else {
+            Err(Failure::Script)
+        }
+    }
+
+    fn settle(&mut self, told: &mut Told) -> Result<(), Failure> {
+        let near = mem::replace(&mut self.near, Near::Nothing);
+        let devices = near.devices(self.alloc)?;
+        told.begin();
+        self.near = Near::Left(self.run_over(devices, told)?);
+        told.end();
+        Ok(())
+    }
+
+    /// Makes a run over a new link.
+    fn run_over(&self, devices: Devices, told: &mut Told) -> Result<Devices, Failure> {
+        let account = account(self.alloc)?;
+        let far = FarSide::new(self.alloc, account, ScriptLink::new(self.tape));
+        Ok(settle(self.alloc, far, devices, told))
+    }
+
+    fn tell_file(&self, file: File, told: &mut Told) -> Result<(), Failure> {
+        told.begin();
+        self.near.tell_file(file, told)?;
+        told.end();
+        Ok(())
+    }
+
+    /// Ends a run. Tells what was sent in it though the script does not say so, and what was not, though it does.
+    pub(crate) fn end_run(&self, told: &mut Told) -> Result<(), Failure> {
+        match self.tape.try_borrow_mut() {
+            Ok(tape) if tape.is_lost() => Err(Failure::NoMemory),
+            Ok(mut tape) => {
+                tape.end_call(told);
+                Ok(())
+            }
+            Err(_) => Err(Failure::Script),
+        }
+    }
+}

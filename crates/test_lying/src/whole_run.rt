@@ -1,0 +1,122 @@
+//! A whole run over a link, a folder and a shelf.
+
+use crate::near::Devices;
+use both::sides::Sides;
+use far_side::account::Account;
+use far_side::far_side::FarSide;
+use imap_link::link::Link;
+use mailcore::side::Side;
+use outside::outside::Outside;
+use reports::answer::answer_word;
+use reports::performed::PerformedLine;
+use rules::options;
+use rules::options::{Cells, Directions, Options};
+use runner::fault::RunFault;
+use runner::pass::{Pass, Settled};
+use runner::performed::Performed;
+use std::alloc::{AllocError, Global};
+use std::num::NonZeroU32;
+use test_scripts::told::Told;
+use trial::attempts::settle_trial;
+use worlds::plan_lines::side_word;
+
+/// Everything is propagated, and nothing is expunged.
+const OPTIONS: Options = Options {
+    cells: Cells {
+        new: BOTH,
+        gone: BOTH,
+        flags: BOTH,
+    },
+    expunge: options::Sides {
+        far: false,
+        near: false,
+    },
+};
+
+const BOTH: Directions = Directions {
+    pull: true,
+    push: true,
+};
+
+/// Makes one run, in one attempt and with the marks of a trial, and adds its answer. Gives the devices back.
+pub(crate) fn settle<L: Link + Drop>(
+    alloc: Global,
+    far: FarSide<L>,
+    devices: Devices,
+    told: &mut Told,
+) -> Devices {
+    let Devices { folder, shelf } = devices;
+    let sides = Sides { far, folder, shelf };
+    // The folder has a meta file, so that this is of no use.
+    let (outside, settled) = settle_over(alloc, sides.together(alloc, NonZeroU32::MIN));
+    tell_settled(told, settled);
+    let Sides { folder, shelf, .. } = Sides::of(outside);
+    Devices { folder, shelf }
+}
+
+/// Makes one run over an outside, and gives it back beside what the run came to.
+fn settle_over<O: Outside>(alloc: Global, outside: O) -> (O, Result<Settled, RunFault>) {
+    let mut outside = outside;
+    let settled = settle_trial(alloc, &mut outside, &OPTIONS, 1);
+    (outside, settled)
+}
+
+/// The INBOX of the user `u` with the password `p`.
+pub(crate) fn account(alloc: Global) -> Result<Account, AllocError> {
+    let user = Vec::from_slice(alloc, b"u")?;
+    let password = Vec::from_slice(alloc, b"p")?;
+    Ok(Account::new(user, password, Vec::from_slice(alloc, b"INBOX")?))
+}
+
+/// Adds the word of the answer and the steps that were performed, or the fault by its name.
+fn tell_settled(told: &mut Told, settled: Result<Settled, RunFault>) {
+    match settled {
+        Ok(Settled { last, .. }) => {
+            told.text(answer_word(&last));
+            match &last {
+                Pass::Already => {}
+                Pass::Ran(performed, _) | Pass::Finished(performed) => {
+                    tell_performed(told, performed);
+                }
+            }
+        }
+        Err(fault) => tell_fault(told, fault),
+    }
+}
+
+fn tell_performed(told: &mut Told, performed: &[Performed]) {
+    for one in performed {
+        told.text("; ");
+        told.shown(&PerformedLine(one));
+    }
+}
+
+/// A fault by its name, with its side and its numbers.
+fn tell_fault(told: &mut Told, fault: RunFault) {
+    match fault {
+        RunFault::Stopped => told.text("Stopped"),
+        RunFault::Refused(step) => tell_number(told, "Refused", step as u64),
+        RunFault::ValidityChanged(side) => tell_side(told, "ValidityChanged", side),
+        RunFault::BadState(line) => tell_number(told, "BadState", line as u64),
+        RunFault::BadJournal(line) => tell_number(told, "BadJournal", line as u64),
+        RunFault::StoreFault(side, number) => {
+            tell_side(told, "StoreFault", side);
+            told.text(" ");
+            told.number(u64::from(number));
+        }
+        RunFault::MarksRepeat => told.text("MarksRepeat"),
+        RunFault::NoMemory => told.text("NoMemory"),
+    }
+}
+
+fn tell_side(told: &mut Told, name: &str, side: Side) {
+    told.text(name);
+    told.text(" ");
+    told.text(side_word(side));
+}
+
+fn tell_number(told: &mut Told, name: &str, number: u64) {
+    told.text(name);
+    told.text(" ");
+    told.number(number);
+}

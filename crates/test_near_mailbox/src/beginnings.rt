@@ -1,0 +1,159 @@
+//! What the beginnings of a text are read as, held against a rule that the script states.
+
+use crate::name::tell_parts;
+use crate::operation::{tell_fault, tell_numbers};
+use mailcore::octets::Octets;
+use maildir::mem_folder::MemFolder;
+use maildir::name::{read_name, write_name};
+use near_box::{NearBox, NearFault};
+use std::alloc::{AllocError, Global};
+use std::num::NonZeroU32;
+use test_scripts::failure::Failure;
+use test_scripts::told::Told;
+use test_scripts::words::Words;
+
+/// As what a text is read.
+#[derive(Clone, Copy)]
+pub enum Reading {
+    /// The name of a file.
+    Name,
+    /// A meta file. A mailbox without one has this validity.
+    Meta(NonZeroU32),
+}
+
+/// A text whose beginnings are read.
+#[derive(Clone, Copy)]
+pub struct Beginnings<'a> {
+    pub alloc: Global,
+    pub reading: Reading,
+    pub text: &'a [u8],
+}
+
+impl Beginnings<'_> {
+    /// Holds each beginning of the text against a rule. A row of it says how those of so many bytes are to be read, `N: ANSWER` or
+    /// `N to N: ANSWER`, or what is answered where there is no text, `missing: ANSWER`. The rows name all beginnings in order, and stand
+    /// in the transcript again where it is so. `Script`: it is no such rule.
+    pub fn tell(self, rule: &[u8], told: &mut Told) -> Result<(), Failure> {
+        let rule = str::from_utf8(rule).unwrap_or("(no text)");
+        let mut next = 0;
+        for row in rule.lines() {
+            next = self.tell_row(row, next, told)?;
+        }
+        if next <= self.text.len() {
+            return Err(Failure::Script);
+        }
+        Ok(())
+    }
+
+    /// Tells a row, of which the first beginning has to be of so many bytes. Gives how many that of the next row has.
+    fn tell_row(self, row: &str, next: usize, told: &mut Told) -> Result<usize, Failure> {
+        let (head, answer) = row.split_once(": ").ok_or(Failure::Script)?;
+        let mut is_kept = true;
+        let mut end = next;
+        if head == "missing" {
+            is_kept = self.judge(None, answer, told)?;
+        } else {
+            end = self.read_end(head, next)?;
+        }
+        for length in next..end {
+            is_kept = self.judge(Some(length), answer, told)? && is_kept;
+        }
+        if is_kept {
+            told.answer(row);
+        }
+        Ok(end)
+    }
+
+    /// Behind which number of bytes a row ends that begins with this one: `N`, or `N to N`.
+    fn read_end(self, head: &str, next: usize) -> Result<usize, Failure> {
+        let mut words = Words::new(head.as_bytes());
+        let first = words.count();
+        let mut last = first;
+        if !words.is_over() {
+            if words.word() != "to" {
+                words.refuse();
+            }
+            last = words.count();
+        }
+        words.end()?;
+        if first == next && first <= last && last <= self.text.len() {
+            Ok(last.saturating_add(1))
+        } else {
+            Err(Failure::Script)
+        }
+    }
+
+    /// Whether the beginning of so many bytes is read so, or no text answered so. Else it is told what is wrong.
+    fn judge(self, length: Option<usize>, answer: &str, told: &mut Told) -> Result<bool, Failure> {
+        let mut read = Told::new(self.alloc);
+        self.read(length, &mut read)?;
+        let is_so = read.as_str() == answer;
+        if !is_so {
+            told.begin();
+            match length {
+                Some(length) => told.number(length as u64),
+                None => told.text("missing"),
+            }
+            told.text(": ");
+            told.text(read.as_str());
+            told.text(", WRONG by the rule");
+            told.end();
+        }
+        Ok(is_so)
+    }
+
+    /// Tells what is read of the beginning of so many bytes, or where there is no text.
+    fn read(self, length: Option<usize>, told: &mut Told) -> Result<(), Failure> {
+        let text = match length {
+            Some(length) => Some(self.text.get(..length).unwrap_or_default()),
+            None => None,
+        };
+        match self.reading {
+            Reading::Name => Ok(tell_read(self.alloc, text.unwrap_or_default(), told)?),
+            Reading::Meta(fresh) => tell_opened(self.alloc, text, fresh, told),
+        }
+    }
+}
+
+/// Tells what the name of a file says. A name without UID and letters is all base.
+fn tell_read(alloc: Global, text: &[u8], told: &mut Told) -> Result<(), AllocError> {
+    let Some(name) = read_name(text) else {
+        told.text("no name");
+        return Ok(());
+    };
+    if name.base == text {
+        told.text("all base");
+    } else {
+        told.text("base ");
+        told.quoted(name.base);
+        tell_parts(told, &name);
+    }
+    if write_name(alloc, &name)?.as_slice() != text {
+        told.text(", written otherwise");
+    }
+    Ok(())
+}
+
+/// Tells the validity and the next UID of a mailbox without messages that has this meta file, or the fault.
+fn tell_opened(
+    alloc: Global,
+    meta: Option<&[u8]>,
+    fresh: NonZeroU32,
+    told: &mut Told,
+) -> Result<(), Failure> {
+    let mut folder = MemFolder::new(alloc, Vec::new(alloc));
+    if let Some(text) = meta {
+        folder.put_meta(Octets::from_vec(Vec::from_slice(alloc, text)?));
+    }
+    match NearBox::open(alloc, folder, fresh) {
+        Ok(near) => {
+            let meta = near.meta();
+            tell_numbers(told, meta.validity, meta.next);
+            Ok(())
+        }
+        Err((fault, _)) => match tell_fault(told, fault) {
+            Some(NearFault::NoMemory) => Err(Failure::NoMemory),
+            _ => Ok(()),
+        },
+    }
+}

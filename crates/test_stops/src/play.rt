@@ -1,0 +1,140 @@
+//! How the lines of a case are played.
+
+use crate::alike::{Ends, Unlike, alike};
+use crate::stop::Halt;
+use crate::sweep::Sweep;
+use crate::world::end_of;
+use std::alloc::Global;
+use test_scripts::failure::Failure;
+use test_scripts::play::{Player, play_all};
+use test_scripts::script::Script;
+use test_scripts::told::Told;
+use test_scripts::words::Words;
+use worlds::plan_lines::side_word;
+use worlds::world::World;
+
+/// Plays the stopped runs of a script.
+pub fn run(rt: &HostRuntime, script: &mut Script<'_>) -> Result<(), Failure> {
+    let mut stops = Stops {
+        rt,
+        world: Vec::new(rt.alloc()),
+        singles: Vec::new(rt.alloc()),
+        beginnings: Vec::new(rt.alloc()),
+        opening: None,
+        outcome: None,
+    };
+    play_all(rt, &mut stops, script)
+}
+
+/// What a case has said.
+#[derive(Drop)]
+struct Stops<'a> {
+    rt: &'a HostRuntime,
+    /// The text of the world whose run is stopped.
+    world: Vec<u8>,
+    /// The stops at calls that its unbroken run comes to, once they were tried.
+    singles: Vec<Halt>,
+    /// The cut appends, once they were tried.
+    beginnings: Vec<Halt>,
+    opening: Option<World>,
+    outcome: Option<World>,
+}
+
+impl Player for Stops<'_> {
+    fn begin(&mut self) -> Result<(), Failure> {
+        self.world.clear();
+        self.singles.clear();
+        self.beginnings.clear();
+        self.opening = None;
+        self.outcome = None;
+        Ok(())
+    }
+
+    fn play(&mut self, line: &mut Words<'_>, script: &mut Script<'_>) -> Result<(), Failure> {
+        let alloc = self.rt.alloc();
+        match line.word() {
+            "world" => self.set_world(script.block(b".")?),
+            "opening" => set(&mut self.opening, end_of(alloc, script.block(b".")?)?),
+            "outcome" => set(&mut self.outcome, end_of(alloc, script.block(b".")?)?),
+            "found" => self.read_and_compare(script.block(b".")?, &mut script.told),
+            "each" => self.sweep(line.rest(), &mut script.told),
+            _ => Err(Failure::Script),
+        }
+    }
+
+    fn finish(&mut self) -> Result<(), Failure> {
+        Ok(())
+    }
+}
+
+fn set(place: &mut Option<World>, world: World) -> Result<(), Failure> {
+    *place = Some(world);
+    Ok(())
+}
+
+impl Stops<'_> {
+    fn set_world(&mut self, text: &[u8]) -> Result<(), Failure> {
+        self.world.clear();
+        Ok(self.world.extend_from_slice(text)?)
+    }
+
+    fn read_and_compare(&self, text: &[u8], told: &mut Told) -> Result<(), Failure> {
+        let found = end_of(self.rt.alloc(), text)?;
+        self.compare(&found, told)
+    }
+
+    /// Tells whether this end is alike to the outcome.
+    fn compare(&self, found: &World, told: &mut Told) -> Result<(), Failure> {
+        let (Some(opening), Some(outcome)) = (&self.opening, &self.outcome) else {
+            return Err(Failure::Script);
+        };
+        let ends = Ends {
+            opening,
+            outcome,
+            found,
+        };
+        told.begin();
+        match alike(self.rt.alloc(), ends) {
+            Ok(()) => told.text("alike"),
+            Err(unlike) => tell(told, unlike),
+        }
+        told.end();
+        Ok(())
+    }
+
+    /// `each stop`, `each beginning`, `each pair`, `each beginning and stop`: tells how many were met.
+    fn sweep(&mut self, kind: &[u8], told: &mut Told) -> Result<(), Failure> {
+        let world = self.world.as_slice();
+        let (stops, cuts) = (&mut self.singles, &mut self.beginnings);
+        let mut sweep = Sweep::new(self.rt, world)?;
+        sweep_over(&mut sweep, kind, stops, cuts, told)?;
+        told.say(&sweep.take_met());
+        Ok(())
+    }
+}
+
+/// Makes the stopped runs of this kind. Those of one stop are kept in its list, and those of two are made of the lists.
+fn sweep_over(
+    sweep: &mut Sweep<'_>,
+    kind: &[u8],
+    stops: &mut Vec<Halt>,
+    cuts: &mut Vec<Halt>,
+    told: &mut Told,
+) -> Result<(), Failure> {
+    match kind {
+        b"stop" => *stops = sweep.each_stop(told)?,
+        b"beginning" => *cuts = sweep.each_beginning(told)?,
+        b"pair" => sweep.each_pair(told, stops)?,
+        b"beginning and stop" => sweep.each_cut(told, cuts, stops)?,
+        _ => return Err(Failure::Script),
+    }
+    Ok(())
+}
+
+fn tell(told: &mut Told, unlike: Unlike) {
+    if let Some(side) = unlike.side() {
+        told.text(side_word(side));
+        told.text(": ");
+    }
+    told.text(unlike.text());
+}

@@ -1,0 +1,104 @@
+//! How the lines of a case are played.
+
+use mem_link::mem_link::MemLink;
+use run_trial::devices::Devices;
+use run_trial::failure::Failure as TrialFailure;
+use run_trial::memory::run_in_memory;
+use runner::fault::RunFault;
+use runner::pass::Settled;
+use std::alloc::Global;
+use test_scripts::failure::Failure;
+use test_scripts::play::{Player, play_all};
+use test_scripts::script::Script;
+use test_scripts::told::Told;
+use test_scripts::words::Words;
+use trial::attempts::settle_trial;
+use trial::read::read_trial;
+use trial::report::Ending;
+
+/// Plays the trials of a script.
+pub fn run(rt: &HostRuntime, script: &mut Script<'_>) -> Result<(), Failure> {
+    let alloc = rt.alloc();
+    let text = Vec::new(alloc);
+    play_all(rt, &mut Trials { alloc, text }, script)
+}
+
+/// The trial that is played.
+#[derive(Drop)]
+struct Trials {
+    alloc: Global,
+    /// Its text.
+    text: Vec<u8>,
+}
+
+impl Player for Trials {
+    fn begin(&mut self) -> Result<(), Failure> {
+        self.text.clear();
+        Ok(())
+    }
+
+    fn play(&mut self, line: &mut Words<'_>, script: &mut Script<'_>) -> Result<(), Failure> {
+        match line.word() {
+            "trial" => self.set_text(script.block(b".")?),
+            "settle" => match settle(self.alloc, &self.text, &mut script.told) {
+                Ok(()) => Ok(()),
+                Err(failure) => Err(failure_of(failure)),
+            },
+            _ => Err(Failure::Script),
+        }
+    }
+
+    fn finish(&mut self) -> Result<(), Failure> {
+        Ok(())
+    }
+}
+
+impl Trials {
+    fn set_text(&mut self, text: &[u8]) -> Result<(), Failure> {
+        self.text.clear();
+        Ok(self.text.extend_from_slice(text)?)
+    }
+}
+
+fn failure_of(failure: TrialFailure) -> Failure {
+    match failure {
+        TrialFailure::NoMemory => Failure::NoMemory,
+        TrialFailure::Usage | TrialFailure::World(_) => Failure::Script,
+        TrialFailure::Input | TrialFailure::NoWorld => Failure::Device,
+    }
+}
+
+/// Makes the run of a trial, and another one where it ends with a fault.
+fn settle(alloc: Global, text: &[u8], told: &mut Told) -> Result<(), TrialFailure> {
+    let trial = read_trial(alloc, text)?;
+    let options = trial.world.options;
+    let tries = trial.course.tries;
+    let (outside, settled) = run_in_memory(alloc, trial)?;
+    let devices = Devices::of(outside);
+    let is_over = settled.is_ok();
+    tell(alloc, &devices, settled, told)?;
+    if is_over {
+        return Ok(());
+    }
+    told.answer("again");
+    let mut outside = devices.again(alloc)?;
+    let settled = settle_trial(alloc, &mut outside, &options, tries);
+    tell(alloc, &Devices::of(outside), settled, told)
+}
+
+/// Tells what a run came to and what stands in the devices, as `mbtrial` prints it. Stops are counted from the first run on.
+fn tell(
+    alloc: Global,
+    devices: &Devices<MemLink>,
+    settled: Result<Settled, RunFault>,
+    told: &mut Told,
+) -> Result<(), TrialFailure> {
+    let ending = Ending {
+        settled,
+        stops: devices.stops(),
+    };
+    let mut text = ending.text(alloc)?;
+    devices.write(alloc, &mut text)?;
+    told.lines(&text);
+    Ok(())
+}
