@@ -90,7 +90,7 @@ no_less : (w : World) (options : Options) (d : Device) (marks : List (List ℕ))
 no_less w options d marks s side k = rise-ends (store w side).next (k.uids side) (store (own_world w marks (world_at d s)) side).next (k.rise side)
 
 pub done_is_unplanned : DoneIsUnplanned
-done_is_unplanned ours alone opening d options over order =
+done_is_unplanned ours alone opening keywords d options over order =
     let x = over.holds in
     let k = x.alike in
     let b = names_below over.world opening.options (own_world over.world x.marks (world_at d x.state)) over.grows.in_order over.below k.alike in

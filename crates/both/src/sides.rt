@@ -13,6 +13,7 @@ use crate::both::Both;
 use book::shelf::Shelf;
 use far_side::far_side::FarSide;
 use imap_link::link::Link;
+use mailcore::keywords::Keywords;
 use maildir::folder::Folder;
 use near_side::near_side::NearSide;
 use pair::book_part::BookPart;
@@ -32,15 +33,17 @@ pub struct Sides<L: Link, F: Folder, S: Shelf> {
 }
 
 impl<L: Link + Drop, F: Folder + Drop, S: Shelf + Drop> Sides<L, F, S> {
-    /// The outside of a run over them. Nothing is open, and no call was made. The UIDVALIDITY of the near mailbox is `fresh` where its
-    /// folder has no meta file.
-    pub fn together(self, alloc: Global, fresh: NonZeroU32) -> Both<L, F, S>
+    /// The outside of a run over them, the near mailbox under the far one's map of keywords. Nothing is open, and no call was made. The
+    /// UIDVALIDITY of the near mailbox is `fresh` where its folder has no meta file.
+    pub fn together(self, alloc: Global, fresh: NonZeroU32, keywords: Keywords) -> Both<L, F, S>
+        requires map { self.far.far.keywords ≡ keywords }
         ensures seen { seen_of result ≡ seen_with (device_with (seen_of_far self.far).stored
-            (near_of (non_zero_u32_get fresh) (F.seen self.folder).stored) (S.seen self.shelf).stored []) untouched }
+            (near_of (non_zero_u32_get fresh) keywords (F.seen self.folder).stored) (S.seen self.shelf).stored []) untouched }
         ensures opened { opened_of result ≡ None }
+        ensures keywords { result.far.far.keywords ≡ keywords }
     {
         let Sides { far, folder, shelf } = self;
-        let near = NearSide::new(alloc, folder, fresh);
+        let near = NearSide::new(alloc, folder, fresh, keywords);
         Pair::new(alloc, far, near, BookPart::new(alloc, shelf))
     }
 

@@ -48,9 +48,9 @@ impl<R: Rng> Work for RunOnce<'_, R> {
 
     fn over<O: Outside, P: Progress>(self, outside: &mut O, progress: &P) -> Result<Pass, BoxFault>
         ensures done { OnOk result (FromOpening (O.honest outside.new) O.ours O.alone
-            (first_on (O.seen outside.old).device self.entry.options.now) self.entry.options.now (R.stream self.entry.rng.now)
+            (first_on (O.keywords outside.old) (O.seen outside.old).device self.entry.options.now) self.entry.options.now (R.stream self.entry.rng.now)
             (O.seen outside.old).device
-            (IsOver O.ours O.alone (first_on (O.seen outside.old).device self.entry.options.now) (O.seen outside.new).device)) }
+            (IsOver O.ours O.alone (first_on (O.keywords outside.old) (O.seen outside.old).device self.entry.options.now) (O.seen outside.new).device)) }
         ensures stopped { result ≡ Err (BoxFault.Run RunFault.Stopped) → MetStops run_attempts (O.seen outside.old) (O.seen outside.new) }
     {
         settle_lent(self.alloc, outside, self.options, self.rng, progress)
@@ -67,6 +67,7 @@ fn settle_lent<O: Outside, R: Rng, P: Progress>(
     progress: &P,
 ) -> Result<Pass, BoxFault>
     ghost opening: { Opening }
+    requires map { opening.keywords ≡ O.keywords outside.old }
     ensures done { OnOk result (O.honest outside.new → IsAsked O.ours opening options.now (R.stream rng.old)
         → AtOpening O.ours O.alone opening (O.seen outside.old).device → IsOver O.ours O.alone opening (O.seen outside.new).device) }
     ensures stopped { result ≡ Err (BoxFault.Run RunFault.Stopped) → MetStops run_attempts (O.seen outside.old) (O.seen outside.new) }

@@ -1,7 +1,8 @@
 -- The replies to a command are an answer to it.
-use Rattle.std.proofs.Common.{◌≡◌, ◌⊎◌, inl, inr, ℕ, ◌+◌, Bool, true, false, ◌&&◌, List, [], ◌∷◌, ◌++◌, map, refl, sym, ◌∙◌, ap, subst, Option, Some, None, if◌then◌else◌}
+use Rattle.std.proofs.Common.{◌≡◌, inl, inr, ℕ, ◌+◌, Bool, true, false, ◌&&◌, List, [], ◌∷◌, ◌++◌, map, refl, sym, ◌∙◌, subst, Option, Some, None, if◌then◌else◌}
 use Rattle.std.specs.Prelude.{nat_eq, nat_le}
 use Rattle.std.specs.Cmp.Lexicographic.{pointwise}
+use Rattle.mailcore.specs.declared.keywords.Keyword.{Keyword}
 use Rattle.mailcore.specs.declared.mailbox.Message.{Message}
 use Rattle.wire_tokens.specs.declared.uid_set.SetItem.{SetItem}
 use Rattle.imap_commands.specs.declared.command.FetchItems.{FetchItems}
@@ -9,8 +10,12 @@ use Rattle.imap_commands.specs.declared.command.StoreMode.{StoreMode}
 use Rattle.imap_commands.specs.declared.command.Command.{Command}
 use Rattle.imap_commands.specs.declared.command.Request.{Request}
 use Rattle.imap_commands.specs.declared.command.Request.TheVariants as requests
+use Rattle.imap_replies.specs.declared.word.NoticeKind.{NoticeKind}
+use Rattle.imap_replies.specs.declared.word.NoticeKind.TheVariants as notices
+use Rattle.imap_replies.specs.declared.response.Code.TheVariants as codes_of
+use Rattle.imap_replies.specs.declared.response.ResponseText.TheVariants.{Coded}
 use Rattle.imap_replies.specs.declared.reply.Reply.{Reply}
-use Rattle.imap_replies.specs.declared.reply.Reply.TheVariants.{Fetch, Expunge, Exists}
+use Rattle.imap_replies.specs.declared.reply.Reply.TheVariants.{Notice, Fetch, Expunge, Exists}
 use Rattle.imap_session.specs.Mailboxes.{FarMailbox, mailbox_at, same_name}
 use Rattle.imap_session.specs.NamedMessages.{goes}
 use Rattle.imap_session.specs.Servers.{Condition, NotAuthenticated, Authenticated, Selected, LoggedOut, Server, is_logged_in, is_before_login, selected, news, told}
@@ -20,8 +25,9 @@ use Rattle.imap_session.specs.MailboxCommands.{lists, makes, creates_at, creates
 use Rattle.imap_session.specs.AppendCommand.{grown, AppendsAt, AppendsIf}
 use Rattle.imap_session.specs.MessageCommands.{fetched, removed, shown, fetches_in, stores_in, expunges_in}
 use Rattle.imap_session.specs.Steps.{StepOf}
-use Rattle.imap_session.specs.Heard.{tag_of, is_passed, IsAnswer, AreUntagged, LeavesOut, WithoutUid}
+use Rattle.imap_session.specs.Heard.{tag_of, is_passed, IsAnswer, AreUntagged, IsHeardAs, AreHeardAs}
 use Rattle.exchange_laws.specs.Ends.{Did}
+use Rattle.exchange_laws.proofs.HeardAs.{reads_same}
 use Rattle.exchange_laws.proofs.Others.{news_untagged}
 
 pub answer-append : (tag : List ℕ) (a b : List Reply) → AreUntagged a → IsAnswer tag b → IsAnswer tag (a ++ b)
@@ -37,11 +43,11 @@ listed_untagged : (names : List (List ℕ)) → AreUntagged (map listed names)
 listed_untagged [] = tt
 listed_untagged (n ∷ names) = (refl, listed_untagged names)
 
-fetched_untagged : (named : ℕ → Bool) (what : FetchItems) (place : ℕ) (ms : List Message) → AreUntagged (fetched named what place ms)
-fetched_untagged named what place [] = tt
-fetched_untagged named what place (m ∷ ms) =
-    elim (named m.uid) as (λ b. AreUntagged (if b then Fetch place (shown what m) ∷ fetched named what (place + 1) ms else fetched named what (place + 1) ms))
-    [ true ↦ (refl, fetched_untagged named what (place + 1) ms) | false ↦ fetched_untagged named what (place + 1) ms ]
+fetched_untagged : (keywords : List Keyword) (named : ℕ → Bool) (what : FetchItems) (place : ℕ) (ms : List Message) → AreUntagged (fetched keywords named what place ms)
+fetched_untagged keywords named what place [] = tt
+fetched_untagged keywords named what place (m ∷ ms) =
+    elim (named m.uid) as (λ b. AreUntagged (if b then Fetch place (shown keywords what m) ∷ fetched keywords named what (place + 1) ms else fetched keywords named what (place + 1) ms))
+    [ true ↦ (refl, fetched_untagged keywords named what (place + 1) ms) | false ↦ fetched_untagged keywords named what (place + 1) ms ]
 
 removed_untagged : (named : ℕ → Bool) (place : ℕ) (ms : List Message) → AreUntagged (removed named place ms)
 removed_untagged named place [] = tt
@@ -91,11 +97,11 @@ creates_at_answer None s tag name = either (is_name name) tag _ _ (makes_answer 
 creates_answer : (s : Server) (tag name : List ℕ) → IsAnswer tag (creates s tag name).replies
 creates_answer s tag name = either (is_logged_in s.condition) tag _ _ (creates_at_answer (mailbox_at name s.mailboxes) s tag name) (inl (refl, refl))
 
-opening_answer : (m : FarMailbox) (tag : List ℕ) → IsAnswer tag (opening m tag)
-opening_answer m tag = inr (refl, inr (refl, inr (refl, inr (refl, inr (refl, inr (refl, inl (refl, refl)))))))
+opening_answer : (keywords : List Keyword) (m : FarMailbox) (tag : List ℕ) → IsAnswer tag (opening keywords m tag)
+opening_answer keywords m tag = inr (refl, inr (refl, inr (refl, inr (refl, inr (refl, inr (refl, inl (refl, refl)))))))
 
 selects_at_answer : (m : Option FarMailbox) (s : Server) (tag name : List ℕ) → IsAnswer tag (selects_at m s tag name).replies
-selects_at_answer (Some m) s tag name = answer-append tag (closes s.condition) (opening m tag) (closes_untagged s.condition) (opening_answer m tag)
+selects_at_answer (Some m) s tag name = answer-append tag (closes s.condition) (opening s.keywords m tag) (closes_untagged s.condition) (opening_answer s.keywords m tag)
 selects_at_answer None s tag name = answer_last tag (closes s.condition) _ (closes_untagged s.condition) refl
 
 selects_answer : (s : Server) (tag name : List ℕ) → IsAnswer tag (selects s tag name).replies
@@ -103,9 +109,9 @@ selects_answer s tag name = either (is_logged_in s.condition) tag _ _ (selects_a
 
 fetches_answer : (m : Option FarMailbox) (s : Server) (tag : List ℕ) (set : List SetItem) (what : FetchItems) → IsAnswer tag (fetches_in m s tag set what).replies
 fetches_answer None s tag set what = inl (refl, refl)
-fetches_answer (Some m) s tag set what = answer_last tag _ _ (fetched_untagged _ what 1 m.store.messages) refl
+fetches_answer (Some m) s tag set what = answer_last tag _ _ (fetched_untagged s.keywords _ what 1 m.store.messages) refl
 
-stores_answer : (m : Option FarMailbox) (s : Server) (tag : List ℕ) (set : List SetItem) (mode : StoreMode) (flags : ℕ) → IsAnswer tag (stores_in m s tag set mode flags).replies
+stores_answer : (m : Option FarMailbox) (s : Server) (tag : List ℕ) (set : List SetItem) (mode : StoreMode) (flags : List (List ℕ)) → IsAnswer tag (stores_in m s tag set mode flags).replies
 stores_answer None s tag set mode flags = inl (refl, refl)
 stores_answer (Some m) s tag set mode flags = inl (refl, refl)
 
@@ -116,12 +122,12 @@ expunges_answer (Some m) s tag set = answer_last tag _ _ (removed_untagged _ 1 m
 given : (tag : List ℕ) (a : Answer) (rs : List Reply) (new : Server) → Gives a rs new → IsAnswer tag a.replies → IsAnswer tag rs
 given tag a rs new h k = subst (IsAnswer tag) (sym h.0) k
 
-appends_at_answer : (m : Option FarMailbox) (s : Server) (tag name : List ℕ) (flags : ℕ) (message : List ℕ) (rs : List Reply) (new : Server) → AppendsAt m s tag name flags message rs new → IsAnswer tag rs
+appends_at_answer : (m : Option FarMailbox) (s : Server) (tag name : List ℕ) (flags : List (List ℕ)) (message : List ℕ) (rs : List Reply) (new : Server) → AppendsAt m s tag name flags message rs new → IsAnswer tag rs
 appends_at_answer None s tag name flags message rs new h = given tag _ rs new h (inl (refl, refl))
 appends_at_answer (Some m) s tag name flags message rs new (inl h) = given tag _ rs new h.gives (inl (refl, refl))
 appends_at_answer (Some m) s tag name flags message rs new (inr h) = given tag _ rs new h.gives (answer_last tag _ _ (grown_untagged s.condition name _) refl)
 
-appends_answer : (b : Bool) (s : Server) (tag name : List ℕ) (flags : ℕ) (message : List ℕ) (rs : List Reply) (new : Server) → AppendsIf b s tag name flags message rs new → IsAnswer tag rs
+appends_answer : (b : Bool) (s : Server) (tag name : List ℕ) (flags : List (List ℕ)) (message : List ℕ) (rs : List Reply) (new : Server) → AppendsIf b s tag name flags message rs new → IsAnswer tag rs
 appends_answer false s tag name flags message rs new h = given tag _ rs new h (inl (refl, refl))
 appends_answer true s tag name flags message rs new h = appends_at_answer (mailbox_at name s.mailboxes) s tag name flags message rs new h
 
@@ -143,24 +149,42 @@ pub did_answer : (c : Command) (old : Server) (said : List Reply) (new : Server)
 did_answer c old said new d =
     subst (IsAnswer c.tag) (sym d.replies_are) (answer-append c.tag (news d.before) d.own (news_untagged d.before) (step_answer (told d.before) c.tag c.request d.own d.after d.step))
 
--- ---- with codes left out
+-- ---- as they are heard
 
-same_tag : (h s : Reply) → (h ≡ s) ⊎ WithoutUid h s → tag_of h ≡ tag_of s
-same_tag h s (inl e) = ap tag_of e
-same_tag h s (inr w) = ap tag_of w.heard_is ∙ sym (ap tag_of w.said_is)
+-- PERMANENTFLAGS is passed or not by the word before it alone
+by_kind : (kind : NoticeKind) (heard said : List (List ℕ)) (text : List ℕ)
+    → is_passed (Notice kind (Coded (codes_of.PermanentFlags heard) text)) ≡ is_passed (Notice kind (Coded (codes_of.PermanentFlags said) text))
+by_kind notices.Ok heard said text = refl
+by_kind notices.No heard said text = refl
+by_kind notices.Bad heard said text = refl
+by_kind notices.Bye heard said text = refl
+by_kind notices.Preauth heard said text = refl
 
-same_passed : (h s : Reply) → (h ≡ s) ⊎ WithoutUid h s → is_passed h ≡ is_passed s
-same_passed h s (inl e) = ap is_passed e
-same_passed h s (inr w) = ap is_passed w.heard_is ∙ sym (ap is_passed w.said_is)
+module _ (keywords : List Keyword) where
+  same_tag : (heard said : Reply) → IsHeardAs keywords heard said → tag_of heard ≡ tag_of said
+  same_tag = reads_same keywords tag_of (record {
+    without_uid = λ tag text validity uid. refl;
+    flags = λ heard said same. refl;
+    permanent = λ kind text heard said same star. refl;
+    message = λ place heard said same. refl;
+  })
 
-pub leaves_none : (hs ss : List Reply) → LeavesOut hs ss → ss ≡ [] → hs ≡ []
-leaves_none [] ss l e = refl
-leaves_none (h ∷ hs) [] l e = absurd l
-leaves_none (h ∷ hs) (s ∷ ss) l e = cc
+  same_passed : (heard said : Reply) → IsHeardAs keywords heard said → is_passed heard ≡ is_passed said
+  same_passed = reads_same keywords is_passed (record {
+    without_uid = λ tag text validity uid. refl;
+    flags = λ heard said same. refl;
+    permanent = λ kind text heard said same star. by_kind kind heard said text;
+    message = λ place heard said same. refl;
+  })
 
-pub leaves_answer : (tag : List ℕ) (hs ss : List Reply) → LeavesOut hs ss → IsAnswer tag ss → IsAnswer tag hs
-leaves_answer tag [] [] l a = a
-leaves_answer tag [] (s ∷ ss) l a = absurd l
-leaves_answer tag (h ∷ hs) [] l a = absurd l
-leaves_answer tag (h ∷ hs) (s ∷ ss) l (inl a) = inl (same_tag h s l.0 ∙ a.0, leaves_none hs ss l.1 a.1)
-leaves_answer tag (h ∷ hs) (s ∷ ss) l (inr a) = inr (same_passed h s l.0 ∙ a.0, leaves_answer tag hs ss l.1 a.1)
+  pub heard_none : (hs ss : List Reply) → AreHeardAs keywords hs ss → ss ≡ [] → hs ≡ []
+  heard_none [] ss l e = refl
+  heard_none (h ∷ hs) [] l e = absurd l
+  heard_none (h ∷ hs) (s ∷ ss) l e = cc
+
+  pub heard_answer : (tag : List ℕ) (hs ss : List Reply) → AreHeardAs keywords hs ss → IsAnswer tag ss → IsAnswer tag hs
+  heard_answer tag [] [] l a = a
+  heard_answer tag [] (s ∷ ss) l a = absurd l
+  heard_answer tag (h ∷ hs) [] l a = absurd l
+  heard_answer tag (h ∷ hs) (s ∷ ss) l (inl a) = inl (same_tag h s l.0 ∙ a.0, heard_none hs ss l.1 a.1)
+  heard_answer tag (h ∷ hs) (s ∷ ss) l (inr a) = inr (same_passed h s l.0 ∙ a.0, heard_answer tag hs ss l.1 a.1)

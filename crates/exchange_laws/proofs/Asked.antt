@@ -1,12 +1,13 @@
 -- What became of the front of a command that ends where a literal is asked for.
 use Rattle.std.proofs.Common.{◌≡◌, ◌⊎◌, inl, inr, ℕ, false, List, [], ◌∷◌, ◌++◌, refl, sym, ◌∙◌, ap, subst, append_assoc, append-nil}
+use Rattle.mailcore.specs.declared.keywords.Keyword.{Keyword}
 use Rattle.imap_commands.specs.declared.command.Command.{Command}
 use Rattle.imap_replies.specs.declared.reply.Reply.{Reply}
 use Rattle.imap_session.specs.Servers.{Server, is_over, Quiet}
 use Rattle.imap_session.specs.Answering.{go}
 use Rattle.imap_session.specs.Portions.{goes_in}
 use Rattle.imap_session.specs.Serving.{End, FeedsFrom, text_of}
-use Rattle.imap_session.specs.Heard.{AreReplies, LeavesOut}
+use Rattle.imap_session.specs.Heard.{AreReplies, IsHeardAs, AreHeardAs}
 use Rattle.imap_session.specs.Lines.{Line, Sends}
 use Rattle.exchange_laws.specs.Ends.{Ends, ends_of, HasRead, IsIdle, IsText, Hears, AskedOr, AsksAtEnd, IsGo}
 use Rattle.exchange_laws.proofs.Apart.{apart, replies_apart}
@@ -14,7 +15,7 @@ use Rattle.exchange_laws.proofs.Others.{quiet_left, read_stays}
 use Rattle.exchange_laws.proofs.Fronts.{front}
 use Rattle.exchange_laws.proofs.Gos.{holds_said, reads_so, goes_before}
 use Rattle.exchange_laws.proofs.AnswersApart.{no_bytes, reply_some}
-use Rattle.exchange_laws.proofs.Answering.{leaves_none}
+use Rattle.exchange_laws.proofs.Answering.{heard_none}
 use Rattle.exchange_laws.proofs.Sent.{comes}
 
 -- said once at the end, or not at all
@@ -56,25 +57,34 @@ asked_end c from rest read lost n old new said h some asking l e f =
 
 -- ---- both ends
 
-leaves_go : (heard : List Reply) (said : List Reply) → said ≡ go ∷ [] → LeavesOut heard said → heard ≡ go ∷ []
-leaves_go [] [] e l = cc
-leaves_go (h ∷ hs) [] e l = cc
-leaves_go [] (s ∷ ss) e l = absurd l
-leaves_go (h ∷ hs) (s ∷ ss) e (inl same, l) =
-    let rest : ss ≡ [] = cc in let first : s ≡ go = cc in let none = leaves_none hs ss l rest in ap (λ (r : Reply). r ∷ hs) (same ∙ first) ∙ ap (λ (rs : List Reply). go ∷ rs) none
-leaves_go (h ∷ hs) (s ∷ ss) e (inr w, l) = let said = w.said_is in let first : s ≡ go = cc in cc
+-- `+ go` is heard as it is said
+go_is : (keywords : List Keyword) (heard said : Reply) → said ≡ go → IsHeardAs keywords heard said → heard ≡ go
+go_is keywords heard said e (inl same) = same ∙ e
+go_is keywords heard said e (inr (inl w)) = let other = w.said_is in cc
+go_is keywords heard said e (inr (inr (inl f))) = let other = f.said_is in cc
+go_is keywords heard said e (inr (inr (inr (inl p)))) = let other = p.said_is in cc
+go_is keywords heard said e (inr (inr (inr (inr m)))) = let other = m.said_is in cc
 
-asked_cases : (from : List ℕ) (old new : Ends) (said heard : List Reply) → LeavesOut heard said → AreReplies heard new.coming → Half old.end.server from new.end said → AskedOr from old new
+heard_go : (keywords : List Keyword) (heard said : List Reply) → said ≡ go ∷ [] → AreHeardAs keywords heard said → heard ≡ go ∷ []
+heard_go keywords [] [] e l = cc
+heard_go keywords (h ∷ hs) [] e l = cc
+heard_go keywords [] (s ∷ ss) e l = absurd l
+heard_go keywords (h ∷ hs) (s ∷ ss) e l =
+    let rest : ss ≡ [] = cc in
+    let first : s ≡ go = cc in
+    ap (λ (r : Reply). r ∷ hs) (go_is keywords h s first l.0) ∙ ap (λ (rs : List Reply). go ∷ rs) (heard_none keywords hs ss l.1 rest)
+
+asked_cases : (from : List ℕ) (old new : Ends) (said heard : List Reply) → AreHeardAs old.end.server.keywords heard said → AreReplies heard new.coming → Half old.end.server from new.end said → AskedOr from old new
 asked_cases from old new said heard l a h = elim h.which [
-  | inl e ↦ inl (record { quiet = h.quiet; coming = no_bytes heard new.coming (leaves_none heard said l e) a })
-  | inr e ↦ inr (record { quiet = h.quiet; has_read = e.0; coming = subst (λ (rs : List Reply). AreReplies rs new.coming) (leaves_go heard said e.1 l) a })
+  | inl e ↦ inl (record { quiet = h.quiet; coming = no_bytes heard new.coming (heard_none old.end.server.keywords heard said l e) a })
+  | inr e ↦ inr (record { quiet = h.quiet; has_read = e.0; coming = subst (λ (rs : List Reply). AreReplies rs new.coming) (heard_go old.end.server.keywords heard said e.1 l) a })
 ]
 
 -- nothing comes, or the literal is asked for
 pub asked : (c : Command) (from rest : List ℕ) (n : ℕ) (old new : Line) (heard : List ℕ) → IsText c (from ++ rest) → (rest ≡ [] → ⊥) → AsksAtEnd from n → IsIdle (ends_of old heard)
     → Sends from old new → AskedOr from (ends_of old heard) (ends_of new heard)
 asked c from rest n old new heard h some asking idle s =
-    asked_cases from (ends_of old heard) (ends_of new heard) s.said s.heard s.left_out (subst (AreReplies s.heard) (sym (comes old new heard from s idle.coming)) s.spelled)
+    asked_cases from (ends_of old heard) (ends_of new heard) s.said s.heard s.heard_as (subst (AreReplies s.heard) (sym (comes old new heard from s idle.coming)) s.spelled)
     (asked_end c from rest s.read s.lost n old.end new.end s.said h some asking idle.reads_on s.split (s.feeds.from [] [] idle.has_read.unread))
 
 -- ---- one reply is heard

@@ -3,10 +3,10 @@ use Rattle.std.proofs.Common.{◌≡◌, inl, inr, ℕ, false, List, [], sym, �
 use Rattle.imap_commands.specs.declared.command.Command.{Command}
 use Rattle.imap_replies.specs.declared.reply.Reply.{Reply}
 use Rattle.imap_session.specs.Servers.{Server, is_over, Quiet, told}
-use Rattle.imap_session.specs.Heard.{IsAnswer, LeavesOut}
+use Rattle.imap_session.specs.Heard.{IsAnswer, AreHeardAs}
 use Rattle.exchange_laws.specs.Ends.{Ends, Hears, Did, SentOr, Done, MayHave, DidCommand, is_logout}
 use Rattle.exchange_laws.proofs.Others.{quiet-trans, quiet_left, told_left, read_stays}
-use Rattle.exchange_laws.proofs.Answering.{did_answer, leaves_answer}
+use Rattle.exchange_laws.proofs.Answering.{did_answer, heard_answer}
 use Rattle.exchange_laws.proofs.AnswersApart.{some_bytes, answer_apart}
 use Rattle.exchange_laws.proofs.ReadsOn.{step_on}
 
@@ -31,10 +31,10 @@ pub done_of : (c : Command) (tag : List ℕ) (old mid new : Ends) (rs : List Rep
 done_of c tag old mid new rs on (inl none) h a = absurd (some_bytes tag rs h.bytes new.coming a h.spelled (sym h.heard ∙ none.coming))
 done_of c tag old mid new rs on (inr w) h a =
     let same = answer_apart tag c.tag rs w.heard h.bytes mid.coming new.coming h.spelled w.coming a
-    (leaves_answer c.tag w.heard w.said w.left_out (did_answer c old.end.server w.said mid.end.server w.did)) (sym h.heard) in
+    (heard_answer old.end.server.keywords c.tag w.heard w.said w.heard_as (did_answer c old.end.server w.said mid.end.server w.did)) (sym h.heard) in
     let did = did_later c old.end.server mid.end.server new.end.server w.said w.did h.stays.quiet in
     record {
-      did = record { said = w.said; did = did; left_out = subst (λ (l : List Reply). LeavesOut l w.said) (sym same.0) w.left_out };
+      did = record { said = w.said; did = did; heard_as = subst (λ (l : List Reply). AreHeardAs old.end.server.keywords l w.said) (sym same.0) w.heard_as };
       idle = λ l. record {
         reads_on = did_on c old.end.server new.end.server w.said on did l;
         has_read = read_stays [] mid.end new.end h.stays w.has_read;

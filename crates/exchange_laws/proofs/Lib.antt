@@ -10,3 +10,4 @@ pub mod Ended
 pub mod Asked
 pub mod Greeted
 pub mod Telling
+pub mod HeardAs

@@ -50,7 +50,7 @@ module _ (s : Server) (tag : List ℕ) (on : is_over s.condition ≡ false) wher
   fetches_on None set what = on
   fetches_on (Some m) set what = on
 
-  stores_on : (m : Option FarMailbox) (set : List SetItem) (mode : StoreMode) (flags : ℕ) → GoesOn (stores_in m s tag set mode flags)
+  stores_on : (m : Option FarMailbox) (set : List SetItem) (mode : StoreMode) (flags : List (List ℕ)) → GoesOn (stores_in m s tag set mode flags)
   stores_on None set mode flags = on
   stores_on (Some m) set mode flags = on
 
@@ -58,12 +58,12 @@ module _ (s : Server) (tag : List ℕ) (on : is_over s.condition ≡ false) wher
   expunges_on None set = on
   expunges_on (Some m) set = on
 
-  appends_at_on : (m : Option FarMailbox) (name : List ℕ) (flags : ℕ) (message : List ℕ) (rs : List Reply) (new : Server) → AppendsAt m s tag name flags message rs new → is_over new.condition ≡ false
+  appends_at_on : (m : Option FarMailbox) (name : List ℕ) (flags : List (List ℕ)) (message : List ℕ) (rs : List Reply) (new : Server) → AppendsAt m s tag name flags message rs new → is_over new.condition ≡ false
   appends_at_on None name flags message rs new h = given _ rs new h on
   appends_at_on (Some m) name flags message rs new (inl h) = given _ rs new h.gives on
   appends_at_on (Some m) name flags message rs new (inr h) = given _ rs new h.gives on
 
-  appends_on : (b : Bool) (name : List ℕ) (flags : ℕ) (message : List ℕ) (rs : List Reply) (new : Server) → AppendsIf b s tag name flags message rs new → is_over new.condition ≡ false
+  appends_on : (b : Bool) (name : List ℕ) (flags : List (List ℕ)) (message : List ℕ) (rs : List Reply) (new : Server) → AppendsIf b s tag name flags message rs new → is_over new.condition ≡ false
   appends_on false name flags message rs new h = given _ rs new h on
   appends_on true name flags message rs new h = appends_at_on (mailbox_at name s.mailboxes) name flags message rs new h
 

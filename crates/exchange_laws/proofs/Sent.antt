@@ -5,13 +5,13 @@ use Rattle.imap_replies.specs.declared.reply.Reply.{Reply}
 use Rattle.imap_session.specs.Servers.{Server, is_over, Quiet, news}
 use Rattle.imap_session.specs.Portions.{goes_in}
 use Rattle.imap_session.specs.Serving.{End, IsUnread, FeedsFrom, ServesSome, FeedsSome, text_of}
-use Rattle.imap_session.specs.Heard.{AreReplies, LeavesOut}
+use Rattle.imap_session.specs.Heard.{AreReplies, AreHeardAs}
 use Rattle.imap_session.specs.Lines.{Line, Sends}
 use Rattle.exchange_laws.specs.Ends.{Ends, ends_of, HasRead, IsAt, IsText, Did, SentOr, MayHave, DidCommand}
 use Rattle.exchange_laws.proofs.Others.{quiet_left}
 use Rattle.exchange_laws.proofs.Fronts.{NoneRead, OneRead, front}
 use Rattle.exchange_laws.proofs.Gos.{goes_no_more, cancel, holds_said, reads_none}
-use Rattle.exchange_laws.proofs.Answering.{leaves_none}
+use Rattle.exchange_laws.proofs.Answering.{heard_none}
 use Rattle.exchange_laws.proofs.AnswersApart.{no_bytes}
 
 -- ---- the server's end
@@ -68,10 +68,10 @@ says c text from read lost old new said h plain l e f =
 
 -- ---- both ends
 
-sent_cases : (c : Command) (old new : Ends) (said heard : List Reply) → LeavesOut heard said → AreReplies heard new.coming
+sent_cases : (c : Command) (old new : Ends) (said heard : List Reply) → AreHeardAs old.end.server.keywords heard said → AreReplies heard new.coming
     → SaysNothing old.end.server new.end.server said ⊎ SaysAll c old.end.server new.end said → SentOr c old new
-sent_cases c old new said heard l a (inl n) = inl (record { quiet = n.quiet; coming = no_bytes heard new.coming (leaves_none heard said l n.none) a })
-sent_cases c old new said heard l a (inr w) = inr (record { said = said; heard = heard; did = w.did; left_out = l; has_read = w.has_read; coming = a })
+sent_cases c old new said heard l a (inl n) = inl (record { quiet = n.quiet; coming = no_bytes heard new.coming (heard_none old.end.server.keywords heard said l n.none) a })
+sent_cases c old new said heard l a (inr w) = inr (record { said = said; heard = heard; did = w.did; heard_as = l; has_read = w.has_read; coming = a })
 
 -- what comes is what was replied
 pub comes : (old new : Line) (heard bytes : List ℕ) (s : Sends bytes old new) → heard ++ old.unseen ≡ [] → heard ++ new.unseen ≡ s.out
@@ -82,7 +82,7 @@ pub sent : (c : Command) (from rest : List ℕ) (old new : Line) (heard : List �
     → Sends rest old new → SentOr c (ends_of old heard) (ends_of new heard)
 sent c from rest old new heard h plain at s =
     let parts : from ++ rest ≡ (from ++ s.read) ++ s.lost = ap (λ (x : List ℕ). from ++ x) s.split ∙ sym (append_assoc from s.read s.lost) in
-    sent_cases c (ends_of old heard) (ends_of new heard) s.said s.heard s.left_out (subst (AreReplies s.heard) (sym (comes old new heard rest s at.coming)) s.spelled)
+    sent_cases c (ends_of old heard) (ends_of new heard) s.said s.heard s.heard_as (subst (AreReplies s.heard) (sym (comes old new heard rest s at.coming)) s.spelled)
     (says c (from ++ rest) from s.read s.lost old.end new.end s.said h plain at.reads_on parts (s.feeds.from from (goes_in from) at.has_read.unread))
 
 -- ---- where sending was stopped

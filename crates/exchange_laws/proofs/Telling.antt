@@ -49,7 +49,7 @@ module _ (s : Server) (tag : List ℕ) where
   fetches_keeps None set what = refl
   fetches_keeps (Some m) set what = refl
 
-  stores_keeps : (m : Option FarMailbox) (set : List SetItem) (mode : StoreMode) (flags : ℕ) → Keeps s (stores_in m s tag set mode flags)
+  stores_keeps : (m : Option FarMailbox) (set : List SetItem) (mode : StoreMode) (flags : List (List ℕ)) → Keeps s (stores_in m s tag set mode flags)
   stores_keeps None set mode flags = refl
   stores_keeps (Some m) set mode flags = refl
 
@@ -57,12 +57,12 @@ module _ (s : Server) (tag : List ℕ) where
   expunges_keeps None set = refl
   expunges_keeps (Some m) set = refl
 
-  appends_at_keeps : (m : Option FarMailbox) (name : List ℕ) (flags : ℕ) (message : List ℕ) (rs : List Reply) (new : Server) → AppendsAt m s tag name flags message rs new → new.has_news ≡ s.has_news
+  appends_at_keeps : (m : Option FarMailbox) (name : List ℕ) (flags : List (List ℕ)) (message : List ℕ) (rs : List Reply) (new : Server) → AppendsAt m s tag name flags message rs new → new.has_news ≡ s.has_news
   appends_at_keeps None name flags message rs new h = given s _ rs new h refl
   appends_at_keeps (Some m) name flags message rs new (inl h) = given s _ rs new h.gives refl
   appends_at_keeps (Some m) name flags message rs new (inr h) = given s _ rs new h.gives refl
 
-  appends_keeps : (b : Bool) (name : List ℕ) (flags : ℕ) (message : List ℕ) (rs : List Reply) (new : Server) → AppendsIf b s tag name flags message rs new → new.has_news ≡ s.has_news
+  appends_keeps : (b : Bool) (name : List ℕ) (flags : List (List ℕ)) (message : List ℕ) (rs : List Reply) (new : Server) → AppendsIf b s tag name flags message rs new → new.has_news ≡ s.has_news
   appends_keeps false name flags message rs new h = given s _ rs new h refl
   appends_keeps true name flags message rs new h = appends_at_keeps (mailbox_at name s.mailboxes) name flags message rs new h
 

@@ -13,7 +13,7 @@ use Rattle.imap_session.specs.Steps.{Step}
 use Rattle.imap_session.specs.Portions.{goes_in}
 use Rattle.imap_session.specs.Unread.{Whole}
 use Rattle.imap_session.specs.Serving.{End, IsUnread}
-use Rattle.imap_session.specs.Heard.{AreReplies, LeavesOut}
+use Rattle.imap_session.specs.Heard.{AreReplies, AreHeardAs}
 use Rattle.imap_session.specs.Lines.{Line, Stays}
 
 -- Both ends as the client has them: `coming` is what came and was not read yet, and what has not come.
@@ -71,7 +71,7 @@ pub record AllDone (command : Command) (old new : Ends) : Type 0 where
   pub said : List Reply
   pub heard : List Reply
   pub did : Did command [] old.end.server said new.end.server
-  pub left_out : LeavesOut heard said
+  pub heard_as : AreHeardAs old.end.server.keywords heard said
   pub has_read : HasRead [] new.end
   pub coming : AreReplies heard new.coming
 
@@ -116,11 +116,11 @@ pub record DidCommand (command : Command) (old new : Server) : Type 0 where
   pub said : List Reply
   pub did : Did command [] old said new
 
--- the server did the command, and said these replies, of which codes may have been left out
+-- the server did the command, and said replies as which these were heard
 pub record DidSo (command : Command) (heard : List Reply) (old new : Server) : Type 0 where
   pub said : List Reply
   pub did : Did command [] old said new
-  pub left_out : LeavesOut heard said
+  pub heard_as : AreHeardAs old.keywords heard said
 
 -- a whole command, and its replies
 pub record Done (command : Command) (heard : List Reply) (old new : Ends) : Type 0 where

@@ -1,15 +1,20 @@
 -- One call of the far box behind another, at the server.
 use Rattle.std.proofs.Common.{◌≡◌, ◌≤◌, ◌<◌, ◌+◌, ℕ, suc, Bool, true, false, List, [], ◌∷◌, Result, Ok, Err, arith, sym, ap, subst, ◌∙◌, inl, inr, refl}
-use Rattle.std.specs.Prelude.{All, IsErrAnd, map, max}
-use Rattle.std.proofs.lemmas.List.Elements.{All-nil, All-cons}
+use Rattle.std.specs.Prelude.{All, IfOk, IsErrAnd, map, max}
+use Rattle.std.proofs.lemmas.List.Elements.{All-cons, All-map, All-nil}
+use Rattle.mailcore.specs.declared.keywords.Keyword.{Keyword}
 use Rattle.mailcore.specs.declared.mailbox.Message.{Message}
 use Rattle.mailcore.specs.Listed.{AreBelow, item_of}
 use Rattle.mailcore.specs.Stores.{Store, IsStore}
-use Rattle.mailbox.specs.Operations.{ListsFar, TellsNext}
+use Rattle.mailcore.specs.declared.listing.Item.{Item}
+use Rattle.mailcore.specs.KeywordNames.{IsWithin}
+use Rattle.mailcore.proofs.KnownFlags.{kept-within}
+use Rattle.mailbox.specs.Operations.{ListsFar, ListsWithin, TellsNext}
 use Rattle.visitors.specs.Visitors.{Visitors}
 use Rattle.imap_session.specs.Visits.{AllGain, Visits, Among}
 use Rattle.imap_client.proofs.Visited.{at_once}
-use Rattle.imap_client.proofs.Staying.{shows_so}
+use Rattle.imap_client.specs.Seen.{seen_message, seen_through}
+use Rattle.imap_client.proofs.Staying.{seen_is_store, shows_so}
 use Rattle.mailcore.specs.declared.listing.Listing.{Listing}
 use Rattle.mailcore.specs.declared.side.Side.TheVariants.{Far}
 use Rattle.imap_link.specs.declared.fault.FarFault.{FarFault}
@@ -76,6 +81,7 @@ module _ (v : Visitors) (user password : List ℕ) (old mid : Server) where
   visits_before is late h = record {
     user = h.user ∙ ap (λ (s : Server). s.user) is;
     password = h.password ∙ ap (λ (s : Server). s.password) is;
+    keywords = h.keywords ∙ ap (λ (s : Server). s.keywords) is;
     condition = refl;
     gains = subst (λ (ms : List FarMailbox). AllGain v ms late.mailboxes) (ap boxes_of is) h.gains;
     nobody = λ alone. h.nobody alone ∙ ap boxes_of is;
@@ -137,13 +143,24 @@ module _ (known next : ℕ) (s : Store) (listing : Listing) (is : IsStore s) (le
   pub lists_far : (alone : Bool) → (alone ≡ true → next ≡ s.next) → ListsFar alone known listing s
   lists_far alone same = record { shows = record { validity = l.validity; next = refl; items = l.items }; next = tells alone same }
 
-module _ (alone : Bool) (known : ℕ) (name : List ℕ) (old mid new : Server) where
+module _ (keywords : List Keyword) (alone : Bool) (known : ℕ) (name : List ℕ) (old mid new : Server) where
   pub listed : (next : ℕ) (c : IsChosen name mid) → KeepsMailboxes old mid → IsStore c.mailbox.store → known ≤ next → next ≤ c.mailbox.store.next → (alone ≡ true → next ≡ c.mailbox.store.next) → (r : Result Listing FarFault)
-      → Outcome (Tells (ListsFrom next c.mailbox.store)) Unrefused Remains r mid new → Outcome (ListsAll alone known name) Unrefused KeepsMailboxes r old new
+      → Outcome (Tells (ListsFrom next (seen_through keywords c.mailbox.store))) Unrefused Remains r mid new → Outcome (ListsAll keywords alone known name) Unrefused KeepsMailboxes r old new
   listed next c before is least most same (Ok listing) o = (
     ap boxes_of o.1 ∙ before,
-    subst (λ (ms : List FarMailbox). ListsFar alone known listing (store_at name ms)) before
-        (subst (λ s. ListsFar alone known listing s) (sym (store_is name mid c)) (lists_far known next c.mailbox.store listing is least most o.0 alone same)),
+    subst (λ (ms : List FarMailbox). ListsFar alone known listing (seen_through keywords (store_at name ms))) before
+        (subst (λ s. ListsFar alone known listing (seen_through keywords s)) (sym (store_is name mid c))
+        (lists_far known next (seen_through keywords c.mailbox.store) listing (seen_is_store keywords c.mailbox.store is) least most o.0 alone same)),
   )
   listed next c before is least most same (Err e) o =
-      err_so Unrefused Unrefused Remains old mid new before (λ q. ap boxes_of q) (λ h. h) Listing Listing (Tells (ListsFrom next c.mailbox.store)) (ListsAll alone known name) e o
+      err_so Unrefused Unrefused Remains old mid new before (λ q. ap boxes_of q) (λ h. h) Listing Listing (Tells (ListsFrom next (seen_through keywords c.mailbox.store))) (ListsAll keywords alone known name) e o
+
+-- each flag that is listed has a name
+module _ (keywords : List Keyword) (alone : Bool) (known : ℕ) (name : List ℕ) (old new : Server) where
+  pub within_of : (r : Result Listing FarFault) → Outcome (ListsAll keywords alone known name) Unrefused KeepsMailboxes r old new → IfOk r (ListsWithin keywords)
+  within_of (Ok listing) o =
+      let ms = (store_at name old.mailboxes).messages in
+      subst (All (λ (i : Item). IsWithin keywords i.flags)) (sym o.1.shows.items)
+      (All-map (λ (i : Item). IsWithin keywords i.flags) (item_of Far) (map (seen_message keywords) ms)
+      (All-map (λ (m : Message). IsWithin keywords m.flags) (seen_message keywords) ms (λ k d l. kept-within keywords _)))
+  within_of (Err e) o = tt

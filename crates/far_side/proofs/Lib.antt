@@ -1,4 +1,5 @@
 pub mod Mailboxes
+pub mod SeenThrough
 pub mod Visited
 pub mod Endings
 pub mod Outcomes

@@ -3,6 +3,8 @@ use Rattle.std.proofs.Common.{◌≡◌, ◌≤◌, ℕ, Bool, true, false, List
 use Rattle.std.specs.Prelude.{OnOk, Vec, if◌then◌else◌}
 use Rattle.std.specs.Global.{Global}
 use Rattle.device.specs.Calls.{Effect, Nothing}
+use Rattle.mailcore.specs.declared.keywords.Keyword.{Keyword}
+use Rattle.mailcore.specs.KeywordNames.{kept}
 use Rattle.mailcore.specs.Operations.{bytes_of}
 use Rattle.mailcore.specs.Ranges.{AreInRange}
 use Rattle.mailcore.specs.Stores.{IsStore, Store}
@@ -21,6 +23,7 @@ use Rattle.imap_client.specs.Boxes.{Becomes, IsSelected}
 use Rattle.imap_client.specs.Logins.{Remains}
 use Rattle.imap_client.specs.Readings.{Tells}
 use Rattle.imap_client.specs.Sessions.{server_of, state_of}
+use Rattle.imap_client.specs.Seen.{HasMap, KeepsMap, seen_through}
 use Rattle.imap_client.specs.States.{EndsSo}
 use Rattle.mailbox.specs.declared.fault.BoxFault.{BoxFault}
 use Rattle.mailbox.specs.declared.fault.BoxFault.TheVariants as boxes
@@ -37,6 +40,7 @@ use Rattle.far_side.specs.Stages.{is_broken_at, is_open_at, is_reached}
 use Rattle.far_side.proofs.Endings.{ends_of}
 use Rattle.far_side.proofs.Mailboxes.{chosen_of, logged_in_there, selected_is, sound_there, store_is}
 use Rattle.far_side.proofs.Outcomes.{Did, add_did, change_did, read_did}
+use Rattle.far_side.proofs.SeenThrough.{bytes_seen}
 use Rattle.far_side.proofs.Visited.{Found, arrives, chosen_then, found_then, range_then, store_then}
 use Rattle.imap_session.specs.Visits.{Visits, Among}
 
@@ -75,28 +79,28 @@ told_stopped far.NoRev2 is = absurd cc
 told_stopped far.ReadOnly is = absurd cc
 told_stopped far.NoMemory is = absurd cc
 
-module _ {L : Type 0} {links : link.Ghosts L} (name : List ℕ) (old_stage new_stage : Stage) (old new : FarBox L links) where
+module _ {L : Type 0} {links : link.Ghosts L} (keywords : List Keyword) (name : List ℕ) (old_stage new_stage : Stage) (old new : FarBox L links) where
   -- ---- any call
 
   pub far_call : {T : Type 0} (honest : Type 0) (because : BoxFault → Mailbox → Type 0) (does : T → Effect Mailbox) (part : Effect Mailbox) (r : Result T FarFault)
       → is_broken_at old_stage old.is_selected old.session.is_ready ≡ false → OnOk r (new.is_selected ≡ true) → Ends (state_of old.session) (state_of new.session) r
-      → (honest → Among links.visitors (λ s t. Did does part because r (box_at name s) (box_at name t)) (server_of old.session) (server_of new.session))
-      → Call honest (HasEnded (state_of new.session)) (Arrives Far links.visitors.ours links.visitors.alone) because does part (seen_at old_stage name old) (seen_at new_stage name new) (told_by r)
+      → (honest → Among links.visitors (λ s t. Did does part because r (box_at keywords name s) (box_at keywords name t)) (server_of old.session) (server_of new.session))
+      → Call honest (HasEnded (state_of new.session)) (Arrives Far links.visitors.ours links.visitors.alone) because does part (seen_at old_stage keywords name old) (seen_at new_stage keywords name new) (told_by r)
   far_call honest because does part (Ok a) whole selected ends did = record {
     was_whole = whole;
     is_whole = is_whole new_stage new.is_selected new.session.is_ready ends.0 selected;
     stops = ends.1;
-    effect = λ h. let a = did h in record { mid = box_at name a.mid; before = arrives links.visitors name (server_of old.session) a.mid a.visits; behind = a.then };
+    effect = λ h. let a = did h in record { mid = box_at keywords name a.mid; before = arrives links.visitors keywords name (server_of old.session) a.mid a.visits; behind = a.then };
   }
   far_call honest because does part (Err e) whole selected ends did = record {
     cause = λ is. ends.0 (told_stopped e is);
     no_less = ends.1;
-    left = λ h. let a = did h in record { mid = box_at name a.mid; before = arrives links.visitors name (server_of old.session) a.mid a.visits; behind = a.then };
+    left = λ h. let a = did h in record { mid = box_at keywords name a.mid; before = arrives links.visitors keywords name (server_of old.session) a.mid a.visits; behind = a.then };
   }
 
-pub loaded : (uid : ℕ) (body : List ℕ) (is_there : Bool) (s : Store) → (if is_there then Some body else None) ≡ bytes_of uid s → Loads uid body is_there (settled s)
-loaded uid body true s is = sym is
-loaded uid body false s is = sym is
+pub loaded : (keywords : List Keyword) (uid : ℕ) (body : List ℕ) (is_there : Bool) (s : Store) → (if is_there then Some body else None) ≡ bytes_of uid s → Loads uid body is_there (settled (seen_through keywords s))
+loaded keywords uid body true s is = bytes_seen keywords uid s ∙ sym is
+loaded keywords uid body false s is = bytes_seen keywords uid s ∙ sym is
 
 -- ---- a call of an open one
 
@@ -117,6 +121,9 @@ pub record Called {L : Type 0} {links : link.Ghosts L} (name : List ℕ) (stage 
   pub whole : is_broken_at stage old.is_selected old.session.is_ready ≡ false
   pub named : old.is_selected ≡ true → old.name.items ≡ name
   pub was_honest : links.honest new.session.wire.link → links.honest old.session.wire.link
+  pub had_letters : links.honest old.session.wire.link → HasMap old.keywords (server_of old.session)
+  pub letters : links.honest new.session.wire.link → KeepsMap (server_of old.session) (server_of new.session)
+  pub keywords : new.keywords ≡ old.keywords
   pub still : new.is_selected ≡ old.is_selected
   pub counts : links.stops old.session.wire.link ≤ links.stops new.session.wire.link
 
@@ -130,7 +137,18 @@ module _ {L : Type 0} {links : link.Ghosts L} {name : List ℕ} {stage : Stage} 
   chosen : links.honest new.session.wire.link → IsChosen name (server_of old.session)
   chosen h = chosen_in name old k.named is_selected is_ready (k.was_honest h)
 
+  -- the map of the box
+  abbrev keywords : List Keyword
+  keywords = old.keywords
+
+  -- the server had the map of the box
+  pub had_map : links.honest new.session.wire.link → HasMap old.keywords (server_of old.session)
+  had_map h = k.had_letters (k.was_honest h)
+
   -- ---- what the side keeps of it
+
+  pub still_has_map : links.honest new.session.wire.link → HasMap new.keywords (server_of new.session)
+  still_has_map h = k.letters h ∙ had_map h ∙ sym k.keywords
 
   pub still_named : new.name ≡ old.name → new.is_selected ≡ true → new.name.items ≡ name
   still_named same s = ap (λ (n : Vec ℕ Global). n.items) same ∙ k.named (sym k.still ∙ s)
@@ -143,13 +161,16 @@ module _ {L : Type 0} {links : link.Ghosts L} {name : List ℕ} {stage : Stage} 
   module _ (sound : (l : L) → links.honest l → AreSound (links.line l).end.server.mailboxes) where
     abbrev Says : {T : Type 0} → (because : BoxFault → Mailbox → Type 0) → (does : T → Effect Mailbox) → Result T FarFault → Type 0
     Says because does r =
-        Call (links.honest new.session.wire.link) (HasEnded (state_of new.session)) (Arrives Far links.visitors.ours links.visitors.alone) because does Nothing (seen_at stage name old) (seen_at stage name new) (told_by r)
+        Call (links.honest new.session.wire.link) (HasEnded (state_of new.session)) (Arrives Far links.visitors.ours links.visitors.alone) because does Nothing (seen_at stage keywords name old) (seen_at stage new.keywords name new) (told_by r)
 
     says : {T : Type 0} (because : BoxFault → Mailbox → Type 0) (does : T → Effect Mailbox) (commands : ℕ) (r : Result T FarFault) → EndsSo commands (state_of old.session) (state_of new.session) r
-        → (links.honest new.session.wire.link → Among links.visitors (λ s t. Did does Nothing because r (box_at name s) (box_at name t)) (server_of old.session) (server_of new.session)) → Says because does r
+        → (links.honest new.session.wire.link → Among links.visitors (λ s t. Did does Nothing because r (box_at keywords name s) (box_at keywords name t)) (server_of old.session) (server_of new.session)) → Says because does r
     says because does commands r ends did =
-        far_call name stage stage old new (links.honest new.session.wire.link) because does Nothing r k.whole (on_ok (new.is_selected ≡ true) r (k.still ∙ is_selected))
-        (ends_of commands (state_of old.session) (state_of new.session) r is_ready k.counts ends) did
+        subst
+        (λ (k : List Keyword). Call (links.honest new.session.wire.link) (HasEnded (state_of new.session)) (Arrives Far links.visitors.ours links.visitors.alone) because does Nothing (seen_at stage keywords name old) (seen_at stage k name new) (told_by r))
+        (sym k.keywords)
+        (far_call keywords name stage stage old new (links.honest new.session.wire.link) because does Nothing r k.whole (on_ok (new.is_selected ≡ true) r (k.still ∙ is_selected))
+        (ends_of commands (state_of old.session) (state_of new.session) r is_ready k.counts ends) did)
 
     -- what is selected there once others were there
     module _ (h : links.honest new.session.wire.link) (mid : Server) (visits : Visits links.visitors (server_of old.session) mid) where
@@ -168,7 +189,7 @@ module _ {L : Type 0} {links : link.Ghosts L} {name : List ℕ} {stage : Stage} 
       late_range : AreInRange late.mailbox.store.messages
       late_range = range_then links.visitors (chosen h).mailbox.store found.mailbox.store found.gains was_sound.range.messages
 
-    pub reads : {T : Type 0} (tells : T → Mailbox → Type 0) (P : T → Store → Type 0) → ((answer : T) (s : Store) → P answer s → tells answer (settled s)) → (r : Result T FarFault) → EndsSo 1 (state_of old.session) (state_of new.session) r
+    pub reads : {T : Type 0} (tells : T → Mailbox → Type 0) (P : T → Store → Type 0) → ((answer : T) (s : Store) → P answer s → tells answer (settled (seen_through keywords s))) → (r : Result T FarFault) → EndsSo 1 (state_of old.session) (state_of new.session) r
         → (links.honest new.session.wire.link → Among links.visitors (λ s t. (m : FarMailbox) → selected s ≡ Some m → IsStore m.store → AreInRange m.store.messages → Outcome (Tells (λ answer. P answer m.store)) Unrefused Remains r s t) (server_of old.session) (server_of new.session))
         → Says Never (Answers tells) r
     reads tells P to r ends outcome =
@@ -180,16 +201,17 @@ module _ {L : Type 0} {links : link.Ghosts L} {name : List ℕ} {stage : Stage} 
           mid = a.mid;
           visits = a.visits;
           then =
-              read_did name a.mid (server_of new.session) (Tells (λ answer. P answer c.mailbox.store)) Unrefused Remains tells Never
-              (λ answer o. (ap (λ (x : Server). x.mailboxes) o.1, subst (λ (x : Store). tells answer (settled x)) (sym (store_is name a.mid c)) (to answer c.mailbox.store o.0)))
+              read_did keywords name a.mid (server_of new.session) (Tells (λ answer. P answer c.mailbox.store)) Unrefused Remains tells Never
+              (λ answer o. (ap (λ (x : Server). x.mailboxes) o.1, subst (λ (x : Store). tells answer (settled (seen_through keywords x))) (sym (store_is name a.mid c)) (to answer c.mailbox.store o.0)))
               (λ e. ap (λ (x : Server). x.mailboxes) e) (λ refused. absurd refused) r (a.then c.mailbox (selected_is name a.mid c) (late_store h a.mid a.visits) (late_range h a.mid a.visits));
         })
 
     pub turns : (commands : ℕ) (change own : Store → Store) (r : Result (Unit {0}) FarFault) → EndsSo commands (state_of old.session) (state_of new.session) r
         → ((s : Server) (c : IsChosen name s) → IsStore c.mailbox.store → with_selected change s ≡ with_selected own s)
+        → ((s : Store) → seen_through keywords (own s) ≡ own (seen_through keywords s))
         → (links.honest new.session.wire.link → Among links.visitors (λ s t. (m : FarMailbox) → selected s ≡ Some m → Outcome (λ _. Becomes change) Unrefused (Becomes change) r s t) (server_of old.session) (server_of new.session))
         → Says {T = Unit {0}} Never (λ _. Turns own) r
-    turns commands change own r ends same outcome =
+    turns commands change own r ends same sees outcome =
         says Never (λ _. Turns own) commands r ends
         (λ h.
         let a = outcome h in
@@ -197,16 +219,16 @@ module _ {L : Type 0} {links : link.Ghosts L} {name : List ℕ} {stage : Stage} 
         record {
           mid = a.mid;
           visits = a.visits;
-          then = change_did name a.mid (server_of new.session) change own c (same a.mid c (late_store h a.mid a.visits)) r (a.then c.mailbox (selected_is name a.mid c));
+          then = change_did keywords name a.mid (server_of new.session) change own c (same a.mid c (late_store h a.mid a.visits)) sees r (a.then c.mailbox (selected_is name a.mid c));
         })
 
     pub appends : (bytes : List ℕ) (flags : ℕ) (r : Result (Option ℕ) FarFault) → EndsSo 1 (state_of old.session) (state_of new.session) r
-        → (links.honest new.session.wire.link → old.is_selected ≡ true
-        → Among links.visitors (λ s t. (m : FarMailbox) → selected s ≡ Some m → Outcome (Adds m flags bytes) (NoUidLeft m) (AddsSome m flags bytes) r s t) (server_of old.session) (server_of new.session))
-        → Says (NoRoom Far (λ _. 1)) (Appends Far bytes flags) r
+        → (links.honest new.session.wire.link → HasMap keywords (server_of old.session) → old.is_selected ≡ true
+        → Among links.visitors (λ s t. (m : FarMailbox) → selected s ≡ Some m → Outcome (Adds m (kept keywords flags) bytes) (NoUidLeft m) (AddsSome m (kept keywords flags) bytes) r s t) (server_of old.session) (server_of new.session))
+        → Says (NoRoom Far (λ _. 1)) (Appends Far bytes (kept keywords flags)) r
     appends bytes flags r ends outcome =
-        says (NoRoom Far (λ _. 1)) (Appends Far bytes flags) 1 r ends
+        says (NoRoom Far (λ _. 1)) (Appends Far bytes (kept keywords flags)) 1 r ends
         (λ h.
-        let a = outcome h is_selected in
+        let a = outcome h (had_map h) is_selected in
         let c = late h a.mid a.visits in
-        record { mid = a.mid; visits = a.visits; then = add_did name a.mid (server_of new.session) bytes flags c r (a.then c.mailbox (selected_is name a.mid c)) })
+        record { mid = a.mid; visits = a.visits; then = add_did keywords name a.mid (server_of new.session) bytes flags c r (a.then c.mailbox (selected_is name a.mid c)) })

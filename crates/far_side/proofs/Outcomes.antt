@@ -2,8 +2,10 @@
 use Rattle.std.proofs.Common.{◌≡◌, ◌≤◌, ◌+◌, ◌^◌, ℕ, Bool, List, [], ◌++◌, Option, Some, None, Result, Ok, Err, false, sym, ap, subst, ◌∙◌, inl, inr, refl, arith}
 use Rattle.std.proofs.lemmas.List.{append-nil}
 use Rattle.device.specs.Calls.{Effect, Follows, Leaves, Nothing, Went}
+use Rattle.mailcore.specs.declared.keywords.Keyword.{Keyword}
 use Rattle.mailcore.specs.declared.mailbox.Message.{Message}
 use Rattle.mailcore.specs.declared.side.Side.TheVariants.{Far}
+use Rattle.mailcore.specs.KeywordNames.{kept}
 use Rattle.mailcore.specs.Operations.{added}
 use Rattle.mailcore.specs.Stores.{Store}
 use Rattle.mailcore.specs.Mailboxes.{Mailbox}
@@ -14,6 +16,7 @@ use Rattle.imap_session.specs.Servers.{Server, with_selected}
 use Rattle.exchange_laws.specs.Ends.{MayHave}
 use Rattle.imap_client.specs.Appending as appending
 use Rattle.imap_client.specs.Boxes.{Becomes}
+use Rattle.imap_client.specs.Seen.{seen_through}
 use Rattle.mailbox.proofs.Admitted.{admits_all}
 use Rattle.mailbox.specs.Operations.{Tells, Admits, Answers, Appends, NoRoom, Turns}
 use Rattle.mailbox.specs.declared.fault.BoxFault.{BoxFault}
@@ -23,6 +26,7 @@ use Rattle.mailbox.specs.Calls.{DoesSome, LeavesBy, Never, Seen}
 use Rattle.far_side.specs.Chosen.{IsChosen, KeepsMailboxes, box_at, settled, store_at}
 use Rattle.far_side.specs.FarFaults.{told}
 use Rattle.far_side.proofs.Mailboxes.{changed_store, store_is}
+use Rattle.far_side.proofs.SeenThrough.{added_seen}
 use Rattle.far_side.proofs.Visited.{arrives_none}
 use Rattle.visitors.specs.Visitors.{Visitors}
 
@@ -49,20 +53,20 @@ abbrev pub Did : {T : Type 0} → (does : T → Effect Mailbox) → (part : Effe
 Did does part because (Ok answer) b b' = does answer b b'
 Did does part because (Err e) b b' = LeavesBy does part because (told e) b b'
 
-module _ (name : List ℕ) (old new : Server) where
-  stays : KeepsMailboxes old new → box_at name new ≡ box_at name old
-  stays e = ap (λ ms. settled (store_at name ms)) e
+module _ (keywords : List Keyword) (name : List ℕ) (old new : Server) where
+  stays : KeepsMailboxes old new → box_at keywords name new ≡ box_at keywords name old
+  stays e = ap (λ ms. settled (seen_through keywords (store_at name ms))) e
 
   -- ---- a call that changes no mailbox
 
   module _ {T : Type 0} (does : T → Server → Server → Type 0) (refuses effect : Server → Server → Type 0) (tells : T → Mailbox → Type 0) (because : BoxFault → Mailbox → Type 0)
-      (done : (answer : T) → does answer old new → KeepsMailboxes old new × tells answer (box_at name old)) (keeps : effect old new → KeepsMailboxes old new)
-      (refused : refuses old new → KeepsMailboxes old new × because boxes.Refused (box_at name old)) where
-    may_read : MayHave effect old new → Leaves (DoesSome (Answers tells)) Nothing (box_at name old) (box_at name new)
+      (done : (answer : T) → does answer old new → KeepsMailboxes old new × tells answer (box_at keywords name old)) (keeps : effect old new → KeepsMailboxes old new)
+      (refused : refuses old new → KeepsMailboxes old new × because boxes.Refused (box_at keywords name old)) where
+    may_read : MayHave effect old new → Leaves (DoesSome (Answers tells)) Nothing (box_at keywords name old) (box_at keywords name new)
     may_read (inl quiet) = inl (stays (ap (λ (s : Server). s.mailboxes) quiet))
     may_read (inr e) = inl (stays (keeps e))
 
-    pub read_did : (r : Result T FarFault) → Outcome does refuses effect r old new → Did (Answers tells) Nothing because r (box_at name old) (box_at name new)
+    pub read_did : (r : Result T FarFault) → Outcome does refuses effect r old new → Did (Answers tells) Nothing because r (box_at keywords name old) (box_at keywords name new)
     read_did (Ok a) o = let d = done a o in (stays d.0, d.1)
     read_did (Err far.Stopped) o = may_read o
     read_did (Err far.Refused) o = let d = refused o in (stays d.0, d.1)
@@ -74,15 +78,15 @@ module _ (name : List ℕ) (old new : Server) where
 
   -- ---- a call that changes the selected mailbox
 
-  module _ (change own : Store → Store) (c : IsChosen name old) (same : with_selected change old ≡ with_selected own old) where
-    became : Becomes change old new → box_at name new ≡ settled (own (store_at name old.mailboxes))
-    became is = ap (box_at name) (is ∙ same) ∙ ap settled (changed_store own name old c)
+  module _ (change own : Store → Store) (c : IsChosen name old) (same : with_selected change old ≡ with_selected own old) (sees : (s : Store) → seen_through keywords (own s) ≡ own (seen_through keywords s)) where
+    became : Becomes change old new → box_at keywords name new ≡ settled (own (seen_through keywords (store_at name old.mailboxes)))
+    became is = ap (box_at keywords name) (is ∙ same) ∙ ap (λ (s : Store). settled (seen_through keywords s)) (changed_store own name old c) ∙ ap settled (sees (store_at name old.mailboxes))
 
-    may_change : MayHave (Becomes change) old new → Leaves (DoesSome {T = Unit {0}} (λ _. Turns own)) Nothing (box_at name old) (box_at name new)
-    may_change (inl quiet) = inl (ap (box_at name) quiet)
+    may_change : MayHave (Becomes change) old new → Leaves (DoesSome {T = Unit {0}} (λ _. Turns own)) Nothing (box_at keywords name old) (box_at keywords name new)
+    may_change (inl quiet) = inl (ap (box_at keywords name) quiet)
     may_change (inr is) = inr (inl (record { answer = tt; done = became is }))
 
-    pub change_did : (r : Result (Unit {0}) FarFault) → Outcome (λ _. Becomes change) Unrefused (Becomes change) r old new → Did (λ _. Turns own) Nothing Never r (box_at name old) (box_at name new)
+    pub change_did : (r : Result (Unit {0}) FarFault) → Outcome (λ _. Becomes change) Unrefused (Becomes change) r old new → Did (λ _. Turns own) Nothing Never r (box_at keywords name old) (box_at keywords name new)
     change_did (Ok x) o = became o
     change_did (Err far.Stopped) o = may_change o
     change_did (Err far.Refused) o = absurd o
@@ -99,25 +103,27 @@ module _ (name : List ℕ) (old new : Server) where
     told_so None uid t = tt
     told_so (Some n) uid t = t
 
-    appends : (told : Option ℕ) (uid : ℕ) → appending.AddsUnder c.mailbox flags bytes uid old new → appending.IsTold told uid → Appends Far bytes flags told (box_at name old) (box_at name new)
+    appends : (told : Option ℕ) (uid : ℕ) → appending.AddsUnder c.mailbox (kept keywords flags) bytes uid old new → appending.IsTold told uid → Appends Far bytes (kept keywords flags) told (box_at keywords name old) (box_at keywords name new)
     appends told uid u t = record {
       uid = uid;
       gives = (subst (λ (s : Store). s.next ≤ uid) (sym (store_is name old c)) u.may.at_least, told_so told uid t);
-      now = ap (box_at name) u.after ∙ ap settled (changed_store (added uid flags bytes) name old c);
+      now =
+          ap (box_at keywords name) u.after ∙ ap (λ (s : Store). settled (seen_through keywords s)) (changed_store (added uid (kept keywords flags) bytes) name old c)
+          ∙ ap settled (added_seen keywords uid flags bytes (store_at name old.mailboxes));
     }
 
-    may_add : MayHave (appending.AddsSome c.mailbox flags bytes) old new → Leaves (DoesSome (Appends Far bytes flags)) Nothing (box_at name old) (box_at name new)
-    may_add (inl quiet) = inl (ap (box_at name) quiet)
+    may_add : MayHave (appending.AddsSome c.mailbox (kept keywords flags) bytes) old new → Leaves (DoesSome (Appends Far bytes (kept keywords flags))) Nothing (box_at keywords name old) (box_at keywords name new)
+    may_add (inl quiet) = inl (ap (box_at keywords name) quiet)
     may_add (inr a) = inr (inl (record { answer = None; done = appends None a.uid a.under tt }))
 
     full : c.mailbox.store.next ≡ 4294967295 → 2 ^ 32 ≤ (store_at name old.mailboxes).next + 1
     full last = let n = ap (λ (s : Store). s.next) (store_is name old c) in omega (arith, n, last)
 
-    pub add_did : (r : Result (Option ℕ) FarFault) → Outcome (appending.Adds c.mailbox flags bytes) (appending.NoUidLeft c.mailbox) (appending.AddsSome c.mailbox flags bytes) r old new
-        → Did (Appends Far bytes flags) Nothing (NoRoom Far (λ _. 1)) r (box_at name old) (box_at name new)
+    pub add_did : (r : Result (Option ℕ) FarFault) → Outcome (appending.Adds c.mailbox (kept keywords flags) bytes) (appending.NoUidLeft c.mailbox) (appending.AddsSome c.mailbox (kept keywords flags) bytes) r old new
+        → Did (Appends Far bytes (kept keywords flags)) Nothing (NoRoom Far (λ _. 1)) r (box_at keywords name old) (box_at keywords name new)
     add_did (Ok told) a = appends told a.uid a.under a.is_told
     add_did (Err far.Stopped) o = may_add o
-    add_did (Err far.Refused) o = (ap (box_at name) o.0, (refl, full o.1))
+    add_did (Err far.Refused) o = (ap (box_at keywords name) o.0, (refl, full o.1))
     add_did (Err far.Protocol) o = absurd o
     add_did (Err far.TooLong) o = absurd o
     add_did (Err far.NoRev2) o = absurd o

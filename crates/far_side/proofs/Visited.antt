@@ -4,10 +4,12 @@ use Rattle.std.specs.Prelude.{All, map, nat_eq, ◌&&◌}
 use Rattle.std.specs.Cmp.Lexicographic.{pointwise}
 use Rattle.imap_client.specs.Logins.{is_known}
 use Rattle.std.proofs.lemmas.List.{append-nil}
-use Rattle.std.proofs.lemmas.List.Elements.{All-nil, All-cons, All-append, All-weaker}
+use Rattle.std.proofs.lemmas.List.Elements.{All-append, All-cons, All-map, All-nil, All-weaker}
 use Rattle.std.proofs.lemmas.List.Kept.{AllPairs-cons}
+use Rattle.mailcore.specs.declared.keywords.Keyword.{Keyword}
 use Rattle.mailcore.specs.declared.mailbox.Message.{Message}
 use Rattle.mailcore.specs.declared.side.Side.TheVariants.{Far}
+use Rattle.mailcore.specs.Content.{mark_of}
 use Rattle.mailcore.specs.FlagSet.{FLAGS}
 use Rattle.mailcore.specs.Listed.{AreRising, AreBelow}
 use Rattle.mailcore.specs.Mailboxes.{Mailbox}
@@ -15,13 +17,15 @@ use Rattle.mailcore.specs.Ranges.{AreInRange}
 use Rattle.mailcore.specs.Rise.{Rise}
 use Rattle.mailcore.proofs.RiseLemmas.{rise-ends}
 use Rattle.mailcore.specs.Stores.{Store, IsStore}
-use Rattle.visitors.specs.Visitors.{Visitors}
+use Rattle.visitors.specs.Visitors.{IsForeign, Visitors}
 use Rattle.mailbox.specs.Arrivals.{Arrives}
 use Rattle.imap_session.specs.Mailboxes.{FarMailbox, mailbox_at}
 use Rattle.imap_session.specs.Servers.{Server}
 use Rattle.imap_session.specs.Visits.{AllGain, Gains, Visits}
 use Rattle.session_laws.proofs.Visiting.{visits_follow}
 use Rattle.imap_client.proofs.Visited.{MayGain, gains_at}
+use Rattle.imap_client.specs.Seen.{seen_message, seen_through}
+use Rattle.far_side.proofs.SeenThrough.{map-append, uids_seen}
 use Rattle.far_side.specs.Chosen.{IsChosen, IsMissing, KeepsMailboxes, box_at, nothing, settled, store_at, store_in}
 
 -- ---- UIDs that come behind others
@@ -130,30 +134,35 @@ module _ (v : Visitors) where
     nobody = λ _. refl;
   }
 
-  arrives_some : (s t : Store) → Gains v s t → (v.alone ≡ true → settled t ≡ settled s) → Arrives Far v.ours v.alone (settled s) (settled t)
-  arrives_some s t g alone = record {
-    comes = record {
-      messages = g.more;
-      next = t.next;
-      rise = g.rise;
-      foreign = g.foreign;
-      now =
-          ap (λ (n : ℕ). let x : Store = record t { validity = n } in settled x) g.validity
-          ∙ ap (λ (ms : List Message). let x : Store = record { validity = s.validity; next = t.next; messages = ms } in settled x) g.messages;
-    };
-    nobody = alone;
-  }
+  module _ (keywords : List Keyword) where
+    abbrev shown : Store → Mailbox
+    shown s = settled (seen_through keywords s)
 
-  arrives_by : (x y : Option FarMailbox) → MayGain v x y → (v.alone ≡ true → settled (store_in y) ≡ settled (store_in x)) → Arrives Far v.ours v.alone (settled (store_in x)) (settled (store_in y))
-  arrives_by None None g alone = arrives_none (settled nothing)
-  arrives_by None (Some n) g alone = absurd g
-  arrives_by (Some m) None g alone = absurd g
-  arrives_by (Some m) (Some n) g alone = arrives_some m.store n.store g alone
+    arrives_some : (s t : Store) → Gains v s t → (v.alone ≡ true → shown t ≡ shown s) → Arrives Far v.ours v.alone (shown s) (shown t)
+    arrives_some s t g alone = record {
+      comes = record {
+        messages = map (seen_message keywords) g.more;
+        next = t.next;
+        rise = subst (λ (uids : List ℕ). Rise s.next uids t.next) (sym (uids_seen keywords g.more)) g.rise;
+        foreign = All-map (λ (m : Message). IsForeign v.ours (mark_of m.bytes)) (seen_message keywords) g.more g.foreign;
+        now =
+            ap (λ (n : ℕ). let x : Store = record t { validity = n } in shown x) g.validity
+            ∙ ap (λ (ms : List Message). let x : Store = record { validity = s.validity; next = t.next; messages = ms } in shown x) g.messages
+            ∙ ap (λ (ms : List Message). let x : Store = record { validity = s.validity; next = t.next; messages = ms } in settled x) (map-append (seen_message keywords) s.messages g.more);
+      };
+      nobody = alone;
+    }
 
-  pub arrives : (name : List ℕ) (s t : Server) → Visits v s t → Arrives Far v.ours v.alone (box_at name s) (box_at name t)
-  arrives name s t h =
-      arrives_by (mailbox_at name s.mailboxes) (mailbox_at name t.mailboxes) (gains_at v name s.mailboxes t.mailboxes h.gains)
-      (λ alone. ap (λ (ms : List FarMailbox). settled (store_at name ms)) (h.nobody alone))
+    arrives_by : (x y : Option FarMailbox) → MayGain v x y → (v.alone ≡ true → shown (store_in y) ≡ shown (store_in x)) → Arrives Far v.ours v.alone (shown (store_in x)) (shown (store_in y))
+    arrives_by None None g alone = arrives_none (shown nothing)
+    arrives_by None (Some n) g alone = absurd g
+    arrives_by (Some m) None g alone = absurd g
+    arrives_by (Some m) (Some n) g alone = arrives_some m.store n.store g alone
+
+    pub arrives : (name : List ℕ) (s t : Server) → Visits v s t → Arrives Far v.ours v.alone (box_at keywords name s) (box_at keywords name t)
+    arrives name s t h =
+        arrives_by (mailbox_at name s.mailboxes) (mailbox_at name t.mailboxes) (gains_at v name s.mailboxes t.mailboxes h.gains)
+        (λ alone. ap (λ (ms : List FarMailbox). shown (store_at name ms)) (h.nobody alone))
 
   -- ---- one after another, with what keeps the mailboxes between
 
@@ -165,6 +174,7 @@ module _ (v : Visitors) where
   visits_on s t u same h = record {
     user = refl;
     password = refl;
+    keywords = refl;
     condition = refl;
     gains = subst (λ (ms : List FarMailbox). AllGain v ms u.mailboxes) same h.gains;
     nobody = λ alone. h.nobody alone ∙ same;
@@ -173,4 +183,4 @@ module _ (v : Visitors) where
   pub visits_between : (r s t u : Server) → Visits v r s → KeepsMailboxes s t → Visits v t u → Visits v r (stocked r u.mailboxes)
   visits_between r s t u first same h =
       let both = visits_follow v r s (stocked s u.mailboxes) first (visits_on s t u same h) in
-      record { user = refl; password = refl; condition = refl; gains = both.gains; nobody = both.nobody }
+      record { user = refl; password = refl; keywords = refl; condition = refl; gains = both.gains; nobody = both.nobody }

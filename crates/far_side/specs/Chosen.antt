@@ -1,5 +1,6 @@
 -- The mailbox of a name, as a server keeps it.
 use Rattle.std.specs.Prelude.{◌≡◌, ℕ, Bool, true, false, List, [], Option, None, Some}
+use Rattle.mailcore.specs.declared.keywords.Keyword.{Keyword}
 use Rattle.mailcore.specs.declared.listing.Listing.{Listing}
 use Rattle.mailbox.specs.Operations.{ListsFar}
 use Rattle.mailcore.specs.Stores.{Store}
@@ -7,6 +8,7 @@ use Rattle.mailcore.specs.Mailboxes.{Mailbox}
 use Rattle.imap_session.specs.Mailboxes.{FarMailbox, mailbox_at}
 use Rattle.imap_session.specs.Servers.{Server, Selected, is_logged_in}
 use Rattle.imap_client.specs.Logins.{is_known}
+use Rattle.imap_client.specs.Seen.{seen_through}
 
 -- where there is no mailbox
 abbrev pub nothing : Store
@@ -24,9 +26,9 @@ store_at name mailboxes = store_in (mailbox_at name mailboxes)
 abbrev pub settled : Store → Mailbox
 settled store = record { store = store; waiting = [] }
 
--- the mailbox of this name, at this server
-abbrev pub box_at : (name : List ℕ) → Server → Mailbox
-box_at name s = settled (store_at name s.mailboxes)
+-- the mailbox of this name, at this server, as it is seen through a map
+abbrev pub box_at : List Keyword → (name : List ℕ) → Server → Mailbox
+box_at keywords name s = settled (seen_through keywords (store_at name s.mailboxes))
 
 -- the mailbox of this name is selected
 pub record IsChosen (name : List ℕ) (s : Server) : Type 0 where
@@ -54,8 +56,8 @@ abbrev pub TellsValidity : (name : List ℕ) → (validity : ℕ) → Server →
 TellsValidity name validity old new = KeepsMailboxes old new × (validity ≡ (store_at name old.mailboxes).validity)
 
 -- this is what the mailbox of this name lists, where this next UID was known
-abbrev pub ListsAll : (alone : Bool) → (known : ℕ) → (name : List ℕ) → Listing → Server → Server → Type 0
-ListsAll alone known name listing old new = KeepsMailboxes old new × ListsFar alone known listing (store_at name old.mailboxes)
+abbrev pub ListsAll : List Keyword → (alone : Bool) → (known : ℕ) → (name : List ℕ) → Listing → Server → Server → Type 0
+ListsAll keywords alone known name listing old new = KeepsMailboxes old new × ListsFar alone known listing (seen_through keywords (store_at name old.mailboxes))
 
 -- there is none of this name, and nothing was changed
 abbrev pub Misses : (name : List ℕ) → Server → Server → Type 0

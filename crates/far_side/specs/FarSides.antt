@@ -1,5 +1,6 @@
 -- The far mailbox of a run as the clauses of its calls name it.
 use Rattle.std.specs.Prelude.{◌≡◌, ◌⊎◌, ℕ, false, List}
+use Rattle.mailcore.specs.declared.keywords.Keyword.{Keyword}
 use Rattle.imap_session.specs.Servers.{Server}
 use Rattle.imap_link.specs.declared.link.Link as link
 use Rattle.imap_client.specs.declared.far_box.FarBox.{FarBox}
@@ -15,15 +16,15 @@ use Rattle.far_side.specs.Chosen.{IsMissing, box_at}
 use Rattle.far_side.specs.Stages.{is_broken_at}
 
 module _ {L : Type 0} {links : link.Ghosts L} where
-  abbrev pub seen_at : Stage → (name : List ℕ) → FarBox L links → Seen
-  seen_at stage name far = record {
-    stored = box_at name (server_of far.session);
+  abbrev pub seen_at : Stage → List Keyword → (name : List ℕ) → FarBox L links → Seen
+  seen_at stage keywords name far = record {
+    stored = box_at keywords name (server_of far.session);
     is_broken = is_broken_at stage far.is_selected far.session.is_ready;
     stops = links.stops far.session.wire.link;
   }
 
   abbrev pub seen_of : FarSide L links → Seen
-  seen_of side = seen_at side.stage side.account.mailbox.items side.far
+  seen_of side = seen_at side.stage side.far.keywords side.account.mailbox.items side.far
 
   -- the link has kept its word
   abbrev pub honest_of : FarSide L links → Type 0

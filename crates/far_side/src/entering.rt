@@ -2,6 +2,7 @@
 
 ghost use Rattle.std.specs.Prelude.{◌≡◌, ◌≤◌, false};
 ghost use Rattle.imap_client.specs.Requests.{IsWord};
+ghost use Rattle.imap_client.specs.Seen.{KeepsMap};
 ghost use Rattle.imap_client.specs.Sessions.{server_of, state_of};
 ghost use Rattle.imap_link.specs.Outcomes.{Outcome};
 ghost use Rattle.imap_session.specs.Visits.{Among};
@@ -21,6 +22,8 @@ pub(crate) fn log_in<L: Link>(
     requires user { IsWord user.now }
     requires password { IsWord password.now }
     ensures was_honest { L.honest far.new.session.wire.link → L.honest far.old.session.wire.link }
+    ensures letters { L.honest far.new.session.wire.link → KeepsMap (server_of far.old.session) (server_of far.new.session) }
+    ensures keywords { far.new.keywords ≡ far.old.keywords }
     ensures closed { far.new.is_selected ≡ false }
     ensures ends { Ends (state_of far.old.session) (state_of far.new.session) result }
     ensures outcome { L.honest far.new.session.wire.link

@@ -2,9 +2,10 @@
 
 ghost use Rattle.std.specs.Prelude.{◌≡◌, true, false, not, IfOk, IfSome, OnErr, OnOk, is_some};
 ghost use Rattle.std.proofs.Props.{props};
+ghost use Rattle.imap_client.specs.Seen.{HasMap};
 ghost use Rattle.imap_client.specs.Sessions.{server_of, state_of};
 ghost use Rattle.imap_link.specs.Outcomes.{Never, Outcome};
-ghost use Rattle.mailbox.specs.Operations.{HasNumbers};
+ghost use Rattle.mailbox.specs.Operations.{HasNumbers, ListsWithin};
 ghost use Rattle.imap_session.specs.Servers.{is_logged_in};
 ghost use Rattle.imap_session.specs.Visits.{Among};
 ghost use Rattle.far_side.specs.Chosen.{KeepsMailboxes, ListsAll, Misses, TellsValidity, box_at, store_at};
@@ -25,6 +26,7 @@ use mailbox::fault::BoxFault;
 use mailbox::mailbox::Mailbox;
 use mailcore::copy_pieces::CopyPieces;
 use mailcore::flags::Flags;
+use mailcore::keywords::Keywords;
 use mailcore::listing::Listing;
 use mailcore::spared::Spared;
 use mailcore::tuid::Tuid;
@@ -44,41 +46,46 @@ pub struct FarSide<L: Link> {
         → is_logged_in (L.line far.session.wire.link).end.server.condition ≡ true } by { Prim.hlevel props },
     pub ghost fresh: { is_fresh ≡ true → L.honest far.session.wire.link
         → far.next ≡ (store_at account.mailbox.items (L.line far.session.wire.link).end.server.mailboxes).next } by { Prim.hlevel props },
+    pub ghost letters: { L.honest far.session.wire.link → HasMap far.keywords (L.line far.session.wire.link).end.server } by { Prim.hlevel props },
 }
 
 impl<L: Link + Drop> FarSide<L> {
     ghost use Rattle.far_side.specs.FarSides.{honest_of, seen_of, server_at};
 
-    /// That of this account, over this link. It is closed.
-    pub fn new(alloc: Global, account: Account, link: L) -> Self
+    /// That of this account, over this link. It is closed. By this map flags have names: that of the server.
+    pub fn new(alloc: Global, account: Account, link: L, keywords: Keywords) -> Self
+        requires letters { L.honest link → HasMap keywords (L.line link).end.server }
         ensures seen { seen_of result
-            ≡ record { stored = box_at account.mailbox.items (L.line link).end.server; is_broken = false; stops = L.stops link } }
+            ≡ record { stored = box_at keywords account.mailbox.items (L.line link).end.server; is_broken = false; stops = L.stops link } }
         ensures was_honest { honest_of result → L.honest link }
         ensures honest { L.honest link → honest_of result }
+        ensures keywords { result.far.keywords ≡ keywords }
         ensures closed { is_open_at result.stage ≡ false }
     {
         FarSide {
             account,
-            far: FarBox::closed(Session::closed(alloc, link)),
+            far: FarBox::closed(Session::closed(alloc, link), keywords),
             stage: Stage::Closed,
             is_fresh: false,
         }
     }
 
-    /// That of this account, over a session of its user. It is closed.
-    pub fn over(account: Account, session: LoggedIn<L>) -> Self
+    /// That of this account, over a session of its user. It is closed. By this map flags have names: that of the server.
+    pub fn over(account: Account, session: LoggedIn<L>, keywords: Keywords) -> Self
+        requires letters { L.honest session.session.wire.link → HasMap keywords (server_of session.session) }
         ensures seen { seen_of result ≡ record {
-          stored = box_at account.mailbox.items (server_of session.session);
+          stored = box_at keywords account.mailbox.items (server_of session.session);
           is_broken = not session.session.is_ready;
           stops = L.stops session.session.wire.link;
         } }
         ensures was_honest { honest_of result → L.honest session.session.wire.link }
         ensures honest { L.honest session.session.wire.link → honest_of result }
+        ensures keywords { result.far.keywords ≡ keywords }
         ensures closed { is_open_at result.stage ≡ false }
     {
         FarSide {
             account,
-            far: FarBox::closed(session.into_session()),
+            far: FarBox::closed(session.into_session(), keywords),
             stage: Stage::LoggedIn,
             is_fresh: false,
         }
@@ -98,7 +105,8 @@ impl<L: Link + Drop> FarSide<L> {
 
     /// Gives the link back.
     pub fn into_link(self) -> L
-        ensures { result ≡ self.far.session.wire.link }
+        ensures link { result ≡ self.far.session.wire.link }
+        ensures letters { L.honest result → HasMap self.far.keywords (L.line result).end.server }
     {
         let FarSide { far, .. } = self;
         far.into_session().into_link()
@@ -109,6 +117,7 @@ impl<L: Link + Drop> FarSide<L> {
         ensures session { IfSome result (λ s. s.session ≡ self.far.session) }
         ensures ready { IfSome result (λ s. s.session.is_ready ≡ true) }
         ensures some { is_reached self.stage ≡ true → self.far.session.is_ready ≡ true → is_some result ≡ true }
+        ensures letters { IfSome result (λ s. L.honest s.session.wire.link → HasMap self.far.keywords (server_of s.session)) }
     {
         let FarSide { far, stage, .. } = self;
         let session = far.into_session();
@@ -123,6 +132,7 @@ impl<L: Link + Drop> FarSide<L> {
     fn log_in(&mut self) -> Result<(), FarFault>
         requires whole { (seen_of self.old).is_broken ≡ false }
         ensures mailbox { self.new.account.mailbox.items ≡ self.old.account.mailbox.items }
+        ensures keywords { self.new.far.keywords ≡ self.old.far.keywords }
         ensures was_honest { honest_of self.new → honest_of self.old }
         ensures reached { OnOk result (is_reached self.new.stage ≡ true) }
         ensures ends { Ends (state_of self.old.far.session) (state_of self.new.far.session) result }
@@ -146,6 +156,7 @@ impl<L: Link + Drop> FarSide<L> {
         requires reached { is_reached self.old.stage ≡ true }
         requires ready { self.old.far.session.is_ready ≡ true }
         ensures mailbox { self.new.account.mailbox.items ≡ self.old.account.mailbox.items }
+        ensures keywords { self.new.far.keywords ≡ self.old.far.keywords }
         ensures was_honest { honest_of self.new → honest_of self.old }
         ensures open { OnOk result (is_open_at self.new.stage ≡ true) }
         ensures selected { OnOk result (self.new.far.is_selected ≡ true) }
@@ -167,6 +178,7 @@ impl<L: Link + Drop> FarSide<L> {
     fn reach(&mut self) -> Result<u32, FarFault>
         requires whole { (seen_of self.old).is_broken ≡ false }
         ensures mailbox { self.new.account.mailbox.items ≡ self.old.account.mailbox.items }
+        ensures keywords { self.new.far.keywords ≡ self.old.far.keywords }
         ensures was_honest { honest_of self.new → honest_of self.old }
         ensures open { OnOk result (is_open_at self.new.stage ≡ true) }
         ensures selected { OnOk result (self.new.far.is_selected ≡ true) }
@@ -184,6 +196,7 @@ impl<L: Link + Drop> FarSide<L> {
         requires whole { (seen_of self.old).is_broken ≡ false }
         requires open { is_open_at self.old.stage ≡ true }
         ensures mailbox { self.new.account.mailbox.items ≡ self.old.account.mailbox.items }
+        ensures keywords { self.new.far.keywords ≡ self.old.far.keywords }
         ensures was_honest { honest_of self.new → honest_of self.old }
         ensures open { is_open_at self.new.stage ≡ true }
         ensures selected { OnOk result (self.new.far.is_selected ≡ true) }
@@ -204,12 +217,14 @@ impl<L: Link + Drop> FarSide<L> {
         requires whole { (seen_of self.old).is_broken ≡ false }
         requires open { is_open_at self.old.stage ≡ true }
         ensures mailbox { self.new.account.mailbox.items ≡ self.old.account.mailbox.items }
+        ensures keywords { self.new.far.keywords ≡ self.old.far.keywords }
         ensures was_honest { honest_of self.new → honest_of self.old }
         ensures open { is_open_at self.new.stage ≡ true }
         ensures selected { OnOk result (self.new.far.is_selected ≡ true) }
         ensures numbers { IfOk result HasNumbers }
+        ensures within { honest_of self.new → IfOk result (ListsWithin self.old.far.keywords) }
         ensures ends { Ends (state_of self.old.far.session) (state_of self.new.far.session) result }
-        ensures outcome { honest_of self.new → Among L.visitors (Outcome (ListsAll L.visitors.alone
+        ensures outcome { honest_of self.new → Among L.visitors (Outcome (ListsAll self.old.far.keywords L.visitors.alone
             (store_at self.old.account.mailbox.items (server_at self.old).mailboxes).next self.old.account.mailbox.items) Never KeepsMailboxes result)
             (server_at self.old) (server_at self.new) }
     {
@@ -239,6 +254,8 @@ impl<L: Link + Drop> Mailbox for FarSide<L> {
     ghost ours = { L.visitors.ours };
 
     ghost alone = { L.visitors.alone };
+
+    ghost keywords = { λ side. side.far.keywords };
 
     // nothing waits at a server, so that there is nothing to admit
     ghost seen = { seen_of };

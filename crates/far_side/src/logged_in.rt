@@ -18,6 +18,7 @@ use imap_client::far_box::FarBox;
 use imap_client::session::Session;
 use imap_link::fault::FarFault;
 use imap_link::link::Link;
+use mailcore::keywords::Keywords;
 use mailcore::mailbox_name::MailboxName;
 use std::alloc::Global;
 
@@ -41,7 +42,7 @@ impl<L: Link + Drop> LoggedIn<L> {
         ensures ok { IfOk result (λ s. L.honest s.session.wire.link → Among L.visitors LogsIn (L.line link).end.server (server_of s.session)) }
         ensures ready { IfOk result (λ s. (s.session.is_ready ≡ true) × (L.stops s.session.wire.link ≡ L.stops link)) }
     {
-        let mut far = FarBox::closed(Session::closed(alloc, link));
+        let mut far = FarBox::closed(Session::closed(alloc, link), Keywords::new(alloc));
         log_in(&mut far, user, password)?;
         Ok(LoggedIn {
             session: far.into_session(),

@@ -22,6 +22,7 @@ pub(crate) fn begin_if<O: Outside>(
     requires takes { TakesPlan (O.opened outside.old) plan }
     ensures refused { may ≡ false → O.seen outside.new ≡ stopped (O.seen outside.old) }
     ensures was_honest { O.honest outside.new → O.honest outside.old }
+    ensures keywords { O.keywords outside.new ≡ O.keywords outside.old }
     ensures opened { OnOk result (O.opened outside.new ≡ turned (λ _. begun plan) (O.opened outside.old)) }
     ensures call { Writes (O.honest outside.new) (Arrives O.ours O.alone) FromBook
         (OfBook (λ _. Turns Missing (begun plan)) (O.opened outside.old)) (OfBook (λ _. TurnsHalf Missing Useless) (O.opened outside.old))
@@ -38,6 +39,7 @@ pub(crate) fn begin_if<O: Outside>(
 fn refuse<O: Outside>(outside: &mut O, _plan: &Plan) -> Result<(), OutsideFault>
     ensures refused { O.seen outside.new ≡ stopped (O.seen outside.old) }
     ensures was_honest { O.honest outside.new → O.honest outside.old }
+    ensures keywords { O.keywords outside.new ≡ O.keywords outside.old }
     ensures opened { OnOk result (O.opened outside.new ≡ turned (λ _. begun _plan.now) (O.opened outside.old)) }
     ensures call { Writes (O.honest outside.new) (Arrives O.ours O.alone) FromBook
         (OfBook (λ _. Turns Missing (begun _plan.now)) (O.opened outside.old)) (OfBook (λ _. TurnsHalf Missing Useless) (O.opened outside.old))

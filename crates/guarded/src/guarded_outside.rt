@@ -83,6 +83,8 @@ impl<O: Outside + FarNext, G: Guard> Outside for GuardedOutside<O, G> {
 
     ghost alone = { O.alone };
 
+    ghost keywords = { λ guarded. O.keywords guarded.outside };
+
     ghost seen = { λ guarded. O.seen guarded.outside };
 
     ghost opened = { λ guarded. O.opened guarded.outside };

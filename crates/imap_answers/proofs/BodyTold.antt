@@ -15,7 +15,7 @@ use Rattle.imap_link.specs.declared.fault.FarFault.{FarFault}
 use Rattle.imap_link.specs.declared.fault.FarFault.TheVariants as faults
 use Rattle.imap_answers.specs.declared.bodies.FoundBody.{FoundBody}
 use Rattle.imap_answers.specs.Bodies.{body_at, body_bytes, body_more, body_in, is_told, bodies_more, body_told, found_at}
-use Rattle.imap_answers.specs.Fetching.{told_of}
+use Rattle.imap_answers.specs.Fetching.{uid_of}
 use Rattle.imap_answers.specs.Readings.{ReadsAs}
 use Rattle.imap_answers.specs.Spoken.{Speaks, IsFirst}
 use Rattle.reply_buf.proofs.Exits.{slice_is}
@@ -42,7 +42,7 @@ if_none true list = in_none list
 if_none false list = refl
 
 more_none : (uid : ℕ) (r : Reply) → bodies_more uid None r ≡ None
-more_none uid (Fetch n list) = if_none (is_told uid (told_of list).uid) list
+more_none uid (Fetch n list) = if_none (is_told uid (uid_of list)) list
 more_none uid (Continue text) = refl
 more_none uid (Tagged tag status text) = refl
 more_none uid (Notice kind text) = refl
@@ -103,7 +103,7 @@ if_before true before list = in_before before list
 if_before false before list = refl
 
 more_before : (uid : ℕ) (before : Option (List ℕ)) (r : Reply) → bodies_more uid (Some before) r ≡ or_before before (bodies_more uid (Some None) r)
-more_before uid before (Fetch n list) = if_before (is_told uid (told_of list).uid) before list
+more_before uid before (Fetch n list) = if_before (is_told uid (uid_of list)) before list
 more_before uid before (Continue text) = refl
 more_before uid before (Tagged tag status text) = refl
 more_before uid before (Notice kind text) = refl

@@ -4,3 +4,5 @@ pub mod Listed
 pub mod BodyTold
 pub mod Placed
 pub mod NameLemmas
+pub mod HeardSame
+pub mod Permitted

@@ -2,6 +2,7 @@
 use Rattle.std.proofs.Common.{◌≡◌, Bool, true, false, List, [], ◌∷◌, ℕ, refl, sym, ◌∙◌, ap, Option, None}
 use Rattle.std.specs.Prelude.{filter, if◌then◌else◌}
 use Rattle.std.specs.List.{fold}
+use Rattle.mailcore.specs.declared.keywords.Keyword.{Keyword}
 use Rattle.imap_replies.specs.declared.word.NoticeKind.TheVariants as notices
 use Rattle.imap_replies.specs.declared.response.Code.TheVariants as codes_of
 use Rattle.imap_replies.specs.declared.response.ResponseText.TheVariants.{Plain, Coded}
@@ -45,33 +46,33 @@ names_in_read rs = fold_read names_more (is_used names_read) names_idle [] rs
 
 -- ---- the mailbox that is selected
 
-opening_idle : (o : Opening) (r : Reply) → is_used opening_read r ≡ false → opening_more o r ≡ o
-opening_idle o (Tagged tag status text) e = cc
-opening_idle o (Notice notices.Ok (Plain text)) e = refl
-opening_idle o (Notice notices.Ok (Coded (codes_of.UidNext n) text)) e = cc
-opening_idle o (Notice notices.Ok (Coded (codes_of.UidValidity n) text)) e = cc
-opening_idle o (Notice notices.Ok (Coded (codes_of.PermanentFlags flags others) text)) e = cc
-opening_idle o (Notice notices.Ok (Coded (codes_of.AppendUid validity uid) text)) e = refl
-opening_idle o (Notice notices.Ok (Coded codes_of.ReadOnly text)) e = cc
-opening_idle o (Notice notices.Ok (Coded codes_of.ReadWrite text)) e = refl
-opening_idle o (Notice notices.Ok (Coded (codes_of.Other word more) text)) e = refl
-opening_idle o (Notice notices.No text) e = refl
-opening_idle o (Notice notices.Bad text) e = refl
-opening_idle o (Notice notices.Bye text) e = refl
-opening_idle o (Notice notices.Preauth text) e = refl
-opening_idle o (Continue text) e = refl
-opening_idle o (Capability abilities) e = refl
-opening_idle o (Enabled abilities) e = refl
-opening_idle o (Listed attributes delimiter name) e = refl
-opening_idle o (Flags flags) e = refl
-opening_idle o (Exists n) e = refl
-opening_idle o (Expunge n) e = refl
-opening_idle o (Fetch n items) e = refl
-opening_idle o (Other word text) e = refl
-opening_idle o (OtherNumbered n event text) e = refl
+opening_idle : (keywords : List Keyword) (o : Opening) (r : Reply) → is_used opening_read r ≡ false → opening_more keywords o r ≡ o
+opening_idle keywords o (Tagged tag status text) e = cc
+opening_idle keywords o (Notice notices.Ok (Plain text)) e = refl
+opening_idle keywords o (Notice notices.Ok (Coded (codes_of.UidNext n) text)) e = cc
+opening_idle keywords o (Notice notices.Ok (Coded (codes_of.UidValidity n) text)) e = cc
+opening_idle keywords o (Notice notices.Ok (Coded (codes_of.PermanentFlags names) text)) e = cc
+opening_idle keywords o (Notice notices.Ok (Coded (codes_of.AppendUid validity uid) text)) e = refl
+opening_idle keywords o (Notice notices.Ok (Coded codes_of.ReadOnly text)) e = cc
+opening_idle keywords o (Notice notices.Ok (Coded codes_of.ReadWrite text)) e = refl
+opening_idle keywords o (Notice notices.Ok (Coded (codes_of.Other word more) text)) e = refl
+opening_idle keywords o (Notice notices.No text) e = refl
+opening_idle keywords o (Notice notices.Bad text) e = refl
+opening_idle keywords o (Notice notices.Bye text) e = refl
+opening_idle keywords o (Notice notices.Preauth text) e = refl
+opening_idle keywords o (Continue text) e = refl
+opening_idle keywords o (Capability abilities) e = refl
+opening_idle keywords o (Enabled abilities) e = refl
+opening_idle keywords o (Listed attributes delimiter name) e = refl
+opening_idle keywords o (Flags flags) e = refl
+opening_idle keywords o (Exists n) e = refl
+opening_idle keywords o (Expunge n) e = refl
+opening_idle keywords o (Fetch n items) e = refl
+opening_idle keywords o (Other word text) e = refl
+opening_idle keywords o (OtherNumbered n event text) e = refl
 
-pub opening_of_read : (rs : List Reply) → opening_of (filter (is_used opening_read) rs) ≡ opening_of rs
-opening_of_read rs = fold_read opening_more (is_used opening_read) opening_idle nothing_told rs
+pub opening_of_read : (keywords : List Keyword) (rs : List Reply) → opening_of keywords (filter (is_used opening_read) rs) ≡ opening_of keywords rs
+opening_of_read keywords rs = fold_read (opening_more keywords) (is_used opening_read) (opening_idle keywords) nothing_told rs
 
 -- ---- a message that was added
 

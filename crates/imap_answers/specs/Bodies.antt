@@ -10,7 +10,7 @@ use Rattle.imap_replies.specs.declared.reply.Reply.{Reply}
 use Rattle.imap_replies.specs.declared.reply.Reply.TheVariants.{Fetch}
 use Rattle.imap_answers.specs.declared.bodies.FoundBody.{FoundBody}
 use Rattle.imap_answers.specs.declared.bodies.FoundBody.TheVariants.{At, Copied}
-use Rattle.imap_answers.specs.Fetching.{told_of}
+use Rattle.imap_answers.specs.Fetching.{uid_of}
 
 -- the bytes of a body, or none where it is NIL or quoted with a backslash
 abbrev pub body_bytes : Option WireString → Option (List ℕ)
@@ -36,7 +36,7 @@ is_told uid (Some told) = told == uid
 
 -- with one reply more: one of another message is passed over
 abbrev pub bodies_more : (uid : ℕ) → Option (Option (List ℕ)) → Reply → Option (Option (List ℕ))
-bodies_more uid told (Fetch n list) = if is_told uid (told_of list).uid then body_in told list else told
+bodies_more uid told (Fetch n list) = if is_told uid (uid_of list) then body_in told list else told
 bodies_more uid told _ = told
 
 abbrev pub body_told : (uid : ℕ) → List Reply → Option (Option (List ℕ))

@@ -6,6 +6,8 @@ use Rattle.std.specs.Option.{option_map}
 use Rattle.std.specs.Ordering.{nat_cmp}
 use Rattle.std.specs.BTreeMap.{insert_entry}
 use Rattle.mailcore.specs.Content.{size_limit}
+use Rattle.mailcore.specs.KeywordNames.{named_set}
+use Rattle.mailcore.specs.declared.keywords.Keyword.{Keyword}
 use Rattle.imap_replies.specs.declared.fetch.FetchItem.{FetchItem}
 use Rattle.imap_replies.specs.declared.fetch.FetchItem.TheVariants as items
 use Rattle.imap_replies.specs.declared.reply.Reply.{Reply}
@@ -17,15 +19,26 @@ abbrev pub nothing_told : Told
 nothing_told = record { uid = None; flags = None; size = None }
 
 -- with one item more
-abbrev pub told_more : Told → FetchItem → Told
-told_more t (items.Uid uid) = record t { uid = Some uid }
-told_more t (items.Flags flags) = record t { flags = Some flags }
-told_more t (items.Size size) = record t { size = Some size }
-told_more t (items.Body body) = t
-told_more t (items.Head head) = t
+abbrev pub told_more : List Keyword → Told → FetchItem → Told
+told_more keywords t (items.Uid uid) = record t { uid = Some uid }
+told_more keywords t (items.Flags names) = record t { flags = Some (named_set keywords names) }
+told_more keywords t (items.Size size) = record t { size = Some size }
+told_more keywords t (items.Body body) = t
+told_more keywords t (items.Head head) = t
 
-abbrev pub told_of : List FetchItem → Told
-told_of list = fold told_more nothing_told list
+abbrev pub told_of : List Keyword → List FetchItem → Told
+told_of keywords list = fold (told_more keywords) nothing_told list
+
+-- the UID alone
+abbrev pub uid_more : Option ℕ → FetchItem → Option ℕ
+uid_more told (items.Uid uid) = Some uid
+uid_more told (items.Flags names) = told
+uid_more told (items.Size size) = told
+uid_more told (items.Body body) = told
+uid_more told (items.Head head) = told
+
+abbrev pub uid_of : List FetchItem → Option ℕ
+uid_of list = fold uid_more None list
 
 -- ---- what replies tell, in the order of UIDs
 
@@ -38,13 +51,21 @@ with_row rows None t = rows
 with_row rows (Some uid) t = insert_entry nat_cmp rows uid (row_of t)
 
 -- with one reply more
-abbrev pub rows_more : List (ℕ × Row) → Reply → List (ℕ × Row)
-rows_more rows (Fetch n list) = with_row rows (told_of list).uid (told_of list)
-rows_more rows _ = rows
+abbrev pub rows_more : List Keyword → List (ℕ × Row) → Reply → List (ℕ × Row)
+rows_more keywords rows (Fetch n list) = with_row rows (told_of keywords list).uid (told_of keywords list)
+rows_more keywords rows _ = rows
 
-abbrev pub rows_of : List Reply → List (ℕ × Row)
-rows_of replies = fold rows_more [] replies
+abbrev pub rows_of : List Keyword → List Reply → List (ℕ × Row)
+rows_of keywords replies = fold (rows_more keywords) [] replies
 
--- rows that were told these replies
-abbrev pub TookRows : (first : List (ℕ × Row)) → List Reply → (second : List (ℕ × Row)) → Type 0
-TookRows first replies second = second ≡ fold rows_more first replies
+-- the rows of messages, and the map by which names of flags are read
+pub record MappedRows : Type 0 where
+  pub keywords : List Keyword
+  pub rows : List (ℕ × Row)
+
+abbrev pub no_rows : List Keyword → MappedRows
+no_rows keywords = record { keywords = keywords; rows = [] }
+
+-- told these replies, the first became the second
+abbrev pub TookRows : (first : MappedRows) → List Reply → (second : MappedRows) → Type 0
+TookRows first replies second = second ≡ record first { rows = fold (rows_more first.keywords) first.rows replies }

@@ -14,7 +14,7 @@ use Rattle.imap_answers.specs.declared.given.Given.{Given}
 abbrev pub given_by_code : Option Given → Code → Option Given
 given_by_code given (codes_of.UidNext n) = given
 given_by_code given (codes_of.UidValidity n) = given
-given_by_code given (codes_of.PermanentFlags flags others) = given
+given_by_code given (codes_of.PermanentFlags names) = given
 given_by_code given (codes_of.AppendUid validity uid) = Some (record { validity = validity; uid = uid })
 given_by_code given codes_of.ReadOnly = given
 given_by_code given codes_of.ReadWrite = given

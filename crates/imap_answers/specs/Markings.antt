@@ -9,7 +9,7 @@ use Rattle.imap_replies.specs.declared.fetch.FetchItem.{FetchItem}
 use Rattle.imap_replies.specs.declared.fetch.FetchItem.TheVariants as items
 use Rattle.imap_replies.specs.declared.reply.Reply.{Reply}
 use Rattle.imap_replies.specs.declared.reply.Reply.TheVariants.{Fetch}
-use Rattle.imap_answers.specs.Fetching.{told_of}
+use Rattle.imap_answers.specs.Fetching.{uid_of}
 use Rattle.imap_answers.specs.Listings.{is_uid}
 use Rattle.imap_answers.specs.Showing.{mark_shown, nothing_shown, shown_more}
 use Rattle.imap_answers.specs.declared.marks.MarkSearch.{MarkSearch}
@@ -24,7 +24,7 @@ uid_marked mark from (Some uid) list = if nat_le from uid && list_any (bears mar
 
 -- the UID of a reply that shows the mark, if it is at least `from`
 abbrev pub marked_uid : (mark : List ℕ) (from : ℕ) → Reply → Option ℕ
-marked_uid mark from (Fetch n list) = uid_marked mark from (told_of list).uid list
+marked_uid mark from (Fetch n list) = uid_marked mark from (uid_of list) list
 marked_uid mark from _ = None
 
 abbrev pub lesser : Option ℕ → Option ℕ → Option ℕ

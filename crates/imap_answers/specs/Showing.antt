@@ -8,7 +8,7 @@ use Rattle.imap_replies.specs.declared.fetch.FetchItem.{FetchItem}
 use Rattle.imap_replies.specs.declared.fetch.FetchItem.TheVariants as items
 use Rattle.imap_replies.specs.declared.reply.Reply.{Reply}
 use Rattle.imap_replies.specs.declared.reply.Reply.TheVariants.{Fetch}
-use Rattle.imap_answers.specs.Fetching.{told_of}
+use Rattle.imap_answers.specs.Fetching.{uid_of}
 
 -- the greatest UID that was shown, and all marks
 pub record Shown : Type 0 where
@@ -57,7 +57,7 @@ uid_if from (Some uid) list = if nat_le from uid && list_any is_head list then S
 
 -- the UID of the message whose beginning these items show, if it is at least `from`
 abbrev pub uid_shown : (from : ℕ) → List FetchItem → Option ℕ
-uid_shown from list = uid_if from (told_of list).uid list
+uid_shown from list = uid_if from (uid_of list) list
 
 abbrev pub greater : Option ℕ → Option ℕ → Option ℕ
 greater None b = b

@@ -5,12 +5,12 @@ ghost use Rattle.std.specs.Option.{option_map};
 ghost use Rattle.imap_replies.specs.declared.reply.Reply.{Reply};
 ghost use Rattle.imap_session.specs.Heard.{AreReplies};
 ghost use Rattle.imap_answers.specs.Bodies.{bodies_more, body_at, body_bytes, body_in, body_told, found_at, is_told};
-ghost use Rattle.imap_answers.specs.Fetching.{told_of};
+ghost use Rattle.imap_answers.specs.Fetching.{uid_of};
 ghost use Rattle.imap_answers.specs.Readings.{ReadsAs, IsReadFault};
 ghost use Rattle.imap_answers.specs.Spoken.{Speaks};
 
 use crate::reading::first_reply;
-use crate::told::Told;
+use crate::told::uid_of;
 use imap_link::fault::FarFault;
 use imap_replies::fetch::FetchItem;
 use imap_replies::reply::Reply;
@@ -132,9 +132,9 @@ fn body_of<'a>(reply: &'a Reply<'_>, uid: Uid) -> Result<Option<&'a [u8]>, FarFa
 
 /// Whether these items tell of the message with this UID.
 fn is_told(items: &[FetchItem<'_>], uid: Uid) -> bool
-    ensures { result ≡ is_told uid (told_of items.now).uid }
+    ensures { result ≡ is_told uid (uid_of items.now) }
 {
-    match Told::of(items).uid {
+    match uid_of(items) {
         Some(told) => told == uid.get(),
         None => false,
     }

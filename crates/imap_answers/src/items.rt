@@ -10,12 +10,12 @@ use mailcore::listing::{Item, Items};
 use mailcore::uid::Uid;
 use std::alloc::Global;
 
-impl Rows {
+impl<'a> Rows<'a> {
     /// The messages that these rows list.
     ///
     /// `Protocol`: a message was told without its flags or its size, or under 4294967295. `NoMemory`.
     pub fn items(&self, alloc: Global) -> Result<Items, FarFault>
-        ensures told { ReadsAs (λ items. items) result (items_told self.now) }
+        ensures told { ReadsAs (λ items. items) result (items_told self.now.rows) }
     {
         let mut items = Vec::with_capacity(alloc, self.by_uid.len())?;
         for (uid, row) in &self.by_uid {

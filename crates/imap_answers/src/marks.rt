@@ -12,7 +12,7 @@ ghost use Rattle.imap_answers.specs.Readings.{ReadsAs, IsReadFault};
 ghost use Rattle.imap_answers.specs.Showing.{reach};
 
 use crate::shown::{ShownMarks, mark_shown};
-use crate::told::Told;
+use crate::told::uid_of;
 use imap_link::fault::FarFault;
 use imap_link::sink::ReplySink;
 use imap_replies::fetch::FetchItem;
@@ -167,7 +167,7 @@ fn marked_uid(reply: &Reply<'_>, mark: Tuid, from: u32) -> Option<u32>
     let Reply::Fetch(_, items) = reply else {
         return None;
     };
-    let uid = Told::of(items.items()).uid?;
+    let uid = uid_of(items.items())?;
     if uid >= from && any_bears(items.items(), mark) {
         Some(uid)
     } else {

@@ -7,7 +7,7 @@ ghost use Rattle.mailcore.specs.Content.{mark_of};
 ghost use Rattle.passed_marks.specs.Passed.{ArePassed, IsOneOf};
 ghost use Rattle.imap_answers.specs.Showing.{greater, is_head, mark_shown, mark_told, marks_more, nothing_shown, reach, shown_more, uid_shown};
 
-use crate::told::Told;
+use crate::told::uid_of;
 use imap_replies::fetch::FetchItem;
 use imap_replies::reply::Reply;
 use mailcore::copies::mark_of;
@@ -95,7 +95,7 @@ fn greater(a: Option<u32>, b: Option<u32>) -> Option<u32>
 fn uid_shown(items: &[FetchItem<'_>], from: u32) -> Option<u32>
     ensures { result ≡ uid_shown from items.now }
 {
-    let uid = Told::of(items).uid?;
+    let uid = uid_of(items)?;
     if uid >= from && any_head(items) {
         Some(uid)
     } else {

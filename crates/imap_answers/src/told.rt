@@ -1,13 +1,14 @@
 //! What FETCH replies tell of messages (RFC 9051, section 7.5.2).
 
-ghost use Rattle.std.specs.Prelude.{◌≡◌, [], OnOk};
-ghost use Rattle.imap_answers.specs.Fetching.{told_of, told_more, nothing_told, row_of, rows_more};
+ghost use Rattle.std.specs.Prelude.{◌≡◌, OnOk};
+ghost use Rattle.imap_answers.specs.Fetching.{no_rows, nothing_told, rows_more, told_more, told_of, uid_more, uid_of, with_row};
 
 use imap_link::sink::ReplySink;
 use imap_replies::fetch::FetchItem;
 use imap_replies::reply::Reply;
 use mailcore::content::MESSAGE_MAX;
 use mailcore::flags::Flags;
+use mailcore::keywords::Keywords;
 use std::alloc::{AllocError, Global};
 use std::collections::BTreeMap;
 use std::marker::Model;
@@ -24,23 +25,15 @@ pub struct Told {
 }
 
 impl Told {
-    /// What these items tell.
-    pub fn of(items: &[FetchItem<'_>]) -> Told
-        ensures { result ≡ told_of items.now }
+    /// What these items tell, where flags have the names of this map.
+    pub fn of(items: &[FetchItem<'_>], keywords: &Keywords) -> Told
+        ensures { result ≡ told_of keywords.now items.now }
     {
-        items
-            .iter()
-            .fold(Told::nothing(), |told, item| told.with(item))
-    }
-
-    /// What is kept of it.
-    fn row(self) -> Row
-        ensures { result ≡ row_of self }
-    {
-        Row {
-            flags: self.flags,
-            fit: self.size.map(|size| size as usize <= MESSAGE_MAX),
+        let mut told = Told::nothing();
+        for item in items {
+            told = told.with(item, keywords);
         }
+        told
     }
 
     fn nothing() -> Told
@@ -54,16 +47,16 @@ impl Told {
     }
 
     /// The same with one item more.
-    fn with(self, item: &FetchItem<'_>) -> Told
-        ensures { result ≡ told_more self item.now }
+    fn with(self, item: &FetchItem<'_>, keywords: &Keywords) -> Told
+        ensures { result ≡ told_more keywords.now self item.now }
     {
         match item {
             FetchItem::Uid(uid) => Told {
                 uid: Some(uid.get()),
                 ..self
             },
-            FetchItem::Flags(flags) => Told {
-                flags: Some(flags.flags()),
+            FetchItem::Flags(names) => Told {
+                flags: Some(names.named(keywords)),
                 ..self
             },
             FetchItem::Size(size) => Told {
@@ -72,6 +65,23 @@ impl Told {
             },
             FetchItem::Body(_) | FetchItem::Head(_) => self,
         }
+    }
+}
+
+/// The UID that these items tell. Of two the later counts.
+pub(crate) fn uid_of(items: &[FetchItem<'_>]) -> Option<u32>
+    ensures { result ≡ uid_of items.now }
+{
+    items.iter().fold(None, |told, item| uid_more(told, item))
+}
+
+/// The same with one item more.
+fn uid_more(told: Option<u32>, item: &FetchItem<'_>) -> Option<u32>
+    ensures { result ≡ uid_more told item.now }
+{
+    match item {
+        FetchItem::Uid(uid) => Some(uid.get()),
+        _ => told,
     }
 }
 
@@ -88,44 +98,46 @@ pub struct Row {
 ///
 /// It is told the replies as they are heard, and holds no more than about 40 bytes a message.
 #[derive(Drop)]
-pub struct Rows {
+pub struct Rows<'a> {
+    // By it the names of flags are read.
+    keywords: &'a Keywords,
     pub(crate) by_uid: BTreeMap<u32, Row>,
 }
 
-impl Model for Rows {
-    ghost use Rattle.std.specs.Prelude.{List, ℕ};
-    ghost use Rattle.imap_answers.specs.declared.told.Row.{Row};
+impl<'a> Model for Rows<'a> {
+    ghost use Rattle.imap_answers.specs.Fetching.{MappedRows};
 
-    ghost Value = { List (ℕ × Row) };
+    ghost Value = { MappedRows };
 
-    ghost view = { λ rows. rows.by_uid.entries };
+    ghost view = { λ rows. record { keywords = rows.keywords.now; rows = rows.by_uid.entries } };
 }
 
-impl Rows {
-    /// Of no message.
-    pub fn new(alloc: Global) -> Rows
-        ensures { result ≡ [] }
+impl<'a> Rows<'a> {
+    /// Of no message. Flags have the names of this map.
+    pub fn new(alloc: Global, keywords: &'a Keywords) -> Rows<'a>
+        ensures { result ≡ no_rows keywords.now }
     {
         Rows {
+            keywords,
             by_uid: BTreeMap::new(alloc),
         }
     }
 
     /// Adds what a reply tells of a message.
     fn add(&mut self, reply: &Reply<'_>) -> Result<(), AllocError>
-        ensures { OnOk result (self.new ≡ rows_more self.old reply.now) }
+        ensures { OnOk result (self.new ≡ record self.old { rows = rows_more self.old.keywords self.old.rows reply.now }) }
     {
-        if let Reply::Fetch(_, items) = reply {
-            let told = Told::of(items.items());
-            if let Some(uid) = told.uid {
-                self.by_uid.insert(uid, told.row())?;
-            }
+        match reply {
+            Reply::Fetch(_, items) => add_row(
+                &mut self.by_uid,
+                Told::of(items.items(), self.keywords),
+            ),
+            _ => Ok(()),
         }
-        Ok(())
     }
 }
 
-impl ReplySink for Rows {
+impl<'a> ReplySink for Rows<'a> {
     ghost use Rattle.imap_answers.specs.Fetching.{TookRows};
     ghost use Rattle.std.specs.Prelude.{refl};
 
@@ -136,4 +148,16 @@ impl ReplySink for Rows {
     fn take(&mut self, reply: &Reply<'_>) -> Result<(), AllocError> {
         self.add(reply)
     }
+}
+
+/// Adds what is told of a message, if its UID is.
+fn add_row(rows: &mut BTreeMap<u32, Row>, told: Told) -> Result<(), AllocError>
+    ensures { OnOk result (rows.new.entries ≡ with_row rows.old.entries told.uid told) }
+{
+    let Told { uid, flags, size } = told;
+    if let Some(uid) = uid {
+        let fit = size.map(|size| size as usize <= MESSAGE_MAX);
+        rows.insert(uid, Row { flags, fit })?;
+    }
+    Ok(())
 }

@@ -3,6 +3,8 @@ use Rattle.std.proofs.Common.{◌≡◌, ◌⊎◌, ◌<◌, ◌≤◌, inl, inr
 use Rattle.std.specs.Prelude.{filter, ◌==◌, ◌&&◌, nat_le, nat_lt, if◌then◌else◌}
 use Rattle.std.specs.Option.{option_map}
 use Rattle.std.proofs.lemmas.Bool.{cases_Bool, le-leb, leb-true}
+use Rattle.mailcore.specs.KeywordNames.{IsMap, kept, named_set}
+use Rattle.mailcore.specs.declared.keywords.Keyword.{Keyword}
 use Rattle.mailcore.specs.Stores.{Store}
 use Rattle.mailcore.specs.Operations.{added}
 use Rattle.imap_commands.specs.declared.command.Command.{Command}
@@ -16,7 +18,7 @@ use Rattle.imap_session.specs.Mailboxes.{FarMailbox, same_name, mailbox_at, chan
 use Rattle.imap_session.specs.Servers.{Condition, NotAuthenticated, Authenticated, Selected, LoggedOut, Server, is_logged_in, selected, selected_in, changed_in, with_selected}
 use Rattle.imap_session.specs.Answering.{done_with}
 use Rattle.imap_session.specs.AppendCommand.{grown, AppendsUnder, NoneLeft, AppendsAt, AppendsIf}
-use Rattle.imap_session.specs.Heard.{AreReplies, LeavesOut, WithoutUid}
+use Rattle.imap_session.specs.Heard.{AreHeardAs, AreReplies, IsHeardAs}
 use Rattle.imap_session.specs.Steps.{Step}
 use Rattle.exchange_laws.specs.Ends.{MayHave}
 use Rattle.imap_link.specs.declared.fault.FarFault.{FarFault}
@@ -36,6 +38,8 @@ use Rattle.imap_client.specs.Appending.{AddsUnder, AddsSome, Adds, IsTold, NoUid
 use Rattle.imap_answers.proofs.Unread.{given_in_read}
 use Rattle.visitors.specs.Visitors.{Visitors}
 use Rattle.imap_session.specs.Visits.{Visits, Among}
+use Rattle.imap_client.specs.Seen.{HasMap, flags_sent}
+use Rattle.imap_client.proofs.Mapped.{sent_kept}
 use Rattle.imap_client.proofs.Visited.{at_once}
 use Rattle.imap_client.proofs.Answered.{final_last, said_of}
 use Rattle.imap_client.proofs.Changed.{with_store, selected_changed, there_of}
@@ -70,25 +74,29 @@ at_of name mailboxes LoggedOut e = cc
 pub record AddedSo (n : ℕ) (name : List ℕ) (m : FarMailbox) (flags : ℕ) (message bytes : List ℕ) (old new : Server) : Type 0 where
   pub uid : ℕ
   pub under : AddsUnder m flags message uid old new
-  pub heard : HeardOf answer_alone any_replies (grown old.condition name (length m.store.messages + 1) ++ done_with (tag_text n) (codes_of.AppendUid m.store.validity uid) ∷ []) bytes
+  pub heard : HeardOf old.keywords answer_alone any_replies (grown old.condition name (length m.store.messages + 1) ++ done_with (tag_text n) (codes_of.AppendUid m.store.validity uid) ∷ []) bytes
 
-module _ (n : ℕ) (name : List ℕ) (flags : ℕ) (message : List ℕ) (old : Server) (m : FarMailbox) (named : selected_name old.condition ≡ Some name) (is : selected old ≡ Some m) where
+module _ (n : ℕ) (name : List ℕ) (names : List (List ℕ)) (message : List ℕ) (old : Server) (m : FarMailbox) (named : selected_name old.condition ≡ Some name) (is : selected old ≡ Some m) where
   abbrev this : Command
-  this = command_at n (requests.Append name flags message)
+  this = command_at n (requests.Append name names message)
+
+  -- those of the flags with these names that the server has
+  abbrev sent : ℕ
+  sent = named_set old.keywords names
 
   -- it was added, or no UID is left
-  by_step : (said : List Reply) (new : Server) → Step old this said new → NoneLeft old m (tag_text n) said new ⊎ AppendsUnder old m (tag_text n) name flags message said new
+  by_step : (said : List Reply) (new : Server) → Step old this said new → NoneLeft old m (tag_text n) said new ⊎ AppendsUnder old m (tag_text n) name names message said new
   by_step said new step =
       let at = at_of name old.mailboxes old.condition named in
-      subst (λ (x : Option FarMailbox). AppendsAt x old (tag_text n) name flags message said new) (sym at.there ∙ is)
-      (subst (λ (b : Bool). AppendsIf b old (tag_text n) name flags message said new) at.logged_in step)
+      subst (λ (x : Option FarMailbox). AppendsAt x old (tag_text n) name names message said new) (sym at.there ∙ is)
+      (subst (λ (b : Bool). AppendsIf b old (tag_text n) name names message said new) at.logged_in step)
 
-  under_of : (said : List Reply) (new : Server) → (a : AppendsUnder old m (tag_text n) name flags message said new) → AddsUnder m flags message a.uid old new
+  under_of : (said : List Reply) (new : Server) → (a : AppendsUnder old m (tag_text n) name names message said new) → AddsUnder m sent message a.uid old new
   under_of said new a =
       let at = at_of name old.mailboxes old.condition named in
-      record { may = a.may; after = a.gives.1 ∙ ap (λ (ms : List FarMailbox). record old { mailboxes = ms }) (sym (at.changes (added a.uid flags message))) }
+      record { may = a.may; after = a.gives.1 ∙ ap (λ (ms : List FarMailbox). record old { mailboxes = ms }) (sym (at.changes (added a.uid sent message))) }
 
-  added_status : (said : List Reply) (new : Server) (status : Status) → AppendsUnder old m (tag_text n) name flags message said new → final_status said ≡ Some status → statuses.Ok ≡ status
+  added_status : (said : List Reply) (new : Server) (status : Status) → AppendsUnder old m (tag_text n) name names message said new → final_status said ≡ Some status → statuses.Ok ≡ status
   added_status said new status a e =
       let last : final_status said ≡ Some statuses.Ok = ap final_status a.gives.0 ∙ final_last (grown old.condition name (length m.store.messages + 1)) (done_with (tag_text n) (codes_of.AppendUid m.store.validity a.uid)) in
       cc
@@ -96,12 +104,12 @@ module _ (n : ℕ) (name : List ℕ) (flags : ℕ) (message : List ℕ) (old : S
   none_status : (said : List Reply) (new : Server) (status : Status) → NoneLeft old m (tag_text n) said new → final_status said ≡ Some status → statuses.No ≡ status
   none_status said new status l e = let last : final_status said ≡ Some statuses.No = ap final_status l.gives.0 in cc
 
-  ok_so : (bytes : List ℕ) (new : Server) → Replied this statuses.Ok any_replies bytes old new → AddedSo n name m flags message bytes old new
+  ok_so : (bytes : List ℕ) (new : Server) → Replied this statuses.Ok any_replies bytes old new → AddedSo n name m sent message bytes old new
   ok_so bytes new r =
       let s = said_of any_replies this statuses.Ok bytes old new r in
       elim (by_step s.said new s.step) [
         | inl l ↦ (let both = none_status s.said new statuses.Ok l s.status_is in cc)
-        | inr a ↦ record { uid = a.uid; under = under_of s.said new a; heard = subst (λ (rs : List Reply). HeardOf answer_alone any_replies rs bytes) a.gives.0 s.heard }
+        | inr a ↦ record { uid = a.uid; under = under_of s.said new a; heard = subst (λ (rs : List Reply). HeardOf old.keywords answer_alone any_replies rs bytes) a.gives.0 s.heard }
       ]
 
   no_so : (bytes : List ℕ) (new : Server) → Replied this statuses.No any_replies bytes old new → NoUidLeft m old new
@@ -120,7 +128,7 @@ module _ (n : ℕ) (name : List ℕ) (flags : ℕ) (message : List ℕ) (old : S
         | inr a ↦ (let both = added_status s.said new statuses.Bad a s.status_is in cc)
       ]
 
-  may_so : (new : Server) → MayHave (Performs this) old new → MayHave (AddsSome m flags message) old new
+  may_so : (new : Server) → MayHave (Performs this) old new → MayHave (AddsSome m sent message) old new
   may_so new (inl q) = inl q
   may_so new (inr d) =
       elim (by_step d.said new d.step) [
@@ -129,7 +137,7 @@ module _ (n : ℕ) (name : List ℕ) (flags : ℕ) (message : List ℕ) (old : S
       ]
 
   pub add_exchanged : (result : Result (Unit {0}) FarFault) (heard : List ℕ) (new : Server) → Exchanged this any_replies result heard old new
-      → Outcome {T = Unit {0}} (λ _. AddedSo n name m flags message heard) (NoUidLeft m) (AddsSome m flags message) result old new
+      → Outcome {T = Unit {0}} (λ _. AddedSo n name m sent message heard) (NoUidLeft m) (AddsSome m sent message) result old new
   add_exchanged (Ok x) heard new h = ok_so heard new h
   add_exchanged (Err faults.Stopped) heard new h = may_so new h
   add_exchanged (Err faults.Refused) heard new h = no_so h.bytes new h.replied
@@ -139,7 +147,7 @@ module _ (n : ℕ) (name : List ℕ) (flags : ℕ) (message : List ℕ) (old : S
   add_exchanged (Err faults.ReadOnly) heard new h = h
   add_exchanged (Err faults.NoMemory) heard new h = may_so new h
 
-  pub some_of : (bytes : List ℕ) (new : Server) → AddedSo n name m flags message bytes old new → AddsSome m flags message old new
+  pub some_of : (bytes : List ℕ) (new : Server) → AddedSo n name m sent message bytes old new → AddsSome m sent message old new
   some_of bytes new a = record { uid = a.uid; under = a.under }
 
 -- ---- what is told of it
@@ -158,33 +166,39 @@ none_or_one LoggedOut name n = inl refl
 abbrev IsOf : (validity uid : ℕ) → Option Given → Type 0
 IsOf validity uid given = (given ≡ None) ⊎ (given ≡ Some (record { validity = validity; uid = uid }))
 
-module _ (tag : List ℕ) (validity uid : ℕ) where
+module _ (keywords : List Keyword) (tag : List ℕ) (validity uid : ℕ) where
   abbrev ends : Reply
   ends = done_with tag (codes_of.AppendUid validity uid)
 
-  last_given : (h : Reply) → (h ≡ ends) ⊎ WithoutUid h ends → IsOf validity uid (given_more None h)
+  last_given : (h : Reply) → IsHeardAs keywords h ends → IsOf validity uid (given_more None h)
   last_given h (inl e) = inr (ap (given_more None) e)
-  last_given h (inr w) = inl (ap (given_more None) w.heard_is)
+  last_given h (inr (inl w)) = inl (ap (given_more None) w.heard_is)
+  last_given h (inr (inr (inl w))) = let said = w.said_is in cc
+  last_given h (inr (inr (inr (inl w)))) = let said = w.said_is in cc
+  last_given h (inr (inr (inr (inr w)))) = let said = w.said_is in cc
 
-  given_alone : (hs : List Reply) → LeavesOut hs (ends ∷ []) → IsOf validity uid (given_in hs)
+  given_alone : (hs : List Reply) → AreHeardAs keywords hs (ends ∷ []) → IsOf validity uid (given_in hs)
   given_alone [] l = absurd l
   given_alone (h ∷ []) l = last_given h l.0
   given_alone (h ∷ i ∷ hs) l = absurd l.1
 
-  passed : (n : ℕ) (h : Reply) → (h ≡ Exists n) ⊎ WithoutUid h (Exists n) → given_more None h ≡ None
+  passed : (n : ℕ) (h : Reply) → IsHeardAs keywords h (Exists n) → given_more None h ≡ None
   passed n h (inl e) = ap (given_more None) e
-  passed n h (inr w) = let said = w.said_is in cc
+  passed n h (inr (inl w)) = let said = w.said_is in cc
+  passed n h (inr (inr (inl w))) = let said = w.said_is in cc
+  passed n h (inr (inr (inr (inl w)))) = let said = w.said_is in cc
+  passed n h (inr (inr (inr (inr w)))) = let said = w.said_is in cc
 
-  given_behind : (n : ℕ) (hs : List Reply) → LeavesOut hs (Exists n ∷ ends ∷ []) → IsOf validity uid (given_in hs)
+  given_behind : (n : ℕ) (hs : List Reply) → AreHeardAs keywords hs (Exists n ∷ ends ∷ []) → IsOf validity uid (given_in hs)
   given_behind n [] l = absurd l
   given_behind n (h ∷ []) l = absurd l.1
   given_behind n (h ∷ i ∷ []) l = subst (λ (g : Option Given). IsOf validity uid (given_more g i)) (sym (passed n h l.0)) (last_given i l.1.0)
   given_behind n (h ∷ i ∷ j ∷ hs) l = absurd l.1.1
 
-  given_of : (c : Condition) (name : List ℕ) (n : ℕ) (hs : List Reply) → LeavesOut hs (grown c name n ++ ends ∷ []) → IsOf validity uid (given_in hs)
+  given_of : (c : Condition) (name : List ℕ) (n : ℕ) (hs : List Reply) → AreHeardAs keywords hs (grown c name n ++ ends ∷ []) → IsOf validity uid (given_in hs)
   given_of c name n hs l = elim (none_or_one c name n) [
-    | inl e ↦ given_alone hs (subst (λ (xs : List Reply). LeavesOut hs (xs ++ ends ∷ [])) e l)
-    | inr e ↦ given_behind n hs (subst (λ (xs : List Reply). LeavesOut hs (xs ++ ends ∷ [])) e l)
+    | inl e ↦ given_alone hs (subst (λ (xs : List Reply). AreHeardAs keywords hs (xs ++ ends ∷ [])) e l)
+    | inr e ↦ given_behind n hs (subst (λ (xs : List Reply). AreHeardAs keywords hs (xs ++ ends ∷ [])) e l)
   ]
 
 -- the UID is told, or none
@@ -216,7 +230,7 @@ told_so n name m flags message bytes old new validity next sel is a given told =
     let may = a.under.may in
     let at_least = may.at_least in
     told_by m.store.validity next validity a.uid given (validity_is m (selected old) validity is sel.1) (omega (arith, least, at_least)) may.below
-    (subst (IsOf m.store.validity a.uid) (sym (told (filter (is_used answer_alone) a.heard.replies) a.heard.spelled ∙ given_in_read a.heard.replies)) (given_of (tag_text n) m.store.validity a.uid old.condition name (length m.store.messages + 1) a.heard.replies a.heard.left_out))
+    (subst (IsOf m.store.validity a.uid) (sym (told (filter (is_used answer_alone) a.heard.replies) a.heard.spelled ∙ given_in_read a.heard.replies)) (given_of old.keywords (tag_text n) m.store.validity a.uid old.condition name (length m.store.messages + 1) a.heard.replies a.heard.heard_as))
 
 same_told : (a b : Option ℕ) → (let x : Result (Option ℕ) FarFault = Ok a in x) ≡ Ok b → a ≡ b
 same_told a b e = cc
@@ -290,6 +304,17 @@ module _ (T : Type 0) (was now : State) (old new : Server) where
         | inl t ↦ record { mid = a.mid; visits = a.visits; then = λ m is. a.then (known t a.mid a.visits) m is }
         | inr f ↦ at_once v (λ s t. (m : FarMailbox) → selected s ≡ Some m → Outcome (does m) (refuses m) (effect m) r s t) old new (λ m is. stuck_outcome (does m) (refuses m) (effect m) r e f (same f))
       ]
+
+-- what is sent to a server with the map are those of the flags that have a name
+pub where_mapped : (v : Visitors) (keywords : List Keyword) (flags : ℕ) (message : List ℕ) (r : Result (Option ℕ) FarFault) → IsMap keywords → (Q : Server → Type 0) (old new : Server)
+    → Among v (λ s t. Q s → (m : FarMailbox) → selected s ≡ Some m → Outcome (Adds m (flags_sent keywords flags s) message) (NoUidLeft m) (AddsSome m (flags_sent keywords flags s) message) r s t) old new
+    → Among v (λ s t. (Q s × HasMap keywords s) → (m : FarMailbox) → selected s ≡ Some m → Outcome (Adds m (kept keywords flags) message) (NoUidLeft m) (AddsSome m (kept keywords flags) message) r s t) old new
+where_mapped v keywords flags message r map Q old new a = record {
+  mid = a.mid;
+  visits = a.visits;
+  then = λ q m is.
+      subst (λ (f : ℕ). Outcome {T = Option ℕ} (Adds m f message) (NoUidLeft m) (AddsSome m f message) r a.mid new) (sent_kept keywords flags a.mid map q.1) (a.then q.0 m is);
+}
 
 -- of a session that goes on behind a fault
 module _ (was now : State) (old new : Server) (name : List ℕ) (validity next flags : ℕ) (message : List ℕ) where

@@ -1,7 +1,8 @@
 -- What became of a command of which it is known what the server does with it.
-use Rattle.std.proofs.Common.{◌≡◌, ◌⊎◌, inl, inr, ℕ, Bool, true, false, List, [], ◌∷◌, ◌++◌, refl, sym, ◌∙◌, ap, subst, append-nil, Option, Some, Result, Ok, Err}
+use Rattle.std.proofs.Common.{◌≡◌, inl, inr, ℕ, Bool, true, false, List, [], ◌∷◌, ◌++◌, refl, sym, ◌∙◌, ap, subst, append-nil, Option, Some, Result, Ok, Err}
 use Rattle.std.specs.Prelude.{filter, nat_eq, if◌then◌else◌}
 use Rattle.std.specs.Cmp.Lexicographic.{pointwise}
+use Rattle.mailcore.specs.declared.keywords.Keyword.{Keyword}
 use Rattle.imap_commands.specs.declared.command.Command.{Command}
 use Rattle.imap_replies.specs.declared.word.Status.{Status}
 use Rattle.imap_replies.specs.declared.word.Status.TheVariants as statuses
@@ -10,9 +11,10 @@ use Rattle.imap_replies.specs.declared.reply.Reply.{Reply}
 use Rattle.imap_replies.specs.declared.reply.Reply.TheVariants.{Continue, Tagged, Notice, Capability, Enabled, List as Listed, Flags, Exists, Expunge, Fetch, Other, OtherNumbered}
 use Rattle.imap_session.specs.Servers.{Server}
 use Rattle.imap_session.specs.Steps.{Step}
-use Rattle.imap_session.specs.Heard.{AreReplies, LeavesOut, WithoutUid}
+use Rattle.imap_session.specs.Heard.{AreHeardAs, AreReplies, IsHeardAs}
 use Rattle.exchange_laws.specs.Ends.{MayHave}
-use Rattle.exchange_laws.proofs.Answering.{step_answer, leaves_answer}
+use Rattle.exchange_laws.proofs.Answering.{heard_answer, step_answer}
+use Rattle.exchange_laws.proofs.HeardAs.{reads_same}
 use Rattle.imap_link.specs.declared.fault.FarFault.{FarFault}
 use Rattle.imap_link.specs.declared.fault.FarFault.TheVariants as faults
 use Rattle.imap_link.specs.declared.kind.Kind.TheVariants.{Mine, Stray}
@@ -55,32 +57,37 @@ final_last [] r = refl
 final_last (x ∷ []) r = refl
 final_last (x ∷ y ∷ xs) r = final_last (y ∷ xs) r
 
-same_status : (h s : Reply) → (h ≡ s) ⊎ WithoutUid h s → status_of h ≡ status_of s
-same_status h s (inl e) = ap status_of e
-same_status h s (inr w) = ap status_of w.heard_is ∙ sym (ap status_of w.said_is)
+module _ (keywords : List Keyword) where
+  same_status : (h s : Reply) → IsHeardAs keywords h s → status_of h ≡ status_of s
+  same_status = reads_same keywords status_of (record {
+    without_uid = λ tag text validity uid. refl;
+    flags = λ heard said same. refl;
+    permanent = λ kind text heard said same star. refl;
+    message = λ place heard said same. refl;
+  })
 
-leaves_final : (hs ss : List Reply) → LeavesOut hs ss → final_status hs ≡ final_status ss
-leaves_final [] [] l = refl
-leaves_final [] (s ∷ ss) l = absurd l
-leaves_final (h ∷ hs) [] l = absurd l
-leaves_final (h ∷ []) (s ∷ []) l = same_status h s l.0
-leaves_final (h ∷ []) (s ∷ t ∷ ss) l = absurd l.1
-leaves_final (h ∷ i ∷ hs) (s ∷ []) l = absurd l.1
-leaves_final (h ∷ i ∷ hs) (s ∷ t ∷ ss) l = leaves_final (i ∷ hs) (t ∷ ss) l.1
+  heard_final : (hs ss : List Reply) → AreHeardAs keywords hs ss → final_status hs ≡ final_status ss
+  heard_final [] [] l = refl
+  heard_final [] (s ∷ ss) l = absurd l
+  heard_final (h ∷ hs) [] l = absurd l
+  heard_final (h ∷ []) (s ∷ []) l = same_status h s l.0
+  heard_final (h ∷ []) (s ∷ t ∷ ss) l = absurd l.1
+  heard_final (h ∷ i ∷ hs) (s ∷ []) l = absurd l.1
+  heard_final (h ∷ i ∷ hs) (s ∷ t ∷ ss) l = heard_final (i ∷ hs) (t ∷ ss) l.1
 
 -- ---- what was done
 
 pub record Said (T : List Reply → Type 0) (c : Command) (status : Status) (bytes : List ℕ) (old new : Server) : Type 0 where
   pub said : List Reply
   pub step : Step old c said new
-  pub heard : HeardOf (uses_of c.request) T said bytes
+  pub heard : HeardOf old.keywords (uses_of c.request) T said bytes
   pub status_is : final_status said ≡ Some status
 
 pub said_of : (T : List Reply → Type 0) (c : Command) (status : Status) (bytes : List ℕ) (old new : Server) → Replied c status T bytes old new → Said T c status bytes old new
 said_of T c status bytes old new r =
     let uses = uses_of c.request in
     let said = r.did.said in
-    let answer = leaves_answer c.tag r.replies said r.did.left_out (step_answer old c.tag c.request said new r.did.step) in
+    let answer = heard_answer old.keywords c.tag r.replies said r.did.heard_as (step_answer old c.tag c.request said new r.did.step) in
     let closed = closed_of c.tag r.replies answer in
     let mine : IsAwaited (kind_of c.tag r.text.last) = subst IsAwaited (sym r.text.is) tt in
     let same = ends_apart r.text.last closed.last (awaited_stays c.tag r.text.last mine) (awaited_stays c.tag closed.last (tagged_awaited c.tag closed.last closed.is))
@@ -89,8 +96,8 @@ said_of T c status bytes old new r =
     record {
       said = said;
       step = r.did.step;
-      heard = record { replies = r.replies; spelled = r.spelled; told = r.told; left_out = r.did.left_out };
-      status_is = sym (leaves_final r.replies said r.did.left_out) ∙ ap final_status closed.all ∙ final_last closed.passed closed.last ∙ ap status_of (sym same.1) ∙ kind_status c.tag r.text.last status r.text.is;
+      heard = record { replies = r.replies; spelled = r.spelled; told = r.told; heard_as = r.did.heard_as };
+      status_is = sym (heard_final old.keywords r.replies said r.did.heard_as) ∙ ap final_status closed.all ∙ final_last closed.passed closed.last ∙ ap status_of (sym same.1) ∙ kind_status c.tag r.text.last status r.text.is;
     }
 
 -- ---- a command with one answer
@@ -109,15 +116,15 @@ module _ (T : List Reply → Type 0) (c : Command) (old : Server) (xs : List Rep
   after_so new (inl q) = inl q
   after_so new (inr d) = inr (sure.each d.said new d.step).1
 
-  pub heard_so : (status : Status) (bytes : List ℕ) (new : Server) → Replied c status T bytes old new → HeardOf (uses_of c.request) T (xs ++ last ∷ []) bytes × (new ≡ after)
+  pub heard_so : (status : Status) (bytes : List ℕ) (new : Server) → Replied c status T bytes old new → HeardOf old.keywords (uses_of c.request) T (xs ++ last ∷ []) bytes × (new ≡ after)
   heard_so status bytes new r =
       let s = said_of T c status bytes old new r in
       let is = sure.each s.said new s.step in
-      (subst (λ (rs : List Reply). HeardOf (uses_of c.request) T rs bytes) is.0 s.heard, is.1)
+      (subst (λ (rs : List Reply). HeardOf old.keywords (uses_of c.request) T rs bytes) is.0 s.heard, is.1)
 
   -- where it is OK
   pub answered : status_of last ≡ Some statuses.Ok → (result : Result (Unit {0}) FarFault) (heard : List ℕ) (new : Server) → Exchanged c T result heard old new
-      → Outcome {T = Unit {0}} (λ _ s t. HeardOf (uses_of c.request) T (xs ++ last ∷ []) heard × (t ≡ after)) Never (λ s t. t ≡ after) result old new
+      → Outcome {T = Unit {0}} (λ _ s t. HeardOf old.keywords (uses_of c.request) T (xs ++ last ∷ []) heard × (t ≡ after)) Never (λ s t. t ≡ after) result old new
   answered ok (Ok x) heard new h = heard_so statuses.Ok heard new h
   answered ok (Err faults.Stopped) heard new h = after_so new h
   answered ok (Err faults.Refused) heard new h = let no = status_so statuses.No h.bytes new h.replied in let both : (let x : Option Status = Some statuses.Ok in x) ≡ Some statuses.No = sym ok ∙ no in cc

@@ -3,6 +3,7 @@ use Rattle.std.proofs.Common.{◌≡◌, ◌≤◌, ℕ, ◌+◌, ◌*◌, false
 use Rattle.std.specs.List.{fold}
 use Rattle.wire_tokens.specs.declared.uid_set.SetItem.{SetItem}
 use Rattle.wire_tokens.specs.Room.{most_item, most_set}
+use Rattle.wire_tokens.proofs.FlagTexts.{set_names_few}
 use Rattle.imap_client.specs.declared.call.Call.{Call}
 use Rattle.imap_client.specs.declared.call.Call.TheVariants as calls
 use Rattle.exchange_laws.specs.Ends.{is_logout}
@@ -26,7 +27,7 @@ asked_plain (calls.Select name) h = h
 asked_plain calls.Listing h = omega arith
 asked_plain (calls.Body uid) h = omega arith
 asked_plain (calls.Heads from) h = omega arith
-asked_plain (calls.Store uid mode flags) h = omega arith
+asked_plain (calls.Store uid mode flags keywords) h = let few = set_names_few keywords.now flags h in omega (arith, few)
 asked_plain (calls.Expunge uids) h = let room = ones_room uids.now in let most = h.1 in omega (arith, room, most)
 
 pub asked_stays : (c : Call) → is_logout (request_of c) ≡ false
@@ -39,5 +40,5 @@ asked_stays (calls.Select name) = refl
 asked_stays calls.Listing = refl
 asked_stays (calls.Body uid) = refl
 asked_stays (calls.Heads from) = refl
-asked_stays (calls.Store uid mode flags) = refl
+asked_stays (calls.Store uid mode flags keywords) = refl
 asked_stays (calls.Expunge uids) = refl

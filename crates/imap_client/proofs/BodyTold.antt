@@ -4,6 +4,7 @@ use Rattle.std.specs.Prelude.{find, ◌==◌, ◌||◌, if◌then◌else◌}
 use Rattle.std.specs.List.{fold}
 use Rattle.std.specs.Option.{option_map}
 use Rattle.std.proofs.lemmas.Bool.{eqb-true, ne_eqb}
+use Rattle.mailcore.specs.declared.keywords.Keyword.{Keyword}
 use Rattle.mailcore.specs.declared.mailbox.Message.{Message}
 use Rattle.mailcore.specs.Operations.{bytes_among, bytes_of}
 use Rattle.mailcore.specs.Ranges.{AreInRange}
@@ -27,9 +28,9 @@ or_false : (b : Bool) → (b || false) ≡ b
 or_false true = refl
 or_false false = refl
 
-module _ (uid : ℕ) (tag : List ℕ) where
+module _ (keywords : List Keyword) (uid : ℕ) (tag : List ℕ) where
   abbrev rest : (named : ℕ → Bool) (place : ℕ) → List Message → List Reply
-  rest named place ms = fetched named wanted.Body place ms ++ done tag ∷ []
+  rest named place ms = fetched keywords named wanted.Body place ms ++ done tag ∷ []
 
   -- no other message is named
   abbrev NamesOne : (named : ℕ → Bool) → List Message → Type 0
@@ -40,12 +41,12 @@ module _ (uid : ℕ) (tag : List ℕ) where
   none_told named told low place [] h r n = refl
   none_told named told low place (m ∷ ms) h r n =
       let low_is = r.0 in
-      ap (λ (b : Bool). fold (bodies_more uid) told ((if b then Fetch place (shown wanted.Body m) ∷ fetched named wanted.Body (place + 1) ms else fetched named wanted.Body (place + 1) ms) ++ done tag ∷ [])) (n.0 ∙ ne_eqb m.uid uid (λ e. absurd (omega arith)))
+      ap (λ (b : Bool). fold (bodies_more uid) told ((if b then Fetch place (shown keywords wanted.Body m) ∷ fetched keywords named wanted.Body (place + 1) ms else fetched keywords named wanted.Body (place + 1) ms) ++ done tag ∷ [])) (n.0 ∙ ne_eqb m.uid uid (λ e. absurd (omega arith)))
       ∙ none_told named told (m.uid + 1) (place + 1) ms (omega arith) r.2 n.1
 
   told_by : (named : ℕ → Bool) (b : Bool) (place : ℕ) (m : Message) (ms : List Message) → (m.uid == uid) ≡ b → Rise (m.uid + 1) ms → NamesOne named ms
       → fold (bodies_more uid) (Some None) (rest named (place + 1) ms) ≡ Some (bytes_among uid ms)
-      → fold (bodies_more uid) (Some None) ((if b then Fetch place (shown wanted.Body m) ∷ fetched named wanted.Body (place + 1) ms else fetched named wanted.Body (place + 1) ms) ++ done tag ∷ []) ≡ Some (option_map (λ (x : Message). x.bytes) (if b then Some m else find (λ (x : Message). x.uid == uid) ms))
+      → fold (bodies_more uid) (Some None) ((if b then Fetch place (shown keywords wanted.Body m) ∷ fetched keywords named wanted.Body (place + 1) ms else fetched keywords named wanted.Body (place + 1) ms) ++ done tag ∷ []) ≡ Some (option_map (λ (x : Message). x.bytes) (if b then Some m else find (λ (x : Message). x.uid == uid) ms))
   told_by named true place m ms is r n e =
       let same = eqb-true m.uid uid is in
       ap (λ (b : Bool). fold (bodies_more uid) (if b then Some (Some m.bytes) else Some None) (rest named (place + 1) ms)) is
@@ -55,7 +56,7 @@ module _ (uid : ℕ) (tag : List ℕ) where
   one_told : (named : ℕ → Bool) (low place : ℕ) (ms : List Message) → Rise low ms → NamesOne named ms → fold (bodies_more uid) (Some None) (rest named place ms) ≡ Some (bytes_among uid ms)
   one_told named low place [] r n = refl
   one_told named low place (m ∷ ms) r n =
-      ap (λ (b : Bool). fold (bodies_more uid) (Some None) ((if b then Fetch place (shown wanted.Body m) ∷ fetched named wanted.Body (place + 1) ms else fetched named wanted.Body (place + 1) ms) ++ done tag ∷ [])) n.0
+      ap (λ (b : Bool). fold (bodies_more uid) (Some None) ((if b then Fetch place (shown keywords wanted.Body m) ∷ fetched keywords named wanted.Body (place + 1) ms else fetched keywords named wanted.Body (place + 1) ms) ++ done tag ∷ [])) n.0
       ∙ told_by named (m.uid == uid) place m ms refl r.2 n.1 (one_told named (m.uid + 1) (place + 1) ms r.2 n.1)
 
   names_one : (g : ℕ) (ms : List Message) → NamesOne (names (Some g) (one_uid uid)) ms
@@ -66,5 +67,5 @@ module _ (uid : ℕ) (tag : List ℕ) where
   names_in [] = tt
   names_in (m ∷ ms) = subst (λ (o : Option ℕ). NamesOne (names o (one_uid uid)) (m ∷ ms)) (sym (greatest_is m ms)) (names_one (last_of m ms) (m ∷ ms))
 
-pub tells_body : (uid : ℕ) (m : FarMailbox) (tag : List ℕ) → IsStore m.store → AreInRange m.store.messages → body_told uid (replies_for m (one_uid uid) wanted.Body tag) ≡ Some (bytes_of uid m.store)
-tells_body uid m tag is range = one_told uid tag (named_in m.store (one_uid uid)) 1 1 m.store.messages (store_rises m.store is range) (names_in uid tag m.store.messages)
+pub tells_body : (keywords : List Keyword) (uid : ℕ) (m : FarMailbox) (tag : List ℕ) → IsStore m.store → AreInRange m.store.messages → body_told uid (replies_for keywords m (one_uid uid) wanted.Body tag) ≡ Some (bytes_of uid m.store)
+tells_body keywords uid m tag is range = one_told keywords uid tag (named_in m.store (one_uid uid)) 1 1 m.store.messages (store_rises m.store is range) (names_in keywords uid tag m.store.messages)

@@ -2,6 +2,7 @@
 use Rattle.std.proofs.Common.{◌≡◌, ℕ, Bool, true, false, List, [], ◌∷◌, ◌++◌, refl, sym, ◌∙◌, ap, subst, Option, Some, None, Result, Ok, Err}
 use Rattle.std.specs.Prelude.{nat_le, if◌then◌else◌}
 use Rattle.std.specs.Option.{option_map}
+use Rattle.mailcore.specs.KeywordNames.{named_set, names_of}
 use Rattle.mailcore.specs.Stores.{Store}
 use Rattle.wire_tokens.specs.declared.uid_set.SetItem.{SetItem}
 use Rattle.imap_commands.specs.declared.command.StoreMode.{StoreMode}
@@ -28,6 +29,7 @@ use Rattle.imap_client.specs.Exchanged.{command_at, Exchanged}
 use Rattle.imap_client.specs.Saying.{HeardOf}
 use Rattle.imap_client.specs.States.{State, EndsSo}
 use Rattle.imap_client.specs.Boxes.{selected_name, is_next, IsSelected, Becomes, one_uid, Changing}
+use Rattle.imap_client.specs.Seen.{flags_sent}
 use Rattle.imap_client.proofs.Answered.{Sure, answered}
 
 -- ---- outcomes
@@ -50,7 +52,7 @@ module _ (T : Type 0) (does does_now : T → Server → Server → Type 0) (refu
 -- ---- the commands
 
 module _ (n : ℕ) (old : Server) (m : FarMailbox) (is : selected old ≡ Some m) where
-  sure_store : (set : List SetItem) (mode : StoreMode) (flags : ℕ) → Sure (command_at n (requests.Store set mode flags)) old [] (done (tag_text n)) (with_selected (stored mode flags set) old)
+  sure_store : (set : List SetItem) (mode : StoreMode) (flags : List (List ℕ)) → Sure (command_at n (requests.Store set mode flags)) old [] (done (tag_text n)) (with_selected (stored mode (named_set old.keywords flags) set) old)
   sure_store set mode flags = record {
     each = λ said new step. subst (λ (x : Option FarMailbox). Gives (stores_in x old (tag_text n) set mode flags) said new) is step;
   }
@@ -61,7 +63,7 @@ module _ (n : ℕ) (old : Server) (m : FarMailbox) (is : selected old ≡ Some m
   }
 
   becomes_by : (uses : Uses) (xs : List Reply) (change : Store → Store) (heard : List ℕ) (new : Server) (result : Result (Unit {0}) FarFault)
-      → Outcome {T = Unit {0}} (λ _ s t. HeardOf uses any_replies xs heard × (t ≡ with_selected change old)) Never (λ s t. t ≡ with_selected change old) result old new
+      → Outcome {T = Unit {0}} (λ _ s t. HeardOf old.keywords uses any_replies xs heard × (t ≡ with_selected change old)) Never (λ s t. t ≡ with_selected change old) result old new
       → Outcome {T = Unit {0}} (λ _. Becomes change) Never (Becomes change) result old new
   becomes_by uses xs change heard new (Ok x) h = h.1
   becomes_by uses xs change heard new (Err faults.Stopped) h = h
@@ -76,7 +78,7 @@ module _ (n : ℕ) (old : Server) (m : FarMailbox) (is : selected old ≡ Some m
       → Outcome {T = Unit {0}} (λ _. Becomes change) Never (Becomes change) result old new
   becomes xs c change sure result heard new h = becomes_by (uses_of c.request) (xs ++ done (tag_text n) ∷ []) change heard new result (answered any_replies c old xs (done (tag_text n)) (with_selected change old) sure refl result heard new h)
 
-  pub changes : (call : Call) (change : Store → Store) → Changing call change → (result : Result (Unit {0}) FarFault) (heard : List ℕ) (new : Server) → Exchanged (command_at n (request_of call)) any_replies result heard old new
+  pub changes : (call : Call) (change : Store → Store) → Changing old call change → (result : Result (Unit {0}) FarFault) (heard : List ℕ) (new : Server) → Exchanged (command_at n (request_of call)) any_replies result heard old new
       → Outcome {T = Unit {0}} (λ _. Becomes change) Never (Becomes change) result old new
   changes calls.Capability change h result heard new x = absurd h
   changes (calls.Login user password) change h result heard new x = absurd h
@@ -87,9 +89,9 @@ module _ (n : ℕ) (old : Server) (m : FarMailbox) (is : selected old ≡ Some m
   changes calls.Listing change h result heard new x = absurd h
   changes (calls.Body uid) change h result heard new x = absurd h
   changes (calls.Heads from) change h result heard new x = absurd h
-  changes (calls.Store uid mode flags) change h result heard new x =
+  changes (calls.Store uid mode flags keywords) change h result heard new x =
       subst (λ (f : Store → Store). Outcome {T = Unit {0}} (λ _. Becomes f) Never (Becomes f) result old new) (sym h)
-      (becomes [] (command_at n (requests.Store (one_uid uid) mode flags)) (stored mode flags (one_uid uid)) (sure_store (one_uid uid) mode flags) result heard new x)
+      (becomes [] (command_at n (requests.Store (one_uid uid) mode (names_of keywords.now flags))) (stored mode (flags_sent keywords.now flags old) (one_uid uid)) (sure_store (one_uid uid) mode (names_of keywords.now flags)) result heard new x)
   changes (calls.Expunge uids) change h result heard new x =
       subst (λ (f : Store → Store). Outcome {T = Unit {0}} (λ _. Becomes f) Never (Becomes f) result old new) (sym h)
       (becomes (removed (named_in m.store (each_one uids.now)) 1 m.store.messages) (command_at n (requests.Expunge (each_one uids.now))) (swept (each_one uids.now)) (sure_expunge (each_one uids.now)) result heard new x)

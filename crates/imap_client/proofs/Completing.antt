@@ -15,8 +15,7 @@ use Rattle.wire_tokens.specs.declared.uid_set.SetItem.TheVariants.{One, Range}
 use Rattle.wire_tokens.specs.declared.spaced.NameKind.TheVariants as kinds
 use Rattle.wire_tokens.specs.Atoms.{is_atom_byte, is_tag_byte, TagText}
 use Rattle.wire_tokens.specs.Names.{NameText, NamesText}
-use Rattle.wire_tokens.specs.FlagLists.{ListedText}
-use Rattle.wire_tokens.specs.FlagWriting.{WrittenFlags}
+use Rattle.wire_tokens.specs.FlagLists.{FlagsText, ListedText}
 use Rattle.wire_tokens.specs.Sets.{EndText, ItemText, SetText}
 use Rattle.wire_strings.specs.Texts.{is_text}
 use Rattle.wire_strings.specs.Quotes.{escaped, is_special, QuotedText}
@@ -68,8 +67,8 @@ listed_tame : (names : List (List ℕ)) (t : List ℕ) → ListedText kinds.Flag
 listed_tame [] t h = ap (list_all tame) h
 listed_tame (n ∷ names) t h = tame_items (NameText kinds.Flag) name_tame 32 refl (n ∷ names) t h
 
-pub flags_tame : (set : ℕ) (t : List ℕ) → WrittenFlags set t → list_all tame t ≡ true
-flags_tame set t h = tame_then (tame_is (40 ∷ []) refl) (tame_then (listed_tame h.spelled.names) (tame_is (41 ∷ []) refl)) t h.spelled.spelled
+pub flags_tame : (names : List (List ℕ)) (t : List ℕ) → FlagsText names t → list_all tame t ≡ true
+flags_tame names t h = tame_then (tame_is (40 ∷ []) refl) (tame_then (listed_tame names) (tame_is (41 ∷ []) refl)) t h
 
 rev2_tame : (names : List (List ℕ)) (t : List ℕ) → names ≡ REV2 ∷ [] → NamesText names t → list_all tame t ≡ true
 rev2_tame names t e h = let one : NamesText (REV2 ∷ []) t = subst (λ (ns : List (List ℕ)). NamesText ns t) e h in ap (list_all tame) one.0
@@ -146,7 +145,7 @@ request_line (requests.Fetch set what) p t h =
     line_then (tame_part (SetText set) (set_tame set)) (line_then space_part (line_then (tame_part (Is (items_word what)) (tame_is (items_word what) (items_tame what))) bare_line)) t h
 request_line (requests.Store set mode flags) p t h =
     line_then (tame_part (SetText set) (set_tame set))
-    (line_then space_part (line_then (tame_part (Is (mode_word mode)) (tame_is (mode_word mode) (mode_tame mode))) (line_then (tame_part (WrittenFlags flags) (flags_tame flags)) bare_line))) t h
+    (line_then space_part (line_then (tame_part (Is (mode_word mode)) (tame_is (mode_word mode) (mode_tame mode))) (line_then (tame_part (FlagsText flags) (flags_tame flags)) bare_line))) t h
 request_line (requests.Expunge set) p t h = line_then (tame_part (SetText set) (set_tame set)) bare_line t h
 
 -- what stands before the request

@@ -22,7 +22,7 @@ use Rattle.imap_client.proofs.Answered.{Sure, answered, refused}
 module _ (old after : Server) (refuses effect : Server → Server → Type 0) where
   -- where it was done
   pub to_effect : ((t : Server) → t ≡ after → effect old t) → (said : List Reply) (heard : List ℕ) (new : Server) (result : Result (Unit {0}) FarFault)
-      → Outcome {T = Unit {0}} (λ _ s t. HeardOf answer_alone any_replies said heard × (t ≡ after)) Never (λ s t. t ≡ after) result old new
+      → Outcome {T = Unit {0}} (λ _ s t. HeardOf old.keywords answer_alone any_replies said heard × (t ≡ after)) Never (λ s t. t ≡ after) result old new
       → Outcome {T = Unit {0}} (λ _. effect) refuses effect result old new
   to_effect e said heard new (Ok x) h = e new h.1
   to_effect e said heard new (Err faults.Stopped) (inl q) = inl q

@@ -1,6 +1,7 @@
--- UID FETCH: the replies are those for the messages that the set names, and nothing is left out of them.
+-- UID FETCH: the replies are those for the messages that the set names. Those without flags are heard as they are.
 use Rattle.std.proofs.Common.{◌≡◌, ◌⊎◌, inl, inr, ℕ, ◌+◌, Bool, true, false, List, [], ◌∷◌, ◌++◌, refl, sym, ◌∙◌, ap, subst, Option, Some, None, Result, Ok, Err}
 use Rattle.std.specs.Prelude.{filter, if◌then◌else◌}
+use Rattle.mailcore.specs.declared.keywords.Keyword.{Keyword}
 use Rattle.mailcore.specs.declared.mailbox.Message.{Message}
 use Rattle.wire_tokens.specs.declared.uid_set.SetItem.{SetItem}
 use Rattle.imap_commands.specs.declared.command.FetchItems.{FetchItems}
@@ -10,6 +11,7 @@ use Rattle.imap_replies.specs.declared.word.Status.TheVariants as statuses
 use Rattle.imap_replies.specs.declared.response.Code.TheVariants as codes_of
 use Rattle.imap_replies.specs.declared.response.ResponseText.TheVariants.{Coded}
 use Rattle.imap_replies.specs.declared.fetch.FetchItem.{FetchItem}
+use Rattle.imap_replies.specs.declared.fetch.FetchItem.TheVariants as items
 use Rattle.imap_replies.specs.declared.reply.Reply.{Reply}
 use Rattle.imap_replies.specs.declared.reply.Reply.TheVariants.{Tagged, Fetch}
 use Rattle.imap_session.specs.Mailboxes.{FarMailbox}
@@ -17,46 +19,103 @@ use Rattle.imap_session.specs.NamedMessages.{named_in}
 use Rattle.imap_session.specs.Servers.{Server, selected}
 use Rattle.imap_session.specs.Answering.{Gives, done}
 use Rattle.imap_session.specs.MessageCommands.{shown, fetched, fetches_in}
-use Rattle.imap_session.specs.Heard.{AreReplies, LeavesOut, WithoutUid}
+use Rattle.imap_session.specs.Heard.{AreHeardAs, AreReplies, AreSameItems, IsHeardAs, ShowsItem}
 use Rattle.imap_link.specs.declared.fault.FarFault.{FarFault}
 use Rattle.imap_link.specs.declared.fault.FarFault.TheVariants as faults
+use Rattle.imap_link.specs.declared.uses.Uses.{Uses}
 use Rattle.imap_link.specs.UsedReplies.{messages_read, fetch_uses, is_used}
 use Rattle.imap_link.specs.Outcomes.{Outcome, Never}
+use Rattle.imap_link.proofs.Performed.{used_same}
 use Rattle.imap_client.specs.Tags.{tag_text}
 use Rattle.imap_client.specs.Exchanged.{command_at, Exchanged}
 use Rattle.imap_client.specs.Saying.{HeardOf}
+use Rattle.imap_client.specs.Seen.{HasMap}
 use Rattle.imap_client.specs.Logins.{Remains}
 use Rattle.imap_answers.specs.Readings.{ReadsAs, Tells}
 use Rattle.imap_client.proofs.Answered.{Sure, answered}
 
--- ---- nothing is left out
+-- ---- as they were said
 
--- no code of theirs may be left out
-abbrev Exact : List Reply → Type 0
-Exact [] = Unit {0}
-Exact (r ∷ rs) = ((h : Reply) → (h ≡ r) ⊎ WithoutUid h r → h ≡ r) × Exact rs
+-- none of these items names flags
+abbrev NamesNone : List FetchItem → Type 0
+NamesNone [] = Unit {0}
+NamesNone (item ∷ list) = ((names : List (List ℕ)) → item ≡ items.Flags names → ⊥) × NamesNone list
 
-exact_same : (hs ss : List Reply) → Exact ss → LeavesOut hs ss → hs ≡ ss
-exact_same [] [] e l = refl
-exact_same [] (s ∷ ss) e l = absurd l
-exact_same (h ∷ hs) [] e l = absurd l
-exact_same (h ∷ hs) (s ∷ ss) e l = ap (λ (r : Reply). r ∷ hs) (e.0 h l.0) ∙ ap (λ (rs : List Reply). s ∷ rs) (exact_same hs ss e.1 l.1)
+-- what shows no flags
+abbrev pub IsFlagless : FetchItems → Type 0
+IsFlagless wanted.Listing = ⊥
+IsFlagless wanted.Body = Unit {0}
+IsFlagless wanted.Head = Unit {0}
 
-fetch_exact : (place : ℕ) (list : List FetchItem) (h : Reply) → (h ≡ Fetch place list) ⊎ WithoutUid h (Fetch place list) → h ≡ Fetch place list
-fetch_exact place list h (inl e) = e
-fetch_exact place list h (inr w) = let both : Fetch place list ≡ Tagged w.tag statuses.Ok (Coded (codes_of.AppendUid w.validity w.uid) w.text) = w.said_is in cc
+module _ (keywords : List Keyword) where
+  shows_none : (what : FetchItems) (m : Message) → IsFlagless what → NamesNone (shown keywords what m)
+  shows_none wanted.Listing m f = absurd f
+  shows_none wanted.Body m f = (λ names e. (let both = e in cc), (λ names e. (let both = e in cc), tt))
+  shows_none wanted.Head m f = (λ names e. (let both = e in cc), (λ names e. (let both = e in cc), tt))
 
-done_exact : (tag : List ℕ) (h : Reply) → (h ≡ done tag) ⊎ WithoutUid h (done tag) → h ≡ done tag
-done_exact tag h (inl e) = e
-done_exact tag h (inr w) = let both : done tag ≡ Tagged w.tag statuses.Ok (Coded (codes_of.AppendUid w.validity w.uid) w.text) = w.said_is in cc
+  item_exact : (h s : FetchItem) → ((names : List (List ℕ)) → s ≡ items.Flags names → ⊥) → (h ≡ s) ⊎ ShowsItem keywords h s → h ≡ s
+  item_exact h s n (inl e) = e
+  item_exact h s n (inr w) = absurd (n w.names_said w.said_is)
 
-exact_if : (b : Bool) (place : ℕ) (list : List FetchItem) (rest tail : List Reply) → Exact (rest ++ tail) → Exact ((if b then Fetch place list ∷ rest else rest) ++ tail)
-exact_if true place list rest tail e = (fetch_exact place list, e)
-exact_if false place list rest tail e = e
+  items_exact : (hs ss : List FetchItem) → NamesNone ss → AreSameItems keywords hs ss → hs ≡ ss
+  items_exact [] [] n h = refl
+  items_exact [] (s ∷ ss) n h = absurd h
+  items_exact (x ∷ hs) [] n h = absurd h
+  items_exact (x ∷ hs) (s ∷ ss) n h = ap (λ (i : FetchItem). i ∷ hs) (item_exact x s n.0 h.0) ∙ ap (λ (l : List FetchItem). s ∷ l) (items_exact hs ss n.1 h.1)
 
-exact_fetched : (named : ℕ → Bool) (what : FetchItems) (place : ℕ) (ms : List Message) (tail : List Reply) → Exact tail → Exact (fetched named what place ms ++ tail)
-exact_fetched named what place [] tail e = e
-exact_fetched named what place (m ∷ ms) tail e = exact_if (named m.uid) place (shown what m) (fetched named what (place + 1) ms) tail (exact_fetched named what (place + 1) ms tail e)
+  -- these are heard as they are
+  abbrev Exact : List Reply → Type 0
+  Exact [] = Unit {0}
+  Exact (r ∷ rs) = ((h : Reply) → IsHeardAs keywords h r → h ≡ r) × Exact rs
+
+  exact_same : (hs ss : List Reply) → Exact ss → AreHeardAs keywords hs ss → hs ≡ ss
+  exact_same [] [] e l = refl
+  exact_same [] (s ∷ ss) e l = absurd l
+  exact_same (h ∷ hs) [] e l = absurd l
+  exact_same (h ∷ hs) (s ∷ ss) e l = ap (λ (r : Reply). r ∷ hs) (e.0 h l.0) ∙ ap (λ (rs : List Reply). s ∷ rs) (exact_same hs ss e.1 l.1)
+
+  same_list : (place other : ℕ) (list said : List FetchItem) → Fetch place list ≡ Fetch other said → (place ≡ other) × (list ≡ said)
+  same_list place other list said e = (let p : place ≡ other = cc in p, let l : list ≡ said = cc in l)
+
+  fetch_exact : (place : ℕ) (list : List FetchItem) → NamesNone list → (h : Reply) → IsHeardAs keywords h (Fetch place list) → h ≡ Fetch place list
+  fetch_exact place list n h (inl e) = e
+  fetch_exact place list n h (inr (inl w)) = let both = w.said_is in cc
+  fetch_exact place list n h (inr (inr (inl w))) = let both = w.said_is in cc
+  fetch_exact place list n h (inr (inr (inr (inl w)))) = let both = w.said_is in cc
+  fetch_exact place list n h (inr (inr (inr (inr w)))) =
+      let same = same_list place w.place list w.list_said w.said_is in
+      let exact : w.list ≡ w.list_said = items_exact w.list w.list_said (subst NamesNone same.1 n) w.same in
+      w.heard_is ∙ ap (Fetch w.place) exact ∙ sym w.said_is
+
+  done_exact : (tag : List ℕ) (h : Reply) → IsHeardAs keywords h (done tag) → h ≡ done tag
+  done_exact tag h (inl e) = e
+  done_exact tag h (inr (inl w)) = let both : done tag ≡ Tagged w.tag statuses.Ok (Coded (codes_of.AppendUid w.validity w.uid) w.text) = w.said_is in cc
+  done_exact tag h (inr (inr (inl w))) = let both = w.said_is in cc
+  done_exact tag h (inr (inr (inr (inl w)))) = let both = w.said_is in cc
+  done_exact tag h (inr (inr (inr (inr w)))) = let both = w.said_is in cc
+
+  exact_if : (b : Bool) (place : ℕ) (list : List FetchItem) (rest tail : List Reply) → NamesNone list → Exact (rest ++ tail) → Exact ((if b then Fetch place list ∷ rest else rest) ++ tail)
+  exact_if true place list rest tail n e = (fetch_exact place list n, e)
+  exact_if false place list rest tail n e = e
+
+  exact_fetched : (named : ℕ → Bool) (what : FetchItems) → IsFlagless what → (place : ℕ) (ms : List Message) (tail : List Reply) → Exact tail → Exact (fetched keywords named what place ms ++ tail)
+  exact_fetched named what f place [] tail e = e
+  exact_fetched named what f place (m ∷ ms) tail e =
+      exact_if (named m.uid) place (shown keywords what m) (fetched keywords named what (place + 1) ms) tail (shows_none what m f) (exact_fetched named what f (place + 1) ms tail e)
+
+  -- ---- those that are kept are heard as those that are kept
+
+  kept_if : (b : Bool) (h s : Reply) (hs ss : List Reply) → IsHeardAs keywords h s → AreHeardAs keywords hs ss → AreHeardAs keywords (if b then h ∷ hs else hs) (if b then s ∷ ss else ss)
+  kept_if true h s hs ss one l = (one, l)
+  kept_if false h s hs ss one l = l
+
+  kept_heard : (uses : Uses) (hs ss : List Reply) → AreHeardAs keywords hs ss → AreHeardAs keywords (filter (is_used uses) hs) (filter (is_used uses) ss)
+  kept_heard uses [] [] l = tt
+  kept_heard uses [] (s ∷ ss) l = absurd l
+  kept_heard uses (h ∷ hs) [] l = absurd l
+  kept_heard uses (h ∷ hs) (s ∷ ss) l =
+      subst (λ (b : Bool). AreHeardAs keywords (if b then h ∷ filter (is_used uses) hs else filter (is_used uses) hs) (filter (is_used uses) (s ∷ ss))) (sym (used_same keywords uses h s l.0))
+      (kept_if (is_used uses s) h s (filter (is_used uses) hs) (filter (is_used uses) ss) l.0 (kept_heard uses hs ss l.1))
 
 -- ---- all of them tell of messages
 
@@ -65,54 +124,86 @@ read_if : (b : Bool) (place : ℕ) (list : List FetchItem) (rest tail : List Rep
 read_if true place list rest tail e = ap (λ (rs : List Reply). Fetch place list ∷ rs) e
 read_if false place list rest tail e = e
 
-all_read : (named : ℕ → Bool) (what : FetchItems) (place : ℕ) (ms : List Message) (tag : List ℕ)
-    → filter (is_used messages_read) (fetched named what place ms ++ done tag ∷ []) ≡ fetched named what place ms ++ done tag ∷ []
-all_read named what place [] tag = refl
-all_read named what place (m ∷ ms) tag = read_if (named m.uid) place (shown what m) (fetched named what (place + 1) ms) (done tag ∷ []) (all_read named what (place + 1) ms tag)
+module _ (keywords : List Keyword) where
+  all_read : (named : ℕ → Bool) (what : FetchItems) (place : ℕ) (ms : List Message) (tag : List ℕ)
+      → filter (is_used messages_read) (fetched keywords named what place ms ++ done tag ∷ []) ≡ fetched keywords named what place ms ++ done tag ∷ []
+  all_read named what place [] tag = refl
+  all_read named what place (m ∷ ms) tag = read_if (named m.uid) place (shown keywords what m) (fetched keywords named what (place + 1) ms) (done tag ∷ []) (all_read named what (place + 1) ms tag)
 
 -- ---- what was heard
 
 -- the replies to UID FETCH
-abbrev pub replies_for : FarMailbox → List SetItem → FetchItems → (tag : List ℕ) → List Reply
-replies_for m set what tag = fetched (named_in m.store set) what 1 m.store.messages ++ done tag ∷ []
+abbrev pub replies_for : List Keyword → FarMailbox → List SetItem → FetchItems → (tag : List ℕ) → List Reply
+replies_for keywords m set what tag = fetched keywords (named_in m.store set) what 1 m.store.messages ++ done tag ∷ []
 
 -- T holds of them, and those of them that the call keeps were read
-abbrev pub FetchTells : (n : ℕ) → FarMailbox → List SetItem → FetchItems → (T : List Reply → Type 0) → (read : List ℕ) → Type 0
-FetchTells n m set what T read = T (replies_for m set what (tag_text n)) × AreReplies (filter (is_used (fetch_uses what)) (replies_for m set what (tag_text n))) read
+abbrev pub FetchTells : (n : ℕ) → List Keyword → FarMailbox → List SetItem → FetchItems → (T : List Reply → Type 0) → (read : List ℕ) → Type 0
+FetchTells n keywords m set what T read =
+    T (replies_for keywords m set what (tag_text n)) × AreReplies (filter (is_used (fetch_uses what)) (replies_for keywords m set what (tag_text n))) read
+
+-- T holds of replies that were heard as those
+pub record ListingTells (n : ℕ) (keywords : List Keyword) (m : FarMailbox) (set : List SetItem) (T : List Reply → Type 0) : Type 0 where
+  pub replies : List Reply
+  pub told : T replies
+  pub heard_as : AreHeardAs keywords replies (replies_for keywords m set wanted.Listing (tag_text n))
 
 module _ (n : ℕ) (old : Server) (m : FarMailbox) (is : selected old ≡ Some m) (set : List SetItem) (what : FetchItems) where
-  fetch_sure : Sure (command_at n (requests.Fetch set what)) old (fetched (named_in m.store set) what 1 m.store.messages) (done (tag_text n)) old
+  fetch_sure : Sure (command_at n (requests.Fetch set what)) old (fetched old.keywords (named_in m.store set) what 1 m.store.messages) (done (tag_text n)) old
   fetch_sure = record {
     each = λ said new step. subst (λ (x : Option FarMailbox). Gives (fetches_in x old (tag_text n) set what) said new) is step;
   }
 
-  module _ (T : List Reply → Type 0) (bytes : List ℕ) (h : HeardOf (fetch_uses what) T (replies_for m set what (tag_text n)) bytes) where
-    said_all : h.replies ≡ replies_for m set what (tag_text n)
-    said_all = exact_same h.replies _ (exact_fetched (named_in m.store set) what 1 m.store.messages (done (tag_text n) ∷ []) (done_exact (tag_text n), tt)) h.left_out
-
-    told_all : T (replies_for m set what (tag_text n))
-    told_all = subst T (ap (filter (is_used messages_read)) said_all ∙ all_read (named_in m.store set) what 1 m.store.messages (tag_text n)) h.told
-
-    kept_all : AreReplies (filter (is_used (fetch_uses what)) (replies_for m set what (tag_text n))) bytes
-    kept_all = subst (λ (rs : List Reply). AreReplies (filter (is_used (fetch_uses what)) rs) bytes) said_all h.spelled
-
   module _ (T : List Reply → Type 0) where
-    fetch_by : (read : List ℕ) (new : Server) (result : Result (Unit {0}) FarFault)
-        → Outcome {T = Unit {0}} (λ _ s t. HeardOf (fetch_uses what) T (replies_for m set what (tag_text n)) read × (t ≡ old)) Never (λ s t. t ≡ old) result old new
-        → Outcome {T = Unit {0}} (λ x. Tells (λ _. FetchTells n m set what T read) x) Never Remains result old new
-    fetch_by read new (Ok x) h = ((told_all T read h.0, kept_all T read h.0), h.1)
-    fetch_by read new (Err faults.Stopped) h = h
-    fetch_by read new (Err faults.Refused) h = h
-    fetch_by read new (Err faults.Protocol) h = h
-    fetch_by read new (Err faults.TooLong) h = h
-    fetch_by read new (Err faults.NoRev2) h = h
-    fetch_by read new (Err faults.ReadOnly) h = h
-    fetch_by read new (Err faults.NoMemory) h = h
+    abbrev HeardSo : (read : List ℕ) → Type 0
+    HeardSo read = HeardOf old.keywords (fetch_uses what) T (replies_for old.keywords m set what (tag_text n)) read
 
-    pub fetch_exchanged : (result : Result (Unit {0}) FarFault) (read : List ℕ) (new : Server) → Exchanged (command_at n (requests.Fetch set what)) T result read old new
-        → Outcome {T = Unit {0}} (λ x. Tells (λ _. FetchTells n m set what T read) x) Never Remains result old new
-    fetch_exchanged result read new h =
-        fetch_by read new result (answered T (command_at n (requests.Fetch set what)) old (fetched (named_in m.store set) what 1 m.store.messages) (done (tag_text n)) old fetch_sure refl result read new h)
+    heard_by : (result : Result (Unit {0}) FarFault) (read : List ℕ) (new : Server) → Exchanged (command_at n (requests.Fetch set what)) T result read old new
+        → Outcome {T = Unit {0}} (λ _ s t. HeardSo read × (t ≡ old)) Never (λ s t. t ≡ old) result old new
+    heard_by result read new h =
+        answered T (command_at n (requests.Fetch set what)) old (fetched old.keywords (named_in m.store set) what 1 m.store.messages) (done (tag_text n)) old fetch_sure refl result read new h
+
+    tells_by : (Q : Type 0) (read : List ℕ) (new : Server) (result : Result (Unit {0}) FarFault) → (HeardSo read → Q)
+        → Outcome {T = Unit {0}} (λ _ s t. HeardSo read × (t ≡ old)) Never (λ s t. t ≡ old) result old new
+        → Outcome {T = Unit {0}} (λ x. Tells (λ _. Q) x) Never Remains result old new
+    tells_by Q read new (Ok x) so h = (so h.0, h.1)
+    tells_by Q read new (Err faults.Stopped) so h = h
+    tells_by Q read new (Err faults.Refused) so h = h
+    tells_by Q read new (Err faults.Protocol) so h = h
+    tells_by Q read new (Err faults.TooLong) so h = h
+    tells_by Q read new (Err faults.NoRev2) so h = h
+    tells_by Q read new (Err faults.ReadOnly) so h = h
+    tells_by Q read new (Err faults.NoMemory) so h = h
+
+    module _ (flagless : IsFlagless what) where
+      tells_so : (read : List ℕ) → HeardSo read → FetchTells n old.keywords m set what T read
+      tells_so read h =
+          let said = replies_for old.keywords m set what (tag_text n) in
+          let same : h.replies ≡ said =
+          exact_same old.keywords h.replies said (exact_fetched old.keywords (named_in m.store set) what flagless 1 m.store.messages (done (tag_text n) ∷ []) (done_exact old.keywords (tag_text n), tt)) h.heard_as in (
+            subst T (ap (filter (is_used messages_read)) same ∙ all_read old.keywords (named_in m.store set) what 1 m.store.messages (tag_text n)) h.told,
+            subst (λ (rs : List Reply). AreReplies (filter (is_used (fetch_uses what)) rs) read) same h.spelled,
+          )
+
+      pub fetch_exchanged : (result : Result (Unit {0}) FarFault) (read : List ℕ) (new : Server) → Exchanged (command_at n (requests.Fetch set what)) T result read old new
+          → Outcome {T = Unit {0}} (λ x. Tells (λ _. FetchTells n old.keywords m set what T read) x) Never Remains result old new
+      fetch_exchanged result read new h = tells_by (FetchTells n old.keywords m set what T read) read new result (tells_so read) (heard_by result read new h)
+
+-- where flags are listed, and the server has this map
+module _ (n : ℕ) (old : Server) (m : FarMailbox) (is : selected old ≡ Some m) (set : List SetItem) (keywords : List Keyword) (has : HasMap keywords old) (T : List Reply → Type 0) where
+  lists_heard : (read : List ℕ) → HeardOf old.keywords (fetch_uses wanted.Listing) T (replies_for old.keywords m set wanted.Listing (tag_text n)) read → ListingTells n keywords m set T
+  lists_heard read h = record {
+    replies = filter (is_used messages_read) h.replies;
+    told = h.told;
+    heard_as =
+        subst (λ (k : List Keyword). AreHeardAs k (filter (is_used messages_read) h.replies) (replies_for k m set wanted.Listing (tag_text n))) has
+        (subst (AreHeardAs old.keywords (filter (is_used messages_read) h.replies)) (all_read old.keywords (named_in m.store set) wanted.Listing 1 m.store.messages (tag_text n))
+        (kept_heard old.keywords messages_read h.replies (replies_for old.keywords m set wanted.Listing (tag_text n)) h.heard_as));
+  }
+
+  pub listing_exchanged : (result : Result (Unit {0}) FarFault) (read : List ℕ) (new : Server) → Exchanged (command_at n (requests.Fetch set wanted.Listing)) T result read old new
+      → Outcome {T = Unit {0}} (λ x. Tells (λ _. ListingTells n keywords m set T) x) Never Remains result old new
+  listing_exchanged result read new h =
+      tells_by n old m is set wanted.Listing T (ListingTells n keywords m set T) read new result (lists_heard read) (heard_by n old m is set wanted.Listing T result read new h)
 
 -- ---- what is read of it
 
@@ -149,9 +240,9 @@ unchanged T P old new (Err faults.NoMemory) (inr e) = e
 module _ (n : ℕ) (old : Server) (m : FarMailbox) (is : selected old ≡ Some m) (set : List SetItem) (what : FetchItems) where
   pub fetch_unchanged : (T : List Reply → Type 0) (result : Result (Unit {0}) FarFault) (read : List ℕ) (new : Server) → Exchanged (command_at n (requests.Fetch set what)) T result read old new → new ≡ old
   fetch_unchanged T result read new h =
-      unchanged (Unit {0}) (λ _. FetchTells n m set what T read) old new result (fetch_exchanged n old m is set what T result read new h)
+      unchanged (Unit {0}) (λ _. Unit {0}) old new result (tells_by n old m is set what T (Unit {0}) read new result (λ _. tt) (heard_by n old m is set what T result read new h))
 
 -- where whole messages are asked for, all replies were read
-pub bodies_read : (n : ℕ) (m : FarMailbox) (set : List SetItem) (T : List Reply → Type 0) (read : List ℕ) → FetchTells n m set wanted.Body T read
-    → AreReplies (replies_for m set wanted.Body (tag_text n)) read
-bodies_read n m set T read h = subst (λ (rs : List Reply). AreReplies rs read) (all_read (named_in m.store set) wanted.Body 1 m.store.messages (tag_text n)) h.1
+pub bodies_read : (n : ℕ) (keywords : List Keyword) (m : FarMailbox) (set : List SetItem) (T : List Reply → Type 0) (read : List ℕ) → FetchTells n keywords m set wanted.Body T read
+    → AreReplies (replies_for keywords m set wanted.Body (tag_text n)) read
+bodies_read n keywords m set T read h = subst (λ (rs : List Reply). AreReplies rs read) (all_read keywords (named_in m.store set) wanted.Body 1 m.store.messages (tag_text n)) h.1

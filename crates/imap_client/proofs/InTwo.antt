@@ -1,5 +1,5 @@
 -- The text of an APPEND, in the two parts in which it is sent.
-use Rattle.std.proofs.Common.{◌≡◌, ◌<◌, inl, inr, ℕ, ◌-◌, Bool, true, false, not, List, [], ◌∷◌, ◌++◌, length, refl, sym, ◌∙◌, ap, subst, append_assoc, append-nil, arith, Option, None, Some}
+use Rattle.std.proofs.Common.{◌≡◌, ◌<◌, ◌≤◌, inl, inr, ℕ, ◌-◌, Bool, true, false, not, List, [], ◌∷◌, ◌++◌, length, refl, sym, ◌∙◌, ap, subst, append_assoc, append-nil, arith, Option, None, Some}
 use Rattle.std.specs.Prelude.{◌==◌, ◌&&◌, nat_le, if◌then◌else◌}
 use Rattle.std.specs.List.{list_all}
 use Rattle.std.proofs.lemmas.Bool.{and_from, and_parts, cases_Bool, eqb-true}
@@ -13,7 +13,9 @@ use Rattle.wire_reader.specs.Literal.{Literal}
 use Rattle.wire_reader.specs.Spelling.{◌⨾◌, Is, crlf, is_digit}
 use Rattle.wire_reader.proofs.Lexed.{asks-append}
 use Rattle.wire_tokens.specs.Atoms.{TagText}
-use Rattle.wire_tokens.specs.FlagWriting.{WrittenFlags}
+use Rattle.wire_tokens.specs.FlagLists.{FlagsText}
+use Rattle.wire_tokens.specs.Room.{most_names}
+use Rattle.wire_tokens.proofs.FlagTexts.{set_names_few}
 use Rattle.wire_tokens.specs.Numbers.{NumberText}
 use Rattle.wire_tokens.specs.Writing.{Appended}
 use Rattle.wire_strings.specs.Texts.{is_text}
@@ -37,7 +39,7 @@ use Rattle.session_laws.proofs.Gos.{goes-append}
 use Rattle.mailcore.specs.CopyPieces.{text_left}
 use Rattle.imap_client.specs.declared.addition.Addition.{Addition}
 use Rattle.imap_client.specs.Requests.{IsWord}
-use Rattle.imap_client.specs.Appending.{FrontText, CanAdd, request_to_add, InTwo}
+use Rattle.imap_client.specs.Appending.{CanAdd, FrontText, InTwo, names_to_add, request_to_add}
 use Rattle.imap_client.proofs.Plain.{no_return, calm, soft, soft_next, asked_none, calm_goes, tame, tame_calm, class_tame, tame_is}
 use Rattle.imap_client.proofs.Completing.{tag_tame, flags_tame, tag_short, quoted_calm}
 
@@ -78,16 +80,16 @@ literal_end message t is h =
 in_quotes : (name t : List ℕ) → list_all is_text name ≡ true → QuotedText name t → WrittenText name t
 in_quotes name t e h = subst (λ (b : Bool). StringBy b name t) (sym e) h
 
-abbrev command_of : (tag name : List ℕ) (flags : ℕ) (message : List ℕ) → Command
+abbrev command_of : (tag name : List ℕ) (flags : List (List ℕ)) (message : List ℕ) → Command
 command_of tag name flags message = record { tag = tag; request = requests.Append name flags message }
 
-pub written_in_two : (tag name message front : List ℕ) (flags : ℕ) → list_all is_text name ≡ true → IsMessage message → FrontText tag name flags (length message) front
+pub written_in_two : (tag name message front : List ℕ) (flags : List (List ℕ)) → list_all is_text name ≡ true → IsMessage message → FrontText tag name flags (length message) front
     → Written (command_of tag name flags message) (front ++ (message ++ crlf))
 written_in_two tag name message front flags e is h =
     let more = message ++ crlf in
     let sp = same (Is space) in
     followed more (same (TagText tag)) (followed more sp (followed more (same (Is (word_of verbs.Append)))
-    (followed more (λ t q. in_quotes name t e q) (followed more sp (followed more (same (WrittenFlags flags)) (followed more sp (λ t k. literal_end message t is k))))))) front h
+    (followed more (λ t q. in_quotes name t e q) (followed more sp (followed more (same (FlagsText flags)) (followed more sp (λ t k. literal_end message t is k))))))) front h
 
 -- ---- where the sender waits
 
@@ -119,7 +121,7 @@ brace_calm t e = ap calm e
 close_calm : (t : List ℕ) → Is (125 ∷ crlf) t → EndsCalm t
 close_calm t e = record { body = 125 ∷ []; parts = e; is_calm = refl }
 
-front_calm : (tag name front : List ℕ) (flags count : ℕ) → FrontText tag name flags count front → EndsCalm front
+front_calm : (tag name front : List ℕ) (flags : List (List ℕ)) (count : ℕ) → FrontText tag name flags count front → EndsCalm front
 front_calm tag name front flags count h =
     let sp = word_so space refl in
     ends_then (λ t k. tame_so t (tag_tame tag t k)) (ends_then sp (ends_then (word_so (word_of verbs.Append) refl)
@@ -186,7 +188,7 @@ goes_no_more front message e lt =
 
 -- ---- both parts
 
-pub asks_front : (tag name message front : List ℕ) (flags : ℕ) → list_all is_text name ≡ true → IsMessage message → FrontText tag name flags (length message) front → asks Commands front ≡ Some (length message)
+pub asks_front : (tag name message front : List ℕ) (flags : List (List ℕ)) → list_all is_text name ≡ true → IsMessage message → FrontText tag name flags (length message) front → asks Commands front ≡ Some (length message)
 asks_front tag name message front flags e is h =
     let w = appends_wait tag name message (front ++ (message ++ crlf)) flags (written_in_two tag name message front flags e is h) in
     ap (asks Commands) (append_cancel_right front w.front (message ++ crlf) w.parts) ∙ w.waits
@@ -195,9 +197,9 @@ some_rest : (message : List ℕ) → 0 < length message → message ++ crlf ≡ 
 some_rest [] lt e = absurd (omega (arith, lt))
 some_rest (b ∷ m) lt e = cc
 
-pub in_two : (tag name message front rest : List ℕ) (flags : ℕ) → IsWord name → IsMessage message → FrontText tag name flags (length message) front → rest ≡ message ++ crlf
+pub in_two : (tag name message front rest : List ℕ) (flags : List (List ℕ)) → most_names flags ≤ 6722 → IsWord name → IsMessage message → FrontText tag name flags (length message) front → rest ≡ message ++ crlf
     → InTwo tag front rest (command_of tag name flags message)
-in_two tag name message front rest flags word is h e =
+in_two tag name message front rest flags room word is h e =
     let c = command_of tag name flags message in
     let text = message ++ crlf in
     let written = written_in_two tag name message front flags word.each is h in
@@ -209,7 +211,7 @@ in_two tag name message front rest flags word is h e =
       alone = refl;
       text = record {
         spelled = written_spelled c (front ++ text) written;
-        fits = (let few = command_few c (front ++ text) written in let short = tag_short c (front ++ text) written in let most = word.most in omega (arith, few, short, most));
+        fits = (let few = command_few c (front ++ text) written in let short = tag_short c (front ++ text) written in let most = word.most in omega (arith, few, short, most, room));
       };
       some = some_rest message is.some;
       count = length message;
@@ -219,6 +221,6 @@ in_two tag name message front rest flags word is h e =
 
 -- as the code has it
 pub addition_in_two : (tag front front_items : List ℕ) (a : Addition) → CanAdd a → front ≡ front_items
-    → FrontText tag a.name.now a.flags (length (text_left a.octets)) front_items → InTwo tag front (text_left a.octets ++ crlf) (record { tag = tag; request = request_to_add a })
+    → FrontText tag a.name.now (names_to_add a) (length (text_left a.octets)) front_items → InTwo tag front (text_left a.octets ++ crlf) (record { tag = tag; request = request_to_add a })
 addition_in_two tag front front_items a can e h =
-    in_two tag a.name.now (text_left a.octets) front (text_left a.octets ++ crlf) a.flags can.name can.message (subst (FrontText tag a.name.now a.flags (length (text_left a.octets))) (sym e) h) refl
+    in_two tag a.name.now (text_left a.octets) front (text_left a.octets ++ crlf) (names_to_add a) (set_names_few a.keywords.now a.flags can.map) can.name can.message (subst (FrontText tag a.name.now (names_to_add a) (length (text_left a.octets))) (sym e) h) refl

@@ -8,8 +8,11 @@ pub mod Offering
 pub mod Still
 pub mod Exchanging
 pub mod Asking
+pub mod Lasting
+pub mod Mapped
 pub mod Answered
 pub mod Changed
+pub mod OpeningNumbers
 pub mod Selecting
 pub mod LoggingIn
 pub mod Creating

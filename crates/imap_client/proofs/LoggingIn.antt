@@ -1,8 +1,9 @@
 -- Capabilities are asked for, somebody logs in, and the revision is enabled.
-use Rattle.std.proofs.Common.{◌≡◌, ◌⊎◌, ◌≤◌, inl, inr, ℕ, ◌+◌, Bool, true, false, List, [], ◌∷◌, ◌++◌, refl, sym, ◌∙◌, ap, subst, arith, Option, Some, None, Result, Ok, Err}
+use Rattle.std.proofs.Common.{◌≡◌, ◌≤◌, inl, inr, ℕ, ◌+◌, Bool, true, false, List, [], ◌∷◌, ◌++◌, refl, sym, ◌∙◌, ap, subst, arith, Option, Some, None, Result, Ok, Err}
 use Rattle.std.specs.Prelude.{codes, filter, nat_eq, ◌&&◌, ◌||◌, if◌then◌else◌}
 use Rattle.std.specs.Cmp.Lexicographic.{pointwise}
 use Rattle.visitors.specs.Visitors.{Visitors}
+use Rattle.mailcore.specs.declared.keywords.Keyword.{Keyword}
 use Rattle.std.specs.List.{list_any}
 use Rattle.imap_commands.specs.declared.command.Request.TheVariants as requests
 use Rattle.imap_replies.specs.declared.reply.Reply.{Reply}
@@ -13,7 +14,8 @@ use Rattle.imap_session.specs.Servers.{Condition, Server, Authenticated, is_befo
 use Rattle.imap_session.specs.Visits.{AllGain, Among}
 use Rattle.imap_session.specs.Answering.{Gives, done, refused_with, out_of_place}
 use Rattle.imap_session.specs.SessionCommands.{REV2, lets_in, logs_in}
-use Rattle.imap_session.specs.Heard.{AreReplies, LeavesOut, WithoutUid}
+use Rattle.imap_session.specs.Heard.{AreHeardAs, AreReplies, IsHeardAs}
+use Rattle.exchange_laws.proofs.HeardAs.{reads_same}
 use Rattle.imap_link.specs.declared.fault.FarFault.{FarFault}
 use Rattle.imap_link.specs.declared.fault.FarFault.TheVariants as faults
 use Rattle.imap_link.specs.UsedReplies.{answer_alone, abilities_read, is_used}
@@ -38,8 +40,8 @@ module _ (n : ℕ) (old : Server) where
   ability_sure = record { each = λ said new step. step }
 
   ability_by : (heard : List ℕ) (new : Server) (result : Result (Unit {0}) FarFault)
-      → Outcome {T = Unit {0}} (λ _ s t. HeardOf abilities_read any_replies (abilities ++ done (tag_text n) ∷ []) heard × (t ≡ old)) Never (λ s t. t ≡ old) result old new
-      → Outcome {T = Unit {0}} (λ _ s t. HeardOf abilities_read any_replies (abilities ++ done (tag_text n) ∷ []) heard × Remains s t) Never Remains result old new
+      → Outcome {T = Unit {0}} (λ _ s t. HeardOf old.keywords abilities_read any_replies (abilities ++ done (tag_text n) ∷ []) heard × (t ≡ old)) Never (λ s t. t ≡ old) result old new
+      → Outcome {T = Unit {0}} (λ _ s t. HeardOf old.keywords abilities_read any_replies (abilities ++ done (tag_text n) ∷ []) heard × Remains s t) Never Remains result old new
   ability_by heard new (Ok x) h = h
   ability_by heard new (Err faults.Stopped) h = h
   ability_by heard new (Err faults.Refused) h = h
@@ -50,19 +52,24 @@ module _ (n : ℕ) (old : Server) where
   ability_by heard new (Err faults.NoMemory) h = h
 
   pub ability_exchanged : (result : Result (Unit {0}) FarFault) (heard : List ℕ) (new : Server) → Exchanged (command_at n requests.Capability) any_replies result heard old new
-      → Outcome {T = Unit {0}} (λ _ s t. HeardOf abilities_read any_replies (abilities ++ done (tag_text n) ∷ []) heard × Remains s t) Never Remains result old new
+      → Outcome {T = Unit {0}} (λ _ s t. HeardOf old.keywords abilities_read any_replies (abilities ++ done (tag_text n) ∷ []) heard × Remains s t) Never Remains result old new
   ability_exchanged result heard new h =
       ability_by heard new result (answered any_replies (command_at n requests.Capability) old abilities (done (tag_text n)) old ability_sure refl result heard new h)
 
-same_tells : (h s : Reply) → (h ≡ s) ⊎ WithoutUid h s → tells_rev2 h ≡ tells_rev2 s
-same_tells h s (inl e) = ap tells_rev2 e
-same_tells h s (inr w) = ap tells_rev2 w.heard_is ∙ sym (ap tells_rev2 w.said_is)
+module _ (keywords : List Keyword) where
+  same_tells : (h s : Reply) → IsHeardAs keywords h s → tells_rev2 h ≡ tells_rev2 s
+  same_tells = reads_same keywords tells_rev2 (record {
+    without_uid = λ tag text validity uid. refl;
+    flags = λ heard said same. refl;
+    permanent = λ kind text heard said same star. refl;
+    message = λ place heard said same. refl;
+  })
 
-leaves_tells : (hs ss : List Reply) → LeavesOut hs ss → list_any tells_rev2 hs ≡ list_any tells_rev2 ss
-leaves_tells [] [] l = refl
-leaves_tells [] (s ∷ ss) l = absurd l
-leaves_tells (h ∷ hs) [] l = absurd l
-leaves_tells (h ∷ hs) (s ∷ ss) l = ap (λ (b : Bool). b || list_any tells_rev2 hs) (same_tells h s l.0) ∙ ap (λ (b : Bool). tells_rev2 s || b) (leaves_tells hs ss l.1)
+  heard_tells : (hs ss : List Reply) → AreHeardAs keywords hs ss → list_any tells_rev2 hs ≡ list_any tells_rev2 ss
+  heard_tells [] [] l = refl
+  heard_tells [] (s ∷ ss) l = absurd l
+  heard_tells (h ∷ hs) [] l = absurd l
+  heard_tells (h ∷ hs) (s ∷ ss) l = ap (λ (b : Bool). b || list_any tells_rev2 hs) (same_tells h s l.0) ∙ ap (λ (b : Bool). tells_rev2 s || b) (heard_tells hs ss l.1)
 
 -- what is not read names nothing
 tells_none : (r : Reply) → is_used abilities_read r ≡ false → tells_rev2 r ≡ false
@@ -89,8 +96,8 @@ tells_read [] = refl
 tells_read (r ∷ rs) = tells_by (is_used abilities_read r) r rs refl (tells_read rs)
 
 -- an honest server names the revision
-pub named_so : (tag bytes : List ℕ) (told : Bool) → HeardOf abilities_read any_replies (abilities ++ done tag ∷ []) bytes → ((rs : List Reply) → AreReplies rs bytes → told ≡ list_any tells_rev2 rs) → told ≡ true
-named_so tag bytes told h t = t (filter (is_used abilities_read) h.replies) h.spelled ∙ tells_read h.replies ∙ leaves_tells h.replies (abilities ++ done tag ∷ []) h.left_out
+pub named_so : (keywords : List Keyword) (tag bytes : List ℕ) (told : Bool) → HeardOf keywords abilities_read any_replies (abilities ++ done tag ∷ []) bytes → ((rs : List Reply) → AreReplies rs bytes → told ≡ list_any tells_rev2 rs) → told ≡ true
+named_so keywords tag bytes told h t = t (filter (is_used abilities_read) h.replies) h.spelled ∙ tells_read h.replies ∙ heard_tells keywords h.replies (abilities ++ done tag ∷ []) h.heard_as
 
 -- ---- LOGIN
 
@@ -108,7 +115,7 @@ module _ (n : ℕ) (user password : List ℕ) (old : Server) (before : is_before
   out_sure is = record { each = λ said new step. stepped false is said new step }
 
   in_by : is_known user password old ≡ true → (heard : List ℕ) (new : Server) (result : Result (Unit {0}) FarFault)
-      → Outcome {T = Unit {0}} (λ _ s t. HeardOf answer_alone any_replies (done (tag_text n) ∷ []) heard × (t ≡ record old { condition = Authenticated })) Never (λ s t. t ≡ record old { condition = Authenticated }) result old new
+      → Outcome {T = Unit {0}} (λ _ s t. HeardOf old.keywords answer_alone any_replies (done (tag_text n) ∷ []) heard × (t ≡ record old { condition = Authenticated })) Never (λ s t. t ≡ record old { condition = Authenticated }) result old new
       → Outcome {T = Unit {0}} (λ _. Authenticates user password) (Rejects user password) (Authenticates user password) result old new
   in_by is heard new (Ok x) h = (is, h.1)
   in_by is heard new (Err faults.Stopped) (inl q) = inl q
@@ -221,6 +228,7 @@ module _ (user password : List ℕ) where
         visits = record {
           user = user_is;
           password = password_is;
+          keywords = h.visits.keywords ∙ ap (λ (s : Server). s.keywords) a.1;
           condition = refl;
           gains = subst (λ (ms : List FarMailbox). AllGain v ms late.mailboxes) boxes h.visits.gains;
           nobody = λ alone. h.visits.nobody alone ∙ boxes;

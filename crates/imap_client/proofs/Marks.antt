@@ -6,6 +6,7 @@ use Rattle.std.specs.Option.{option_map}
 use Rattle.std.specs.Cmp.Lexicographic.{pointwise}
 use Rattle.std.proofs.lemmas.Bool.{and_parts, le-ltb}
 use Rattle.std.proofs.lemmas.List.{take-take, drop-take, length-take}
+use Rattle.mailcore.specs.declared.keywords.Keyword.{Keyword}
 use Rattle.mailcore.specs.declared.mailbox.Message.{Message}
 use Rattle.mailcore.specs.Mark.{is_mark as is_mark_text}
 use Rattle.mailcore.specs.Content.{LF, CR, begins_with_line_end, mark_of}
@@ -55,7 +56,7 @@ or_false : (b : Bool) → (b || false) ≡ b
 or_false true = refl
 or_false false = refl
 
-module _ (mark : List ℕ) (from : ℕ) (named : ℕ → Bool) (tag : List ℕ) where
+module _ (keywords : List Keyword) (mark : List ℕ) (from : ℕ) (named : ℕ → Bool) (tag : List ℕ) where
   abbrev seeks : Message → Bool
   seeks m = nat_le from m.uid && is_mark (mark_of m.bytes) mark
 
@@ -63,7 +64,7 @@ module _ (mark : List ℕ) (from : ℕ) (named : ℕ → Bool) (tag : List ℕ) 
   seen m = nat_le from m.uid && (is_mark (mark_of (take 22 m.bytes)) mark || false)
 
   abbrev rest : (place : ℕ) → List Message → List Reply
-  rest place ms = fetched named wanted.Head place ms ++ done tag ∷ []
+  rest place ms = fetched keywords named wanted.Head place ms ++ done tag ∷ []
 
   seen_is : (m : Message) → seen m ≡ seeks m
   seen_is m = ap (λ (b : Bool). nat_le from m.uid && b) (or_false _ ∙ ap (λ (o : Option (List ℕ)). is_mark o mark) (mark_of_head m.bytes))
@@ -74,7 +75,7 @@ module _ (mark : List ℕ) (from : ℕ) (named : ℕ → Bool) (tag : List ℕ) 
 
   -- the first that was found is the least
   found_by : (b : Bool) (a place : ℕ) (m : Message) (ms : List Message) → a < m.uid → fold (least_more mark from) (Some a) (rest (place + 1) ms) ≡ Some a
-      → fold (least_more mark from) (Some a) ((if b then Fetch place (shown wanted.Head m) ∷ fetched named wanted.Head (place + 1) ms else fetched named wanted.Head (place + 1) ms) ++ done tag ∷ []) ≡ Some a
+      → fold (least_more mark from) (Some a) ((if b then Fetch place (shown keywords wanted.Head m) ∷ fetched keywords named wanted.Head (place + 1) ms else fetched keywords named wanted.Head (place + 1) ms) ++ done tag ∷ []) ≡ Some a
   found_by true a place m ms h e = ap (λ (o : Option ℕ). fold (least_more mark from) o (rest (place + 1) ms)) (stays_by a m.uid (seen m) h) ∙ e
   found_by false a place m ms h e = e
 
@@ -84,7 +85,7 @@ module _ (mark : List ℕ) (from : ℕ) (named : ℕ → Bool) (tag : List ℕ) 
 
   first_by : (t k : Bool) (place : ℕ) (m : Message) (ms : List Message) → seeks m ≡ t → named m.uid ≡ k → (nat_le from m.uid ≡ true → named m.uid ≡ true) → Rise (m.uid + 1) ms
       → fold (least_more mark from) None (rest (place + 1) ms) ≡ marked_among mark from ms
-      → fold (least_more mark from) None ((if k then Fetch place (shown wanted.Head m) ∷ fetched named wanted.Head (place + 1) ms else fetched named wanted.Head (place + 1) ms) ++ done tag ∷ []) ≡ option_map (λ (x : Message). x.uid) (if t then Some m else find seeks ms)
+      → fold (least_more mark from) None ((if k then Fetch place (shown keywords wanted.Head m) ∷ fetched keywords named wanted.Head (place + 1) ms else fetched keywords named wanted.Head (place + 1) ms) ++ done tag ∷ []) ≡ option_map (λ (x : Message). x.uid) (if t then Some m else find seeks ms)
   first_by true true place m ms is k n r e =
       ap (λ (b : Bool). fold (least_more mark from) (if b then Some m.uid else None) (rest (place + 1) ms)) (seen_is m ∙ is) ∙ found_stays m.uid (m.uid + 1) (place + 1) ms (omega arith) r
   first_by true false place m ms is k n r e = let both : true ≡ false = sym (n (and_parts _ _ is).0) ∙ k in cc
@@ -111,19 +112,19 @@ module _ (mark : List ℕ) (from : ℕ) (named : ℕ → Bool) (tag : List ℕ) 
 fits_head : (bytes : List ℕ) → nat_lt head_size (length (take 22 bytes)) ≡ false
 fits_head bytes = le-ltb head_size (length (take 22 bytes)) (let e = length-take 22 bytes in omega arith)
 
-module _ (named : ℕ → Bool) (tag : List ℕ) where
+module _ (keywords : List Keyword) (named : ℕ → Bool) (tag : List ℕ) where
   none_long_if : (b : Bool) (place : ℕ) (m : Message) (others : List Reply) → list_any has_long_head (others ++ done tag ∷ []) ≡ false
-      → list_any has_long_head ((if b then Fetch place (shown wanted.Head m) ∷ others else others) ++ done tag ∷ []) ≡ false
+      → list_any has_long_head ((if b then Fetch place (shown keywords wanted.Head m) ∷ others else others) ++ done tag ∷ []) ≡ false
   none_long_if true place m others e =
       ap (λ (b : Bool). (b || false) || list_any has_long_head (others ++ done tag ∷ [])) (fits_head m.bytes) ∙ e
   none_long_if false place m others e = e
 
-  none_long : (place : ℕ) (ms : List Message) → list_any has_long_head (fetched named wanted.Head place ms ++ done tag ∷ []) ≡ false
+  none_long : (place : ℕ) (ms : List Message) → list_any has_long_head (fetched keywords named wanted.Head place ms ++ done tag ∷ []) ≡ false
   none_long place [] = refl
-  none_long place (m ∷ ms) = none_long_if (named m.uid) place m (fetched named wanted.Head (place + 1) ms) (none_long (place + 1) ms)
+  none_long place (m ∷ ms) = none_long_if (named m.uid) place m (fetched keywords named wanted.Head (place + 1) ms) (none_long (place + 1) ms)
 
-pub finds_mark : (mark : List ℕ) (from : ℕ) (m : FarMailbox) (tag : List ℕ) → IsStore m.store → AreInRange m.store.messages → mark_found mark from (replies_for m (from_on from) wanted.Head tag) ≡ Some (marked_from mark from m.store)
-finds_mark mark from m tag is range =
+pub finds_mark : (keywords : List Keyword) (mark : List ℕ) (from : ℕ) (m : FarMailbox) (tag : List ℕ) → IsStore m.store → AreInRange m.store.messages → mark_found mark from (replies_for keywords m (from_on from) wanted.Head tag) ≡ Some (marked_from mark from m.store)
+finds_mark keywords mark from m tag is range =
     let rises = store_rises m.store is range in
-    ap (λ (b : Bool). if b then None else uid_found (least_marked mark from (replies_for m (from_on from) wanted.Head tag))) (none_long (named_in m.store (from_on from)) tag 1 m.store.messages)
-    ∙ ap uid_found (found_first mark from (named_in m.store (from_on from)) tag 1 1 m.store.messages rises (names_from m.store from rises)) ∙ uid_sure mark from (named_in m.store (from_on from)) tag 1 m.store.messages (omega arith) rises
+    ap (λ (b : Bool). if b then None else uid_found (least_marked mark from (replies_for keywords m (from_on from) wanted.Head tag))) (none_long keywords (named_in m.store (from_on from)) tag 1 m.store.messages)
+    ∙ ap uid_found (found_first keywords mark from (named_in m.store (from_on from)) tag 1 1 m.store.messages rises (names_from m.store from rises)) ∙ uid_sure keywords mark from (named_in m.store (from_on from)) tag 1 m.store.messages (omega arith) rises

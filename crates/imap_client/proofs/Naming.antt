@@ -1,5 +1,5 @@
 -- The names of a server's mailboxes are told.
-use Rattle.std.proofs.Common.{◌≡◌, ◌⊎◌, inl, inr, ℕ, Bool, true, false, List, [], ◌∷◌, ◌++◌, refl, sym, ◌∙◌, ap, subst, append_assoc, append-nil, Option, Some, None, Result, Err}
+use Rattle.std.proofs.Common.{◌≡◌, inr, ℕ, Bool, true, false, List, [], ◌∷◌, ◌++◌, refl, sym, ◌∙◌, ap, subst, append_assoc, append-nil, Some, None, Result, Err}
 use Rattle.std.specs.Prelude.{map, filter, if◌then◌else◌}
 use Rattle.std.specs.List.{fold, list_all}
 use Rattle.std.proofs.lemmas.Bool.{and_from}
@@ -12,7 +12,8 @@ use Rattle.imap_replies.specs.declared.reply.Reply.TheVariants.{Continue, Tagged
 use Rattle.imap_session.specs.Servers.{Server, is_logged_in}
 use Rattle.imap_session.specs.Answering.{Gives, listed, done, out_of_place}
 use Rattle.imap_session.specs.MailboxCommands.{is_name, names_matched}
-use Rattle.imap_session.specs.Heard.{AreReplies, LeavesOut, WithoutUid}
+use Rattle.imap_session.specs.Heard.{AreReplies}
+use Rattle.exchange_laws.proofs.HeardAs.{gathers_same}
 use Rattle.imap_link.specs.declared.fault.FarFault.{FarFault}
 use Rattle.imap_link.specs.declared.fault.FarFault.TheVariants as faults
 use Rattle.imap_link.specs.UsedReplies.{names_read, is_used}
@@ -23,7 +24,8 @@ use Rattle.imap_client.specs.Exchanged.{command_at, Exchanged}
 use Rattle.imap_client.specs.Saying.{HeardOf}
 use Rattle.imap_client.specs.Logins.{Remains}
 use Rattle.imap_client.specs.States.{State, Asked, EndsSo}
-use Rattle.imap_answers.specs.MailboxNames.{within_limits, name_told, with_name, names_more, names_in, names_of, TellsNames}
+use Rattle.imap_answers.specs.MailboxNames.{within_limits, with_name, names_more, names_in, names_of, TellsNames}
+use Rattle.imap_answers.proofs.HeardSame.{names_same}
 use Rattle.imap_answers.proofs.Unread.{names_in_read}
 use Rattle.imap_client.proofs.Answered.{Sure, answered}
 
@@ -40,21 +42,10 @@ module _ (n : ℕ) (old : Server) (logged : is_logged_in old.condition ≡ true)
   }
 
   pub names_exchanged : (result : Result (Unit {0}) FarFault) (heard : List ℕ) (new : Server) → Exchanged (command_at n (requests.List (42 ∷ []))) any_replies result heard old new
-      → Outcome {T = Unit {0}} (λ _ s t. HeardOf names_read any_replies (told_first old ++ done (tag_text n) ∷ []) heard × (t ≡ old)) Never (λ s t. t ≡ old) result old new
+      → Outcome {T = Unit {0}} (λ _ s t. HeardOf old.keywords names_read any_replies (told_first old ++ done (tag_text n) ∷ []) heard × (t ≡ old)) Never (λ s t. t ≡ old) result old new
   names_exchanged result heard new h = answered any_replies (command_at n (requests.List (42 ∷ []))) old (told_first old) (done (tag_text n)) old names_sure refl result heard new h
 
 -- ---- what it tells
-
-same_told : (h s : Reply) → (h ≡ s) ⊎ WithoutUid h s → name_told h ≡ name_told s
-same_told h s (inl e) = ap name_told e
-same_told h s (inr w) = ap name_told w.heard_is ∙ sym (ap name_told w.said_is)
-
-leaves_names : (names : List (List ℕ)) (hs ss : List Reply) → LeavesOut hs ss → fold names_more names hs ≡ fold names_more names ss
-leaves_names names [] [] l = refl
-leaves_names names [] (s ∷ ss) l = absurd l
-leaves_names names (h ∷ hs) [] l = absurd l
-leaves_names names (h ∷ hs) (s ∷ ss) l =
-    ap (λ (x : Option (List ℕ)). fold names_more (with_name names x) hs) (same_told h s l.0) ∙ leaves_names (with_name names (name_told s)) hs ss l.1
 
 by_limits : (b : Bool) (names rest : List (List ℕ)) (x : List ℕ) → with_name names (if b then Some x else None) ++ rest ≡ names ++ (if b then x ∷ rest else rest)
 by_limits true names rest x = append_assoc names (x ∷ []) rest
@@ -66,9 +57,9 @@ listed_names tag names (n ∷ ns) =
     let x = unescaped n in
     listed_names tag (with_name names (within_limits x)) ns ∙ by_limits (is_name x) names (filter is_name (map unescaped ns)) x
 
-pub names_told : (tag bytes : List ℕ) (old : Server) (names : List (List ℕ)) → HeardOf names_read any_replies (told_first old ++ done tag ∷ []) bytes → ((rs : List Reply) → AreReplies rs bytes → names ≡ names_in rs) → names ≡ names_of old
+pub names_told : (tag bytes : List ℕ) (old : Server) (names : List (List ℕ)) → HeardOf old.keywords names_read any_replies (told_first old ++ done tag ∷ []) bytes → ((rs : List Reply) → AreReplies rs bytes → names ≡ names_in rs) → names ≡ names_of old
 names_told tag bytes old names h told =
-    told (filter (is_used names_read) h.replies) h.spelled ∙ names_in_read h.replies ∙ leaves_names [] h.replies (told_first old ++ done tag ∷ []) h.left_out ∙ listed_names tag [] (names_matched (42 ∷ []) old.mailboxes)
+    told (filter (is_used names_read) h.replies) h.spelled ∙ names_in_read h.replies ∙ gathers_same old.keywords names_more (names_same old.keywords) [] h.replies (told_first old ++ done tag ∷ []) h.heard_as ∙ listed_names tag [] (names_matched (42 ∷ []) old.mailboxes)
 
 -- ---- the limits
 
@@ -100,7 +91,7 @@ names_within names rs e = ap (list_all is_name) e ∙ within_from [] rs refl
 -- ---- how the call ends
 
 module _ (T : Type 0) (r : Result T FarFault) (items : T → List (List ℕ)) (old new : Server) where
-  by_fault : (f : FarFault) (said : List Reply) (heard : List ℕ) → Outcome {T = Unit {0}} (λ _ s t. HeardOf names_read any_replies said heard × (t ≡ old)) Never (λ s t. t ≡ old) (Err f) old new
+  by_fault : (f : FarFault) (said : List Reply) (heard : List ℕ) → Outcome {T = Unit {0}} (λ _ s t. HeardOf old.keywords names_read any_replies said heard × (t ≡ old)) Never (λ s t. t ≡ old) (Err f) old new
       → Outcome {T = T} (λ x. TellsNames (items x)) Never Remains (Err f) old new
   by_fault faults.Stopped said heard h = h
   by_fault faults.Refused said heard h = h
@@ -110,7 +101,7 @@ module _ (T : Type 0) (r : Result T FarFault) (items : T → List (List ℕ)) (o
   by_fault faults.ReadOnly said heard h = h
   by_fault faults.NoMemory said heard h = h
 
-  pub not_answered : (f : FarFault) (said : List Reply) (heard : List ℕ) → r ≡ Err f → Outcome {T = Unit {0}} (λ _ s t. HeardOf names_read any_replies said heard × (t ≡ old)) Never (λ s t. t ≡ old) (Err f) old new
+  pub not_answered : (f : FarFault) (said : List Reply) (heard : List ℕ) → r ≡ Err f → Outcome {T = Unit {0}} (λ _ s t. HeardOf old.keywords names_read any_replies said heard × (t ≡ old)) Never (λ s t. t ≡ old) (Err f) old new
       → Outcome {T = T} (λ x. TellsNames (items x)) Never Remains r old new
   not_answered f said heard e h = subst (λ (q : Result T FarFault). Outcome {T = T} (λ x. TellsNames (items x)) Never Remains q old new) (sym e) (by_fault f said heard h)
 

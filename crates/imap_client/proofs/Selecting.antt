@@ -1,9 +1,11 @@
 -- A mailbox is selected.
-use Rattle.std.proofs.Common.{◌≡◌, ◌⊎◌, inl, inr, ℕ, Bool, true, false, List, [], ◌∷◌, ◌++◌, refl, sym, ◌∙◌, ap, subst, append_assoc, length, arith, Option, Some, None, Result, Ok, Err}
+use Rattle.std.proofs.Common.{◌≡◌, inl, inr, ℕ, Bool, true, false, List, [], ◌∷◌, ◌++◌, refl, sym, ◌∙◌, ap, subst, append_assoc, length, arith, Option, Some, None, Result, Ok, Err}
 use Rattle.std.specs.Prelude.{codes, filter, if◌then◌else◌}
-use Rattle.std.specs.List.{fold}
 use Rattle.std.specs.Option.{option_map}
 use Rattle.std.proofs.lemmas.Bool.{le-leb}
+use Rattle.mailcore.specs.declared.keywords.Keyword.{Keyword}
+use Rattle.mailcore.specs.KeywordNames.{IsMap, named_set}
+use Rattle.wire_tokens.specs.Names.{has_name, star}
 use Rattle.imap_commands.specs.declared.command.Request.TheVariants as requests
 use Rattle.imap_replies.specs.declared.response.Code.TheVariants as codes_of
 use Rattle.imap_replies.specs.declared.reply.Reply.{Reply}
@@ -11,8 +13,9 @@ use Rattle.imap_replies.specs.declared.reply.Reply.TheVariants.{Flags, Exists}
 use Rattle.imap_session.specs.Mailboxes.{FarMailbox, mailbox_at}
 use Rattle.imap_session.specs.Servers.{Condition, NotAuthenticated, Authenticated, Selected, LoggedOut, Server, is_logged_in, selected}
 use Rattle.imap_session.specs.Answering.{Gives, bad, done_with, refused_with, note, listed, out_of_place}
-use Rattle.imap_session.specs.MailboxCommands.{SIX, closes, selects_at}
-use Rattle.imap_session.specs.Heard.{AreReplies, LeavesOut, WithoutUid}
+use Rattle.imap_session.specs.MailboxCommands.{all_names, closes, selects_at}
+use Rattle.imap_session.specs.Heard.{AreReplies}
+use Rattle.exchange_laws.proofs.HeardAs.{gathers_same}
 use Rattle.imap_link.specs.declared.fault.FarFault.{FarFault}
 use Rattle.imap_link.specs.declared.fault.FarFault.TheVariants as faults
 use Rattle.imap_link.specs.UsedReplies.{opening_read, is_used}
@@ -22,20 +25,24 @@ use Rattle.imap_answers.specs.declared.opening.Opening.{Opening}
 use Rattle.imap_client.specs.Tags.{tag_text}
 use Rattle.imap_client.specs.Exchanged.{command_at, Exchanged}
 use Rattle.imap_client.specs.Saying.{HeardOf}
-use Rattle.imap_answers.specs.Openings.{nothing_told, opening_more, opening_of}
+use Rattle.imap_answers.specs.Openings.{nothing_told, opening_more, opening_of, permits_all}
 use Rattle.imap_client.specs.Boxes.{selected_name, is_next, IsSelected, Selects, NoMailbox, Chooses}
 use Rattle.imap_answers.specs.Spoken.{Speaks}
 use Rattle.imap_link.specs.Buffers.{IsAnswerText}
 use Rattle.imap_replies.specs.declared.word.Status.{Status}
 use Rattle.imap_replies.specs.declared.word.Status.TheVariants as statuses
+use Rattle.imap_answers.proofs.HeardSame.{opening_same}
+use Rattle.imap_answers.proofs.Permitted.{permits_known}
 use Rattle.imap_answers.proofs.Unread.{opening_of_read}
+use Rattle.imap_client.specs.Seen.{HasMap}
+use Rattle.imap_client.proofs.OpeningNumbers.{AreSame, numbers_same}
 use Rattle.imap_client.proofs.Answered.{Sure, status_so, answered, refused}
 
 -- all but the tagged reply
-abbrev front : FarMailbox → List Reply
-front m =
-    Flags SIX ∷ Exists (length m.store.messages) ∷ listed m.name
-    ∷ note (codes_of.PermanentFlags SIX false) (codes "flags")
+abbrev front : List Keyword → FarMailbox → List Reply
+front keywords m =
+    Flags (all_names keywords) ∷ Exists (length m.store.messages) ∷ listed m.name
+    ∷ note (codes_of.PermanentFlags (all_names keywords)) (codes "flags")
     ∷ note (codes_of.UidNext m.store.next) (codes "next")
     ∷ note (codes_of.UidValidity m.store.validity) (codes "validity") ∷ []
 
@@ -44,7 +51,7 @@ pub record ChosenBy (name tag bytes : List ℕ) (old new : Server) : Type 0 wher
   pub mailbox : FarMailbox
   pub there : mailbox_at name old.mailboxes ≡ Some mailbox
   pub after : new ≡ record old { condition = Selected name }
-  pub heard : HeardOf opening_read any_replies ((closes old.condition ++ front mailbox) ++ done_with tag codes_of.ReadWrite ∷ []) bytes
+  pub heard : HeardOf old.keywords opening_read any_replies ((closes old.condition ++ front old.keywords mailbox) ++ done_with tag codes_of.ReadWrite ∷ []) bytes
 
 chosen : (old new : Server) (c : Condition) → new ≡ record old { condition = c } → new ≡ record old { condition = new.condition }
 chosen old new c e = e ∙ ap (λ (d : Condition). record old { condition = d }) (sym (ap (λ (s : Server). s.condition) e))
@@ -54,16 +61,16 @@ same a b e = cc
 
 module _ (n : ℕ) (name : List ℕ) (old : Server) (logged : is_logged_in old.condition ≡ true) where
   module _ (m : FarMailbox) (is : mailbox_at name old.mailboxes ≡ Some m) where
-    some_sure : Sure (command_at n (requests.Select name)) old (closes old.condition ++ front m) (done_with (tag_text n) codes_of.ReadWrite) (record old { condition = Selected name })
+    some_sure : Sure (command_at n (requests.Select name)) old (closes old.condition ++ front old.keywords m) (done_with (tag_text n) codes_of.ReadWrite) (record old { condition = Selected name })
     some_sure = record {
       each = λ said new step.
           let now = subst (λ (b : Bool). Gives (if b then selects_at (mailbox_at name old.mailboxes) old (tag_text n) name else out_of_place old (tag_text n)) said new) logged step in
           let at = subst (λ (x : Option FarMailbox). Gives (selects_at x old (tag_text n) name) said new) is now in
-          (at.0 ∙ sym (append_assoc (closes old.condition) (front m) (done_with (tag_text n) codes_of.ReadWrite ∷ [])), at.1);
+          (at.0 ∙ sym (append_assoc (closes old.condition) (front old.keywords m) (done_with (tag_text n) codes_of.ReadWrite ∷ [])), at.1);
     }
 
     some_by : (result : Result (Unit {0}) FarFault) (heard : List ℕ) (new : Server)
-        → Outcome {T = Unit {0}} (λ _ s t. HeardOf opening_read any_replies ((closes old.condition ++ front m) ++ done_with (tag_text n) codes_of.ReadWrite ∷ []) heard × (t ≡ record old { condition = Selected name })) Never (λ s t. t ≡ record old { condition = Selected name }) result old new
+        → Outcome {T = Unit {0}} (λ _ s t. HeardOf old.keywords opening_read any_replies ((closes old.condition ++ front old.keywords m) ++ done_with (tag_text n) codes_of.ReadWrite ∷ []) heard × (t ≡ record old { condition = Selected name })) Never (λ s t. t ≡ record old { condition = Selected name }) result old new
         → Outcome {T = Unit {0}} (λ _. ChosenBy name (tag_text n) heard) (NoMailbox name) (Chooses name) result old new
     some_by (Ok x) heard new h = record { mailbox = m; there = is; after = h.1; heard = h.0 }
     some_by (Err faults.Stopped) heard new (inl q) = inl q
@@ -101,7 +108,7 @@ module _ (n : ℕ) (name : List ℕ) (old : Server) (logged : is_logged_in old.c
   by_mailbox : (x : Option FarMailbox) → mailbox_at name old.mailboxes ≡ x → (result : Result (Unit {0}) FarFault) (heard : List ℕ) (new : Server) → Exchanged (command_at n (requests.Select name)) any_replies result heard old new
       → Outcome {T = Unit {0}} (λ _. ChosenBy name (tag_text n) heard) (NoMailbox name) (Chooses name) result old new
   by_mailbox (Some m) is result heard new h =
-      some_by m is result heard new (answered any_replies (command_at n (requests.Select name)) old (closes old.condition ++ front m) (done_with (tag_text n) codes_of.ReadWrite) (record old { condition = Selected name }) (some_sure m is) refl result heard new h)
+      some_by m is result heard new (answered any_replies (command_at n (requests.Select name)) old (closes old.condition ++ front old.keywords m) (done_with (tag_text n) codes_of.ReadWrite) (record old { condition = Selected name }) (some_sure m is) refl result heard new h)
   by_mailbox None is result heard new h =
       none_by is result heard new (refused any_replies (command_at n (requests.Select name)) old (closes old.condition) (refused_with (tag_text n) (codes "NONEXISTENT") (codes "no mailbox")) (record old { condition = Authenticated }) (none_sure is) refl (λ _ s t. ⊥) result heard new h)
 
@@ -130,25 +137,43 @@ module _ (n : ℕ) (name : List ℕ) (old : Server) where
 abbrev pub told_of : FarMailbox → Opening
 told_of m = record { next = Some m.store.next; validity = Some m.store.validity; is_read_only = false }
 
--- a code that is left out tells nothing
-more_same : (o : Opening) (h s : Reply) → (h ≡ s) ⊎ WithoutUid h s → opening_more o h ≡ opening_more o s
-more_same o h s (inl e) = ap (opening_more o) e
-more_same o h s (inr w) = ap (opening_more o) w.heard_is ∙ sym (ap (opening_more o) w.said_is)
+-- its numbers are told, by whichever map flags are read
+abbrev pub HasNumbers : FarMailbox → Opening → Type 0
+HasNumbers m o = AreSame o (told_of m)
 
-leaves_opening : (o : Opening) (hs ss : List Reply) → LeavesOut hs ss → fold opening_more o hs ≡ fold opening_more o ss
-leaves_opening o [] [] l = refl
-leaves_opening o [] (s ∷ ss) l = absurd l
-leaves_opening o (h ∷ hs) [] l = absurd l
-leaves_opening o (h ∷ hs) (s ∷ ss) l = ap (λ (x : Opening). fold opening_more x hs) (more_same o h s l.0) ∙ leaves_opening (opening_more o s) hs ss l.1
+module _ (keywords : List Keyword) (m : FarMailbox) (tag : List ℕ) where
+  abbrev told_if : Bool → Opening
+  told_if b = record { next = Some m.store.next; validity = Some m.store.validity; is_read_only = (let o : Opening = if b then nothing_told else record nothing_told { is_read_only = true } in o).is_read_only }
 
-closes_tell : (c : Condition) (m : FarMailbox) (tag : List ℕ) → opening_of ((closes c ++ front m) ++ done_with tag codes_of.ReadWrite ∷ []) ≡ told_of m
-closes_tell NotAuthenticated m tag = refl
-closes_tell Authenticated m tag = refl
-closes_tell (Selected name) m tag = refl
-closes_tell LoggedOut m tag = refl
+  abbrev permits : Bool
+  permits = permits_all keywords (named_set keywords (all_names keywords)) (has_name star (all_names keywords))
 
-pub told_so : (name tag bytes : List ℕ) (old new : Server) (c : ChosenBy name tag bytes old new) (o : Opening) → ((rs : List Reply) → AreReplies rs bytes → o ≡ opening_of rs) → o ≡ told_of c.mailbox
-told_so name tag bytes old new c o h = h (filter (is_used opening_read) c.heard.replies) c.heard.spelled ∙ opening_of_read c.heard.replies ∙ leaves_opening nothing_told c.heard.replies _ c.heard.left_out ∙ closes_tell old.condition c.mailbox tag
+  closes_tell : (c : Condition) → opening_of keywords ((closes c ++ front keywords m) ++ done_with tag codes_of.ReadWrite ∷ []) ≡ told_if permits
+  closes_tell NotAuthenticated = refl
+  closes_tell Authenticated = refl
+  closes_tell (Selected name) = refl
+  closes_tell LoggedOut = refl
+
+module _ (name tag bytes : List ℕ) (old new : Server) (c : ChosenBy name tag bytes old new) (keywords : List Keyword) (o : Opening) (is : (rs : List Reply) → AreReplies rs bytes → o ≡ opening_of keywords rs) where
+  read_so : o ≡ opening_of keywords c.heard.replies
+  read_so = is (filter (is_used opening_read) c.heard.replies) c.heard.spelled ∙ opening_of_read keywords c.heard.replies
+
+  -- as the server said it
+  said_so : opening_of old.keywords c.heard.replies ≡ told_if old.keywords c.mailbox tag (permits old.keywords c.mailbox tag)
+  said_so = gathers_same old.keywords (opening_more old.keywords) (opening_same old.keywords) nothing_told c.heard.replies _ c.heard.heard_as ∙ closes_tell old.keywords c.mailbox tag old.condition
+
+  pub numbers_so : HasNumbers c.mailbox o
+  numbers_so =
+      let same = numbers_same keywords old.keywords c.heard.replies nothing_told nothing_told (refl, refl) in (
+        ap (λ (x : Opening). x.next) read_so ∙ same.0 ∙ ap (λ (x : Opening). x.next) said_so,
+        ap (λ (x : Opening). x.validity) read_so ∙ same.1 ∙ ap (λ (x : Opening). x.validity) said_so,
+      )
+
+  -- where the server has this map
+  pub told_so : IsMap keywords → HasMap keywords old → o ≡ told_of c.mailbox
+  told_so map has =
+      read_so ∙ ap (λ (k : List Keyword). opening_of k c.heard.replies) (sym has) ∙ said_so
+      ∙ ap (told_if old.keywords c.mailbox tag) (permits_known old.keywords (has_name star (all_names old.keywords)) (subst IsMap (sym has) map))
 
 -- ---- behind it
 
@@ -156,12 +181,12 @@ module _ (name tag bytes : List ℕ) (old new : Server) where
   pub effect_so : ChosenBy name tag bytes old new → Chooses name old new
   effect_so c = chosen old new (Selected name) c.after
 
-  pub selects_so : (c : ChosenBy name tag bytes old new) (validity next : ℕ) (o : Opening) → o ≡ told_of c.mailbox → o.validity ≡ Some validity → o.next ≡ Some next → Selects name validity next old new
+  pub selects_so : (c : ChosenBy name tag bytes old new) (validity next : ℕ) (o : Opening) → HasNumbers c.mailbox o → o.validity ≡ Some validity → o.next ≡ Some next → Selects name validity next old new
   selects_so c validity next o is v k = record {
     mailbox = c.mailbox;
     there = c.there;
-    validity_is = same validity c.mailbox.store.validity (sym v ∙ ap (λ (x : Opening). x.validity) is);
-    next_is = same next c.mailbox.store.next (sym k ∙ ap (λ (x : Opening). x.next) is);
+    validity_is = same validity c.mailbox.store.validity (sym v ∙ is.1);
+    next_is = same next c.mailbox.store.next (sym k ∙ is.0);
     after = c.after;
   }
 

@@ -1,9 +1,10 @@
 -- A search for a mark is shown the beginning of each message from where it asks on, so that it goes past all of them.
-use Rattle.std.proofs.Common.{◌≡◌, ℕ, ◌+◌, ◌<◌, ◌≤◌, Bool, true, false, List, [], ◌∷◌, ◌++◌, refl, sym, ◌∙◌, ap, subst, take, length, get_or, inl, inr, Option, Some, None, arith}
+use Rattle.std.proofs.Common.{◌≡◌, ℕ, ◌+◌, ◌<◌, ◌≤◌, Bool, true, false, List, [], ◌∷◌, ◌++◌, refl, sym, ◌∙◌, ap, subst, take, get_or, inl, inr, Option, Some, None, arith}
 use Rattle.std.specs.Prelude.{All, max, nat_le, nat_lt, ◌&&◌, ◌||◌, if◌then◌else◌}
 use Rattle.std.specs.List.{Contains, fold}
 use Rattle.std.proofs.lemmas.Bool.{and_from, and_parts, cases_Bool, cases_lt, le-leb, leb-true, ltb-false, or_cases, or_left, or_right, true≢false}
 use Rattle.std.proofs.lemmas.List.Elements.{All-cons, All-nil, Contains-append_left, Contains-push}
+use Rattle.mailcore.specs.declared.keywords.Keyword.{Keyword}
 use Rattle.mailcore.specs.declared.mailbox.Message.{Message}
 use Rattle.mailcore.specs.Content.{mark_of}
 use Rattle.passed_marks.specs.Passed.{IsOneOf}
@@ -22,18 +23,18 @@ use Rattle.imap_client.specs.Calls.{from_on}
 use Rattle.imap_client.proofs.Fetched.{replies_for}
 use Rattle.imap_client.proofs.Marks.{mark_of_head}
 
-module _ (from : ℕ) (named : ℕ → Bool) (tag : List ℕ) where
+module _ (keywords : List Keyword) (from : ℕ) (named : ℕ → Bool) (tag : List ℕ) where
   abbrev rest : (place : ℕ) → List Message → List Reply
-  rest place ms = fetched named wanted.Head place ms ++ done tag ∷ []
+  rest place ms = fetched keywords named wanted.Head place ms ++ done tag ∷ []
 
   abbrev rest_if : Bool → (place : ℕ) → Message → List Message → List Reply
-  rest_if b place m ms = (if b then Fetch place (items_of wanted.Head m) ∷ fetched named wanted.Head (place + 1) ms else fetched named wanted.Head (place + 1) ms) ++ done tag ∷ []
+  rest_if b place m ms = (if b then Fetch place (items_of keywords wanted.Head m) ∷ fetched keywords named wanted.Head (place + 1) ms else fetched keywords named wanted.Head (place + 1) ms) ++ done tag ∷ []
 
   abbrev after : Shown → List Reply → Shown
   after s rs = fold (shown_more from) s rs
 
   abbrev shows : Shown → Message → Shown
-  shows s m = items_shown from s (items_of wanted.Head m)
+  shows s m = items_shown from s (items_of keywords wanted.Head m)
 
   -- ---- the marks
 
@@ -136,22 +137,22 @@ under_reach uid top next h = elim (cases_Bool (nat_lt top next)) [
   | inr least ↦ let low : uid < next = subst (λ (b : Bool). uid < (if b then top + 1 else next)) least h in let most = ltb-false top next least in omega (arith, low, most)
 ]
 
-module _ (from next : ℕ) (m : FarMailbox) (tag : List ℕ) (some : 0 < from) where
+module _ (keywords : List Keyword) (from next : ℕ) (m : FarMailbox) (tag : List ℕ) (some : 0 < from) where
   abbrev named : ℕ → Bool
   named uid = named_in m.store (from_on from) uid
 
   abbrev all_shown : Shown
-  all_shown = fold (shown_more from) nothing_shown (replies_for m (from_on from) wanted.Head tag)
+  all_shown = fold (shown_more from) nothing_shown (replies_for keywords m (from_on from) wanted.Head tag)
 
   shown_by : (top : Option ℕ) → all_shown.top ≡ top → All (λ x. from ≤ x.uid → x.uid < reach next top → IsOneOf all_shown.marks (mark_of x.bytes)) m.store.messages
   shown_by None e k d within least below = absurd (omega (arith, below))
   shown_by (Some top) e k d within least below =
       let uid : ℕ = (get_or m.store.messages k d).uid in
-      let is = tops from named tag 1 m.store.messages nothing_shown (λ t f. absurd (none_some from named tag t f)) top e in
-      marks_all from named tag 1 m.store.messages nothing_shown k d within (named_between (greatest m.store.messages) from top uid some is.0 is.1 least (under_reach uid top next below))
+      let is = tops keywords from named tag 1 m.store.messages nothing_shown (λ t f. absurd (none_some keywords from named tag t f)) top e in
+      marks_all keywords from named tag 1 m.store.messages nothing_shown k d within (named_between (greatest m.store.messages) from top uid some is.0 is.1 least (under_reach uid top next below))
 
   -- the marks of all messages that a search went past are those that were shown
-  pub shows_passed : (mark : List ℕ) (search : MarkSearch) → Sought mark from (replies_for m (from_on from) wanted.Head tag) search
+  pub shows_passed : (mark : List ℕ) (search : MarkSearch) → Sought mark from (replies_for keywords m (from_on from) wanted.Head tag) search
       → All (λ x. from ≤ x.uid → x.uid < reach next search.shown.top → IsOneOf search.shown.marks (mark_of x.bytes)) m.store.messages
   shows_passed mark search took =
       subst (λ (s : Shown). All (λ x. from ≤ x.uid → x.uid < reach next s.top → IsOneOf s.marks (mark_of x.bytes)) m.store.messages) (sym (ap (λ (s : MarkSearch). s.shown) took)) (shown_by all_shown.top refl)

@@ -1,6 +1,7 @@
 -- What calls have heard.
 use Rattle.std.proofs.Common.{◌≡◌, inl, inr, ℕ, ◌+◌, Bool, true, false, List, Option, None, Some, sym, ◌∙◌, ap, subst, refl, Result, Ok, Err}
 use Rattle.std.specs.Prelude.{◌&&◌, is_some}
+use Rattle.mailcore.specs.declared.keywords.Keyword.{Keyword}
 use Rattle.imap_answers.specs.declared.opening.Opening.{Opening}
 use Rattle.imap_answers.specs.Openings.{opening_of}
 use Rattle.imap_replies.specs.declared.reply.Reply.{Reply}
@@ -167,24 +168,24 @@ opened_so o validity next read_only n v r =
     ∙ ap (λ (x : Bool). (let y : Opening = record { next = Some next; validity = Some validity; is_read_only = x } in y)) r
 
 -- what is told of the mailbox is that of an answer that was read
-module _ (T : Type 0) (told : T → Opening) (n : ℕ) (heard : List ℕ) (old new : List (List ℕ)) (h : Hears (λ bytes. Answers n statuses.Ok bytes × (bytes ≡ heard)) old new)
-    (o : Opening) (is : (rs : List Reply) → AreReplies rs heard → o ≡ opening_of rs) where
-  lacks : LacksNumber o → EndsBy (of_select n told) (Err faults.Protocol) old new
+module _ (keywords : List Keyword) (T : Type 0) (told : T → Opening) (n : ℕ) (heard : List ℕ) (old new : List (List ℕ)) (h : Hears (λ bytes. Answers n statuses.Ok bytes × (bytes ≡ heard)) old new)
+    (o : Opening) (is : (rs : List Reply) → AreReplies rs heard → o ≡ opening_of keywords rs) where
+  lacks : LacksNumber o → EndsBy (of_select keywords n told) (Err faults.Protocol) old new
   lacks e =
-      let s = says_so n heard old new h (λ rs. LacksNumber (opening_of rs)) (λ rs are. subst LacksNumber (is rs are) e) in
+      let s = says_so n heard old new h (λ rs. LacksNumber (opening_of keywords rs)) (λ rs are. subst LacksNumber (is rs are) e) in
       inr (record { bytes = s.bytes; is = inr s.is; grows = s.grows })
 
-  pub lacks_next : ((y : ℕ) → o.next ≡ Some y → ⊥) → EndsBy (of_select n told) (Err faults.Protocol) old new
+  pub lacks_next : ((y : ℕ) → o.next ≡ Some y → ⊥) → EndsBy (of_select keywords n told) (Err faults.Protocol) old new
   lacks_next other = lacks (first_lacks o (none_of o.next other))
 
-  pub lacks_validity : ((y : ℕ) → o.validity ≡ Some y → ⊥) → EndsBy (of_select n told) (Err faults.Protocol) old new
+  pub lacks_validity : ((y : ℕ) → o.validity ≡ Some y → ⊥) → EndsBy (of_select keywords n told) (Err faults.Protocol) old new
   lacks_validity other = lacks (second_by (is_some o.next) (is_some o.validity) (none_of o.validity other))
 
   module _ (validity next : ℕ) (at_next : o.next ≡ Some next) (at_validity : o.validity ≡ Some validity) where
-    pub is_read_only : o.is_read_only ≡ true → EndsBy (of_select n told) (Err faults.ReadOnly) old new
+    pub is_read_only : o.is_read_only ≡ true → EndsBy (of_select keywords n told) (Err faults.ReadOnly) old new
     is_read_only r =
-        says_so n heard old new h (λ rs. TellsNumbers (opening_of rs) × ((opening_of rs).is_read_only ≡ true))
+        says_so n heard old new h (λ rs. TellsNumbers (opening_of keywords rs) × ((opening_of keywords rs).is_read_only ≡ true))
         (λ rs are. subst (λ (x : Opening). TellsNumbers x × (x.is_read_only ≡ true)) (sym (opened_so o validity next true at_next at_validity r) ∙ is rs are) (refl, refl))
 
-    pub is_opened : o.is_read_only ≡ false → Hears (Says n statuses.Ok (λ rs. opening_of rs ≡ opened validity next)) old new
-    is_opened r = says_so n heard old new h (λ rs. opening_of rs ≡ opened validity next) (λ rs are. sym (is rs are) ∙ opened_so o validity next false at_next at_validity r)
+    pub is_opened : o.is_read_only ≡ false → Hears (Says n statuses.Ok (λ rs. opening_of keywords rs ≡ opened validity next)) old new
+    is_opened r = says_so n heard old new h (λ rs. opening_of keywords rs ≡ opened validity next) (λ rs are. sym (is rs are) ∙ opened_so o validity next false at_next at_validity r)

@@ -2,10 +2,11 @@
 use Rattle.std.specs.Prelude.{◌≡◌, ℕ, ◌+◌, false, List, [], ◌∷◌, ◌++◌, Option, None, Some, Result, Ok, Err}
 use Rattle.wire_reader.specs.Spelling.{◌⨾◌, Is, crlf}
 use Rattle.wire_tokens.specs.Atoms.{TagText}
-use Rattle.wire_tokens.specs.FlagWriting.{WrittenFlags}
+use Rattle.wire_tokens.specs.FlagLists.{FlagsText}
 use Rattle.wire_tokens.specs.Numbers.{NumberText}
 use Rattle.wire_strings.specs.Quotes.{QuotedText}
 use Rattle.mailcore.specs.CopyPieces.{text_left}
+use Rattle.mailcore.specs.KeywordNames.{IsMap, names_of}
 use Rattle.mailcore.specs.Operations.{added}
 use Rattle.imap_commands.specs.declared.command.Command.{Command}
 use Rattle.imap_commands.specs.declared.command.Request.{Request}
@@ -61,18 +62,23 @@ NoUidLeft m old new = (new ≡ old) × (m.store.next ≡ 4294967295)
 
 -- ---- what is sent
 
-abbrev pub request_to_add : Addition → Request
-request_to_add a = requests.Append a.name.now a.flags (text_left a.octets)
+-- flags are sent by their names
+abbrev pub names_to_add : Addition → List (List ℕ)
+names_to_add a = names_of a.keywords.now a.flags
 
--- what the caller owes: a name that can be quoted, of at most 1024 bytes; 1 to 16777238 octets, none of them NUL
+abbrev pub request_to_add : Addition → Request
+request_to_add a = requests.Append a.name.now (names_to_add a) (text_left a.octets)
+
+-- what the caller owes: a name that can be quoted, of at most 1024 bytes; a map; 1 to 16777238 octets, none of them NUL
 pub record CanAdd (a : Addition) : Type 0 where
   pub name : IsWord a.name.now
+  pub map : IsMap a.keywords.now
   pub message : IsMessage (text_left a.octets)
 
 -- the command up to where its message is asked for: `tag APPEND "name" (flags) {count}` and a line end
-abbrev pub FrontText : (tag name : List ℕ) (flags count : ℕ) → List ℕ → Type 0
+abbrev pub FrontText : (tag name : List ℕ) (flags : List (List ℕ)) (count : ℕ) → List ℕ → Type 0
 FrontText tag name flags count =
-    TagText tag ⨾ Is space ⨾ Is (word_of verbs.Append) ⨾ QuotedText name ⨾ Is space ⨾ WrittenFlags flags ⨾ Is space
+    TagText tag ⨾ Is space ⨾ Is (word_of verbs.Append) ⨾ QuotedText name ⨾ Is space ⨾ FlagsText flags ⨾ Is space
     ⨾ Is (123 ∷ []) ⨾ NumberText count ⨾ Is (125 ∷ crlf)
 
 -- ---- a command that is sent in two parts

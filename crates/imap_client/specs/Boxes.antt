@@ -13,6 +13,7 @@ use Rattle.imap_session.specs.NamedMessages.{stored, swept}
 use Rattle.imap_client.specs.declared.call.Call.{Call}
 use Rattle.imap_client.specs.declared.call.Call.TheVariants as calls
 use Rattle.imap_client.specs.Calls.{each_one}
+use Rattle.imap_client.specs.Seen.{flags_sent}
 
 -- the name of the selected mailbox
 abbrev pub selected_name : Condition → Option (List ℕ)
@@ -59,19 +60,19 @@ Becomes change old new = new ≡ with_selected change old
 abbrev pub one_uid : ℕ → List SetItem
 one_uid uid = One (Number uid) ∷ []
 
--- the call changes the selected mailbox so
-abbrev pub Changing : Call → (Store → Store) → Type 0
-Changing calls.Capability change = ⊥
-Changing (calls.Login user password) change = ⊥
-Changing calls.Enable change = ⊥
-Changing calls.Names change = ⊥
-Changing (calls.Create name) change = ⊥
-Changing (calls.Select name) change = ⊥
-Changing calls.Listing change = ⊥
-Changing (calls.Body uid) change = ⊥
-Changing (calls.Heads from) change = ⊥
-Changing (calls.Store uid mode flags) change = change ≡ stored mode flags (one_uid uid)
-Changing (calls.Expunge uids) change = change ≡ swept (each_one uids.now)
+-- the call changes the selected mailbox of this server so
+abbrev pub Changing : Server → Call → (Store → Store) → Type 0
+Changing s calls.Capability change = ⊥
+Changing s (calls.Login user password) change = ⊥
+Changing s calls.Enable change = ⊥
+Changing s calls.Names change = ⊥
+Changing s (calls.Create name) change = ⊥
+Changing s (calls.Select name) change = ⊥
+Changing s calls.Listing change = ⊥
+Changing s (calls.Body uid) change = ⊥
+Changing s (calls.Heads from) change = ⊥
+Changing s (calls.Store uid mode flags keywords) change = change ≡ stored mode (flags_sent keywords.now flags s) (one_uid uid)
+Changing s (calls.Expunge uids) change = change ≡ swept (each_one uids.now)
 
 -- how many commands a removal of these messages sends
 abbrev pub commands_for : List ℕ → ℕ

@@ -1,5 +1,6 @@
 -- What calls send.
 use Rattle.std.specs.Prelude.{◌<◌, ◌≤◌, ℕ, List, [], ◌∷◌, map, length, max}
+use Rattle.mailcore.specs.KeywordNames.{IsMap, names_of}
 use Rattle.wire_tokens.specs.declared.uid_set.SetEnd.TheVariants.{Number, Greatest}
 use Rattle.wire_tokens.specs.declared.uid_set.SetItem.{SetItem}
 use Rattle.wire_tokens.specs.declared.uid_set.SetItem.TheVariants.{One, Range}
@@ -29,10 +30,10 @@ request_of (calls.Select name) = requests.Select name.now
 request_of calls.Listing = requests.Fetch (from_on 1) wanted.Listing
 request_of (calls.Body uid) = requests.Fetch (One (Number uid) ∷ []) wanted.Body
 request_of (calls.Heads from) = requests.Fetch (from_on from) wanted.Head
-request_of (calls.Store uid mode flags) = requests.Store (One (Number uid) ∷ []) mode flags
+request_of (calls.Store uid mode flags keywords) = requests.Store (One (Number uid) ∷ []) mode (names_of keywords.now flags)
 request_of (calls.Expunge uids) = requests.Expunge (each_one uids.now)
 
--- what the caller owes: words that can be quoted, of at most 1024 bytes; 1 to 5000 UIDs
+-- what the caller owes: words that can be quoted, of at most 1024 bytes; a map; 1 to 5000 UIDs
 abbrev pub CanAsk : Call → Type 0
 CanAsk calls.Capability = Unit {0}
 CanAsk (calls.Login user password) = IsWord user.now × IsWord password.now
@@ -43,5 +44,5 @@ CanAsk (calls.Select name) = IsWord name.now
 CanAsk calls.Listing = Unit {0}
 CanAsk (calls.Body uid) = Unit {0}
 CanAsk (calls.Heads from) = Unit {0}
-CanAsk (calls.Store uid mode flags) = Unit {0}
+CanAsk (calls.Store uid mode flags keywords) = IsMap keywords.now
 CanAsk (calls.Expunge uids) = (0 < length uids.now) × (length uids.now ≤ 5000)

@@ -11,6 +11,7 @@ pub use Rattle.imap_answers.specs.Readings
 pub use Rattle.imap_answers.specs.Listings
 pub use Rattle.imap_answers.specs.Markings
 pub use Rattle.imap_answers.specs.Bodies
+pub mod Seen
 pub mod Boxes
 pub mod Logins
 pub mod Creations

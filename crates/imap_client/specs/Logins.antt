@@ -4,7 +4,7 @@ use Rattle.std.specs.Cmp.Lexicographic.{pointwise}
 use Rattle.wire_tokens.specs.Names.{has_name}
 use Rattle.imap_replies.specs.declared.reply.Reply.{Reply}
 use Rattle.imap_replies.specs.declared.reply.Reply.TheVariants.{Capability}
-use Rattle.imap_session.specs.Servers.{Server, Authenticated}
+use Rattle.imap_session.specs.Servers.{Authenticated, Server, is_logged_in}
 use Rattle.imap_session.specs.SessionCommands.{REV2}
 
 abbrev pub tells_rev2 : Reply → Bool
@@ -22,6 +22,10 @@ Authenticates user password old new = (is_known user password old ≡ true) × (
 -- the user was not
 abbrev pub Rejects : (user password : List ℕ) → Server → Server → Type 0
 Rejects user password old new = (is_known user password old ≡ false) × (new ≡ old)
+
+-- who is logged in stays so
+abbrev pub StaysIn : Server → Server → Type 0
+StaysIn old new = is_logged_in old.condition ≡ true → is_logged_in new.condition ≡ true
 
 -- nothing changed
 abbrev pub Remains : Server → Server → Type 0

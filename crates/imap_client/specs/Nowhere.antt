@@ -8,7 +8,7 @@ use Rattle.imap_session.specs.Lines.{Line}
 abbrev pub no_line : Line
 no_line = record {
   end = record {
-    server = record { user = []; password = []; mailboxes = []; condition = LoggedOut; has_news = false };
+    server = record { user = []; password = []; mailboxes = []; keywords = []; condition = LoggedOut; has_news = false };
     kept = Whole [];
   };
   unseen = [];

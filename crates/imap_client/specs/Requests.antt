@@ -1,7 +1,7 @@
 -- Requests that are sent in one line: no literal of theirs is asked for.
-use Rattle.std.specs.Prelude.{◌≡◌, ◌≤◌, ℕ, true, List, [], ◌∷◌, length}
+use Rattle.std.specs.Prelude.{◌≡◌, ◌≤◌, ◌+◌, ℕ, true, List, [], ◌∷◌, length}
 use Rattle.std.specs.List.{list_all}
-use Rattle.wire_tokens.specs.Room.{most_set}
+use Rattle.wire_tokens.specs.Room.{most_flags, most_set}
 use Rattle.wire_strings.specs.Texts.{is_text}
 use Rattle.imap_commands.specs.declared.command.Request.{Request}
 use Rattle.imap_commands.specs.declared.command.Request.TheVariants as requests
@@ -23,5 +23,5 @@ IsPlain (requests.Create mailbox) = IsWord mailbox
 IsPlain (requests.Select mailbox) = IsWord mailbox
 IsPlain (requests.Append mailbox flags message) = ⊥
 IsPlain (requests.Fetch set what) = most_set set ≤ 65000
-IsPlain (requests.Store set mode flags) = most_set set ≤ 65000
+IsPlain (requests.Store set mode flags) = most_set set + most_flags flags ≤ 65000
 IsPlain (requests.Expunge set) = most_set set ≤ 65000

@@ -1,9 +1,10 @@
 -- What the replies to a command say.
 use Rattle.std.specs.Prelude.{ℕ, List, [], ◌∷◌, filter, Option, None, Some}
+use Rattle.mailcore.specs.declared.keywords.Keyword.{Keyword}
 use Rattle.imap_replies.specs.declared.word.Status.{Status}
 use Rattle.imap_replies.specs.declared.reply.Reply.{Reply}
 use Rattle.imap_replies.specs.declared.reply.Reply.TheVariants.{Continue, Tagged, Notice, Capability, Enabled, List as Listed, Flags, Exists, Expunge, Fetch, Other, OtherNumbered}
-use Rattle.imap_session.specs.Heard.{AreReplies, LeavesOut}
+use Rattle.imap_session.specs.Heard.{AreReplies, AreHeardAs}
 use Rattle.imap_link.specs.declared.uses.Uses.{Uses}
 use Rattle.imap_link.specs.Sinks.{telling}
 use Rattle.imap_link.specs.UsedReplies.{is_used}
@@ -28,10 +29,9 @@ final_status [] = None
 final_status (r ∷ []) = status_of r
 final_status (r ∷ q ∷ rs) = final_status (q ∷ rs)
 
--- The bytes are those of these replies that the call keeps, but that a code may be left out. T holds of those that tell of
--- messages.
-pub record HeardOf (uses : Uses) (T : List Reply → Type 0) (said : List Reply) (bytes : List ℕ) : Type 0 where
+-- The bytes are those that the call keeps of replies as which these were heard. T holds of those that tell of messages.
+pub record HeardOf (keywords : List Keyword) (uses : Uses) (T : List Reply → Type 0) (said : List Reply) (bytes : List ℕ) : Type 0 where
   pub replies : List Reply
   pub spelled : AreReplies (filter (is_used uses) replies) bytes
   pub told : T (telling replies)
-  pub left_out : LeavesOut replies said
+  pub heard_as : AreHeardAs keywords replies said

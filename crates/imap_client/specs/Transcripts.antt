@@ -2,6 +2,7 @@
 -- keeps. Nothing is supposed of the server: the bytes stand here as they came.
 use Rattle.std.specs.Prelude.{◌≡◌, ◌⊎◌, ℕ, ◌+◌, ◌&&◌, true, false, List, ◌∷◌, Some, Result, Ok, Err, is_some}
 use Rattle.std.specs.List.{list_any}
+use Rattle.mailcore.specs.declared.keywords.Keyword.{Keyword}
 use Rattle.imap_replies.specs.declared.reply.Reply.{Reply}
 use Rattle.imap_replies.specs.declared.word.Status.{Status}
 use Rattle.imap_replies.specs.declared.word.Status.TheVariants as statuses
@@ -160,16 +161,16 @@ TellsNumbers o = (is_some o.next && is_some o.validity) ≡ true
 abbrev pub LacksNumber : Opening → Type 0
 LacksNumber o = (is_some o.next && is_some o.validity) ≡ false
 
--- a mailbox that can be changed, and keeps each of the six flags
+-- a mailbox that can be changed, and keeps each flag that has a name
 abbrev pub opened : (validity next : ℕ) → Opening
 opened validity next = record { next = Some next; validity = Some validity; is_read_only = false }
 
-abbrev pub of_select : {T : Type 0} → (n : ℕ) → (T → Opening) → Meaning T
-of_select n told = record {
-  ok = λ x. Says n statuses.Ok (λ rs. opening_of rs ≡ told x);
+abbrev pub of_select : {T : Type 0} → List Keyword → (n : ℕ) → (T → Opening) → Meaning T
+of_select keywords n told = record {
+  ok = λ x. Says n statuses.Ok (λ rs. opening_of keywords rs ≡ told x);
   refused = Answers n statuses.No;
-  protocol = λ bytes. Answers n statuses.Bad bytes ⊎ Says n statuses.Ok (λ rs. LacksNumber (opening_of rs)) bytes;
+  protocol = λ bytes. Answers n statuses.Bad bytes ⊎ Says n statuses.Ok (λ rs. LacksNumber (opening_of keywords rs)) bytes;
   no_rev2 = NoAnswer;
-  read_only = Says n statuses.Ok (λ rs. TellsNumbers (opening_of rs) × ((opening_of rs).is_read_only ≡ true));
+  read_only = Says n statuses.Ok (λ rs. TellsNumbers (opening_of keywords rs) × ((opening_of keywords rs).is_read_only ≡ true));
   no_memory = Answers n statuses.Ok;
 }

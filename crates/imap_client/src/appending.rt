@@ -2,6 +2,7 @@
 
 ghost use Rattle.std.specs.Prelude.{◌≡◌, ◌≤◌, ◌+◌, ◌++◌, ℕ, List, Some, true, false, IfOk, IfErr, OnErr, OnOk};
 ghost use Rattle.mailcore.specs.CopyPieces.{text_left};
+ghost use Rattle.mailcore.specs.KeywordNames.{kept};
 ghost use Rattle.wire_reader.specs.Spelling.{crlf};
 ghost use Rattle.imap_commands.specs.declared.command.Command.{Command};
 ghost use Rattle.imap_commands.specs.Messages.{IsMessage};
@@ -18,6 +19,7 @@ ghost use Rattle.imap_link.specs.Sinks.{any_replies};
 ghost use Rattle.imap_link.specs.Sending.{AfterVisits};
 ghost use Rattle.imap_client.specs.Appending.{Adds, AddsSome, NoUidLeft, next_known, CanAdd, request_to_add, InTwo, IsInTwo, IsFront, WaitsOr};
 ghost use Rattle.imap_client.specs.Boxes.{IsSelected};
+ghost use Rattle.imap_client.specs.Seen.{HasMap, KeepsMap, flags_sent};
 ghost use Rattle.imap_client.specs.Exchanged.{command_at, Exchanged};
 ghost use Rattle.imap_answers.specs.Given.{given_in};
 ghost use Rattle.imap_answers.specs.Spoken.{Speaks};
@@ -89,6 +91,7 @@ impl<L: Link> Session<L> {
     fn ask_to_add(&mut self, addition: &Addition<'_>) -> Result<(), FarFault>
         requires { CanAdd addition.now }
         ensures was_honest { L.honest self.new.wire.link → L.honest self.old.wire.link }
+        ensures letters { L.honest self.new.wire.link → KeepsMap (server_of self.old) (server_of self.new) }
         ensures counts { L.stops self.old.wire.link ≤ L.stops self.new.wire.link }
         ensures stuck { self.old.is_ready ≡ false → self.new ≡ self.old }
         ensures asked { AskedSo (state_of self.old) (state_of self.new) result }
@@ -122,12 +125,15 @@ impl<L: Link> Session<L> {
     ) -> Result<Option<Uid>, FarFault>
         requires { CanAdd addition.now }
         ensures was_honest { L.honest self.new.wire.link → L.honest self.old.wire.link }
+        ensures letters { L.honest self.new.wire.link → KeepsMap (server_of self.old) (server_of self.new) }
         ensures counts { L.stops self.old.wire.link ≤ L.stops self.new.wire.link }
         ensures stuck { self.old.is_ready ≡ false → self.new ≡ self.old }
         ensures ends { EndsSo 1 (state_of self.old) (state_of self.new) result }
         ensures outcome { L.honest self.new.wire.link → Among L.visitors (λ s t. IsSelected addition.now.name.now validity next s
-            → (m : FarMailbox) → selected s ≡ Some m → Outcome (Adds m addition.now.flags (text_left addition.now.octets)) (NoUidLeft m)
-            (AddsSome m addition.now.flags (text_left addition.now.octets)) result s t) (server_of self.old) (server_of self.new) }
+            → (m : FarMailbox) → selected s ≡ Some m
+            → Outcome (Adds m (flags_sent addition.now.keywords.now addition.now.flags s) (text_left addition.now.octets)) (NoUidLeft m)
+            (AddsSome m (flags_sent addition.now.keywords.now addition.now.flags s) (text_left addition.now.octets)) result s t)
+            (server_of self.old) (server_of self.new) }
     {
         self.ask_to_add(addition)?;
         let given = self.given()?;
@@ -140,7 +146,8 @@ impl<L: Link> Session<L> {
 impl<L: Link> FarBox<L> {
     ghost use Rattle.imap_client.specs.Sessions.{state_of, server_of};
 
-    /// Adds a message of 1 to 16777238 bytes, none of them NUL, with these flags, and tells its UID if the server does.
+    /// Adds a message of 1 to 16777238 bytes, none of them NUL, with those of these flags that have a name, and tells its UID if the
+    /// server does.
     ///
     /// The server gets the message once it has asked for it. `Refused`: it has no UID left. `Protocol`: it says that the
     /// message was added before it has asked for it, or tells a UID of another UIDVALIDITY, or one that was given before,
@@ -148,16 +155,18 @@ impl<L: Link> FarBox<L> {
     pub fn append(&mut self, bytes: &[u8], flags: Flags) -> Result<Option<Uid>, FarFault>
         requires { IsMessage bytes.now }
         ensures was_honest { L.honest self.new.session.wire.link → L.honest self.old.session.wire.link }
+        ensures letters { L.honest self.new.session.wire.link → KeepsMap (server_of self.old.session) (server_of self.new.session) }
         ensures counts { L.stops self.old.session.wire.link ≤ L.stops self.new.session.wire.link }
         ensures stuck { self.old.session.is_ready ≡ false → self.new.session ≡ self.old.session }
         ensures ends { EndsSo 1 (state_of self.old.session) (state_of self.new.session) result }
         ensures same { (self.new.name ≡ self.old.name) × (self.new.validity ≡ self.old.validity)
             × (self.new.is_selected ≡ self.old.is_selected) }
+        ensures keywords { self.new.keywords ≡ self.old.keywords }
         ensures next { IfOk result (λ told. self.new.next ≡ next_known self.old.next told) }
         ensures unknown { OnErr result (self.new.next ≡ self.old.next) }
-        ensures outcome { L.honest self.new.session.wire.link → self.old.is_selected ≡ true
-            → Among L.visitors (λ s t. (m : FarMailbox) → selected s ≡ Some m
-            → Outcome (Adds m flags bytes.now) (NoUidLeft m) (AddsSome m flags bytes.now) result s t)
+        ensures outcome { L.honest self.new.session.wire.link → HasMap self.old.keywords (server_of self.old.session) → self.old.is_selected ≡ true
+            → Among L.visitors (λ s t. (m : FarMailbox) → selected s ≡ Some m → Outcome (Adds m (kept self.old.keywords flags) bytes.now) (NoUidLeft m)
+            (AddsSome m (kept self.old.keywords flags) bytes.now) result s t)
             (server_of self.old.session) (server_of self.new.session) }
     {
         self.append_copy(CopyPieces::whole(bytes), flags)
@@ -171,21 +180,25 @@ impl<L: Link> FarBox<L> {
     ) -> Result<Option<Uid>, FarFault>
         requires { IsMessage (text_left copy) }
         ensures was_honest { L.honest self.new.session.wire.link → L.honest self.old.session.wire.link }
+        ensures letters { L.honest self.new.session.wire.link → KeepsMap (server_of self.old.session) (server_of self.new.session) }
         ensures counts { L.stops self.old.session.wire.link ≤ L.stops self.new.session.wire.link }
         ensures stuck { self.old.session.is_ready ≡ false → self.new.session ≡ self.old.session }
         ensures ends { EndsSo 1 (state_of self.old.session) (state_of self.new.session) result }
         ensures same { (self.new.name ≡ self.old.name) × (self.new.validity ≡ self.old.validity)
             × (self.new.is_selected ≡ self.old.is_selected) }
+        ensures keywords { self.new.keywords ≡ self.old.keywords }
         ensures next { IfOk result (λ told. self.new.next ≡ next_known self.old.next told) }
         ensures unknown { OnErr result (self.new.next ≡ self.old.next) }
-        ensures outcome { L.honest self.new.session.wire.link → self.old.is_selected ≡ true
+        ensures outcome { L.honest self.new.session.wire.link → HasMap self.old.keywords (server_of self.old.session) → self.old.is_selected ≡ true
             → Among L.visitors (λ s t. (m : FarMailbox) → selected s ≡ Some m
-            → Outcome (Adds m flags (text_left copy.entry)) (NoUidLeft m) (AddsSome m flags (text_left copy.entry)) result s t)
+            → Outcome (Adds m (kept self.old.keywords flags) (text_left copy.entry)) (NoUidLeft m)
+            (AddsSome m (kept self.old.keywords flags) (text_left copy.entry)) result s t)
             (server_of self.old.session) (server_of self.new.session) }
     {
         let addition = Addition {
             name: &self.name,
             flags,
+            keywords: &self.keywords,
             octets: copy,
         };
         let told = self.session.add(&addition, self.validity, self.next)?;

@@ -1,6 +1,6 @@
 //! The bytes of one message of the selected mailbox (RFC 9051, section 6.4.5).
 
-ghost use Rattle.std.specs.Prelude.{◌≡◌, ◌≤◌, List, Some, None, false, if◌then◌else◌};
+ghost use Rattle.std.specs.Prelude.{◌≡◌, ◌≤◌, Some, None, false, if◌then◌else◌};
 ghost use Rattle.std.specs.Option.{option_map};
 ghost use Rattle.imap_session.specs.Mailboxes.{FarMailbox};
 ghost use Rattle.imap_session.specs.Servers.{selected};
@@ -12,6 +12,7 @@ ghost use Rattle.mailcore.specs.Stores.{IsStore};
 ghost use Rattle.imap_answers.specs.Bodies.{found_at};
 ghost use Rattle.imap_client.specs.Logins.{Remains};
 ghost use Rattle.imap_answers.specs.Readings.{Tells};
+ghost use Rattle.imap_client.specs.Seen.{KeepsMap};
 ghost use Rattle.imap_client.specs.States.{EndsSo};
 
 use crate::call::Call;
@@ -28,6 +29,7 @@ impl<L: Link> Session<L> {
     /// Where the bytes of a message of the selected mailbox stand in the replies that were read, or none where it is not there.
     pub(crate) fn body(&mut self, uid: Uid) -> Result<Option<FoundBody>, FarFault>
         ensures was_honest { L.honest self.new.wire.link → L.honest self.old.wire.link }
+        ensures letters { L.honest self.new.wire.link → KeepsMap (server_of self.old) (server_of self.new) }
         ensures counts { L.stops self.old.wire.link ≤ L.stops self.new.wire.link }
         ensures stuck { self.old.is_ready ≡ false → self.new ≡ self.old }
         ensures ends { EndsSo 1 (state_of self.old) (state_of self.new) result }
@@ -58,10 +60,12 @@ impl<L: Link> FarBox<L> {
     pub fn fetch(&mut self, uid: Uid) -> Result<Option<&[u8]>, FarFault>
         ensures* behind { sem 𝓛 (follows_so (the_row L.row L.Link) (the_row L.row L.Link) self.entry.ghost_name none (λ _ _. ⊤)
             (λ after. (L.honest after.session.wire.link → L.honest self.old.session.wire.link)
+            × (L.honest after.session.wire.link → KeepsMap (server_of self.old.session) (server_of after.session))
             × (self.old.session.is_ready ≡ false → after.session ≡ self.old.session)
             × EndsSo 1 (state_of self.old.session) (state_of after.session) result
             × ((after.name ≡ self.old.name) × (after.validity ≡ self.old.validity) × (after.next ≡ self.old.next)
             × (after.is_selected ≡ self.old.is_selected))
+            × (after.keywords ≡ self.old.keywords)
             × (L.honest after.session.wire.link → Among L.visitors (λ s t. (m : FarMailbox) → selected s ≡ Some m → Remains s t)
             (server_of self.old.session) (server_of after.session))
             × (L.honest after.session.wire.link → Among L.visitors (λ s t. (m : FarMailbox) → selected s ≡ Some m → IsStore m.store
@@ -79,11 +83,13 @@ impl<L: Link> FarBox<L> {
     /// Fetches the bytes of a message, which `body` then lends, and says whether it is there.
     pub fn load(&mut self, uid: Uid) -> Result<bool, FarFault>
         ensures was_honest { L.honest self.new.session.wire.link → L.honest self.old.session.wire.link }
+        ensures letters { L.honest self.new.session.wire.link → KeepsMap (server_of self.old.session) (server_of self.new.session) }
         ensures counts { L.stops self.old.session.wire.link ≤ L.stops self.new.session.wire.link }
         ensures stuck { self.old.session.is_ready ≡ false → self.new.session ≡ self.old.session }
         ensures ends { EndsSo 1 (state_of self.old.session) (state_of self.new.session) result }
         ensures same { (self.new.name ≡ self.old.name) × (self.new.validity ≡ self.old.validity) × (self.new.next ≡ self.old.next)
             × (self.new.is_selected ≡ self.old.is_selected) }
+        ensures keywords { self.new.keywords ≡ self.old.keywords }
         ensures remains { L.honest self.new.session.wire.link → Among L.visitors (λ s t. (m : FarMailbox) → selected s ≡ Some m → Remains s t)
             (server_of self.old.session) (server_of self.new.session) }
         ensures outcome { L.honest self.new.session.wire.link → Among L.visitors (λ s t. (m : FarMailbox) → selected s ≡ Some m

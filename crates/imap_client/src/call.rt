@@ -9,10 +9,12 @@ ghost use Rattle.imap_client.specs.Calls.{request_of, CanAsk, from_on, each_one}
 use imap_commands::command::{FetchItems, Request, StoreMode};
 use imap_commands::pattern::Pattern;
 use mailcore::flags::Flags;
+use mailcore::keywords::Keywords;
 use mailcore::uid::Uid;
 use std::alloc::{AllocError, Global};
 use wire_strings::text::Text;
 use wire_tokens::atom::Atom;
+use wire_tokens::flag_list::FlagList;
 use wire_tokens::names::{NameList, Names};
 use wire_tokens::number::NonZero;
 use wire_tokens::uid_set::{SetEnd, SetItem, UidSet};
@@ -38,8 +40,8 @@ pub(crate) enum Call<'a> {
     Body(Uid),
     /// The first bytes of the messages from this UID on.
     Heads(u32),
-    /// That this message get these flags, or lose them.
-    Store(Uid, StoreMode, Flags),
+    /// That this message get these flags, or lose them, by their names.
+    Store(Uid, StoreMode, Flags, &'a Keywords),
     /// That those of these messages that are marked as deleted be removed; there is at least one.
     Expunge(&'a [Uid]),
 }
@@ -64,11 +66,11 @@ impl<'a> Call<'a> {
             Call::Listing => Ok(Request::Fetch(from_on(alloc, 1)?, FetchItems::Listing)),
             Call::Body(uid) => Ok(Request::Fetch(UidSet::one(alloc, uid)?, FetchItems::Body)),
             Call::Heads(from) => Ok(Request::Fetch(from_on(alloc, from)?, FetchItems::Head)),
-            Call::Store(uid, mode, flags) => Ok(Request::Store(
-                UidSet::one(alloc, uid)?,
-                mode,
-                flags,
-            )),
+            Call::Store(uid, mode, flags, keywords) => {
+                let set = UidSet::one(alloc, uid)?;
+                let flags = FlagList::of(alloc, flags, keywords)?;
+                Ok(Request::Store(set, mode, flags))
+            }
             Call::Expunge(uids) => Ok(Request::Expunge(each_one(alloc, uids)?)),
         }
     }

@@ -11,6 +11,7 @@ ghost use Rattle.imap_client.specs.Logins.{tells_rev2, Authenticates, Rejects, R
 ghost use Rattle.imap_client.specs.Requests.{IsWord};
 ghost use Rattle.imap_client.specs.Transcripts.{EndsBy, of_abilities, of_login, of_enable, LoginHears};
 ghost use Rattle.imap_answers.specs.Spoken.{Speaks};
+ghost use Rattle.imap_client.specs.Seen.{KeepsMap};
 ghost use Rattle.imap_client.specs.States.{EndsSo};
 
 use crate::call::Call;
@@ -34,6 +35,7 @@ impl<L: Link> Session<L> {
         requires user { IsWord user.now }
         requires password { IsWord password.now }
         ensures was_honest { L.honest self.new.wire.link → L.honest self.old.wire.link }
+        ensures letters { L.honest self.new.wire.link → KeepsMap (server_of self.old) (server_of self.new) }
         ensures counts { L.stops self.old.wire.link ≤ L.stops self.new.wire.link }
         ensures stuck { self.old.is_ready ≡ false → self.new ≡ self.old }
         ensures ends { EndsSo 3 (state_of self.old) (state_of self.new) result }
@@ -50,6 +52,7 @@ impl<L: Link> Session<L> {
     // Asks what the server can do.
     fn ask_abilities(&mut self) -> Result<(), FarFault>
         ensures was_honest { L.honest self.new.wire.link → L.honest self.old.wire.link }
+        ensures letters { L.honest self.new.wire.link → KeepsMap (server_of self.old) (server_of self.new) }
         ensures counts { L.stops self.old.wire.link ≤ L.stops self.new.wire.link }
         ensures stuck { self.old.is_ready ≡ false → self.new ≡ self.old }
         ensures ends { EndsSo 1 (state_of self.old) (state_of self.new) result }
@@ -80,6 +83,7 @@ impl<L: Link> Session<L> {
         requires user { IsWord user.now }
         requires password { IsWord password.now }
         ensures was_honest { L.honest self.new.wire.link → L.honest self.old.wire.link }
+        ensures letters { L.honest self.new.wire.link → KeepsMap (server_of self.old) (server_of self.new) }
         ensures counts { L.stops self.old.wire.link ≤ L.stops self.new.wire.link }
         ensures stuck { self.old.is_ready ≡ false → self.new ≡ self.old }
         ensures ends { EndsSo 1 (state_of self.old) (state_of self.new) result }
@@ -96,6 +100,7 @@ impl<L: Link> Session<L> {
     // Enables IMAP4rev2.
     fn enable(&mut self) -> Result<(), FarFault>
         ensures was_honest { L.honest self.new.wire.link → L.honest self.old.wire.link }
+        ensures letters { L.honest self.new.wire.link → KeepsMap (server_of self.old) (server_of self.new) }
         ensures counts { L.stops self.old.wire.link ≤ L.stops self.new.wire.link }
         ensures stuck { self.old.is_ready ≡ false → self.new ≡ self.old }
         ensures ends { EndsSo 1 (state_of self.old) (state_of self.new) result }

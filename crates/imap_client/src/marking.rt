@@ -10,6 +10,7 @@ ghost use Rattle.mailcore.specs.Ranges.{AreInRange};
 ghost use Rattle.mailcore.specs.Stores.{IsStore};
 ghost use Rattle.imap_client.specs.Logins.{Remains};
 ghost use Rattle.imap_answers.specs.Readings.{Tells};
+ghost use Rattle.imap_client.specs.Seen.{KeepsMap};
 ghost use Rattle.imap_client.specs.States.{EndsSo};
 ghost use Rattle.passed_marks.specs.Passed.{ArePassed};
 
@@ -36,6 +37,7 @@ impl<L: Link> Session<L> {
     ) -> Result<Option<Uid>, FarFault>
         requires { 0 < passed.old.below }
         ensures was_honest { L.honest self.new.wire.link → L.honest self.old.wire.link }
+        ensures letters { L.honest self.new.wire.link → KeepsMap (server_of self.old) (server_of self.new) }
         ensures counts { L.stops self.old.wire.link ≤ L.stops self.new.wire.link }
         ensures stuck { self.old.is_ready ≡ false → self.new ≡ self.old }
         ensures ends { EndsSo 1 (state_of self.old) (state_of self.new) result }
@@ -67,11 +69,13 @@ impl<L: Link> FarBox<L> {
     /// `Protocol`: the server shows more than 22 octets of a message, or tells the mark under 4294967295, too.
     pub fn find_mark(&mut self, mark: Tuid, from: u32) -> Result<Option<Uid>, FarFault>
         ensures was_honest { L.honest self.new.session.wire.link → L.honest self.old.session.wire.link }
+        ensures letters { L.honest self.new.session.wire.link → KeepsMap (server_of self.old.session) (server_of self.new.session) }
         ensures counts { L.stops self.old.session.wire.link ≤ L.stops self.new.session.wire.link }
         ensures stuck { self.old.session.is_ready ≡ false → self.new.session ≡ self.old.session }
         ensures ends { EndsSo 1 (state_of self.old.session) (state_of self.new.session) result }
         ensures same { (self.new.name ≡ self.old.name) × (self.new.validity ≡ self.old.validity) × (self.new.next ≡ self.old.next)
             × (self.new.is_selected ≡ self.old.is_selected) }
+        ensures keywords { self.new.keywords ≡ self.old.keywords }
         ensures remains { L.honest self.new.session.wire.link → Among L.visitors (λ s t. (m : FarMailbox) → selected s ≡ Some m → Remains s t)
             (server_of self.old.session) (server_of self.new.session) }
         ensures outcome { L.honest self.new.session.wire.link → Among L.visitors (λ s t. (m : FarMailbox) → selected s ≡ Some m

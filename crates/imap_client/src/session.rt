@@ -10,7 +10,9 @@ ghost use Rattle.imap_client.specs.Tags.{tag_text};
 ghost use Rattle.imap_client.specs.Requests.{IsPlain};
 ghost use Rattle.imap_client.specs.Exchanged.{command_at, AnsweredSo, Exchanged};
 ghost use Rattle.imap_client.specs.Calls.{request_of, CanAsk};
-ghost use Rattle.imap_client.specs.States.{Opened, SendStops, EndsSo, SentSo, Judged, ExchangedSo, AskedSo};
+ghost use Rattle.imap_client.specs.Logins.{StaysIn};
+ghost use Rattle.imap_client.specs.Seen.{KeepsMap};
+ghost use Rattle.imap_client.specs.States.{Opened, SendStops, SentSo, Judged, ExchangedSo, AskedSo};
 ghost use Rattle.imap_link.specs.Faults.{IsHearing};
 ghost use Rattle.imap_link.specs.Sinks.{any_replies};
 ghost use Rattle.imap_link.specs.Outcomes.{Outcome, Never};
@@ -50,7 +52,7 @@ pub struct Session<L: Link> {
 
 impl<L: Link> Session<L> {
     ghost use Rattle.imap_session.specs.Lines.{told_server};
-    ghost use Rattle.imap_client.specs.Sessions.{state_of, line_of, server_of};
+    ghost use Rattle.imap_client.specs.Sessions.{state_of, server_of};
 
     /// A session over the link, of which no connection was made. Each call answers `Stopped`, until `reconnect`.
     pub fn closed(alloc: Global, link: L) -> Session<L>
@@ -96,6 +98,7 @@ impl<L: Link> Session<L> {
     /// Faults as of `open`. After each the session has failed.
     pub fn reconnect(&mut self) -> Result<(), FarFault>
         ensures was_honest { L.honest self.new.wire.link → L.honest self.old.wire.link }
+        ensures letters { L.honest self.new.wire.link → KeepsMap (server_of self.old) (server_of self.new) }
         ensures ready { OnOk result (Opened (L.stops self.old.wire.link) (state_of self.new)) }
         ensures outcome { L.honest self.new.wire.link → Outcome (λ _. Restarts) Never Restarts result (server_of self.old) (server_of self.new) }
         ensures known { IfErr result IsHearing }
@@ -221,6 +224,8 @@ impl<L: Link> Session<L> {
         requires begun { self.old.is_ready ≡ false }
         requires idle { L.honest self.old.wire.link → IsStill (ends_of (L.line self.old.wire.link) self.old.wire.heard.unread) }
         ensures was_honest { L.honest self.new.wire.link → L.honest self.old.wire.link }
+        ensures letters { L.honest self.new.wire.link → KeepsMap (server_of self.old) (server_of self.new) }
+        ensures stays_in { L.honest self.new.wire.link → StaysIn (server_of self.old) (server_of self.new) }
         ensures counts { L.stops self.old.wire.link ≤ L.stops self.new.wire.link }
         ensures asked { ExchangedSo (state_of self.old) (state_of self.new) result }
         ensures outcome { L.honest self.new.wire.link → Among L.visitors (AnsweredSo (command_at (self.old.tags + 1) request)
@@ -243,6 +248,8 @@ impl<L: Link> Session<L> {
     ) -> Result<Status, FarFault>
         requires { CanAsk call.now }
         ensures was_honest { L.honest self.new.wire.link → L.honest self.old.wire.link }
+        ensures letters { L.honest self.new.wire.link → KeepsMap (server_of self.old) (server_of self.new) }
+        ensures stays_in { L.honest self.new.wire.link → StaysIn (server_of self.old) (server_of self.new) }
         ensures counts { L.stops self.old.wire.link ≤ L.stops self.new.wire.link }
         ensures stuck { self.old.is_ready ≡ false → self.new ≡ self.old }
         ensures asked { AskedSo (state_of self.old) (state_of self.new) result }
@@ -265,6 +272,8 @@ impl<L: Link> Session<L> {
     ) -> Result<(), FarFault>
         requires { CanAsk call.now }
         ensures was_honest { L.honest self.new.wire.link → L.honest self.old.wire.link }
+        ensures letters { L.honest self.new.wire.link → KeepsMap (server_of self.old) (server_of self.new) }
+        ensures stays_in { L.honest self.new.wire.link → StaysIn (server_of self.old) (server_of self.new) }
         ensures counts { L.stops self.old.wire.link ≤ L.stops self.new.wire.link }
         ensures stuck { self.old.is_ready ≡ false → self.new ≡ self.old }
         ensures asked { AskedSo (state_of self.old) (state_of self.new) result }
@@ -282,6 +291,8 @@ impl<L: Link> Session<L> {
     pub(crate) fn ask(&mut self, call: &Call<'_>) -> Result<(), FarFault>
         requires { CanAsk call.now }
         ensures was_honest { L.honest self.new.wire.link → L.honest self.old.wire.link }
+        ensures letters { L.honest self.new.wire.link → KeepsMap (server_of self.old) (server_of self.new) }
+        ensures stays_in { L.honest self.new.wire.link → StaysIn (server_of self.old) (server_of self.new) }
         ensures counts { L.stops self.old.wire.link ≤ L.stops self.new.wire.link }
         ensures stuck { self.old.is_ready ≡ false → self.new ≡ self.old }
         ensures asked { AskedSo (state_of self.old) (state_of self.new) result }

@@ -5,7 +5,7 @@ use Rattle.wire_reader.specs.declared.lexical.Phase.TheVariants.{Plain}
 use Rattle.wire_reader.specs.Spelling.{Is, crlf}
 use Rattle.wire_reader.specs.Lexical.{phase, outside}
 use Rattle.wire_reader.proofs.Fitting.{Fits, then_few, is_few, is_fits}
-use Rattle.wire_tokens.specs.Room.{most_set, most_names}
+use Rattle.wire_tokens.specs.Room.{most_set, most_names, most_flags}
 use Rattle.wire_tokens.proofs.TokensFit.{tag_fits, names_fit, set_fits, flags_fit}
 use Rattle.wire_strings.specs.Room.{most_literal, most_string}
 use Rattle.wire_strings.proofs.StringsFit.{string_fits, quoted_fits, literal_fits}
@@ -66,17 +66,17 @@ behind_few (requests.List pattern) t h = then_few (2 * length pattern + 2) 2 (qu
 behind_few (requests.Create mailbox) t h = then_few (most_string mailbox) 2 (string_fits mailbox) end_few t h
 behind_few (requests.Select mailbox) t h = then_few (most_string mailbox) 2 (string_fits mailbox) end_few t h
 behind_few (requests.Append mailbox flags message) t h =
-    then_few (most_string mailbox) (1 + (53 + (1 + (most_literal + 2)))) (string_fits mailbox)
-    (then_few 1 (53 + (1 + (most_literal + 2))) space_fits
-    (then_few 53 (1 + (most_literal + 2)) (flags_fit flags)
+    then_few (most_string mailbox) (1 + (most_flags flags + (1 + (most_literal + 2)))) (string_fits mailbox)
+    (then_few 1 (most_flags flags + (1 + (most_literal + 2))) space_fits
+    (then_few (most_flags flags) (1 + (most_literal + 2)) (flags_fit flags)
     (then_few 1 (most_literal + 2) space_fits (then_few most_literal 2 (message_fits message) end_few)))) t h
 behind_few (requests.Fetch set what) t h =
     then_few (most_set set) (1 + (length (items_word what) + 2)) (set_fits set)
     (then_few 1 (length (items_word what) + 2) space_fits (then_few (length (items_word what)) 2 (is_fits (items_word what) (plain_items what)) end_few)) t h
 behind_few (requests.Store set mode flags) t h =
-    then_few (most_set set) (1 + (length (mode_word mode) + (53 + 2))) (set_fits set)
-    (then_few 1 (length (mode_word mode) + (53 + 2)) space_fits
-    (then_few (length (mode_word mode)) (53 + 2) (is_fits (mode_word mode) (plain_mode mode)) (then_few 53 2 (flags_fit flags) end_few))) t h
+    then_few (most_set set) (1 + (length (mode_word mode) + (most_flags flags + 2))) (set_fits set)
+    (then_few 1 (length (mode_word mode) + (most_flags flags + 2)) space_fits
+    (then_few (length (mode_word mode)) (most_flags flags + 2) (is_fits (mode_word mode) (plain_mode mode)) (then_few (most_flags flags) 2 (flags_fit flags) end_few))) t h
 behind_few (requests.Expunge set) t h = then_few (most_set set) 2 (set_fits set) end_few t h
 
 pub command_few : (c : Command) (t : List ℕ) → Written c t → outside t ≤ most_outside c

@@ -15,7 +15,6 @@ use Rattle.wire_tokens.specs.Atoms.{is_atom_byte, is_tag_byte, TagText, tag_at}
 use Rattle.wire_strings.specs.Strings.{ValueText, value_at}
 use Rattle.wire_tokens.specs.FlagLists.{FlagsText, flags_at}
 use Rattle.wire_tokens.proofs.AtomParts.{tag_part}
-use Rattle.wire_tokens.specs.FlagWriting.{WrittenFlags}
 use Rattle.wire_strings.proofs.StringParts.{value_part}
 use Rattle.wire_strings.proofs.StringsFit.{written_value}
 use Rattle.wire_tokens.proofs.FlagParts.{flags_part}
@@ -80,8 +79,8 @@ tag_plain tag t h = let p : Part Commands true (Open is_tag_byte) TagText tag_at
 text_plain : (bytes t : List ℕ) → WrittenText bytes t → phase Plain t ≡ Plain
 text_plain bytes t h = let p : Part Commands true (Open is_atom_byte) (ValueText Commands) (value_at Commands) = value_part in (p.leads refl).after bytes t (written_value Commands bytes t h)
 
-flags_plain : (flags : ℕ) (t : List ℕ) → WrittenFlags flags t → phase Plain t ≡ Plain
-flags_plain flags t h = let p : Part Commands true Closed FlagsText flags_at = flags_part in (p.leads refl).after flags t h.spelled
+flags_plain : (flags : List (List ℕ)) (t : List ℕ) → FlagsText flags t → phase Plain t ≡ Plain
+flags_plain flags t h = let p : Part Commands true Closed FlagsText flags_at = flags_part in (p.leads refl).after flags t h
 
 message_waits : (message before t : List ℕ) → phase Plain before ≡ Plain → (WrittenMessage message ⨾ Is crlf) t → WaitsBefore message (before ++ t)
 message_waits message before t plain h =

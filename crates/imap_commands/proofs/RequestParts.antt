@@ -117,7 +117,7 @@ select_from : (r : Request) (t : List ℕ) → Behind verbs.Select r t → (mail
 select_from (requests.Select mailbox) t h = (mailbox, refl, h.1)
 select_from _ t h = absurd (let e = h.0 in cc)
 
-append_from : (r : Request) (t : List ℕ) → Behind verbs.Append r t → (v : List ℕ × (ℕ × List ℕ)) × (r ≡ requests.Append v.0 v.1.0 v.1.1) × (AString v.0 ⨾ Is space ⨾ FlagsText v.1.0 ⨾ Is space ⨾ FilledLiteral Commands v.1.1 ⨾ Is crlf) t
+append_from : (r : Request) (t : List ℕ) → Behind verbs.Append r t → (v : List ℕ × (List (List ℕ) × List ℕ)) × (r ≡ requests.Append v.0 v.1.0 v.1.1) × (AString v.0 ⨾ Is space ⨾ FlagsText v.1.0 ⨾ Is space ⨾ FilledLiteral Commands v.1.1 ⨾ Is crlf) t
 append_from (requests.Append mailbox flags message) t h = ((mailbox, (flags, message)), refl, h.1)
 append_from _ t h = absurd (let e = h.0 in cc)
 
@@ -125,7 +125,7 @@ fetch_from : (r : Request) (t : List ℕ) → Behind verbs.Fetch r t → (v : Li
 fetch_from (requests.Fetch set what) t h = ((set, what), refl, h.1)
 fetch_from _ t h = absurd (let e = h.0 in cc)
 
-store_from : (r : Request) (t : List ℕ) → Behind verbs.Store r t → (v : List SetItem × (StoreMode × ℕ)) × (r ≡ requests.Store v.0 v.1.0 v.1.1) × (SetText v.0 ⨾ Is space ⨾ Word (mode_word v.1.0) ⨾ FlagsText v.1.1 ⨾ Is crlf) t
+store_from : (r : Request) (t : List ℕ) → Behind verbs.Store r t → (v : List SetItem × (StoreMode × List (List ℕ))) × (r ≡ requests.Store v.0 v.1.0 v.1.1) × (SetText v.0 ⨾ Is space ⨾ Word (mode_word v.1.0) ⨾ FlagsText v.1.1 ⨾ Is crlf) t
 store_from (requests.Store set mode flags) t h = ((set, (mode, flags)), refl, h.1)
 store_from _ t h = absurd (let e = h.0 in cc)
 

@@ -15,8 +15,6 @@ use Rattle.imap_commands.specs.Verbs.{word_of}
 use Rattle.imap_commands.specs.Requests.{verb_of, items_word, mode_word, AString, RequestText}
 use Rattle.imap_commands.specs.Commands.{Spelled}
 use Rattle.imap_commands.specs.Writing.{WrittenText, WrittenRequest, Written}
-use Rattle.wire_tokens.specs.FlagLists.{FlagsText}
-use Rattle.wire_tokens.specs.FlagWriting.{WrittenFlags}
 use Rattle.wire_strings.proofs.StringsFit.{written_value}
 use Rattle.wire_reader.proofs.Written.{on_both, on_first, on_second, in_any_case}
 
@@ -46,9 +44,6 @@ upper_mode modes.Remove = refl
 text_spelled : (bytes t : List ℕ) → WrittenText bytes t → AString bytes t
 text_spelled bytes t h = written_value Commands bytes t h
 
-flags_spelled : (set : ℕ) (t : List ℕ) → WrittenFlags set t → FlagsText set t
-flags_spelled set t h = h.spelled
-
 request_spelled : (r : Request) (t : List ℕ) → WrittenRequest r t → RequestText r t
 request_spelled requests.Capability t h = h
 request_spelled requests.Noop t h = h
@@ -58,9 +53,9 @@ request_spelled (requests.Enable names) t h = h
 request_spelled (requests.List pattern) t h = h
 request_spelled (requests.Create mailbox) t h = on_first (text_spelled mailbox) t h
 request_spelled (requests.Select mailbox) t h = on_first (text_spelled mailbox) t h
-request_spelled (requests.Append mailbox flags message) t h = on_both (text_spelled mailbox) (on_second (on_both (flags_spelled flags) (on_second (on_first (λ _ m. m Commands))))) t h
+request_spelled (requests.Append mailbox flags message) t h = on_both (text_spelled mailbox) (on_second (on_second (on_second (on_first (λ _ m. m Commands))))) t h
 request_spelled (requests.Fetch set what) t h = on_second (on_second (on_first (in_any_case (items_word what) (upper_items what)))) t h
-request_spelled (requests.Store set mode flags) t h = on_second (on_second (on_both (in_any_case (mode_word mode) (upper_mode mode)) (on_first (flags_spelled flags)))) t h
+request_spelled (requests.Store set mode flags) t h = on_second (on_second (on_first (in_any_case (mode_word mode) (upper_mode mode)))) t h
 request_spelled (requests.Expunge set) t h = h
 
 pub written_spelled : (c : Command) (t : List ℕ) → Written c t → Spelled c t

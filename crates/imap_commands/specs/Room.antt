@@ -1,7 +1,7 @@
 -- How many bytes of a command stand outside the octets of literals as it is written, at most.
 use Rattle.std.specs.Prelude.{◌≤◌, ℕ, ◌+◌, ◌*◌, List, length}
 use Rattle.wire_reader.specs.Lexical.{outside}
-use Rattle.wire_tokens.specs.Room.{most_set, most_names}
+use Rattle.wire_tokens.specs.Room.{most_set, most_names, most_flags}
 use Rattle.wire_strings.specs.Room.{most_literal, most_string}
 use Rattle.imap_commands.specs.declared.command.Request.{Request}
 use Rattle.imap_commands.specs.declared.command.Request.TheVariants as requests
@@ -10,7 +10,7 @@ use Rattle.imap_commands.specs.Verbs.{word_of}
 use Rattle.imap_commands.specs.Requests.{verb_of, items_word, mode_word}
 use Rattle.imap_commands.specs.Writing.{Written}
 
--- behind the word, with the line end; a list of flags has at most 53 bytes
+-- behind the word, with the line end
 abbrev pub most_behind : Request → ℕ
 most_behind requests.Capability = 2
 most_behind requests.Noop = 2
@@ -20,9 +20,9 @@ most_behind (requests.Enable names) = most_names names + 2
 most_behind (requests.List pattern) = 2 * length pattern + 2 + 2
 most_behind (requests.Create mailbox) = most_string mailbox + 2
 most_behind (requests.Select mailbox) = most_string mailbox + 2
-most_behind (requests.Append mailbox flags message) = most_string mailbox + (1 + (53 + (1 + (most_literal + 2))))
+most_behind (requests.Append mailbox flags message) = most_string mailbox + (1 + (most_flags flags + (1 + (most_literal + 2))))
 most_behind (requests.Fetch set what) = most_set set + (1 + (length (items_word what) + 2))
-most_behind (requests.Store set mode flags) = most_set set + (1 + (length (mode_word mode) + (53 + 2)))
+most_behind (requests.Store set mode flags) = most_set set + (1 + (length (mode_word mode) + (most_flags flags + 2)))
 most_behind (requests.Expunge set) = most_set set + 2
 
 abbrev pub most_outside : Command → ℕ

@@ -15,6 +15,6 @@ pub record WaitsBefore (message text : List ℕ) : Type 0 where
 -- so it is with each APPEND as it is written
 abbrev pub AppendsWait : Type 0
 AppendsWait =
-    (tag mailbox message text : List ℕ) (flags : ℕ)
+    (tag mailbox message text : List ℕ) (flags : List (List ℕ))
     → Written (record { tag = tag; request = requests.Append mailbox flags message }) text
     → WaitsBefore message text

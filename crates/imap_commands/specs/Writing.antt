@@ -6,7 +6,7 @@ use Rattle.wire_tokens.specs.Atoms.{TagText}
 use Rattle.wire_strings.specs.Quotes.{QuotedText}
 use Rattle.wire_strings.specs.Strings.{OnEitherSide, WrittenString}
 use Rattle.wire_tokens.specs.Names.{NamesText}
-use Rattle.wire_tokens.specs.FlagWriting.{WrittenFlags}
+use Rattle.wire_tokens.specs.FlagLists.{FlagsText}
 use Rattle.wire_tokens.specs.Sets.{SetText}
 use Rattle.imap_commands.specs.declared.command.Request.{Request}
 use Rattle.imap_commands.specs.declared.command.Request.TheVariants as requests
@@ -32,9 +32,9 @@ WrittenRequest (requests.Enable names) = NamesText names ⨾ Is crlf
 WrittenRequest (requests.List pattern) = QuotedText pattern ⨾ Is crlf
 WrittenRequest (requests.Create mailbox) = WrittenText mailbox ⨾ Is crlf
 WrittenRequest (requests.Select mailbox) = WrittenText mailbox ⨾ Is crlf
-WrittenRequest (requests.Append mailbox flags message) = WrittenText mailbox ⨾ Is space ⨾ WrittenFlags flags ⨾ Is space ⨾ WrittenMessage message ⨾ Is crlf
+WrittenRequest (requests.Append mailbox flags message) = WrittenText mailbox ⨾ Is space ⨾ FlagsText flags ⨾ Is space ⨾ WrittenMessage message ⨾ Is crlf
 WrittenRequest (requests.Fetch set what) = SetText set ⨾ Is space ⨾ Is (items_word what) ⨾ Is crlf
-WrittenRequest (requests.Store set mode flags) = SetText set ⨾ Is space ⨾ Is (mode_word mode) ⨾ WrittenFlags flags ⨾ Is crlf
+WrittenRequest (requests.Store set mode flags) = SetText set ⨾ Is space ⨾ Is (mode_word mode) ⨾ FlagsText flags ⨾ Is crlf
 WrittenRequest (requests.Expunge set) = SetText set ⨾ Is crlf
 
 abbrev pub Written : Command → List ℕ → Type 0

@@ -6,8 +6,8 @@ ghost use Rattle.imap_commands.specs.Requests.{verb_of, items_word, mode_word};
 use crate::message::Message;
 use crate::pattern::Pattern;
 use crate::verb::Verb;
-use mailcore::flags::Flags;
 use wire_strings::text::Text;
+use wire_tokens::flag_list::FlagList;
 use wire_tokens::names::NameList;
 use wire_tokens::tag::Tag;
 use wire_tokens::uid_set::UidSet;
@@ -41,11 +41,11 @@ pub enum Request {
     /// The mailbox of this name, for the requests that follow.
     Select(Text),
     /// That this message with these flags be put into the mailbox of this name.
-    Append(Text, Flags, Message),
+    Append(Text, FlagList, Message),
     /// Items of the messages of the set.
     Fetch(UidSet, FetchItems),
     /// That the messages of the set get these flags or lose them, without a reply about each.
-    Store(UidSet, StoreMode, Flags),
+    Store(UidSet, StoreMode, FlagList),
     /// That the messages of the set which are marked as deleted be removed.
     Expunge(UidSet),
 }

@@ -10,11 +10,10 @@ use crate::append::{append_items, append_mode};
 use crate::command::{FetchItems, Request, StoreMode};
 use crate::message::Message;
 use crate::pattern::Pattern;
-use mailcore::flags::Flags;
 use std::alloc::AllocError;
 use wire_strings::text::Text;
 use wire_tokens::appending::append;
-use wire_tokens::flag_writing::write_flags;
+use wire_tokens::flag_list::FlagList;
 use wire_tokens::names::NameList;
 use wire_tokens::uid_set::UidSet;
 
@@ -32,9 +31,9 @@ pub(crate) fn append_request(request: &Request, out: &mut Vec<u8>) -> Result<(),
         Request::List(pattern) => list(pattern, out),
         Request::Create(mailbox) => mailbox_line(mailbox, out),
         Request::Select(mailbox) => mailbox_line(mailbox, out),
-        Request::Append(mailbox, flags, message) => append_message(mailbox, *flags, message, out),
+        Request::Append(mailbox, flags, message) => append_message(mailbox, flags, message, out),
         Request::Fetch(set, items) => fetch(set, *items, out),
-        Request::Store(set, mode, flags) => store(set, *mode, *flags, out),
+        Request::Store(set, mode, flags) => store(set, *mode, flags, out),
         Request::Expunge(set) => expunge(set, out),
     }
 }
@@ -81,16 +80,16 @@ fn mailbox_line(mailbox: &Text, out: &mut Vec<u8>) -> Result<(), AllocError>
 /// Writes what stands behind APPEND.
 fn append_message(
     mailbox: &Text,
-    flags: Flags,
+    flags: &FlagList,
     message: &Message,
     out: &mut Vec<u8>,
 ) -> Result<(), AllocError>
-    ensures ok { OnOk result (Appended (WrittenRequest (requests.Append mailbox.now flags message.now)) out.old.items out.new.items) }
+    ensures ok { OnOk result (Appended (WrittenRequest (requests.Append mailbox.now flags.now message.now)) out.old.items out.new.items) }
     ensures kept { OnErr result (take (length out.old.items) out.new.items ≡ out.old.items) }
 {
     mailbox.write(out)?;
     append(b" ", out)?;
-    write_flags(flags, out)?;
+    flags.write(out)?;
     append(b" ", out)?;
     message.write(out)?;
     append(b"\r\n", out)?;
@@ -108,14 +107,19 @@ fn fetch(set: &UidSet, items: FetchItems, out: &mut Vec<u8>) -> Result<(), Alloc
     Ok(())
 }
 
-fn store(set: &UidSet, mode: StoreMode, flags: Flags, out: &mut Vec<u8>) -> Result<(), AllocError>
-    ensures ok { OnOk result (Appended (WrittenRequest (requests.Store set.now mode flags)) out.old.items out.new.items) }
+fn store(
+    set: &UidSet,
+    mode: StoreMode,
+    flags: &FlagList,
+    out: &mut Vec<u8>,
+) -> Result<(), AllocError>
+    ensures ok { OnOk result (Appended (WrittenRequest (requests.Store set.now mode flags.now)) out.old.items out.new.items) }
     ensures kept { OnErr result (take (length out.old.items) out.new.items ≡ out.old.items) }
 {
     set.write(out)?;
     append(b" ", out)?;
     append_mode(mode, out)?;
-    write_flags(flags, out)?;
+    flags.write(out)?;
     append(b"\r\n", out)?;
     Ok(())
 }

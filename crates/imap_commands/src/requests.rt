@@ -18,7 +18,7 @@ use wire_reader::punctuation::{byte, crlf};
 use wire_reader::side::Side;
 use wire_reader::stop::{ReadError, Stop};
 use wire_strings::text::read_text;
-use wire_tokens::flag_list::read_flags;
+use wire_tokens::flag_list::{FlagList, read_flags};
 use wire_tokens::names::{NameList, read_names};
 use wire_tokens::uid_set::uid_set;
 
@@ -104,7 +104,8 @@ fn append(alloc: Global, bytes: &[u8]) -> Result<(Request, &[u8]), ReadError>
     let rest = byte(b' ', rest)?;
     let (message, rest) = read_message(alloc, rest)?;
     let rest = crlf(rest)?;
-    Ok((Request::Append(mailbox, flags.flags(), message), rest))
+    let flags = FlagList::copy_of(alloc, &flags)?;
+    Ok((Request::Append(mailbox, flags, message), rest))
 }
 
 #[tactic(auto, unfolding(crate::specs::RequestReaders::fetch_at))]
@@ -142,7 +143,8 @@ fn store(alloc: Global, bytes: &[u8]) -> Result<(Request, &[u8]), ReadError>
     let (mode, rest) = store_mode(rest)?;
     let (flags, rest) = read_flags(rest)?;
     let rest = crlf(rest)?;
-    Ok((Request::Store(set, mode, flags.flags()), rest))
+    let flags = FlagList::copy_of(alloc, &flags)?;
+    Ok((Request::Store(set, mode, flags), rest))
 }
 
 /// Reads what is to be done with flags.

@@ -8,10 +8,10 @@ use Rattle.imap_session.specs.Servers.{Server, Quiet, told}
 use Rattle.imap_session.specs.Serving.{FeedsSome}
 use Rattle.imap_session.specs.Heard.{tag_of, AreReplies}
 use Rattle.imap_session.specs.Lines.{Line, told_server, Sends}
-use Rattle.exchange_laws.specs.Ends.{Ends, ends_of, IsAt, IsIdle, Hears, SentOr, Done, MayHave, is_logout}
+use Rattle.exchange_laws.specs.Ends.{Ends, ends_of, IsAt, IsIdle, SentOr, Done, MayHave, is_logout}
 use Rattle.exchange_laws.proofs.Sent.{sent, half_sent}
 use Rattle.exchange_laws.proofs.Ended.{done_of, half_of}
-use Rattle.exchange_laws.proofs.Answering.{did_answer, leaves_answer}
+use Rattle.exchange_laws.proofs.Answering.{did_answer, heard_answer}
 use Rattle.exchange_laws.proofs.AnswersApart.{reply_some}
 use Rattle.imap_link.specs.declared.fault.FarFault.{FarFault}
 use Rattle.imap_link.specs.declared.fault.FarFault.TheVariants.{Stopped, Refused, Protocol, TooLong, NoRev2, ReadOnly, NoMemory}
@@ -41,7 +41,7 @@ stop_outcome does refuses effect ReadOnly old new s h = absurd s
 expects_of : (c : Command) (old mid : Ends) → SentOr c old mid → Expects c.tag mid.coming
 expects_of c old mid (inl none) = inl none.coming
 expects_of c old mid (inr w) =
-    expects_answer c.tag w.heard mid.coming (leaves_answer c.tag w.heard w.said w.left_out (did_answer c old.end.server w.said mid.end.server w.did)) w.coming
+    expects_answer c.tag w.heard mid.coming (heard_answer old.end.server.keywords c.tag w.heard w.said w.heard_as (did_answer c old.end.server w.said mid.end.server w.did)) w.coming
 
 empty_front : (a b : List ℕ) → a ++ b ≡ [] → a ≡ []
 empty_front [] b e = refl
@@ -62,7 +62,7 @@ go_awaited tag r e = subst IsAwaited (sym e) tt
 go_astray : (c : Command) (tag : List ℕ) (old mid new : Ends) (bytes : List ℕ) → c.tag ≡ tag → SentOr c old mid → IsGoText tag bytes → mid.coming ≡ bytes ++ new.coming → ⊥
 go_astray c tag old mid new bytes t (inl none) g e = some_end bytes new.coming g (sym e ∙ none.coming)
 go_astray c tag old mid new bytes t (inr w) g e =
-    let a = leaves_answer c.tag w.heard w.said w.left_out (did_answer c old.end.server w.said mid.end.server w.did) in
+    let a = heard_answer old.end.server.keywords c.tag w.heard w.said w.heard_as (did_answer c old.end.server w.said mid.end.server w.did) in
     let closed = closed_of c.tag w.heard a in
     let mine : IsAwaited (kind_of tag closed.last) = tagged_awaited tag closed.last (closed.is ∙ ap (λ (x : List ℕ). Some x) t) in
     let same = ends_apart g.last closed.last (awaited_stays tag g.last (go_awaited tag g.last g.is)) (awaited_stays tag closed.last mine)

@@ -1,14 +1,20 @@
 -- What the server did, once it had told its news.
 use Rattle.std.specs.Prelude.{filter}
-use Rattle.std.proofs.Common.{◌≡◌, ◌⊎◌, inl, inr, ℕ, Bool, true, false, List, [], ◌∷◌, ◌++◌, refl, sym, ◌∙◌, ap, subst, length, Option, None, Some, if◌then◌else◌}
+use Rattle.std.proofs.Common.{◌≡◌, inl, inr, ℕ, Bool, true, false, List, [], ◌∷◌, ◌++◌, refl, sym, ◌∙◌, ap, subst, length, Option, None, Some, if◌then◌else◌}
+use Rattle.mailcore.specs.declared.keywords.Keyword.{Keyword}
 use Rattle.imap_commands.specs.declared.command.Command.{Command}
+use Rattle.imap_replies.specs.declared.word.NoticeKind.{NoticeKind}
+use Rattle.imap_replies.specs.declared.word.NoticeKind.TheVariants as notices
+use Rattle.imap_replies.specs.declared.response.Code.TheVariants as codes_of
+use Rattle.imap_replies.specs.declared.response.ResponseText.TheVariants.{Coded}
 use Rattle.imap_replies.specs.declared.reply.Reply.{Reply}
-use Rattle.imap_replies.specs.declared.reply.Reply.TheVariants.{Exists}
+use Rattle.imap_replies.specs.declared.reply.Reply.TheVariants.{Notice, Exists}
 use Rattle.imap_session.specs.Mailboxes.{FarMailbox}
 use Rattle.imap_session.specs.Servers.{Server, selected, exists_of, news, told}
 use Rattle.imap_session.specs.Steps.{Step}
-use Rattle.imap_session.specs.Heard.{LeavesOut, WithoutUid}
+use Rattle.imap_session.specs.Heard.{IsHeardAs, AreHeardAs}
 use Rattle.exchange_laws.specs.Ends.{Did, DidSo, DidCommand, MayHave}
+use Rattle.exchange_laws.proofs.HeardAs.{reads_same}
 use Rattle.exchange_laws.proofs.Telling.{step_keeps}
 use Rattle.imap_link.specs.declared.uses.Uses.{Uses}
 use Rattle.imap_link.specs.UsedReplies.{is_used}
@@ -16,28 +22,43 @@ use Rattle.imap_link.specs.Exchanges.{Performs, PerformsSo}
 
 -- ---- the news is passed over
 
-unused : (uses : Uses) (h : Reply) (n : ℕ) → (h ≡ Exists n) ⊎ WithoutUid h (Exists n) → is_used uses h ≡ false
-unused uses h n (inl e) = ap (is_used uses) e
-unused uses h n (inr w) = let bad = w.said_is in cc
+-- PERMANENTFLAGS is kept or not by the word before it alone
+by_kind : (uses : Uses) (kind : NoticeKind) (heard said : List (List ℕ)) (text : List ℕ)
+    → is_used uses (Notice kind (Coded (codes_of.PermanentFlags heard) text)) ≡ is_used uses (Notice kind (Coded (codes_of.PermanentFlags said) text))
+by_kind uses notices.Ok heard said text = refl
+by_kind uses notices.No heard said text = refl
+by_kind uses notices.Bad heard said text = refl
+by_kind uses notices.Bye heard said text = refl
+by_kind uses notices.Preauth heard said text = refl
 
--- those of the replies that answer the command
-record Own (heard own : List Reply) : Type 0 where
-  replies : List Reply
-  used : (uses : Uses) → filter (is_used uses) heard ≡ filter (is_used uses) replies
-  left_out : LeavesOut replies own
+module _ (keywords : List Keyword) where
+  -- a reply is kept as the one that was said in its place
+  pub used_same : (uses : Uses) (heard said : Reply) → IsHeardAs keywords heard said → is_used uses heard ≡ is_used uses said
+  used_same uses = reads_same keywords (is_used uses) (record {
+    without_uid = λ tag text validity uid. refl;
+    flags = λ heard said same. refl;
+    permanent = λ kind text heard said same star. by_kind uses kind heard said text;
+    message = λ place heard said same. refl;
+  })
 
-behind_exists : (m : Option FarMailbox) (heard own : List Reply) → LeavesOut heard (exists_of m ++ own) → Own heard own
-behind_exists None heard own l = record { replies = heard; used = λ uses. refl; left_out = l }
-behind_exists (Some m) [] own l = absurd l
-behind_exists (Some m) (h ∷ hs) own l = record {
-  replies = hs;
-  used = λ uses. ap (λ (b : Bool). if b then h ∷ filter (is_used uses) hs else filter (is_used uses) hs) (unused uses h (length m.store.messages) l.0);
-  left_out = l.1;
-}
+  -- those of the replies that answer the command
+  record Own (heard own : List Reply) : Type 0 where
+    replies : List Reply
+    used : (uses : Uses) → filter (is_used uses) heard ≡ filter (is_used uses) replies
+    heard_as : AreHeardAs keywords replies own
 
-behind_news : (b : Bool) (m : Option FarMailbox) (heard own : List Reply) → LeavesOut heard ((if b then exists_of m else []) ++ own) → Own heard own
-behind_news true m heard own l = behind_exists m heard own l
-behind_news false m heard own l = record { replies = heard; used = λ uses. refl; left_out = l }
+  behind_exists : (m : Option FarMailbox) (heard own : List Reply) → AreHeardAs keywords heard (exists_of m ++ own) → Own heard own
+  behind_exists None heard own l = record { replies = heard; used = λ uses. refl; heard_as = l }
+  behind_exists (Some m) [] own l = absurd l
+  behind_exists (Some m) (h ∷ hs) own l = record {
+    replies = hs;
+    used = λ uses. ap (λ (b : Bool). if b then h ∷ filter (is_used uses) hs else filter (is_used uses) hs) (used_same uses h (Exists (length m.store.messages)) l.0);
+    heard_as = l.1;
+  }
+
+  behind_news : (b : Bool) (m : Option FarMailbox) (heard own : List Reply) → AreHeardAs keywords heard ((if b then exists_of m else []) ++ own) → Own heard own
+  behind_news true m heard own l = behind_exists m heard own l
+  behind_news false m heard own l = record { replies = heard; used = λ uses. refl; heard_as = l }
 
 -- ---- the command was done
 
@@ -64,9 +85,9 @@ module _ (c : Command) (old new : Server) where
   pub has_performed : (heard : List Reply) → DidSo c heard old new → HasPerformed heard
   has_performed heard d =
       let said : d.said ≡ news old ++ d.did.own = d.did.replies_are ∙ ap (λ (s : Server). news s ++ d.did.own) d.did.quiet in
-      let own = behind_news old.has_news (selected old) heard d.did.own (subst (LeavesOut heard) said d.left_out) in
+      let own = behind_news old.keywords old.has_news (selected old) heard d.did.own (subst (AreHeardAs old.keywords heard) said d.heard_as) in
       record {
         replies = own.replies;
         used = own.used;
-        did = record { said = d.did.own; step = performed d.said d.did; left_out = own.left_out };
+        did = record { said = d.did.own; step = performed d.said d.did; heard_as = own.heard_as };
       }

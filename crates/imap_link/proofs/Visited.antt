@@ -22,7 +22,7 @@ at_then v front old heard mid h at = record {
 
 -- the news of a visit may have been told, before it and behind it
 pub both_told : (v : Visitors) (s t : Server) → Visits v s t → Visits v (told s) (told t)
-both_told v s t h = record { user = h.user; password = h.password; condition = h.condition; gains = h.gains; nobody = h.nobody }
+both_told v s t h = record { user = h.user; password = h.password; keywords = h.keywords; condition = h.condition; gains = h.gains; nobody = h.nobody }
 
 -- what follows from it, whoever was there
 pub after_so : (v : Visitors) (P Q : Line → Type 0) (old : Line) → ((mid : Server) → Visits v old.end.server mid → P (visited old mid) → Q (visited old mid)) → AfterVisits v P old → AfterVisits v Q old

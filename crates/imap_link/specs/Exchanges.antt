@@ -6,7 +6,7 @@ use Rattle.imap_replies.specs.declared.reply.Reply.{Reply}
 use Rattle.imap_session.specs.Servers.{Server, NotAuthenticated, Quiet}
 use Rattle.imap_session.specs.Steps.{Step}
 use Rattle.imap_session.specs.Portions.{goes_in}
-use Rattle.imap_session.specs.Heard.{AreReplies, LeavesOut}
+use Rattle.imap_session.specs.Heard.{AreReplies, AreHeardAs}
 use Rattle.imap_session.specs.Lines.{Line, told_server}
 use Rattle.exchange_laws.specs.Ends.{ends_of, IsAt, IsIdle, IsText, AsksAtEnd, MayHave, is_logout}
 use Rattle.imap_link.specs.declared.fault.FarFault.{FarFault}
@@ -26,11 +26,11 @@ pub record Performs (c : Command) (old new : Server) : Type 0 where
   pub said : List Reply
   pub step : Step old c said new
 
--- the server did the command, and said these replies, of which codes may have been left out
+-- the server did the command, and said replies as which these were heard
 pub record PerformsSo (c : Command) (heard : List Reply) (old new : Server) : Type 0 where
   pub said : List Reply
   pub step : Step old c said new
-  pub left_out : LeavesOut heard said
+  pub heard_as : AreHeardAs old.keywords heard said
 
 -- The server did the command. These bytes are those of its replies that the call keeps, of which the last has this status, and
 -- T holds of those that tell of messages.

@@ -53,7 +53,7 @@ uses_of (requests.Expunge set) = answer_alone
 abbrev pub is_of_opening : Code → Bool
 is_of_opening (codes_of.UidNext n) = true
 is_of_opening (codes_of.UidValidity n) = true
-is_of_opening (codes_of.PermanentFlags flags others) = true
+is_of_opening (codes_of.PermanentFlags flags) = true
 is_of_opening (codes_of.AppendUid validity uid) = false
 is_of_opening codes_of.ReadOnly = true
 is_of_opening codes_of.ReadWrite = false

@@ -1,6 +1,6 @@
 //! What is heard over a link, kept in a buffer, and commands that are sent over it.
 
-ghost use Rattle.std.specs.Prelude.{◌≡◌, ◌<◌, ◌≤◌, ◌⊎◌, ◌++◌, ◌∷◌, ℕ, List, [], length, max, IfOk, IfErr, OnOk, OnErr, IsErrOf, if◌then◌else◌};
+ghost use Rattle.std.specs.Prelude.{◌≡◌, ◌<◌, ◌≤◌, ◌⊎◌, ◌++◌, ◌∷◌, ℕ, List, [], length, max, IfOk, IfErr, OnOk, IsErrOf, if◌then◌else◌};
 ghost use Rattle.mailcore.specs.CopyPieces.{text_left};
 ghost use Rattle.wire_reader.specs.Spelling.{crlf};
 ghost use Rattle.imap_replies.specs.declared.reply.Reply.{Reply};
@@ -10,13 +10,13 @@ ghost use Rattle.exchange_laws.specs.Ends.{IsIdle};
 ghost use Rattle.reply_buf.specs.Buffers.{held_in, drops_last};
 ghost use Rattle.reply_buf.specs.Fronts.{IsFaulty};
 ghost use Rattle.imap_link.specs.Faults.{IsStop, IsHearing};
-ghost use Rattle.imap_link.specs.Buffers.{WholeRead, Reads, GoesOn, Keeps, Tells, SaysBye, Expects, IsAnswerText, Came, IsTold, Behind, IsBounded};
+ghost use Rattle.imap_link.specs.Buffers.{Reads, GoesOn, Keeps, Tells, SaysBye, Expects, IsAnswerText, Came, IsTold, Behind, IsBounded};
 ghost use Rattle.imap_link.specs.Sinks.{telling, any_replies};
 ghost use Rattle.imap_link.specs.UsedReplies.{answer_alone};
 ghost use Rattle.imap_link.specs.Outcomes.{Outcome, Never};
 ghost use Rattle.imap_link.specs.Exchanges.{Exchanges, StaysIdle, AsksFor, Restarts};
 ghost use Rattle.imap_link.specs.Sending.{AfterVisits};
-ghost use Rattle.imap_link.specs.Wires.{ends_in};
+ghost use Rattle.imap_link.specs.Wires.{ends_in, HearsWhole};
 
 use crate::fault::FarFault;
 use crate::kind::{Kind, kind_of};
@@ -86,7 +86,7 @@ impl<L: Link> Wire<L> {
         ensures steady { OnOk result (L.stops self.new.link ≡ L.stops self.old.link) }
         ensures quiet { L.honest self.new.link → Quiet (L.line self.old.link).end.server (L.line self.new.link).end.server }
         ensures late { Behind self.old.heard.read (max 4096 (length self.old.heard.unread)) (held_in self.new.heard) }
-        ensures heard { IfOk result (λ len. WholeRead len (λ text. L.honest self.new.link → GoesOn (ends_in L.line self.old) (ends_in L.line self.new) text) self.old.heard.read self.new.heard.read) }
+        ensures heard { IfOk result (λ len. HearsWhole L.honest L.line len self.old self.new) }
         ensures fault { IfErr result (λ fault. L.honest self.new.link → IsStop fault ⊎ IsFaulty (ends_in L.line self.old).coming) }
         ensures known { IfErr result IsHearing }
         ensures stopped { IsErrOf result FarFault.Stopped → L.stops self.old.link < L.stops self.new.link }

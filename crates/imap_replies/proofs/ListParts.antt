@@ -16,10 +16,10 @@ use Rattle.wire_strings.specs.declared.astring.AString.{AString}
 use Rattle.wire_tokens.specs.Atoms.{is_atom_byte}
 use Rattle.wire_strings.specs.Delimiters.{DelimiterText}
 use Rattle.wire_strings.specs.Strings.{AStringText, astring_at}
-use Rattle.wire_tokens.specs.FlagLists.{attributes_at}
+use Rattle.wire_tokens.specs.FlagLists.{flags_at}
 use Rattle.wire_strings.proofs.DelimiterParts.{delimiter_part}
 use Rattle.wire_strings.proofs.StringParts.{astring_part}
-use Rattle.wire_tokens.proofs.FlagParts.{attributes_part}
+use Rattle.wire_tokens.proofs.FlagParts.{flags_part}
 use Rattle.imap_replies.specs.Listings.{MarkText, ListValue, ListLine, is_quote, some_mark, no_mark, mark_at, list_at}
 
 -- ---- the delimiter
@@ -94,7 +94,7 @@ pub list_part : Part Replies true Closed ListedLine list_at
 unfolding list_at
 list_part =
     skip_part (byte_part 32 refl)
-    (both_part attributes_part
+    (both_part flags_part
     (skip_part (byte_part 32 refl) mark_name_part (after_closed (both mark_at (skip (byte_at 32) name_at))))
     (after_closed (skip (byte_at 32) (both mark_at (skip (byte_at 32) name_at)))))
-    (after_closed (both attributes_at (skip (byte_at 32) (both mark_at (skip (byte_at 32) name_at)))))
+    (after_closed (both flags_at (skip (byte_at 32) (both mark_at (skip (byte_at 32) name_at)))))

@@ -1,5 +1,5 @@
 -- How many bytes of a reply stand outside the octets of literals as it is written, at most.
-use Rattle.std.proofs.Common.{ℕ, ◌+◌, ◌≤◌, Bool, true, List, [], ◌∷◌, length, codes, Option, None, Some, refl, ap, arith}
+use Rattle.std.proofs.Common.{ℕ, ◌+◌, ◌≤◌, true, List, [], ◌∷◌, length, codes, Option, None, Some, refl, ap, arith}
 use Rattle.std.specs.List.{sum_by}
 use Rattle.std.proofs.lemmas.List.{length-append, length-map}
 use Rattle.wire_reader.specs.declared.side.Side.TheVariants.{Replies}
@@ -8,16 +8,12 @@ use Rattle.wire_reader.specs.Spelling.{Is, crlf, upper}
 use Rattle.wire_reader.specs.Lexical.{outside}
 use Rattle.wire_reader.proofs.Reader.{Open}
 use Rattle.wire_reader.proofs.Part.{Part}
-use Rattle.wire_reader.proofs.Fitting.{Fits, outside-le, then_few, then_long, is_few, is_long, is_fits, as_few, both_fit, items_fit, number_few}
+use Rattle.wire_reader.proofs.Fitting.{Fits, outside-le, then_few, then_long, is_few, is_long, is_fits, both_fit, items_fit, number_few}
 use Rattle.wire_tokens.specs.Atoms.{is_atom_byte, TagText}
 use Rattle.wire_tokens.specs.Numbers.{NumberText, NzText}
 use Rattle.wire_tokens.specs.declared.spaced.NameKind.TheVariants as name_kinds
-use Rattle.wire_tokens.specs.Names.{NameText, name_at}
-use Rattle.wire_tokens.specs.FlagLists.{AttributesText, ListedText}
-use Rattle.wire_tokens.specs.FlagWriting.{WrittenPermanentFlags}
-use Rattle.wire_tokens.specs.Room.{most_names}
-use Rattle.wire_tokens.proofs.NameParts.{name_part}
-use Rattle.wire_tokens.proofs.TokensFit.{number_fits, nz_fits, names_fit, flags_fit}
+use Rattle.wire_tokens.specs.Room.{most_flags, most_names}
+use Rattle.wire_tokens.proofs.TokensFit.{number_fits, nz_fits, names_fit, flags_fit, bracketed_long}
 use Rattle.wire_strings.specs.declared.string.WireString.{WireString}
 use Rattle.wire_strings.specs.declared.string.WireString.TheVariants as strings
 use Rattle.wire_strings.specs.Texts.{LastText, BracketText}
@@ -63,9 +59,6 @@ last_long a t h = omega (arith, ap length h.0, length-append a crlf)
 bracket_long : (a t : List ℕ) → BracketText a t → length t ≤ length a + 1
 bracket_long a t h = omega (arith, ap length h.0, length-append a (93 ∷ []))
 
-flags_long : (v : ℕ × Bool) (t : List ℕ) → WrittenPermanentFlags v t → length t ≤ 56
-flags_long v t h = h.short
-
 end_long : (t : List ℕ) → Is crlf t → length t ≤ 2
 end_long = is_long crlf
 
@@ -88,8 +81,10 @@ code_rest_long (Some a) t h = let l = then_long 1 (length a + 1) space (bracket_
 code_long : (c : Code) (t : List ℕ) → CodeIn AsWritten c t → length t ≤ most_code c
 code_long (code.UidNext n) t h = then_long (length (code_word words.UidNext)) 12 (is_long (code_word words.UidNext)) (then_long 1 11 space (then_long 10 1 (nz_long n) close)) t h
 code_long (code.UidValidity n) t h = then_long (length (code_word words.UidValidity)) 12 (is_long (code_word words.UidValidity)) (then_long 1 11 space (then_long 10 1 (nz_long n) close)) t h
-code_long (code.PermanentFlags flags others) t h =
-    then_long (length (code_word words.PermanentFlags)) 58 (is_long (code_word words.PermanentFlags)) (then_long 1 57 space (then_long 56 1 (flags_long (flags, others)) close)) t h
+code_long (code.PermanentFlags flags) t h =
+    let most = most_flags flags in
+    let l = then_long (length (code_word words.PermanentFlags)) (1 + (most + 1)) (is_long (code_word words.PermanentFlags)) (then_long 1 (most + 1) space (then_long most 1 (bracketed_long name_kinds.PermanentFlag flags) close)) t h in
+    omega (arith, l)
 code_long (code.AppendUid validity uid) t h =
     then_long (length (code_word words.AppendUid)) 23 (is_long (code_word words.AppendUid))
     (then_long 1 22 space (then_long 10 12 (nz_long validity) (then_long 1 11 space (then_long 10 1 (nz_long uid) close)))) t h
@@ -104,20 +99,6 @@ response_long (responses.Coded c a) t h =
     omega (arith, l)
 
 -- ---- LIST
-
-attribute_fits : (name t : List ℕ) → NameText name_kinds.Flag name t → Fits (length name) t
-attribute_fits name t h =
-    let p : Part Replies true (Open is_atom_byte) (NameText name_kinds.Flag) (name_at name_kinds.Flag) = name_part name_kinds.Flag in
-    record { plain = (p.leads refl).after name t h; few = omega (arith, outside-le Plain t, ap length h.0) }
-
-listed_fits : (names : List (List ℕ)) (t : List ℕ) → ListedText name_kinds.Flag names t → Fits (most_names names) t
-listed_fits [] t h = is_fits [] refl t h
-listed_fits (name ∷ names) t h = items_fit 32 (NameText name_kinds.Flag) length refl attribute_fits (name ∷ names) t h
-
-attributes_fit : (names : List (List ℕ)) (t : List ℕ) → AttributesText names t → Fits (most_names names + 2) t
-attributes_fit names t h =
-    let most = most_names names in
-    as_few (1 + (most + 1)) (most + 2) t (omega arith) (both_fit 1 (most + 1) (is_fits (40 ∷ []) refl) (both_fit most 1 (listed_fits names) (is_fits (41 ∷ []) refl)) t h)
 
 mark_fits : (mark : Option ℕ) (t : List ℕ) → MarkIn AsWritten mark t → Fits 4 t
 mark_fits None t h = let f = is_fits (codes "NIL") refl t h in record { plain = f.plain; few = (let g = f.few in omega (arith, g)) }
@@ -134,7 +115,7 @@ nstring_fits (Some (strings.Literal octets)) t h = literal_fits Replies octets t
 
 item_fits : (item : FetchItem) (t : List ℕ) → ItemIn AsWritten item t → Fits (most_item item) t
 item_fits (items.Uid n) t h = both_fit (length (item_word kinds.Uid)) 10 (is_fits (item_word kinds.Uid) refl) (nz_fits n) t h
-item_fits (items.Flags flags) t h = both_fit (length (item_word kinds.Flags)) 53 (is_fits (item_word kinds.Flags) refl) (flags_fit flags) t h
+item_fits (items.Flags flags) t h = both_fit (length (item_word kinds.Flags)) (most_flags flags) (is_fits (item_word kinds.Flags) refl) (flags_fit flags) t h
 item_fits (items.Size n) t h = both_fit (length (item_word kinds.Size)) 10 (is_fits (item_word kinds.Size) refl) (number_fits n) t h
 item_fits (items.Body string) t h = both_fit (length (item_word kinds.Body)) (most_nstring string) (is_fits (item_word kinds.Body) refl) (nstring_fits string) t h
 item_fits (items.Head string) t h = both_fit (length (item_word kinds.Head)) (most_nstring string) (is_fits (item_word kinds.Head) refl) (nstring_fits string) t h
@@ -179,18 +160,19 @@ reply_few (Enabled names) t h =
     let l = then_few 2 (length word + (most_line names + 2)) star_fits (then_few (length word) (most_line names + 2) (is_fits word refl) (line_few names)) t h in omega (arith, l)
 reply_few (Listed attributes delimiter name) t h =
     let word = reply_word replies.List in
-    let all = most_names attributes + 2 in
+    let all = most_flags attributes in
     let last = most_astring name + 2 in
     let l = then_few 2 (length word + (1 + (all + (1 + (4 + (1 + last)))))) star_fits
     (then_few (length word) (1 + (all + (1 + (4 + (1 + last))))) (is_fits word refl)
     (then_few 1 (all + (1 + (4 + (1 + last)))) space_fits
-    (then_few all (1 + (4 + (1 + last))) (attributes_fit attributes)
+    (then_few all (1 + (4 + (1 + last))) (flags_fit attributes)
     (then_few 1 (4 + (1 + last)) space_fits
     (then_few 4 (1 + last) (mark_fits delimiter) (then_few 1 last space_fits (then_few (most_astring name) 2 (astring_fits name) (is_few crlf)))))))) t h in
     omega (arith, l)
 reply_few (Flags set) t h =
     let word = reply_word replies.Flags in
-    let l = then_few 2 (length word + (1 + (53 + 2))) star_fits (then_few (length word) (1 + (53 + 2)) (is_fits word refl) (then_few 1 (53 + 2) space_fits (then_few 53 2 (flags_fit set) (is_few crlf)))) t h in omega (arith, l)
+    let most = most_flags set in
+    let l = then_few 2 (length word + (1 + (most + 2))) star_fits (then_few (length word) (1 + (most + 2)) (is_fits word refl) (then_few 1 (most + 2) space_fits (then_few most 2 (flags_fit set) (is_few crlf)))) t h in omega (arith, l)
 reply_few (Exists n) t h =
     let word = event_word events.Exists in
     let l = then_long 2 (10 + (1 + (length word + 2))) star (then_long 10 (1 + (length word + 2)) (number_long n) (then_long 1 (length word + 2) space (then_long (length word) 2 (is_long word) end_long))) t h in by_length _ t (omega (arith, l))

@@ -1,5 +1,5 @@
 -- The text of a status reply as a part of a grammar.
-use Rattle.std.proofs.Common.{◌≡◌, ℕ, Bool, true, false, List, [], ◌∷◌, ◌++◌, refl, sym, ap, subst, ◌∙◌, inl, inr, ◌⊎◌}
+use Rattle.std.proofs.Common.{◌≡◌, ℕ, true, false, List, [], ◌∷◌, ◌++◌, refl, sym, ap, subst, ◌∙◌, inl, inr, ◌⊎◌}
 use Rattle.wire_reader.specs.declared.side.Side.{Side}
 use Rattle.wire_reader.specs.Spelling.{◌⨾◌, ThenBy, Is, is_digit, crlf}
 use Rattle.wire_reader.specs.Reading.{stuck, skip, byte_at}
@@ -40,7 +40,7 @@ UidClose n = NzText n ⨾ Is close
 abbrev TwoUids : ℕ × ℕ → List ℕ → Type 0
 TwoUids p = NzText p.0 ⨾ Is sp ⨾ NzText p.1 ⨾ Is close
 
-abbrev PermanentClose : ℕ × Bool → List ℕ → Type 0
+abbrev PermanentClose : List (List ℕ) → List ℕ → Type 0
 PermanentClose p = PermanentFlagsText p ⨾ Is close
 
 uid_close_part : {side : Side} → Part side true Closed UidClose uid_close_at
@@ -105,7 +105,7 @@ join (heads.Other a) v x y h m = subst (λ (c : Code). CodeSpelling c (x ++ y)) 
 split : (v : Code) (t : List ℕ) → CodeSpelling v t → ThenBy CodeHeadText Tail v t
 split (code.UidNext n) t h = record { value = heads.Known words.UidNext; front = h.front; back = h.back; parts = h.parts; first = h.first; second = record { value = n; is = refl; spelled = h.second } }
 split (code.UidValidity n) t h = record { value = heads.Known words.UidValidity; front = h.front; back = h.back; parts = h.parts; first = h.first; second = record { value = n; is = refl; spelled = h.second } }
-split (code.PermanentFlags flags others) t h = record { value = heads.Known words.PermanentFlags; front = h.front; back = h.back; parts = h.parts; first = h.first; second = record { value = (flags, others); is = refl; spelled = h.second } }
+split (code.PermanentFlags flags) t h = record { value = heads.Known words.PermanentFlags; front = h.front; back = h.back; parts = h.parts; first = h.first; second = record { value = flags; is = refl; spelled = h.second } }
 split (code.AppendUid validity uid) t h = record { value = heads.Known words.AppendUid; front = h.front; back = h.back; parts = h.parts; first = h.first; second = record { value = (validity, uid); is = refl; spelled = h.second } }
 split code.ReadOnly t h = record { value = heads.Known words.ReadOnly; front = h.front; back = h.back; parts = h.parts; first = h.first; second = record { value = tt; is = refl; spelled = h.second } }
 split code.ReadWrite t h = record { value = heads.Known words.ReadWrite; front = h.front; back = h.back; parts = h.parts; first = h.first; second = record { value = tt; is = refl; spelled = h.second } }

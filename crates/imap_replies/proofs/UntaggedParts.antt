@@ -11,7 +11,7 @@ use Rattle.wire_tokens.specs.Atoms.{is_atom_byte}
 use Rattle.wire_tokens.specs.Numbers.{NumberText, NzText}
 use Rattle.wire_strings.specs.Texts.{LastText, last_text_at}
 use Rattle.wire_tokens.specs.Names.{names_at}
-use Rattle.wire_tokens.specs.FlagLists.{FlagsText, flags_at, attributes_at}
+use Rattle.wire_tokens.specs.FlagLists.{FlagsText, flags_at}
 use Rattle.wire_strings.specs.Strings.{astring_at}
 use Rattle.wire_strings.proofs.TextParts.{last_text_part}
 use Rattle.wire_tokens.proofs.NameParts.{names_part}
@@ -56,7 +56,7 @@ names_line_part : Part Replies true Closed (RestText crlf NamesLine) names_line_
 unfolding names_line_at
 names_line_part = rest_part 13 crlf refl refl crlf_part (keep_part names_part crlf_part (after (λ b. is_atom_byte b || eqb b 32) 13 refl (starts_seq (λ _. byte_at 10) (starts_byte 13))))
 
-abbrev FlagsLine : ℕ → List ℕ → Type 0
+abbrev FlagsLine : List (List ℕ) → List ℕ → Type 0
 FlagsLine set = Is sp ⨾ FlagsText set ⨾ Is crlf
 
 flags_line_part : Part Replies true Closed FlagsLine flags_line_at
@@ -114,7 +114,7 @@ known_follows words.Bye xs s = told_follows notices.Bye xs s
 known_follows words.Preauth xs s = told_follows notices.Preauth xs s
 known_follows words.Capability xs s = mapped_follows names_line_at capability xs (names_follows xs s)
 known_follows words.Enabled xs s = mapped_follows names_line_at enabled xs (names_follows xs s)
-known_follows words.List xs s = mapped_follows list_at listed xs (after is_atom_byte 32 refl (starts_seq (λ _. both attributes_at (skip (byte_at 32) (both mark_at (skip (byte_at 32) (keep (astring_at Replies) crlf_at))))) (starts_byte 32)) xs s)
+known_follows words.List xs s = mapped_follows list_at listed xs (after is_atom_byte 32 refl (starts_seq (λ _. both flags_at (skip (byte_at 32) (both mark_at (skip (byte_at 32) (keep (astring_at Replies) crlf_at))))) (starts_byte 32)) xs s)
 known_follows words.Flags xs s = mapped_follows flags_line_at flags xs (after is_atom_byte 32 refl (starts_seq (λ _. keep flags_at crlf_at) (starts_byte 32)) xs s)
 
 -- ---- behind a number

@@ -1,8 +1,6 @@
 -- What is written is a spelling.
-use Rattle.std.proofs.Common.{◌≡◌, ℕ, Bool, List, [], ◌∷◌, codes, map, Option, None, Some, refl}
+use Rattle.std.proofs.Common.{◌≡◌, ℕ, List, [], ◌∷◌, codes, map, Option, None, Some, refl}
 use Rattle.wire_reader.specs.Spelling.{◌⨾◌, Is, Word, ItemsText, upper}
-use Rattle.wire_tokens.specs.FlagLists.{FlagsText, PermanentFlagsText}
-use Rattle.wire_tokens.specs.FlagWriting.{WrittenFlags, WrittenPermanentFlags}
 use Rattle.imap_replies.specs.Forms.{AsRead, AsWritten}
 use Rattle.imap_replies.specs.declared.word.NoticeKind.{NoticeKind}
 use Rattle.imap_replies.specs.declared.word.NoticeKind.TheVariants as notices
@@ -21,7 +19,7 @@ use Rattle.imap_replies.specs.Responses.{CodeIn, ResponseIn}
 use Rattle.imap_replies.specs.Fetches.{ItemIn, FetchIn}
 use Rattle.imap_replies.specs.Listings.{MarkIn}
 use Rattle.imap_replies.specs.Replies.{ReplyText, WrittenReply}
-use Rattle.wire_reader.proofs.Written.{on_both, on_first, on_second, in_any_case}
+use Rattle.wire_reader.proofs.Written.{on_first, on_second, in_any_case}
 
 -- a word that a text begins with
 begins : {Q : List ℕ → Type 0} (w : List ℕ) → map upper w ≡ w → (t : List ℕ) → (Is w ⨾ Q) t → (Word w ⨾ Q) t
@@ -39,16 +37,10 @@ upper_notice notices.Bad = refl
 upper_notice notices.Bye = refl
 upper_notice notices.Preauth = refl
 
-flags_spelled : (set : ℕ) (t : List ℕ) → WrittenFlags set t → FlagsText set t
-flags_spelled set t h = h.spelled
-
-permanent_spelled : (v : ℕ × Bool) (t : List ℕ) → WrittenPermanentFlags v t → PermanentFlagsText v t
-permanent_spelled v t h = h.spelled
-
 code_spelled : (c : Code) (t : List ℕ) → CodeIn AsWritten c t → CodeIn AsRead c t
 code_spelled (code.UidNext n) t h = begins (codes "UIDNEXT") refl t h
 code_spelled (code.UidValidity n) t h = begins (codes "UIDVALIDITY") refl t h
-code_spelled (code.PermanentFlags flags others) t h = on_both (in_any_case (codes "PERMANENTFLAGS") refl) (on_second (on_first (permanent_spelled (flags, others)))) t h
+code_spelled (code.PermanentFlags flags) t h = begins (codes "PERMANENTFLAGS") refl t h
 code_spelled (code.AppendUid validity uid) t h = begins (codes "APPENDUID") refl t h
 code_spelled code.ReadOnly t h = begins (codes "READ-ONLY") refl t h
 code_spelled code.ReadWrite t h = begins (codes "READ-WRITE") refl t h
@@ -60,7 +52,7 @@ response_spelled (responses.Coded c text) t h = on_second (on_first (code_spelle
 
 item_spelled : (i : FetchItem) (t : List ℕ) → ItemIn AsWritten i t → ItemIn AsRead i t
 item_spelled (items.Uid n) t h = begins (codes "UID ") refl t h
-item_spelled (items.Flags set) t h = on_both (in_any_case (codes "FLAGS ") refl) (flags_spelled set) t h
+item_spelled (items.Flags set) t h = begins (codes "FLAGS ") refl t h
 item_spelled (items.Size n) t h = begins (codes "RFC822.SIZE ") refl t h
 item_spelled (items.Body string) t h = begins (codes "BODY[] ") refl t h
 item_spelled (items.Head string) t h = begins (codes "BODY[]<0> ") refl t h
@@ -88,7 +80,7 @@ written_spelled (Capability names) t h = on_second (begins (codes "CAPABILITY") 
 written_spelled (Enabled names) t h = on_second (begins (codes "ENABLED") refl) t h
 written_spelled (Listed attributes delimiter name) t h =
     on_second (λ u g. begins (codes "LIST") refl u (on_second (on_second (on_second (on_second (on_first (mark_spelled delimiter))))) u g)) t h
-written_spelled (Flags set) t h = on_second (on_both (in_any_case (codes "FLAGS") refl) (on_second (on_first (flags_spelled set)))) t h
+written_spelled (Flags set) t h = on_second (begins (codes "FLAGS") refl) t h
 written_spelled (Exists n) t h = on_second (on_second (on_second (begins (codes "EXISTS") refl))) t h
 written_spelled (Expunge n) t h = on_second (on_second (on_second (begins (codes "EXPUNGE") refl))) t h
 written_spelled (Fetch n list) t h = on_second (on_second (on_second (λ u g. begins (codes "FETCH") refl u (on_second (fetch_spelled list) u g)))) t h

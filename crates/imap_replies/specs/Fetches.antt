@@ -10,8 +10,8 @@ use Rattle.wire_strings.specs.declared.string.WireString.{WireString}
 use Rattle.wire_tokens.specs.Atoms.{is_atom_byte}
 use Rattle.wire_tokens.specs.Numbers.{NumberText, NzText, number_at, nz_at}
 use Rattle.wire_strings.specs.Strings.{NStringText, nstring_at}
-use Rattle.wire_tokens.specs.FlagLists.{flags_at}
-use Rattle.imap_replies.specs.Forms.{Form, AsRead, WordIn, FlagsIn}
+use Rattle.wire_tokens.specs.FlagLists.{FlagsText, flags_at}
+use Rattle.imap_replies.specs.Forms.{Form, AsRead, WordIn}
 use Rattle.imap_replies.specs.declared.word.ItemWord.{ItemWord}
 use Rattle.imap_replies.specs.declared.word.ItemWord.TheVariants as words
 use Rattle.imap_replies.specs.declared.fetch.FetchItem.{FetchItem}
@@ -21,7 +21,7 @@ use Rattle.imap_replies.specs.Words.{item_word, later_item_words}
 -- `F` says in which form
 abbrev pub ItemIn : Form → FetchItem → List ℕ → Type 0
 ItemIn F (items.Uid n) = WordIn F (item_word words.Uid) ⨾ NzText n
-ItemIn F (items.Flags flags) = WordIn F (item_word words.Flags) ⨾ FlagsIn F flags
+ItemIn F (items.Flags flags) = WordIn F (item_word words.Flags) ⨾ FlagsText flags
 ItemIn F (items.Size n) = WordIn F (item_word words.Size) ⨾ NumberText n
 ItemIn F (items.Body string) = WordIn F (item_word words.Body) ⨾ NStringText Replies string
 ItemIn F (items.Head string) = WordIn F (item_word words.Head) ⨾ NStringText Replies string
@@ -42,8 +42,8 @@ FetchLine list text = FetchIn AsRead list text
 abbrev pub uid : ℕ → FetchItem
 uid n = items.Uid n
 
-abbrev pub flags : ℕ → FetchItem
-flags set = items.Flags set
+abbrev pub flags : List (List ℕ) → FetchItem
+flags names = items.Flags names
 
 abbrev pub size : ℕ → FetchItem
 size n = items.Size n

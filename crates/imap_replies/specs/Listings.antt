@@ -8,7 +8,7 @@ use Rattle.wire_reader.specs.Words.{word_at}
 use Rattle.wire_strings.specs.declared.astring.AString.{AString}
 use Rattle.wire_strings.specs.Delimiters.{DelimiterText, delimiter_at}
 use Rattle.wire_strings.specs.Strings.{AStringText, astring_at}
-use Rattle.wire_tokens.specs.FlagLists.{AttributesText, attributes_at}
+use Rattle.wire_tokens.specs.FlagLists.{FlagsText, flags_at}
 use Rattle.imap_replies.specs.Forms.{Form, AsRead, WordIn}
 
 -- a quoted string of one byte, or NIL; `F` says in which form
@@ -21,7 +21,7 @@ ListValue = List (List ℕ) × (Option ℕ × AString)
 
 -- behind LIST
 abbrev pub ListIn : Form → List (List ℕ) → Option ℕ → AString → List ℕ → Type 0
-ListIn F attributes delimiter name = Is (codes " ") ⨾ AttributesText attributes ⨾ Is (codes " ") ⨾ MarkIn F delimiter ⨾ Is (codes " ") ⨾ AStringText Replies name ⨾ Is crlf
+ListIn F attributes delimiter name = Is (codes " ") ⨾ FlagsText attributes ⨾ Is (codes " ") ⨾ MarkIn F delimiter ⨾ Is (codes " ") ⨾ AStringText Replies name ⨾ Is crlf
 
 -- words in any case
 abbrev pub MarkText : Option ℕ → List ℕ → Type 0
@@ -45,4 +45,4 @@ unfoldable pub mark_at : List ℕ → Result (Option ℕ × List ℕ) Stop
 mark_at = by_first is_quote (mapped some_mark delimiter_at) (mapped no_mark (word_at (codes "NIL")))
 
 unfoldable pub list_at : List ℕ → Result (ListValue × List ℕ) Stop
-list_at = skip (byte_at 32) (both attributes_at (skip (byte_at 32) (both mark_at (skip (byte_at 32) (keep (astring_at Replies) crlf_at)))))
+list_at = skip (byte_at 32) (both flags_at (skip (byte_at 32) (both mark_at (skip (byte_at 32) (keep (astring_at Replies) crlf_at)))))

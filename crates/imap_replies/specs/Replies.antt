@@ -6,8 +6,9 @@ use Rattle.wire_reader.specs.Spelling.{◌⨾◌, Is, crlf}
 use Rattle.wire_tokens.specs.Atoms.{TagText}
 use Rattle.wire_tokens.specs.Numbers.{NumberText, NzText}
 use Rattle.wire_strings.specs.Texts.{LastText}
+use Rattle.wire_tokens.specs.FlagLists.{FlagsText}
 use Rattle.wire_tokens.specs.Names.{NamesText}
-use Rattle.imap_replies.specs.Forms.{Form, AsRead, AsWritten, WordIn, FlagsIn}
+use Rattle.imap_replies.specs.Forms.{Form, AsRead, AsWritten, WordIn}
 use Rattle.imap_replies.specs.declared.word.ReplyWord.TheVariants as words
 use Rattle.imap_replies.specs.declared.word.EventWord.TheVariants as events
 use Rattle.imap_replies.specs.declared.reply.Reply.{Reply}
@@ -37,7 +38,7 @@ ReplyIn F (Notice kind text) = Is (codes "* ") ⨾ WordIn F (notice_word kind) �
 ReplyIn F (Capability names) = Is (codes "* ") ⨾ WordIn F (reply_word words.Capability) ⨾ RestText crlf NamesLine names
 ReplyIn F (Enabled names) = Is (codes "* ") ⨾ WordIn F (reply_word words.Enabled) ⨾ RestText crlf NamesLine names
 ReplyIn F (Listed attributes delimiter name) = Is (codes "* ") ⨾ WordIn F (reply_word words.List) ⨾ ListIn F attributes delimiter name
-ReplyIn F (Flags flags) = Is (codes "* ") ⨾ WordIn F (reply_word words.Flags) ⨾ Is (codes " ") ⨾ FlagsIn F flags ⨾ Is crlf
+ReplyIn F (Flags flags) = Is (codes "* ") ⨾ WordIn F (reply_word words.Flags) ⨾ Is (codes " ") ⨾ FlagsText flags ⨾ Is crlf
 ReplyIn F (Exists n) = Is (codes "* ") ⨾ NumberText n ⨾ Is (codes " ") ⨾ WordIn F (event_word events.Exists) ⨾ Is crlf
 ReplyIn F (Expunge n) = Is (codes "* ") ⨾ NzText n ⨾ Is (codes " ") ⨾ WordIn F (event_word events.Expunge) ⨾ Is crlf
 ReplyIn F (Fetch n items) = Is (codes "* ") ⨾ NzText n ⨾ Is (codes " ") ⨾ WordIn F (event_word events.Fetch) ⨾ FetchIn F items

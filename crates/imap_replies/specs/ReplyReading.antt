@@ -48,8 +48,8 @@ enabled names = Enabled names
 abbrev pub listed : ListValue → Reply
 listed p = Listed p.0 (p.1.0) (p.1.1)
 
-abbrev pub flags : ℕ → Reply
-flags set = Flags set
+abbrev pub flags : List (List ℕ) → Reply
+flags names = Flags names
 
 abbrev pub exists : ℕ → Unit {0} → Reply
 exists n _ = Exists n
@@ -83,7 +83,7 @@ status_at = keys_at status_word statuses.Ok (statuses.No ∷ statuses.Bad ∷ []
 unfoldable pub tagged_at : List ℕ → Result (Reply × List ℕ) Stop
 tagged_at = mapped tagged (both tag_at (skip (byte_at 32) (both status_at (skip (byte_at 32) response_at))))
 
-unfoldable pub flags_line_at : List ℕ → Result (ℕ × List ℕ) Stop
+unfoldable pub flags_line_at : List ℕ → Result (List (List ℕ) × List ℕ) Stop
 flags_line_at = skip (byte_at 32) (keep flags_at crlf_at)
 
 abbrev pub notice_at : NoticeKind → List ℕ → Result (Reply × List ℕ) Stop

@@ -5,8 +5,8 @@ use Rattle.wire_reader.specs.Spelling.{◌⨾◌, Is}
 use Rattle.wire_reader.specs.Reading.{seq, mapped, skip, keep, both, by_first, byte_at}
 use Rattle.wire_tokens.specs.Numbers.{NzText, nz_at}
 use Rattle.wire_strings.specs.Texts.{LastText, PlainLine, BracketText, last_text_at, plain_text_at, code_text_at}
-use Rattle.wire_tokens.specs.FlagLists.{permanent_flags_at}
-use Rattle.imap_replies.specs.Forms.{Form, AsRead, WordIn, PermanentFlagsIn}
+use Rattle.wire_tokens.specs.FlagLists.{PermanentFlagsText, permanent_flags_at}
+use Rattle.imap_replies.specs.Forms.{Form, AsRead, WordIn}
 use Rattle.imap_replies.specs.declared.word.CodeWord.TheVariants as words
 use Rattle.imap_replies.specs.declared.word.CodeWord.{CodeWord}
 use Rattle.imap_replies.specs.declared.code_head.CodeHead.{CodeHead}
@@ -30,7 +30,7 @@ OtherCodeText a text = (text ≡ a) × IsOtherCode a
 abbrev pub CodeIn : Form → Code → List ℕ → Type 0
 CodeIn F (code.UidNext n) = WordIn F (code_word words.UidNext) ⨾ Is sp ⨾ NzText n ⨾ Is (codes "]")
 CodeIn F (code.UidValidity n) = WordIn F (code_word words.UidValidity) ⨾ Is sp ⨾ NzText n ⨾ Is (codes "]")
-CodeIn F (code.PermanentFlags flags others) = WordIn F (code_word words.PermanentFlags) ⨾ Is sp ⨾ PermanentFlagsIn F (flags, others) ⨾ Is (codes "]")
+CodeIn F (code.PermanentFlags flags) = WordIn F (code_word words.PermanentFlags) ⨾ Is sp ⨾ PermanentFlagsText flags ⨾ Is (codes "]")
 CodeIn F (code.AppendUid validity uid) = WordIn F (code_word words.AppendUid) ⨾ Is sp ⨾ NzText validity ⨾ Is sp ⨾ NzText uid ⨾ Is (codes "]")
 CodeIn F code.ReadOnly = WordIn F (code_word words.ReadOnly) ⨾ Is (codes "]")
 CodeIn F code.ReadWrite = WordIn F (code_word words.ReadWrite) ⨾ Is (codes "]")
@@ -56,7 +56,7 @@ uid_close_at = keep nz_at (byte_at 93)
 abbrev pub two_uids_at : List ℕ → Result ((ℕ × ℕ) × List ℕ) Stop
 two_uids_at = both nz_at (skip (byte_at 32) uid_close_at)
 
-abbrev pub permanent_close_at : List ℕ → Result ((ℕ × Bool) × List ℕ) Stop
+abbrev pub permanent_close_at : List ℕ → Result (List (List ℕ) × List ℕ) Stop
 permanent_close_at = keep permanent_flags_at (byte_at 93)
 
 abbrev pub uid_next : ℕ → Code
@@ -65,8 +65,8 @@ uid_next n = code.UidNext n
 abbrev pub uid_validity : ℕ → Code
 uid_validity n = code.UidValidity n
 
-abbrev pub permanent_flags : ℕ × Bool → Code
-permanent_flags p = code.PermanentFlags p.0 p.1
+abbrev pub permanent_flags : List (List ℕ) → Code
+permanent_flags names = code.PermanentFlags names
 
 abbrev pub append_uid : ℕ × ℕ → Code
 append_uid p = code.AppendUid p.0 p.1

@@ -2,7 +2,7 @@
 use Rattle.std.specs.Prelude.{◌≤◌, ℕ, ◌+◌, List, length, Option, None, Some}
 use Rattle.std.specs.List.{sum_by}
 use Rattle.wire_reader.specs.Lexical.{outside}
-use Rattle.wire_tokens.specs.Room.{most_names}
+use Rattle.wire_tokens.specs.Room.{most_flags, most_names}
 use Rattle.wire_strings.specs.Room.{most_astring, most_nstring}
 use Rattle.imap_replies.specs.declared.word.ReplyWord.TheVariants as replies
 use Rattle.imap_replies.specs.declared.word.EventWord.TheVariants as events
@@ -19,7 +19,7 @@ use Rattle.imap_replies.specs.declared.reply.Reply.TheVariants.{Continue, Tagged
 use Rattle.imap_replies.specs.Words.{code_word, status_word, notice_word, item_word, reply_word, event_word}
 use Rattle.imap_replies.specs.Replies.{WrittenReply}
 
--- a number has at most 10 digits, a list of flags 53 bytes, one with `\*` 56
+-- a number has at most 10 digits
 
 -- nothing, or a space and so many bytes
 abbrev pub most_rest : Option (List ℕ) → ℕ
@@ -34,7 +34,7 @@ most_line (Some names) = 1 + most_names names
 abbrev pub most_code : Code → ℕ
 most_code (code.UidNext n) = length (code_word words.UidNext) + 12
 most_code (code.UidValidity n) = length (code_word words.UidValidity) + 12
-most_code (code.PermanentFlags flags others) = length (code_word words.PermanentFlags) + 58
+most_code (code.PermanentFlags flags) = length (code_word words.PermanentFlags) + (most_flags flags + 2)
 most_code (code.AppendUid validity uid) = length (code_word words.AppendUid) + 23
 most_code code.ReadOnly = length (code_word words.ReadOnly) + 1
 most_code code.ReadWrite = length (code_word words.ReadWrite) + 1
@@ -47,7 +47,7 @@ most_response (responses.Coded c text) = 1 + most_code c + 1 + length text + 2
 
 abbrev pub most_item : FetchItem → ℕ
 most_item (items.Uid n) = length (item_word kinds.Uid) + 10
-most_item (items.Flags flags) = length (item_word kinds.Flags) + 53
+most_item (items.Flags flags) = length (item_word kinds.Flags) + most_flags flags
 most_item (items.Size n) = length (item_word kinds.Size) + 10
 most_item (items.Body string) = length (item_word kinds.Body) + most_nstring string
 most_item (items.Head string) = length (item_word kinds.Head) + most_nstring string
@@ -58,8 +58,8 @@ most_outside (Tagged tag status text) = length tag + 1 + length (status_word sta
 most_outside (Notice kind text) = 2 + length (notice_word kind) + 1 + most_response text
 most_outside (Capability names) = 2 + length (reply_word replies.Capability) + most_line names + 2
 most_outside (Enabled names) = 2 + length (reply_word replies.Enabled) + most_line names + 2
-most_outside (Listed attributes delimiter name) = 2 + length (reply_word replies.List) + 1 + (most_names attributes + 2) + 1 + 4 + 1 + most_astring name + 2
-most_outside (Flags flags) = 2 + length (reply_word replies.Flags) + 1 + 53 + 2
+most_outside (Listed attributes delimiter name) = 2 + length (reply_word replies.List) + 1 + most_flags attributes + 1 + 4 + 1 + most_astring name + 2
+most_outside (Flags flags) = 2 + length (reply_word replies.Flags) + 1 + most_flags flags + 2
 most_outside (Exists n) = 2 + 10 + 1 + length (event_word events.Exists) + 2
 most_outside (Expunge n) = 2 + 10 + 1 + length (event_word events.Expunge) + 2
 most_outside (Fetch n list) = 2 + 10 + 1 + length (event_word events.Fetch) + 2 + sum_by (λ item. most_item item + 1) list + 1 + 2

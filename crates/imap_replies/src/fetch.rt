@@ -18,7 +18,7 @@ use wire_reader::side::Side;
 use wire_reader::stop::{Kind, ReadError, Stop};
 use wire_strings::string::{WireString, read_nstring};
 use wire_tokens::atom::is_atom_byte;
-use wire_tokens::flag_list::{FlagSet, read_flags};
+use wire_tokens::flag_list::{FlagNames, read_flags};
 use wire_tokens::number::{NonZero, number, nz};
 
 /// An item of a FETCH reply.
@@ -27,7 +27,7 @@ pub enum FetchItem<'a> {
     /// `UID`
     Uid(NonZero),
     /// `FLAGS`
-    Flags(FlagSet),
+    Flags(FlagNames<'a>),
     /// `RFC822.SIZE`, in octets.
     Size(u32),
     /// `BODY[]`, the message; none where the server says NIL.

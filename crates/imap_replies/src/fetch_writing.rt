@@ -13,8 +13,7 @@ use crate::fetch::{FetchItem, FetchList};
 use std::alloc::AllocError;
 use wire_strings::string::WireString;
 use wire_tokens::appending::append;
-use wire_tokens::flag_list::FlagSet;
-use wire_tokens::flag_writing::write_flags;
+use wire_tokens::flag_list::FlagNames;
 use wire_tokens::number::{NonZero, write_number};
 
 /// Writes what stands behind FETCH, with the line end.
@@ -66,12 +65,12 @@ fn append_uid(uid: &NonZero, out: &mut Vec<u8>) -> Result<(), AllocError>
     Ok(())
 }
 
-fn append_flags(flags: &FlagSet, out: &mut Vec<u8>) -> Result<(), AllocError>
+fn append_flags(flags: &FlagNames<'_>, out: &mut Vec<u8>) -> Result<(), AllocError>
     ensures ok { OnOk result (Appended (ItemIn AsWritten (items.Flags flags.now)) out.old.items out.new.items) }
     ensures kept { OnErr result (take (length out.old.items) out.new.items ≡ out.old.items) }
 {
     append(b"FLAGS ", out)?;
-    write_flags(flags.flags(), out)?;
+    flags.write(out)?;
     Ok(())
 }
 

@@ -12,14 +12,14 @@ use wire_reader::side::Side;
 use wire_reader::stop::Stop;
 use wire_strings::astring::read_astring;
 use wire_strings::delimiter::{Delimiter, read_delimiter};
-use wire_tokens::flag_list::read_attributes;
+use wire_tokens::flag_list::read_flags;
 
 /// What stands behind LIST.
 #[tactic(auto, unfolding(crate::specs::Listings::list_at))]
 pub(crate) fn list(bytes: &[u8]) -> Result<(Reply<'_>, &[u8]), Stop>
     ensures { Gives (λ r. (r.0, r.1.now)) result (mapped listed list_at bytes.now) }
 {
-    let (attributes, rest) = read_attributes(byte(b' ', bytes)?)?;
+    let (attributes, rest) = read_flags(byte(b' ', bytes)?)?;
     let (delimiter, rest) = read_mark(byte(b' ', rest)?)?;
     let (name, rest) = read_astring(Side::Replies, byte(b' ', rest)?)?;
     Ok((Reply::List(attributes, delimiter, name), crlf(rest)?))

@@ -7,7 +7,7 @@ use crate::word::{NoticeKind, Status};
 use wire_strings::astring::AString;
 use wire_strings::delimiter::Delimiter;
 use wire_strings::line_text::LineText;
-use wire_tokens::flag_list::{Attributes, FlagSet};
+use wire_tokens::flag_list::FlagNames;
 use wire_tokens::names::Names;
 use wire_tokens::number::NonZero;
 use wire_tokens::tag::Tag;
@@ -26,9 +26,9 @@ pub enum Reply<'a> {
     /// `* ENABLED` and the names, of which there may be none.
     Enabled(Option<Names<'a>>),
     /// `* LIST`: the flags of a mailbox, the delimiter of its levels if it has one, and its name.
-    List(Attributes<'a>, Option<Delimiter>, AString<'a>),
+    List(FlagNames<'a>, Option<Delimiter>, AString<'a>),
     /// `* FLAGS`: the flags that a mailbox knows.
-    Flags(FlagSet),
+    Flags(FlagNames<'a>),
     /// `* n EXISTS`: so many messages are there.
     Exists(u32),
     /// `* n EXPUNGE`: the message of this number was removed.

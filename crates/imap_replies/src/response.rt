@@ -11,7 +11,7 @@ use wire_reader::stop::Stop;
 use wire_strings::code_text::{CodeText, read_code_text};
 use wire_strings::line_text::{LineText, read_line_text};
 use wire_strings::plain_text::{PlainText, read_plain_text};
-use wire_tokens::flag_list::{FlagSet, read_permanent_flags};
+use wire_tokens::flag_list::{PermanentFlags, read_permanent_flags};
 use wire_tokens::number::{NonZero, nz};
 
 /// The text of a status reply.
@@ -30,8 +30,8 @@ pub enum Code<'a> {
     UidNext(NonZero),
     /// The validity of the mailbox's UIDs.
     UidValidity(NonZero),
-    /// The flags that can be kept, and whether others can be made.
-    PermanentFlags(FlagSet, bool),
+    /// The flags that may be changed, and `\*` where others may be made.
+    PermanentFlags(PermanentFlags<'a>),
     /// The validity and the UID of an appended message.
     AppendUid(NonZero, NonZero),
     /// The mailbox cannot be changed.
@@ -97,8 +97,8 @@ fn known_code(word: CodeWord, bytes: &[u8]) -> Result<(Code<'_>, &[u8]), Stop>
             Ok((Code::UidValidity(validity), rest))
         }
         CodeWord::PermanentFlags => {
-            let ((flags, others), rest) = read_permanent_flags(byte(b' ', bytes)?)?;
-            Ok((Code::PermanentFlags(flags, others), byte(b']', rest)?))
+            let (flags, rest) = read_permanent_flags(byte(b' ', bytes)?)?;
+            Ok((Code::PermanentFlags(flags), byte(b']', rest)?))
         }
         CodeWord::AppendUid => {
             let (validity, rest) = nz(byte(b' ', bytes)?)?;

@@ -17,8 +17,7 @@ use std::alloc::AllocError;
 use wire_strings::code_text::CodeText;
 use wire_strings::line_text::LineText;
 use wire_tokens::appending::append;
-use wire_tokens::flag_list::FlagSet;
-use wire_tokens::flag_writing::write_permanent_flags;
+use wire_tokens::flag_list::PermanentFlags;
 use wire_tokens::number::NonZero;
 
 /// Writes the text of a status reply, with the line end.
@@ -51,7 +50,7 @@ fn append_code(code: &Code<'_>, out: &mut Vec<u8>) -> Result<(), AllocError>
     match code {
         Code::UidNext(uid) => append_uid(b"UIDNEXT", uid, out),
         Code::UidValidity(validity) => append_uid(b"UIDVALIDITY", validity, out),
-        Code::PermanentFlags(flags, others) => append_permanent(flags, *others, out),
+        Code::PermanentFlags(flags) => append_permanent(flags, out),
         Code::AppendUid(validity, uid) => append_two(validity, uid, out),
         Code::ReadOnly => append_bare(b"READ-ONLY", out),
         Code::ReadWrite => append_bare(b"READ-WRITE", out),
@@ -81,13 +80,13 @@ fn append_uid(word: &[u8], uid: &NonZero, out: &mut Vec<u8>) -> Result<(), Alloc
     Ok(())
 }
 
-fn append_permanent(flags: &FlagSet, others: bool, out: &mut Vec<u8>) -> Result<(), AllocError>
-    ensures ok { OnOk result (Appended (CodeIn AsWritten (code.PermanentFlags flags.now others)) out.old.items out.new.items) }
+fn append_permanent(flags: &PermanentFlags<'_>, out: &mut Vec<u8>) -> Result<(), AllocError>
+    ensures ok { OnOk result (Appended (CodeIn AsWritten (code.PermanentFlags flags.now)) out.old.items out.new.items) }
     ensures kept { OnErr result (take (length out.old.items) out.new.items ≡ out.old.items) }
 {
     append(b"PERMANENTFLAGS", out)?;
     append(b" ", out)?;
-    write_permanent_flags(flags.flags(), others, out)?;
+    flags.write(out)?;
     append(b"]", out)?;
     Ok(())
 }

@@ -24,8 +24,7 @@ use wire_strings::astring::AString;
 use wire_strings::delimiter::Delimiter;
 use wire_strings::line_text::LineText;
 use wire_tokens::appending::append;
-use wire_tokens::flag_list::{Attributes, FlagSet};
-use wire_tokens::flag_writing::write_flags;
+use wire_tokens::flag_list::FlagNames;
 use wire_tokens::names::Names;
 use wire_tokens::number::{NonZero, write_number};
 use wire_tokens::tag::Tag;
@@ -162,7 +161,7 @@ fn append_names_line(names: &Option<Names<'_>>, out: &mut Vec<u8>) -> Result<(),
 }
 
 fn append_list(
-    attributes: &Attributes<'_>,
+    attributes: &FlagNames<'_>,
     delimiter: &Option<Delimiter>,
     name: &AString<'_>,
     out: &mut Vec<u8>,
@@ -192,14 +191,14 @@ fn append_mark(delimiter: &Option<Delimiter>, out: &mut Vec<u8>) -> Result<(), A
     }
 }
 
-fn append_flags(flags: &FlagSet, out: &mut Vec<u8>) -> Result<(), AllocError>
+fn append_flags(flags: &FlagNames<'_>, out: &mut Vec<u8>) -> Result<(), AllocError>
     ensures ok { OnOk result (Appended (ReplyIn AsWritten (replies.Flags flags.now)) out.old.items out.new.items) }
     ensures kept { OnErr result (take (length out.old.items) out.new.items ≡ out.old.items) }
 {
     append(b"* ", out)?;
     append(b"FLAGS", out)?;
     append(b" ", out)?;
-    write_flags(flags.flags(), out)?;
+    flags.write(out)?;
     append(b"\r\n", out)?;
     Ok(())
 }

@@ -6,6 +6,7 @@ use Rattle.std.proofs.lemmas.List.Elements.{All-nil, All-cons, All-append}
 use Rattle.mailcore.specs.declared.mailbox.Mailbox.{Mailbox}
 use Rattle.mailcore.specs.declared.mailbox.Message.{Message}
 use Rattle.mailcore.specs.FlagSet.{FLAGS}
+use Rattle.mailcore.specs.KeywordNames.{named_set}
 use Rattle.mailcore.specs.Stores.{Store}
 use Rattle.mailcore.specs.Operations.{added}
 use Rattle.mailcore.proofs.OperationLemmas.{is_store-added}
@@ -57,25 +58,25 @@ served_added m uid flags bytes is e positive below set octets =
 
 -- ---- the answer
 
-pub append_there : (s new : Server) (tag name : List ℕ) (flags : ℕ) (message : List ℕ) (m : FarMailbox) (n uid : ℕ) (a b c : List ℕ) → IsPlace name s.mailboxes n → slice_get s.mailboxes n ≡ Some m
+pub append_there : (s new : Server) (tag name : List ℕ) (names : List (List ℕ)) (message : List ℕ) (m : FarMailbox) (n uid : ℕ) (a b c : List ℕ) → IsPlace name s.mailboxes n → slice_get s.mailboxes n ≡ Some m
     → m.store.next ≡ uid → uid < 4294967295 → Wrote (grown s.condition name (length m.store.messages + 1)) a b → Wrote (done_with tag (codes_of.AppendUid m.store.validity uid) ∷ []) b c
-    → new ≡ record s { mailboxes = changed_there (added uid flags message) n s.mailboxes }
-    → AnsweredBy (AppendsAt (mailbox_at name s.mailboxes) s tag name flags message) a c new
-append_there s new tag name flags message m n uid a b c place at next below grow said is =
-    subst (λ (o : Option FarMailbox). AnsweredBy (AppendsAt o s tag name flags message) a c new) (sym (place.found ∙ at)) (record {
-      replies = (appended s m uid tag name flags message).replies;
+    → new ≡ record s { mailboxes = changed_there (added uid (named_set s.keywords names) message) n s.mailboxes }
+    → AnsweredBy (AppendsAt (mailbox_at name s.mailboxes) s tag name names message) a c new
+append_there s new tag name names message m n uid a b c place at next below grow said is =
+    subst (λ (o : Option FarMailbox). AnsweredBy (AppendsAt o s tag name names message) a c new) (sym (place.found ∙ at)) (record {
+      replies = (appended s m uid tag name names message).replies;
       wrote = wrote_then _ _ a b c grow said;
       gives_them = inr (record {
         uid = uid;
         may = record { at_least = omega arith; below = below };
-        gives = (refl, is ∙ ap (λ (l : List FarMailbox). record s { mailboxes = l }) (sym (place.change (added uid flags message))));
+        gives = (refl, is ∙ ap (λ (l : List FarMailbox). record s { mailboxes = l }) (sym (place.change (added uid (named_set s.keywords names) message))));
       });
     })
 
-pub append_if : (s new : Server) (tag name : List ℕ) (flags : ℕ) (message : List ℕ) (a c : List ℕ) → is_logged_in s.condition ≡ true
-    → AnsweredBy (AppendsAt (mailbox_at name s.mailboxes) s tag name flags message) a c new → AnsweredBy (Appends s tag name flags message) a c new
-append_if s new tag name flags message a c on h =
-    subst (λ (b : Bool). AnsweredBy (AppendsIf b s tag name flags message) a c new) (sym on) h
+pub append_if : (s new : Server) (tag name : List ℕ) (names : List (List ℕ)) (message : List ℕ) (a c : List ℕ) → is_logged_in s.condition ≡ true
+    → AnsweredBy (AppendsAt (mailbox_at name s.mailboxes) s tag name names message) a c new → AnsweredBy (Appends s tag name names message) a c new
+append_if s new tag name names message a c on h =
+    subst (λ (b : Bool). AnsweredBy (AppendsIf b s tag name names message) a c new) (sym on) h
 
 -- ---- by cases on whether memory was there
 
@@ -84,35 +85,36 @@ pub served_after : (r : Result (Unit {0}) AllocError) (raw : List Mailbox) (n : 
 served_after (Ok x) raw n m d store are is ok err more = served_set raw n m are (subst IsServed (sym ok) more)
 served_after (Err e) raw n m d store are is ok err more = served_set raw n m are (subst (λ (y : Mailbox). IsServed (far_of y)) (sym err) is)
 
-same_server : (s v : Server) (mailboxes : List FarMailbox) → v.user ≡ s.user → v.password ≡ s.password → v.mailboxes ≡ mailboxes → v.condition ≡ s.condition → v.has_news ≡ s.has_news → v ≡ record s { mailboxes = mailboxes }
-same_server s v mailboxes a b c d e = λ i. record { user = a i; password = b i; mailboxes = c i; condition = d i; has_news = e i }
+same_server : (s v : Server) (mailboxes : List FarMailbox) → v.user ≡ s.user → v.password ≡ s.password → v.mailboxes ≡ mailboxes → v.keywords ≡ s.keywords → v.condition ≡ s.condition → v.has_news ≡ s.has_news → v ≡ record s { mailboxes = mailboxes }
+same_server s v mailboxes a b c k d e = λ i. record { user = a i; password = b i; mailboxes = c i; keywords = k i; condition = d i; has_news = e i }
 
 pub view_set : (s v : Server) (raw : List Mailbox) (n : ℕ) (m d : Mailbox) (c : Store → Store) → all_of raw ≡ s.mailboxes
-    → v.user ≡ s.user → v.password ≡ s.password → v.condition ≡ s.condition → v.has_news ≡ s.has_news → v.mailboxes ≡ all_of (slice_set raw n m) → n < length raw → d ≡ get_or raw n d
+    → v.user ≡ s.user → v.password ≡ s.password → v.keywords ≡ s.keywords → v.condition ≡ s.condition → v.has_news ≡ s.has_news → v.mailboxes ≡ all_of (slice_set raw n m) → n < length raw → d ≡ get_or raw n d
     → far_of m ≡ record (far_of d) { store = c (store_of d) } → v ≡ record s { mailboxes = changed_there c n s.mailboxes }
-view_set s v raw n m d c all user password condition news set h at is =
+view_set s v raw n m d c all user password keywords condition news set h at is =
     let there : far_of m ≡ record (far_of (get_or raw n d)) { store = c (store_of (get_or raw n d)) } = is ∙ ap (λ (y : Mailbox). record (far_of y) { store = c (store_of y) }) at in
-    same_server s v _ user password (set ∙ all_of-set raw n m d c h there ∙ ap (changed_there c n) all) condition news
+    same_server s v _ user password (set ∙ all_of-set raw n m d c h there ∙ ap (changed_there c n) all) keywords condition news
 
 pub view_after : (r : Result (Unit {0}) AllocError) (s v : Server) (raw : List Mailbox) (n : ℕ) (m d : Mailbox) (c : Store → Store) → all_of raw ≡ s.mailboxes
-    → v.user ≡ s.user → v.password ≡ s.password → v.condition ≡ s.condition → v.has_news ≡ s.has_news → v.mailboxes ≡ all_of (slice_set raw n m) → n < length raw → d ≡ get_or raw n d
+    → v.user ≡ s.user → v.password ≡ s.password → v.keywords ≡ s.keywords → v.condition ≡ s.condition → v.has_news ≡ s.has_news → v.mailboxes ≡ all_of (slice_set raw n m) → n < length raw → d ≡ get_or raw n d
     → OnOk r (far_of m ≡ record (far_of d) { store = c (store_of d) }) → OnOk r (v ≡ record s { mailboxes = changed_there c n s.mailboxes })
-view_after (Ok x) s v raw n m d c all user password condition news set h at is = view_set s v raw n m d c all user password condition news set h at is
-view_after (Err e) s v raw n m d c all user password condition news set h at is = tt
+view_after (Ok x) s v raw n m d c all user password keywords condition news set h at is = view_set s v raw n m d c all user password keywords condition news set h at is
+view_after (Err e) s v raw n m d c all user password keywords condition news set h at is = tt
 
-pub append_ok : (r : Result (Unit {0}) AllocError) (s new : Server) (tag name at : List ℕ) (flags : ℕ) (message : List ℕ) (a c : List ℕ) → is_logged_in s.condition ≡ true → at ≡ name
-    → OnOk r (AnsweredBy (AppendsAt (mailbox_at at s.mailboxes) s tag at flags message) a c new) → OnOk r (AnsweredBy (Appends s tag name flags message) a c new)
-append_ok (Ok x) s new tag name at flags message a c on e h =
-    append_if s new tag name flags message a c on (subst (λ (n : List ℕ). AnsweredBy (AppendsAt (mailbox_at n s.mailboxes) s tag n flags message) a c new) e h)
-append_ok (Err x) s new tag name at flags message a c on e h = tt
+pub append_ok : (r : Result (Unit {0}) AllocError) (s new : Server) (tag name at : List ℕ) (names : List (List ℕ)) (message : List ℕ) (a c : List ℕ) → is_logged_in s.condition ≡ true → at ≡ name
+    → OnOk r (AnsweredBy (AppendsAt (mailbox_at at s.mailboxes) s tag at names message) a c new) → OnOk r (AnsweredBy (Appends s tag name names message) a c new)
+append_ok (Ok x) s new tag name at names message a c on e h =
+    append_if s new tag name names message a c on (subst (λ (n : List ℕ). AnsweredBy (AppendsAt (mailbox_at n s.mailboxes) s tag n names message) a c new) e h)
+append_ok (Err x) s new tag name at names message a c on e h = tt
 
-pub append_at_ok : (r : Result (Unit {0}) AllocError) (s new : Server) (tag name : List ℕ) (flags : ℕ) (message : List ℕ) (m : FarMailbox) (n uid count validity : ℕ) (k : Condition) (a b c : List ℕ)
-    → IsPlace name s.mailboxes n → slice_get s.mailboxes n ≡ Some m → m.store.next ≡ uid → uid + 1 < 2 ^ 32 → k ≡ s.condition → count ≡ length m.store.messages → validity ≡ m.store.validity
+pub append_at_ok : (r : Result (Unit {0}) AllocError) (s new : Server) (tag name : List ℕ) (names : List (List ℕ)) (flags : ℕ) (message : List ℕ) (m : FarMailbox) (n uid count validity : ℕ) (k : Condition) (a b c : List ℕ)
+    → flags ≡ named_set s.keywords names → IsPlace name s.mailboxes n → slice_get s.mailboxes n ≡ Some m → m.store.next ≡ uid → uid + 1 < 2 ^ 32 → k ≡ s.condition → count ≡ length m.store.messages → validity ≡ m.store.validity
     → Wrote (grown k name (count + 1)) a b → Wrote (done_with tag (codes_of.AppendUid validity uid) ∷ []) b c
     → OnOk r (new ≡ record s { mailboxes = changed_there (added uid flags message) n s.mailboxes })
-    → OnOk r (AnsweredBy (AppendsAt (mailbox_at name s.mailboxes) s tag name flags message) a c new)
-append_at_ok (Ok x) s new tag name flags message m n uid count validity k a b c place at next below e f g grow said is =
-    append_there s new tag name flags message m n uid a b c place at next (omega arith)
+    → OnOk r (AnsweredBy (AppendsAt (mailbox_at name s.mailboxes) s tag name names message) a c new)
+append_at_ok (Ok x) s new tag name names flags message m n uid count validity k a b c set place at next below e f g grow said is =
+    append_there s new tag name names message m n uid a b c place at next (omega arith)
     (subst (λ (j : Condition). Wrote (grown j name (length m.store.messages + 1)) a b) e (subst (λ (j : ℕ). Wrote (grown k name (j + 1)) a b) f grow))
-    (subst (λ (j : ℕ). Wrote (done_with tag (codes_of.AppendUid j uid) ∷ []) b c) g said) is
-append_at_ok (Err x) s new tag name flags message m n uid count validity k a b c place at next below e f g grow said is = tt
+    (subst (λ (j : ℕ). Wrote (done_with tag (codes_of.AppendUid j uid) ∷ []) b c) g said)
+    (subst (λ (f : ℕ). new ≡ record s { mailboxes = changed_there (added uid f message) n s.mailboxes }) set is)
+append_at_ok (Err x) s new tag name names flags message m n uid count validity k a b c set place at next below e f g grow said is = tt

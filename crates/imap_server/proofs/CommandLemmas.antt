@@ -1,18 +1,17 @@
 -- What commands answer, from what was written.
-use Rattle.std.proofs.Common.{◌≡◌, ◌<◌, ℕ, zero, suc, Bool, true, false, List, [], ◌∷◌, length, codes, refl, sym, ◌∙◌, ap, subst, Option, Some, None, arith, get_or, if◌then◌else◌}
+use Rattle.std.proofs.Common.{◌≡◌, ◌<◌, ℕ, zero, suc, Bool, true, List, [], ◌∷◌, length, codes, refl, sym, ◌∙◌, ap, subst, Option, Some, None, arith, get_or, if◌then◌else◌}
 use Rattle.std.specs.Prelude.{All}
+use Rattle.mailcore.specs.declared.keywords.Keyword.{Keyword}
 use Rattle.mailcore.specs.declared.mailbox.Message.{Message}
 use Rattle.mailcore.specs.Listed.{AreRising, AreBelow}
 use Rattle.wire_tokens.specs.Names.{has_name}
-use Rattle.imap_replies.specs.declared.word.Status.TheVariants as statuses
-use Rattle.imap_replies.specs.declared.response.ResponseText.TheVariants.{Coded}
 use Rattle.imap_replies.specs.declared.response.Code.TheVariants as codes_of
-use Rattle.imap_replies.specs.declared.reply.Reply.TheVariants.{Tagged, Enabled, Flags, Exists}
+use Rattle.imap_replies.specs.declared.reply.Reply.TheVariants.{Enabled, Flags, Exists}
 use Rattle.imap_session.specs.Mailboxes.{FarMailbox, mailbox_at}
 use Rattle.imap_session.specs.Servers.{Server, Selected, Authenticated, is_logged_in}
-use Rattle.imap_session.specs.Answering.{Answer, done, refused_with, note, listed}
+use Rattle.imap_session.specs.Answering.{Answer, done, done_with, refused_with, note, listed}
 use Rattle.imap_session.specs.SessionCommands.{REV2, enables}
-use Rattle.imap_session.specs.MailboxCommands.{SIX, closes, opening, selects, selects_at}
+use Rattle.imap_session.specs.MailboxCommands.{all_names, closes, opening, selects, selects_at}
 use Rattle.imap_server.specs.Writing.{Wrote, Answered}
 use Rattle.imap_server.proofs.WritingLemmas.{wrote_then, wrote_more}
 
@@ -35,19 +34,19 @@ enable_answered s tag names said a b c on is h k =
 
 -- ---- SELECT
 
-pub opening_wrote : (m : FarMailbox) (tag : List ℕ) (six too count next validity : ℕ) (a b c d e f g h : List ℕ)
-    → six ≡ SIX → too ≡ SIX → count ≡ length m.store.messages → next ≡ m.store.next → validity ≡ m.store.validity
-    → Wrote (Flags six ∷ []) a b → Wrote (Exists count ∷ []) b c → Wrote (listed m.name ∷ []) c d
-    → Wrote (note (codes_of.PermanentFlags too false) (codes "flags") ∷ []) d e
+pub opening_wrote : (keywords : List Keyword) (m : FarMailbox) (tag : List ℕ) (all too : List (List ℕ)) (count next validity : ℕ) (a b c d e f g h : List ℕ)
+    → all ≡ all_names keywords → too ≡ all_names keywords → count ≡ length m.store.messages → next ≡ m.store.next → validity ≡ m.store.validity
+    → Wrote (Flags all ∷ []) a b → Wrote (Exists count ∷ []) b c → Wrote (listed m.name ∷ []) c d
+    → Wrote (note (codes_of.PermanentFlags too) (codes "flags") ∷ []) d e
     → Wrote (note (codes_of.UidNext next) (codes "next") ∷ []) e f
     → Wrote (note (codes_of.UidValidity validity) (codes "validity") ∷ []) f g
-    → Wrote (Tagged tag statuses.Ok (Coded codes_of.ReadWrite (codes "done")) ∷ []) g h
-    → Wrote (opening m tag) a h
-opening_wrote m tag six too count next validity a b c d e f g h e1 e2 e3 e4 e5 w1 w2 w3 w4 w5 w6 w7 =
-    wrote_more _ _ a b h (subst (λ (n : ℕ). Wrote (Flags n ∷ []) a b) e1 w1)
+    → Wrote (done_with tag codes_of.ReadWrite ∷ []) g h
+    → Wrote (opening keywords m tag) a h
+opening_wrote keywords m tag all too count next validity a b c d e f g h e1 e2 e3 e4 e5 w1 w2 w3 w4 w5 w6 w7 =
+    wrote_more _ _ a b h (subst (λ (n : List (List ℕ)). Wrote (Flags n ∷ []) a b) e1 w1)
     (wrote_more _ _ b c h (subst (λ (n : ℕ). Wrote (Exists n ∷ []) b c) e3 w2)
     (wrote_more _ _ c d h w3
-    (wrote_more _ _ d e h (subst (λ (n : ℕ). Wrote (note (codes_of.PermanentFlags n false) (codes "flags") ∷ []) d e) e2 w4)
+    (wrote_more _ _ d e h (subst (λ (n : List (List ℕ)). Wrote (note (codes_of.PermanentFlags n) (codes "flags") ∷ []) d e) e2 w4)
     (wrote_more _ _ e f h (subst (λ (n : ℕ). Wrote (note (codes_of.UidNext n) (codes "next") ∷ []) e f) e4 w5)
     (wrote_more _ _ f g h (subst (λ (n : ℕ). Wrote (note (codes_of.UidValidity n) (codes "validity") ∷ []) f g) e5 w6) w7)))))
 
@@ -55,8 +54,9 @@ module _ (s new : Server) (tag name : List ℕ) (a b c : List ℕ) (on : is_logg
   selects_as : (at : Option FarMailbox) → mailbox_at name s.mailboxes ≡ at → selects s tag name ≡ selects_at at s tag name
   selects_as at e = by_true (is_logged_in s.condition) _ _ on ∙ ap (λ (o : Option FarMailbox). selects_at o s tag name) e
 
-  pub select_there : (m : FarMailbox) → mailbox_at name s.mailboxes ≡ Some m → Wrote (opening m tag) b c → new ≡ record s { condition = Selected name } → Answered (selects s tag name) a c new
-  select_there m at w is = answered_as _ _ a c new (selects_as (Some m) at) (record { wrote = wrote_then _ _ a b c closed w; after_is = is })
+  pub select_there : (keywords : List Keyword) (m : FarMailbox) → keywords ≡ s.keywords → mailbox_at name s.mailboxes ≡ Some m → Wrote (opening keywords m tag) b c → new ≡ record s { condition = Selected name } → Answered (selects s tag name) a c new
+  select_there keywords m same at w is =
+      answered_as _ _ a c new (selects_as (Some m) at) (record { wrote = wrote_then _ _ a b c closed (subst (λ (ks : List Keyword). Wrote (opening ks m tag) b c) same w); after_is = is })
 
   pub select_none : mailbox_at name s.mailboxes ≡ None → Wrote (refused_with tag (codes "NONEXISTENT") (codes "no mailbox") ∷ []) b c → new ≡ record s { condition = Authenticated }
       → Answered (selects s tag name) a c new

@@ -1,12 +1,12 @@
 -- The replies to UID EXPUNGE, and its answer.
-use Rattle.std.proofs.Common.{◌≡◌, ◌<◌, ◌≤◌, ◌^◌, ℕ, zero, suc, ◌+◌, Bool, true, false, not, cond, ◌||◌, eqb, List, [], ◌∷◌, ◌++◌, length, map, filter, refl, sym, ◌∙◌, ap, subst, append-nil, append_assoc, Option, Some, arith, get_or, if◌then◌else◌}
-use Rattle.std.specs.Prelude.{All, slice_get}
+use Rattle.std.proofs.Common.{◌≡◌, ◌≤◌, ℕ, ◌+◌, Bool, true, false, cond, List, [], ◌∷◌, ◌++◌, length, refl, sym, ◌∙◌, ap, subst, append-nil, append_assoc, Option, Some, arith, if◌then◌else◌}
+use Rattle.std.specs.Prelude.{slice_get}
 use Rattle.mailcore.specs.declared.mailbox.Message.{Message}
 use Rattle.wire_tokens.specs.declared.uid_set.SetItem.{SetItem}
 use Rattle.imap_replies.specs.declared.reply.Reply.{Reply}
 use Rattle.imap_replies.specs.declared.reply.Reply.TheVariants.{Expunge}
 use Rattle.imap_session.specs.Mailboxes.{FarMailbox}
-use Rattle.imap_session.specs.NamedMessages.{goes, swept, named_in, uids_going}
+use Rattle.imap_session.specs.NamedMessages.{goes, swept, named_in}
 use Rattle.imap_session.specs.Servers.{Server}
 use Rattle.imap_session.specs.Answering.{done}
 use Rattle.imap_session.specs.MessageCommands.{removed, expunges, expunges_in}

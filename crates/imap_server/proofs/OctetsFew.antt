@@ -165,11 +165,11 @@ listed_feedless : (names : List (List ℕ)) (t : List ℕ) → ListedText kinds.
 listed_feedless [] t h = ap (list_all no_feed) h
 listed_feedless (name ∷ names) t h = items_feedless 32 (NameText kinds.Flag) refl flag_feedless (name ∷ names) t h
 
-flags_octets : (set : ℕ) (t : List ℕ) → FlagsText set t → HasOctets 0 t
-flags_octets set t h =
+flags_octets : (names : List (List ℕ)) (t : List ℕ) → FlagsText names t → HasOctets 0 t
+flags_octets names t h =
     let p : Part Commands true Closed FlagsText flags_at = flags_part in
-    no_octets t ((p.leads refl).after set t h)
-    (then_feedless (is_feedless (40 ∷ []) refl) (then_feedless (listed_feedless h.names) (is_feedless (41 ∷ []) refl)) t h.spelled)
+    no_octets t ((p.leads refl).after names t h)
+    (then_feedless (is_feedless (40 ∷ []) refl) (then_feedless (listed_feedless names) (is_feedless (41 ∷ []) refl)) t h)
 
 place_feedless : (x : SetEnd) (t : List ℕ) → EndText x t → Feedless t
 place_feedless (Number n) t h = each_lacks is_digit refl t h.0.each

@@ -1,7 +1,6 @@
 //! APPEND (RFC 9051, section 6.3.12).
 
-ghost use Rattle.std.specs.Prelude.{◌≡◌, ◌<◌, ◌∷◌, [], ◌^◌, ◌+◌, codes, length, OnOk, OnErr};
-ghost use Rattle.mailcore.specs.Listed.{AreRising, AreBelow};
+ghost use Rattle.std.specs.Prelude.{◌≡◌, ◌<◌, ◌∷◌, [], ◌^◌, ◌+◌, length, OnOk, OnErr};
 ghost use Rattle.mailcore.specs.Operations.{added};
 ghost use Rattle.imap_replies.specs.declared.response.Code.TheVariants as codes_of;
 ghost use Rattle.imap_session.specs.AppendCommand.{grown};
@@ -13,18 +12,17 @@ ghost use Rattle.imap_server.specs.Writing.{Wrote};
 use crate::condition::Condition;
 use crate::mailbox_commands::{count_of, number};
 use crate::service::{Service, same_name};
-use crate::words::coded;
-use crate::writing::{say, say_no, say_no_with, say_out_of_place};
+use crate::writing::{say, say_done_with, say_no, say_no_with, say_out_of_place};
 use imap_commands::message::Message as Sent;
 use imap_replies::reply::Reply;
 use imap_replies::response::Code;
-use imap_replies::word::Status;
 use mailcore::flags::Flags;
 use mailcore::mailbox::{Mailbox, Message};
 use mailcore::octets::Octets;
 use mailcore::uid::Uid;
 use std::alloc::AllocError;
 use wire_strings::text::Text;
+use wire_tokens::flag_list::FlagList;
 use wire_tokens::number::NonZero;
 use wire_tokens::tag::Tag;
 
@@ -42,11 +40,11 @@ impl Service {
         &mut self,
         tag: Tag,
         name: &Text,
-        flags: Flags,
+        names: &FlagList,
         message: Sent,
         out: &mut Vec<u8>,
     ) -> Result<(), AllocError>
-        ensures ok { OnOk result (AnsweredBy (Appends self.old tag name.now flags message) out.old.items out.new.items self.new) }
+        ensures ok { OnOk result (AnsweredBy (Appends self.old tag name.now names.now message) out.old.items out.new.items self.new) }
         ensures err { OnErr result (self.new ≡ self.old) }
     {
         if !self.is_logged_in() {
@@ -54,7 +52,7 @@ impl Service {
             return Ok(());
         }
         match self.place_of(name.as_slice()) {
-            Some(place) => self.append_at(place, tag, name.as_slice(), flags, message, out),
+            Some(place) => self.append_at(place, tag, name.as_slice(), names, message, out),
             None => {
                 say_no_with(tag, b"TRYCREATE", b"no mailbox", out)?;
                 Ok(())
@@ -68,12 +66,12 @@ impl Service {
         place: usize,
         tag: Tag,
         name: &[u8],
-        flags: Flags,
+        names: &FlagList,
         message: Sent,
         out: &mut Vec<u8>,
     ) -> Result<(), AllocError>
         requires { IsPlace name.now self.old.mailboxes place }
-        ensures ok { OnOk result (AnsweredBy (AppendsAt (mailbox_at name.now self.old.mailboxes) self.old tag name.now flags message)
+        ensures ok { OnOk result (AnsweredBy (AppendsAt (mailbox_at name.now self.old.mailboxes) self.old tag name.now names.now message)
             out.old.items out.new.items self.new) }
         ensures err { OnErr result (self.new ≡ self.old) }
     {
@@ -84,6 +82,7 @@ impl Service {
                 let count = count_of(mailbox) + 1;
                 say_grown(&self.condition, name, count, out)?;
                 say_appended(tag, validity, uid, out)?;
+                let flags = names.names().named(&self.keywords);
                 self.add(place, uid, flags, message.into_vec())
             }
             None => {
@@ -135,9 +134,7 @@ fn say_grown(
 fn say_appended(tag: Tag, validity: NonZero, uid: Uid, out: &mut Vec<u8>) -> Result<(), AllocError>
     ensures { OnOk result (Wrote (done_with tag (codes_of.AppendUid validity uid) ∷ []) out.old.items out.new.items) }
 {
-    let text = coded(Code::AppendUid(validity, NonZero::from(uid)), b"done");
-    say(&Reply::Tagged(tag, Status::Ok, text), out)?;
-    Ok(())
+    say_done_with(tag, Code::AppendUid(validity, NonZero::from(uid)), out)
 }
 
 /// Adds the message behind the others, under the next UID.

@@ -25,9 +25,9 @@ impl Service {
             Request::List(pattern) => self.list(tag, &pattern, out),
             Request::Create(name) => self.create(tag, &name, out),
             Request::Select(name) => self.select(tag, name, out),
-            Request::Append(name, flags, message) => self.append(tag, &name, flags, message, out),
+            Request::Append(name, flags, message) => self.append(tag, &name, &flags, message, out),
             Request::Fetch(set, items) => self.fetch(tag, &set, items, out),
-            Request::Store(set, mode, flags) => self.store(tag, &set, mode, flags, out),
+            Request::Store(set, mode, flags) => self.store(tag, &set, mode, &flags, out),
             Request::Expunge(set) => self.expunge(tag, &set, out),
         }
     }

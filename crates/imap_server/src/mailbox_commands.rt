@@ -3,24 +3,25 @@
 ghost use Rattle.std.specs.Prelude.{◌≡◌, ◌<◌, ◌≤◌, ◌==◌, ◌∷◌, [], true, length, OnOk, IfOk, IfSome, IfNone};
 ghost use Rattle.std.specs.List.{list_all, slice_split};
 ghost use Rattle.imap_session.specs.Answering.{listed};
-ghost use Rattle.imap_session.specs.MailboxCommands.{SIX, is_name_byte, is_part, is_name, next_validity, empty_mailbox, closes, opening};
+ghost use Rattle.imap_session.specs.MailboxCommands.{is_name_byte, is_part, is_name, next_validity, empty_mailbox, closes, opening};
 ghost use Rattle.imap_messages.specs.Boxes.{far_of, all_of, IsServed};
 ghost use Rattle.imap_server.specs.Services.{condition_of};
 ghost use Rattle.imap_server.specs.Writing.{Wrote};
 
 use crate::condition::Condition;
 use crate::service::Service;
-use crate::words::{coded, word_code};
-use crate::writing::{say, say_done, say_no, say_no_with, say_note, say_out_of_place};
+use crate::words::word_code;
+use crate::writing::{
+    say, say_done, say_done_with, say_no, say_no_with, say_note, say_out_of_place,
+};
 use imap_replies::reply::Reply;
 use imap_replies::response::Code;
-use imap_replies::word::Status;
-use mailcore::flags::{Flag, Flags};
+use mailcore::keywords::Keywords;
 use mailcore::mailbox::Mailbox;
 use mailcore::mailbox_name::MailboxName;
 use std::alloc::{AllocError, Global};
 use wire_strings::text::Text;
-use wire_tokens::flag_list::FlagSet;
+use wire_tokens::flag_list::FlagList;
 use wire_tokens::number::NonZero;
 use wire_tokens::tag::Tag;
 
@@ -90,7 +91,7 @@ impl Service {
         say_closed(&self.condition, out)?;
         match self.place_of(name.as_slice()) {
             Some(place) => {
-                say_opening(self.mailbox(place), tag, out)?;
+                say_opening(self.alloc, self.mailbox(place), &self.keywords, tag, out)?;
                 self.enter(Condition::Selected(name));
             }
             None => {
@@ -113,15 +114,22 @@ fn say_closed(condition: &Condition, out: &mut Vec<u8>) -> Result<(), AllocError
 }
 
 /// Tells what a mailbox that is selected has.
-fn say_opening(mailbox: &Mailbox, tag: Tag, out: &mut Vec<u8>) -> Result<(), AllocError>
+fn say_opening(
+    alloc: Global,
+    mailbox: &Mailbox,
+    keywords: &Keywords,
+    tag: Tag,
+    out: &mut Vec<u8>,
+) -> Result<(), AllocError>
     requires { IsServed (far_of mailbox.now) }
-    ensures { OnOk result (Wrote (opening (far_of mailbox.now) tag) out.old.items out.new.items) }
+    ensures { OnOk result (Wrote (opening keywords.now (far_of mailbox.now) tag) out.old.items out.new.items) }
 {
-    say(&Reply::Flags(FlagSet::of(six())), out)?;
+    let flags = FlagList::of(alloc, keywords.known(), keywords)?;
+    say(&Reply::Flags(flags.names()), out)?;
     say(&Reply::Exists(count_of(mailbox)), out)?;
     say_listed(mailbox.name.as_str().as_bytes(), out)?;
     say_note(
-        Code::PermanentFlags(FlagSet::of(six()), false),
+        Code::PermanentFlags(flags.names().permanent()),
         b"flags",
         out,
     )?;
@@ -131,10 +139,7 @@ fn say_opening(mailbox: &Mailbox, tag: Tag, out: &mut Vec<u8>) -> Result<(), All
         b"validity",
         out,
     )?;
-    say(
-        &Reply::Tagged(tag, Status::Ok, coded(Code::ReadWrite, b"done")),
-        out,
-    )?;
+    say_done_with(tag, Code::ReadWrite, out)?;
     Ok(())
 }
 
@@ -156,20 +161,6 @@ pub(crate) fn number(n: u32) -> NonZero
         Some(number) => number,
         None => unreachable!(),
     }
-}
-
-/// The six flags.
-#[tactic(auto, unfolding(mailcore::specs::FlagSet::union, mailcore::specs::FlagSet::each_flag))]
-fn six() -> Flags
-    ensures { result ≡ SIX }
-{
-    let early = Flags::only(Flag::Draft)
-        .union(Flags::only(Flag::Flagged))
-        .union(Flags::only(Flag::Forwarded));
-    let late = Flags::only(Flag::Answered)
-        .union(Flags::only(Flag::Seen))
-        .union(Flags::only(Flag::Deleted));
-    early.union(late)
 }
 
 /// Writes `* LIST () "/" "name"`. Where memory runs out, a part may be written.

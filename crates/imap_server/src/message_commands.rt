@@ -1,6 +1,8 @@
 //! UID FETCH, UID STORE and UID EXPUNGE (RFC 9051, sections 6.4.5, 6.4.6 and 6.4.9).
 
-ghost use Rattle.std.specs.Prelude.{◌≡◌, ◌<◌, ◌∷◌, [], length, take, IfOk, OnOk};
+ghost use Rattle.std.specs.Prelude.{◌≡◌, ◌<◌, ◌∷◌, [], List, length, take, IfOk, OnOk};
+ghost use Rattle.mailcore.specs.declared.keywords.Keyword.{Keyword};
+ghost use Rattle.mailcore.specs.KeywordNames.{names_of};
 ghost use Rattle.wire_strings.specs.Literals.{IsLiteral};
 ghost use Rattle.imap_replies.specs.declared.reply.Reply.TheVariants as replies;
 ghost use Rattle.imap_session.specs.NamedMessages.{named_in};
@@ -17,11 +19,12 @@ use imap_messages::naming::{greatest, is_named, reach};
 use imap_replies::fetch::{FetchItem, FetchList};
 use imap_replies::reply::Reply;
 use mailcore::flags::Flags;
+use mailcore::keywords::Keywords;
 use mailcore::mailbox::{Mailbox, Message};
 use std::alloc::{AllocError, Global};
 use wire_strings::octets::Octets;
 use wire_strings::string::WireString;
-use wire_tokens::flag_list::FlagSet;
+use wire_tokens::flag_list::FlagList;
 use wire_tokens::number::NonZero;
 use wire_tokens::tag::Tag;
 use wire_tokens::uid_set::UidSet;
@@ -45,7 +48,14 @@ impl Service {
     {
         match self.selected_place() {
             Some(place) => {
-                say_messages(self.alloc, self.mailbox(place), set, items, out)?;
+                say_messages(
+                    self.alloc,
+                    self.mailbox(place),
+                    &self.keywords,
+                    set,
+                    items,
+                    out,
+                )?;
                 say_done(tag, out)?;
                 Ok(())
             }
@@ -62,15 +72,16 @@ impl Service {
         tag: Tag,
         set: &UidSet,
         mode: StoreMode,
-        flags: Flags,
+        names: &FlagList,
         out: &mut Vec<u8>,
     ) -> Result<(), AllocError>
-        ensures ok { OnOk result (Answered (stores self.old tag set.now mode flags) out.old.items out.new.items self.new) }
+        ensures ok { OnOk result (Answered (stores self.old tag set.now mode names.now) out.old.items out.new.items self.new) }
         ensures err { OnErr result (self.new ≡ self.old) }
     {
         match self.selected_place() {
             Some(place) => {
                 say_done(tag, out)?;
+                let flags = names.names().named(&self.keywords);
                 self.store_at(place, set, mode, flags);
                 Ok(())
             }
@@ -126,12 +137,13 @@ impl Service {
 fn say_messages(
     alloc: Global,
     mailbox: &Mailbox,
+    keywords: &Keywords,
     set: &UidSet,
     items: FetchItems,
     out: &mut Vec<u8>,
 ) -> Result<(), AllocError>
     requires { IsServed (far_of mailbox.now) }
-    ensures { OnOk result (Wrote (fetched (named_in (store_of mailbox.now) set.now) items 1 mailbox.now.messages) out.old.items out.new.items) }
+    ensures { OnOk result (Wrote (fetched keywords.now (named_in (store_of mailbox.now) set.now) items 1 mailbox.now.messages) out.old.items out.new.items) }
 {
     let messages = mailbox.messages.as_slice();
     let top = greatest(messages);
@@ -139,7 +151,7 @@ fn say_messages(
     for index in start..end {
         let message = &messages[index];
         if is_named(set, top, message.uid) {
-            say_message(alloc, index as u32 + 1, message, items, out)?;
+            say_message(alloc, index as u32 + 1, message, keywords, items, out)?;
         }
     }
     Ok(())
@@ -150,29 +162,36 @@ fn say_message(
     alloc: Global,
     place: u32,
     message: &Message,
+    keywords: &Keywords,
     items: FetchItems,
     out: &mut Vec<u8>,
 ) -> Result<(), AllocError>
     requires place { 0 < place }
     requires body { IsLiteral message.now.bytes }
-    ensures { OnOk result (Wrote (replies.Fetch place (shown items message.now) ∷ []) out.old.items out.new.items) }
+    ensures { OnOk result (Wrote (replies.Fetch place (shown keywords.now items message.now) ∷ []) out.old.items out.new.items) }
 {
-    let list = shown(alloc, message, items)?;
+    let flags = FlagList::of(alloc, message.flags, keywords)?;
+    let list = shown(alloc, message, &flags, items)?;
     say(&Reply::Fetch(number(place), list), out)?;
     Ok(())
 }
 
-/// The items of a message; its bytes are lent.
-fn shown(alloc: Global, message: &Message, items: FetchItems) -> Result<FetchList<'_>, AllocError>
+/// The items of a message; its bytes are lent, and so are these names of its flags.
+fn shown<'a>(
+    alloc: Global,
+    message: &'a Message,
+    flags: &'a FlagList,
+    items: FetchItems,
+) -> Result<FetchList<'a>, AllocError>
     requires { IsLiteral message.now.bytes }
-    ensures { IfOk result (λ list. list ≡ shown items message.now) }
+    ensures { (keywords : List Keyword) → flags.now ≡ names_of keywords message.now.flags → IfOk result (λ list. list ≡ shown keywords items message.now) }
 {
     let bytes = message.bytes.as_slice();
     let mut list = Vec::new(alloc);
     list.push(FetchItem::Uid(NonZero::from(message.uid)))?;
     match items {
         FetchItems::Listing => {
-            list.push(FetchItem::Flags(FlagSet::of(message.flags)))?;
+            list.push(FetchItem::Flags(flags.names()))?;
             list.push(FetchItem::Size(bytes.len() as u32))?;
         }
         FetchItems::Body => list.push(FetchItem::Body(Some(literal(bytes))))?,

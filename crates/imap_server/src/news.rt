@@ -50,7 +50,8 @@ impl Service {
         }
     }
 
-    /// Adds a message that comes from elsewhere to the mailbox of this name, under its next UID.
+    /// Adds a message that comes from elsewhere to the mailbox of this name, under its next UID, with those of the flags that have a
+    /// name.
     pub(crate) fn arrive(
         &mut self,
         name: &[u8],
@@ -70,6 +71,7 @@ impl Service {
             Some(uid) => {
                 let mut bytes = Vec::new(self.alloc);
                 bytes.extend_from_slice(message)?;
+                let flags = flags.kept(&self.keywords);
                 self.add(place, uid, flags, bytes)?;
                 self.note(name);
                 Ok(Some(uid))

@@ -127,6 +127,7 @@ impl Service {
         ensures err { OnErr result (self.new ≡ self.old) }
     {
         let nothing = Unread::Line(Line::new(self.alloc));
+        self.has_map();
         self.say_news(out)?;
         self.answer_told(command, out)?;
         Ok(nothing)

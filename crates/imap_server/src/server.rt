@@ -7,6 +7,7 @@ use crate::line::Line;
 use crate::service::Service;
 use crate::unread::Unread;
 use mailcore::flags::Flags;
+use mailcore::keywords::Keywords;
 use mailcore::mailbox::Mailbox;
 use mailcore::uid::Uid;
 use std::alloc::{AllocError, Global};
@@ -57,13 +58,31 @@ impl Server {
     ghost use Rattle.imap_server.specs.Taking.{Host, Fed, Lost};
     ghost use Rattle.imap_server.specs.Bounds.{IsBounded};
 
-    /// A server with these mailboxes, for one user with a password. There is no connection.
+    /// A server with these mailboxes, for one user with a password, whose flags are the six that IMAP names. There is no connection.
     ///
     /// The mailboxes keep to the limits of docs/SESSION.md; of two with one name only the first is ever found.
     pub fn new(alloc: Global, mailboxes: Vec<Mailbox>, user: Vec<u8>, password: Vec<u8>) -> Server
         requires { AreServed (all_of mailboxes.items) }
         ensures { result ≡ record {
-          server = record { user = user.items; password = password.items; mailboxes = all_of mailboxes.items; condition = NotAuthenticated; has_news = false };
+          server = record { user = user.items; password = password.items; mailboxes = all_of mailboxes.items; keywords = []; condition = NotAuthenticated; has_news = false };
+          connection = None;
+          is_lost = false;
+        } }
+    {
+        Server::with_keywords(alloc, mailboxes, user, password, Keywords::new(alloc))
+    }
+
+    /// The same, whose flags are the six and these keywords.
+    pub fn with_keywords(
+        alloc: Global,
+        mailboxes: Vec<Mailbox>,
+        user: Vec<u8>,
+        password: Vec<u8>,
+        keywords: Keywords,
+    ) -> Server
+        requires { AreServed (all_of mailboxes.items) }
+        ensures { result ≡ record {
+          server = record { user = user.items; password = password.items; mailboxes = all_of mailboxes.items; keywords = keywords; condition = NotAuthenticated; has_news = false };
           connection = None;
           is_lost = false;
         } }
@@ -73,6 +92,7 @@ impl Server {
             user,
             password,
             mailboxes,
+            keywords,
             condition: Condition::NotAuthenticated,
             has_news: false,
         };
@@ -131,7 +151,7 @@ impl Server {
     }
 
     /// Adds a message that comes from elsewhere to the mailbox of this name (as other programs add some), under its next UID,
-    /// and tells this UID. It is taken in any condition of the connection. Where the mailbox is selected, the replies to the next
+    /// with those of the flags that have a name, and tells this UID. It is taken in any condition of the connection. Where the mailbox is selected, the replies to the next
     /// command begin with `* n EXISTS`.
     ///
     /// None, with nothing changed: no mailbox has the name (names compare as in commands), or the message has a byte 0 or more

@@ -6,6 +6,7 @@ ghost use Rattle.imap_messages.specs.Boxes.{all_of};
 ghost use Rattle.imap_server.specs.Places.{Place};
 
 use crate::condition::Condition;
+use mailcore::keywords::Keywords;
 use mailcore::mailbox::Mailbox;
 use std::alloc::Global;
 use std::marker::Model;
@@ -17,6 +18,8 @@ pub(crate) struct Service {
     pub(crate) user: Vec<u8>,
     pub(crate) password: Vec<u8>,
     pub(crate) mailboxes: Vec<Mailbox>,
+    // the letters by which flags are seen here
+    pub(crate) keywords: Keywords,
     pub(crate) condition: Condition,
     // messages have arrived in the mailbox that is selected, of which nothing was said yet
     pub(crate) has_news: bool,
@@ -29,15 +32,15 @@ impl Model for Service {
 
     ghost Value = { Server };
 
-    ghost view = { λ s. record { user = s.user.items; password = s.password.items; mailboxes = all_of s.mailboxes.items; condition = condition_of s.condition; has_news = s.has_news } };
+    ghost view = { λ s. record { user = s.user.items; password = s.password.items; mailboxes = all_of s.mailboxes.items; keywords = s.keywords; condition = condition_of s.condition; has_news = s.has_news } };
 
     ghost invariant = { λ s. AreServed (all_of s.mailboxes.items) };
 }
 
 impl Service {
     ghost use Rattle.std.specs.Prelude.{◌≡◌, ◌<◌, None, Some, length, slice_get};
-    ghost use Rattle.imap_session.specs.Mailboxes.{mailbox_at};
-    ghost use Rattle.imap_session.specs.Servers.{is_before_login, is_logged_in, is_over, selected};
+    ghost use Rattle.mailcore.specs.KeywordNames.{IsMap};
+    ghost use Rattle.imap_session.specs.Servers.{is_before_login, is_logged_in, is_over};
     ghost use Rattle.imap_session.specs.Arrivals.{is_selected};
     ghost use Rattle.imap_messages.specs.Boxes.{far_of, AreServed, IsServed};
     ghost use Rattle.imap_server.specs.Services.{condition_of};
@@ -49,6 +52,13 @@ impl Service {
         ensures { AreServed self.now.mailboxes }
     {
         let _mailboxes = &self.mailboxes;
+    }
+
+    /// Its keywords are a map, whatever was done.
+    pub(crate) fn has_map(&self)
+        ensures { IsMap self.now.keywords }
+    {
+        let _keywords = self.keywords.as_slice();
     }
 
     /// The place of the mailbox of this name.

@@ -23,7 +23,7 @@ pub(crate) fn plain(text: &'static [u8]) -> ResponseText<'static>
 }
 
 /// A text behind a code.
-pub(crate) fn coded(code: Code<'static>, text: &'static [u8]) -> ResponseText<'static>
+pub(crate) fn coded<'a>(code: Code<'a>, text: &'static [u8]) -> ResponseText<'a>
     requires { list_all is_text text.now ≡ true }
     ensures { result ≡ ResponseText.Coded code.entry text.now }
 {

@@ -4,7 +4,7 @@ ghost use Rattle.std.specs.Prelude.{◌≡◌, ◌∷◌, [], true, codes, OnOk}
 ghost use Rattle.std.specs.List.{list_all};
 ghost use Rattle.wire_strings.specs.Texts.{is_text, IsPlain};
 ghost use Rattle.imap_replies.specs.Others.{IsOtherCode};
-ghost use Rattle.imap_session.specs.Answering.{done, bad, refused, refused_with, note, bye, go};
+ghost use Rattle.imap_session.specs.Answering.{done, done_with, bad, refused, refused_with, note, bye, go};
 ghost use Rattle.imap_server.specs.Writing.{Wrote};
 
 use crate::words::{coded, line_text, plain, word_code};
@@ -27,6 +27,13 @@ pub(crate) fn say_done(tag: Tag, out: &mut Vec<u8>) -> Result<(), AllocError>
     ensures { OnOk result (Wrote (done tag ∷ []) out.old.items out.new.items) }
 {
     say(&Reply::Tagged(tag, Status::Ok, plain(b"done")), out)
+}
+
+/// Writes `tag OK [code] done`.
+pub(crate) fn say_done_with(tag: Tag, code: Code<'_>, out: &mut Vec<u8>) -> Result<(), AllocError>
+    ensures { OnOk result (Wrote (done_with tag code.entry ∷ []) out.old.items out.new.items) }
+{
+    say(&Reply::Tagged(tag, Status::Ok, coded(code, b"done")), out)
 }
 
 /// Writes `tag BAD text`.
@@ -62,7 +69,7 @@ pub(crate) fn say_no_with(
 
 /// Writes `* OK [code] text`.
 pub(crate) fn say_note(
-    code: Code<'static>,
+    code: Code<'_>,
     text: &'static [u8],
     out: &mut Vec<u8>,
 ) -> Result<(), AllocError>

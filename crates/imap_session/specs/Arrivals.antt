@@ -1,5 +1,6 @@
 -- A message that comes to a mailbox from elsewhere, and not by a command of the connection.
 use Rattle.std.specs.Prelude.{◌≡◌, ◌<◌, ℕ, Bool, false, ◌||◌, List, Option, None, Some}
+use Rattle.mailcore.specs.KeywordNames.{kept}
 use Rattle.mailcore.specs.Operations.{added}
 use Rattle.wire_strings.specs.Literals.{IsLiteral}
 use Rattle.imap_session.specs.Mailboxes.{FarMailbox, same_name, mailbox_at, changed}
@@ -18,7 +19,7 @@ pub data CannotArrive (name message : List ℕ) (s : Server) : Type 0 where
   NoLiteral : (IsLiteral message → ⊥) → CannotArrive name message s
   NoUid : (m : FarMailbox) → mailbox_at name s.mailboxes ≡ Some m → m.store.next ≡ 4294967295 → CannotArrive name message s
 
--- It stands behind the others, under the next UID. Where its mailbox is selected, that is news.
+-- It stands behind the others, under the next UID, with those of the flags that have a name. Where its mailbox is selected, that is news.
 pub record ArrivedUnder (uid : ℕ) (name : List ℕ) (flags : ℕ) (message : List ℕ) (old new : Server) : Type 0 where
   pub mailbox : FarMailbox
   pub there : mailbox_at name old.mailboxes ≡ Some mailbox
@@ -26,7 +27,7 @@ pub record ArrivedUnder (uid : ℕ) (name : List ℕ) (flags : ℕ) (message : L
   pub uid_is : uid ≡ mailbox.store.next
   pub below : uid < 4294967295
   pub after : new ≡ record old {
-    mailboxes = changed (added uid flags message) name old.mailboxes;
+    mailboxes = changed (added uid (kept old.keywords flags) message) name old.mailboxes;
     has_news = is_selected name old.condition || old.has_news;
   }
 

@@ -1,6 +1,12 @@
 -- Replies as bytes, and replies as answers to a command.
 use Rattle.std.specs.Prelude.{◌≡◌, ◌≤◌, ◌⊎◌, ℕ, Bool, true, false, List, [], ◌∷◌, ◌++◌, Option, None, Some}
+use Rattle.mailcore.specs.declared.keywords.Keyword.{Keyword}
+use Rattle.mailcore.specs.KeywordNames.{named_set}
 use Rattle.wire_reader.specs.Lexical.{outside}
+use Rattle.wire_tokens.specs.Names.{has_name, star}
+use Rattle.imap_replies.specs.declared.fetch.FetchItem.{FetchItem}
+use Rattle.imap_replies.specs.declared.fetch.FetchItem.TheVariants as items
+use Rattle.imap_replies.specs.declared.word.NoticeKind.{NoticeKind}
 use Rattle.imap_replies.specs.declared.word.Status.TheVariants as statuses
 use Rattle.imap_replies.specs.declared.word.NoticeKind.TheVariants as notices
 use Rattle.imap_replies.specs.declared.response.Code.TheVariants as codes_of
@@ -65,8 +71,9 @@ abbrev pub AreUntagged : List Reply → Type 0
 AreUntagged [] = Unit {0}
 AreUntagged (reply ∷ replies) = (is_passed reply ≡ true) × AreUntagged replies
 
--- ---- an APPENDUID code may be left out
+-- ---- what may be heard where this was said
 
+-- an APPENDUID code may be left out
 pub record WithoutUid (heard said : Reply) : Type 0 where
   pub tag : List ℕ
   pub validity : ℕ
@@ -75,8 +82,58 @@ pub record WithoutUid (heard said : Reply) : Type 0 where
   pub heard_is : heard ≡ Tagged tag statuses.Ok (Plain text)
   pub said_is : said ≡ Tagged tag statuses.Ok (Coded (codes_of.AppendUid validity uid) text)
 
-abbrev pub LeavesOut : (heard said : List Reply) → Type 0
-LeavesOut [] [] = Unit {0}
-LeavesOut [] (said ∷ others) = ⊥
-LeavesOut (heard ∷ hs) [] = ⊥
-LeavesOut (heard ∷ hs) (said ∷ ss) = ((heard ≡ said) ⊎ WithoutUid heard said) × LeavesOut hs ss
+-- names may stand among flags that no flag of a map has: these are the same flags
+abbrev pub AreSameFlags : List Keyword → (heard said : List (List ℕ)) → Type 0
+AreSameFlags keywords heard said = named_set keywords heard ≡ named_set keywords said
+
+-- `* FLAGS`
+pub record ShowsFlags (keywords : List Keyword) (heard said : Reply) : Type 0 where
+  pub names : List (List ℕ)
+  pub names_said : List (List ℕ)
+  pub heard_is : heard ≡ Flags names
+  pub said_is : said ≡ Flags names_said
+  pub same : AreSameFlags keywords names names_said
+
+-- PERMANENTFLAGS, with `\*` in both or in neither
+pub record ShowsPermanent (keywords : List Keyword) (heard said : Reply) : Type 0 where
+  pub kind : NoticeKind
+  pub text : List ℕ
+  pub names : List (List ℕ)
+  pub names_said : List (List ℕ)
+  pub heard_is : heard ≡ Notice kind (Coded (codes_of.PermanentFlags names) text)
+  pub said_is : said ≡ Notice kind (Coded (codes_of.PermanentFlags names_said) text)
+  pub same : AreSameFlags keywords names names_said
+  pub star : has_name star names ≡ has_name star names_said
+
+-- FETCH: each item is the same, or it names the same flags
+pub record ShowsItem (keywords : List Keyword) (heard said : FetchItem) : Type 0 where
+  pub names : List (List ℕ)
+  pub names_said : List (List ℕ)
+  pub heard_is : heard ≡ items.Flags names
+  pub said_is : said ≡ items.Flags names_said
+  pub same : AreSameFlags keywords names names_said
+
+abbrev pub AreSameItems : List Keyword → (heard said : List FetchItem) → Type 0
+AreSameItems keywords [] [] = Unit {0}
+AreSameItems keywords [] (said ∷ others) = ⊥
+AreSameItems keywords (heard ∷ hs) [] = ⊥
+AreSameItems keywords (heard ∷ hs) (said ∷ ss) = ((heard ≡ said) ⊎ ShowsItem keywords heard said) × AreSameItems keywords hs ss
+
+pub record ShowsMessage (keywords : List Keyword) (heard said : Reply) : Type 0 where
+  pub place : ℕ
+  pub list : List FetchItem
+  pub list_said : List FetchItem
+  pub heard_is : heard ≡ Fetch place list
+  pub said_is : said ≡ Fetch place list_said
+  pub same : AreSameItems keywords list list_said
+
+-- the reply that was said, or one in its place
+abbrev pub IsHeardAs : List Keyword → (heard said : Reply) → Type 0
+IsHeardAs keywords heard said =
+    (heard ≡ said) ⊎ WithoutUid heard said ⊎ ShowsFlags keywords heard said ⊎ ShowsPermanent keywords heard said ⊎ ShowsMessage keywords heard said
+
+abbrev pub AreHeardAs : List Keyword → (heard said : List Reply) → Type 0
+AreHeardAs keywords [] [] = Unit {0}
+AreHeardAs keywords [] (said ∷ others) = ⊥
+AreHeardAs keywords (heard ∷ hs) [] = ⊥
+AreHeardAs keywords (heard ∷ hs) (said ∷ ss) = IsHeardAs keywords heard said × AreHeardAs keywords hs ss

@@ -7,7 +7,7 @@ use Rattle.imap_replies.specs.declared.reply.Reply.TheVariants.{Notice}
 use Rattle.imap_session.specs.Servers.{Server, NotAuthenticated, Quiet, told}
 use Rattle.imap_session.specs.Unread.{Whole}
 use Rattle.imap_session.specs.Serving.{End, Feeds}
-use Rattle.imap_session.specs.Heard.{AreReplies, LeavesOut}
+use Rattle.imap_session.specs.Heard.{AreReplies, AreHeardAs}
 
 -- Both ends: the server's, and what it has replied that has not come yet. It reads at once what it will ever read of
 -- the bytes that are sent.
@@ -28,7 +28,7 @@ pub record Sends (bytes : List ℕ) (old new : Line) : Type 0 where
   pub out : List ℕ
   pub split : bytes ≡ read ++ lost
   pub feeds : Feeds old.end read said new.end
-  pub left_out : LeavesOut heard said
+  pub heard_as : AreHeardAs old.end.server.keywords heard said
   pub spelled : AreReplies heard out
   pub replied : new.unseen ≡ old.unseen ++ out
 

@@ -1,8 +1,9 @@
 -- LIST, CREATE, SELECT (RFC 9051, sections 6.3.9, 6.3.4 and 6.3.2).
-use Rattle.std.specs.Prelude.{ℕ, ◌+◌, ◌-◌, ◌^◌, max, Bool, false, ◌&&◌, ◌||◌, not, ◌==◌, nat_eq, nat_le, nat_lt, List, [], ◌∷◌, ◌++◌, length, map, filter, fold, codes, Option, None, Some, if◌then◌else◌}
+use Rattle.std.specs.Prelude.{ℕ, ◌+◌, max, Bool, ◌&&◌, ◌||◌, not, ◌==◌, nat_eq, nat_le, nat_lt, List, [], ◌∷◌, ◌++◌, length, map, filter, fold, codes, Option, None, Some, if◌then◌else◌}
 use Rattle.std.specs.List.{list_all, slice_split}
 use Rattle.std.specs.Cmp.Lexicographic.{pointwise}
-use Rattle.mailcore.specs.FlagSet.{FLAGS}
+use Rattle.mailcore.specs.declared.keywords.Keyword.{Keyword}
+use Rattle.mailcore.specs.KeywordNames.{known_set, names_of}
 use Rattle.imap_replies.specs.declared.response.Code.TheVariants as codes_of
 use Rattle.imap_replies.specs.declared.reply.Reply.{Reply}
 use Rattle.imap_replies.specs.declared.reply.Reply.TheVariants.{Flags, Exists}
@@ -61,9 +62,9 @@ creates s tag name = if is_logged_in s.condition then creates_at (mailbox_at nam
 
 -- ---- SELECT
 
--- the six flags
-abbrev pub SIX : ℕ
-SIX = 2 ^ FLAGS - 1
+-- the names of all flags that have one
+abbrev pub all_names : List Keyword → List (List ℕ)
+all_names keywords = names_of keywords (known_set keywords)
 
 -- what was selected is so no more
 abbrev pub closes : Condition → List Reply
@@ -72,10 +73,10 @@ closes Authenticated = []
 closes (Selected name) = note (word_code (codes "CLOSED")) (codes "closed") ∷ []
 closes LoggedOut = []
 
-abbrev pub opening : FarMailbox → (tag : List ℕ) → List Reply
-opening m tag =
-    Flags SIX ∷ Exists (length m.store.messages) ∷ listed m.name
-    ∷ note (codes_of.PermanentFlags SIX false) (codes "flags")
+abbrev pub opening : List Keyword → FarMailbox → (tag : List ℕ) → List Reply
+opening keywords m tag =
+    Flags (all_names keywords) ∷ Exists (length m.store.messages) ∷ listed m.name
+    ∷ note (codes_of.PermanentFlags (all_names keywords)) (codes "flags")
     ∷ note (codes_of.UidNext m.store.next) (codes "next")
     ∷ note (codes_of.UidValidity m.store.validity) (codes "validity")
     ∷ done_with tag codes_of.ReadWrite ∷ []
@@ -83,7 +84,7 @@ opening m tag =
 -- behind a refusal none is selected
 abbrev pub selects_at : Option FarMailbox → Server → (tag name : List ℕ) → Answer
 selects_at (Some m) s tag name = record {
-  replies = closes s.condition ++ opening m tag;
+  replies = closes s.condition ++ opening s.keywords m tag;
   after = record s { condition = Selected name };
 }
 selects_at None s tag name = record {

@@ -1,6 +1,8 @@
 -- UID FETCH, UID STORE, UID EXPUNGE (RFC 9051, sections 6.4.5, 6.4.6 and 6.4.9): taken where a mailbox is selected.
 use Rattle.std.specs.Prelude.{ℕ, ◌+◌, Bool, List, [], ◌∷◌, ◌++◌, length, take, Option, None, Some, if◌then◌else◌}
+use Rattle.mailcore.specs.declared.keywords.Keyword.{Keyword}
 use Rattle.mailcore.specs.declared.mailbox.Message.{Message}
+use Rattle.mailcore.specs.KeywordNames.{named_set, names_of}
 use Rattle.wire_tokens.specs.declared.uid_set.SetItem.{SetItem}
 use Rattle.wire_strings.specs.declared.string.WireString.TheVariants.{Literal}
 use Rattle.imap_commands.specs.declared.command.FetchItems.{FetchItems}
@@ -18,32 +20,33 @@ use Rattle.imap_session.specs.Answering.{Answer, done, out_of_place}
 -- ---- UID FETCH
 
 -- the items that are asked for, in their order; a head is the first 22 octets
-abbrev pub shown : FetchItems → Message → List FetchItem
-shown wanted.Listing m = items.Uid m.uid ∷ items.Flags m.flags ∷ items.Size (length m.bytes) ∷ []
-shown wanted.Body m = items.Uid m.uid ∷ items.Body (Some (Literal m.bytes)) ∷ []
-shown wanted.Head m = items.Uid m.uid ∷ items.Head (Some (Literal (take 22 m.bytes))) ∷ []
+abbrev pub shown : List Keyword → FetchItems → Message → List FetchItem
+shown keywords wanted.Listing m = items.Uid m.uid ∷ items.Flags (names_of keywords m.flags) ∷ items.Size (length m.bytes) ∷ []
+shown keywords wanted.Body m = items.Uid m.uid ∷ items.Body (Some (Literal m.bytes)) ∷ []
+shown keywords wanted.Head m = items.Uid m.uid ∷ items.Head (Some (Literal (take 22 m.bytes))) ∷ []
 
 -- Of messages that stand from this place on, a reply for each that is named.
-abbrev pub fetched : (named : ℕ → Bool) → FetchItems → (place : ℕ) → List Message → List Reply
-fetched named what place [] = []
-fetched named what place (m ∷ ms) =
-    if named m.uid then Fetch place (shown what m) ∷ fetched named what (place + 1) ms else fetched named what (place + 1) ms
+abbrev pub fetched : List Keyword → (named : ℕ → Bool) → FetchItems → (place : ℕ) → List Message → List Reply
+fetched keywords named what place [] = []
+fetched keywords named what place (m ∷ ms) =
+    if named m.uid then Fetch place (shown keywords what m) ∷ fetched keywords named what (place + 1) ms else fetched keywords named what (place + 1) ms
 
 abbrev pub fetches_in : Option FarMailbox → Server → (tag : List ℕ) → List SetItem → FetchItems → Answer
 fetches_in None s tag set what = out_of_place s tag
 fetches_in (Some m) s tag set what =
-    record { replies = fetched (named_in m.store set) what 1 m.store.messages ++ done tag ∷ []; after = s }
+    record { replies = fetched s.keywords (named_in m.store set) what 1 m.store.messages ++ done tag ∷ []; after = s }
 
 abbrev pub fetches : Server → (tag : List ℕ) → List SetItem → FetchItems → Answer
 fetches s = fetches_in (selected s) s
 
 -- ---- UID STORE
 
-abbrev pub stores_in : Option FarMailbox → Server → (tag : List ℕ) → List SetItem → StoreMode → (flags : ℕ) → Answer
+-- names that no flag has are passed over
+abbrev pub stores_in : Option FarMailbox → Server → (tag : List ℕ) → List SetItem → StoreMode → (flags : List (List ℕ)) → Answer
 stores_in None s tag set mode flags = out_of_place s tag
-stores_in (Some m) s tag set mode flags = record { replies = done tag ∷ []; after = with_selected (stored mode flags set) s }
+stores_in (Some m) s tag set mode flags = record { replies = done tag ∷ []; after = with_selected (stored mode (named_set s.keywords flags) set) s }
 
-abbrev pub stores : Server → (tag : List ℕ) → List SetItem → StoreMode → (flags : ℕ) → Answer
+abbrev pub stores : Server → (tag : List ℕ) → List SetItem → StoreMode → (flags : List (List ℕ)) → Answer
 stores s = stores_in (selected s) s
 
 -- ---- UID EXPUNGE

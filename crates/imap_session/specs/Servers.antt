@@ -2,6 +2,7 @@
 use Rattle.std.specs.Prelude.{◌≡◌, ℕ, Bool, true, false, List, [], ◌∷◌, length, Option, None, Some, if◌then◌else◌}
 use Rattle.imap_replies.specs.declared.reply.Reply.{Reply}
 use Rattle.imap_replies.specs.declared.reply.Reply.TheVariants.{Exists}
+use Rattle.mailcore.specs.declared.keywords.Keyword.{Keyword}
 use Rattle.mailcore.specs.Stores.{Store}
 use Rattle.imap_session.specs.Mailboxes.{FarMailbox, mailbox_at, changed}
 
@@ -12,11 +13,12 @@ pub data Condition : Type 0 where
   Selected : List ℕ → Condition
   LoggedOut : Condition
 
--- `has_news`: messages have arrived in the selected mailbox, of which nothing was said yet
+-- `keywords`: the letters by which flags are seen here; a server itself knows names alone. `has_news`: messages have arrived in the selected mailbox, of which nothing was said yet
 pub record Server : Type 0 where
   pub user : List ℕ
   pub password : List ℕ
   pub mailboxes : List FarMailbox
+  pub keywords : List Keyword
   pub condition : Condition
   pub has_news : Bool
 

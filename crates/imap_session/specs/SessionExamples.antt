@@ -6,7 +6,8 @@ use Rattle.wire_tokens.specs.declared.uid_set.SetEnd.TheVariants.{Number, Greate
 use Rattle.wire_tokens.specs.declared.uid_set.SetItem.TheVariants.{One, Range}
 use Rattle.wire_strings.specs.declared.string.WireString.TheVariants.{Literal}
 use Rattle.mailcore.specs.declared.mailbox.Message.{Message}
-use Rattle.mailcore.specs.FlagSet.{union, each_flag}
+use Rattle.mailcore.specs.FlagSet.{union}
+use Rattle.mailcore.specs.KeywordNames.{named_set}
 use Rattle.imap_commands.specs.declared.command.Command.{Command}
 use Rattle.imap_commands.specs.declared.command.Request.{Request}
 use Rattle.imap_commands.specs.declared.command.Request.TheVariants as requests
@@ -21,6 +22,7 @@ use Rattle.imap_session.specs.Servers.{Condition, NotAuthenticated, Authenticate
 use Rattle.imap_session.specs.Mailboxes.{FarMailbox}
 use Rattle.imap_session.specs.AppendCommand.{MayGive}
 use Rattle.imap_session.specs.Answering.{done, done_with, go, listed, note, bad, refused, refused_with, word_code}
+use Rattle.imap_session.specs.MailboxCommands.{all_names}
 use Rattle.imap_session.specs.Steps.{Step}
 use Rattle.imap_session.specs.Portions.{Syntax, goes_in}
 use Rattle.imap_session.specs.Serving.{fault_reply}
@@ -35,7 +37,7 @@ abbrev inbox : (next : ℕ) → List Message → FarMailbox
 inbox = mailbox (codes "INBOX") 1
 
 abbrev with_mailboxes : List FarMailbox → Condition → Server
-with_mailboxes mailboxes c = record { user = codes "u"; password = codes "p"; mailboxes = mailboxes; condition = c; has_news = false }
+with_mailboxes mailboxes c = record { user = codes "u"; password = codes "p"; mailboxes = mailboxes; keywords = []; condition = c; has_news = false }
 
 abbrev with_inbox : FarMailbox → Condition → Server
 with_inbox m = with_mailboxes (m ∷ [])
@@ -64,14 +66,14 @@ login : Step (with_inbox one NotAuthenticated) (asked (codes "A2") (requests.Log
 login = (refl, refl)
 
 select : Step (with_inbox one Authenticated) (asked (codes "A3") (requests.Select (codes "INBOX")))
-    (Flags 63 ∷ Exists 1 ∷ listed (codes "INBOX") ∷ note (codes_of.PermanentFlags 63 false) (codes "flags")
+    (Flags (all_names []) ∷ Exists 1 ∷ listed (codes "INBOX") ∷ note (codes_of.PermanentFlags (all_names [])) (codes "flags")
     ∷ note (codes_of.UidNext 3) (codes "next") ∷ note (codes_of.UidValidity 1) (codes "validity")
     ∷ done_with (codes "A3") codes_of.ReadWrite ∷ [])
     (with_inbox one at_inbox)
 select = (refl, refl)
 
 listing : Step (with_inbox one at_inbox) (asked (codes "A4") (requests.Fetch (Range (Number 559) Greatest ∷ []) wanted.Listing))
-    (Fetch 1 (items.Uid 1 ∷ items.Flags 16 ∷ items.Size 2 ∷ []) ∷ done (codes "A4") ∷ []) (with_inbox one at_inbox)
+    (Fetch 1 (items.Uid 1 ∷ items.Flags (codes "\\Seen" ∷ []) ∷ items.Size 2 ∷ []) ∷ done (codes "A4") ∷ []) (with_inbox one at_inbox)
 listing = (refl, refl)
 
 append_waits : goes_in (codes "A5 APPEND \"INBOX\" () {2}\r\nxy\r\n") ≡ go ∷ []
@@ -80,7 +82,7 @@ append_waits = refl
 append_waits_not : goes_in (codes "A5 APPEND \"INBOX\" () {2+}\r\nxy\r\n") ≡ []
 append_waits_not = refl
 
-append : MayGive one.store 3 → Step (with_inbox one at_inbox) (asked (codes "A5") (requests.Append (codes "INBOX") 0 (codes "xy")))
+append : MayGive one.store 3 → Step (with_inbox one at_inbox) (asked (codes "A5") (requests.Append (codes "INBOX") [] (codes "xy")))
     (Exists 2 ∷ done_with (codes "A5") (codes_of.AppendUid 1 3) ∷ []) (with_inbox two at_inbox)
 append may = inr (record { uid = 3; may = may; gives = (refl, refl) })
 
@@ -110,9 +112,8 @@ expunge_named = (refl, refl)
 -- ---- UID STORE
 
 store : Step (with_inbox (inbox 9 (message 3 1 [] ∷ message 5 2 [] ∷ [])) at_inbox)
-    (asked (codes "A3") (requests.Store (Range (Number 4) (Number 6) ∷ []) modes.Add 16))
-    (done (codes "A3") ∷ []) (with_inbox (inbox 9 (message 3 1 [] ∷ message 5 18 [] ∷ [])) at_inbox)
-unfolding union each_flag
+    (asked (codes "A3") (requests.Store (Range (Number 4) (Number 6) ∷ []) modes.Add (codes "\\Seen" ∷ [])))
+    (done (codes "A3") ∷ []) (with_inbox (inbox 9 (message 3 1 [] ∷ message 5 (union 2 (named_set [] (codes "\\Seen" ∷ []))) [] ∷ [])) at_inbox)
 store = (refl, refl)
 
 -- ---- what is refused

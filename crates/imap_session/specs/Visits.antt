@@ -1,6 +1,6 @@
 -- Others add messages to the mailboxes of a server while a connection is used. Nobody sees it but by commands, so what they do
 -- stands before the next bytes that the server reads.
-use Rattle.std.specs.Prelude.{◌≡◌, ℕ, true, List, [], ◌∷◌, ◌++◌, All, map}
+use Rattle.std.specs.Prelude.{◌≡◌, true, List, [], ◌∷◌, ◌++◌, All, map}
 use Rattle.mailcore.specs.declared.mailbox.Message.{Message}
 use Rattle.mailcore.specs.Content.{mark_of}
 use Rattle.mailcore.specs.Ranges.{AreInRange}
@@ -32,6 +32,7 @@ AllGain v (m ∷ ms) (n ∷ ns) = (n.name ≡ m.name) × Gains v m.store n.store
 pub record Visits (v : Visitors) (old new : Server) : Type 0 where
   pub user : new.user ≡ old.user
   pub password : new.password ≡ old.password
+  pub keywords : new.keywords ≡ old.keywords
   pub condition : new.condition ≡ old.condition
   pub gains : AllGain v old.mailboxes new.mailboxes
   pub nobody : v.alone ≡ true → new.mailboxes ≡ old.mailboxes

@@ -29,7 +29,7 @@ pub use wire_strings::quoted::Quoted;
 pub use wire_strings::string::WireString;
 pub use wire_strings::text::Text;
 pub use wire_tokens::atom::Atom;
-pub use wire_tokens::flag_list::{Attributes, FlagSet};
+pub use wire_tokens::flag_list::{FlagList, FlagNames, PermanentFlags};
 pub use wire_tokens::names::{NameList, Names};
 pub use wire_tokens::number::NonZero;
 pub use wire_tokens::tag::Tag;

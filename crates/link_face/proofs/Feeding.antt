@@ -1,11 +1,8 @@
 -- Bytes that are passed on.
-use Rattle.std.proofs.Common.{◌≡◌, ℕ, List, [], ◌++◌, refl, sym, ◌∙◌, ap, append_assoc}
-use Rattle.imap_replies.specs.declared.reply.Reply.{Reply}
+use Rattle.std.proofs.Common.{ℕ, List, ◌++◌, sym, ◌∙◌, ap, append_assoc}
 use Rattle.visitors.specs.Visitors.{Visitors}
-use Rattle.imap_session.specs.Serving.{End, FeedsSome, ServesSome, Runs}
-use Rattle.imap_session.specs.Servers.{Server}
-use Rattle.imap_session.specs.Lines.{Line, Sends}
-use Rattle.imap_link.specs.Sending.{SendsThen, SomeThen}
+use Rattle.imap_session.specs.Lines.{Line}
+use Rattle.imap_link.specs.Sending.{SendsThen}
 use Rattle.link_face.specs.Faces.{faced}
 
 -- what came before and was not handed out stays
@@ -21,7 +18,7 @@ faced_sends v held bytes old new a = record {
     out = a.then.out;
     split = a.then.split;
     feeds = a.then.feeds;
-    left_out = a.then.left_out;
+    heard_as = a.then.heard_as;
     spelled = a.then.spelled;
     replied = ap (λ (l : List ℕ). held ++ l) a.then.replied ∙ sym (append_assoc held old.unseen a.then.out);
   };

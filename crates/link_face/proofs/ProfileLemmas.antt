@@ -1,14 +1,14 @@
 -- Each reply of a server of the profile is heard as it came.
-use Rattle.std.proofs.Common.{◌≡◌, ◌⊎◌, inl, inr, ℕ, ◌+◌, Bool, true, false, ◌&&◌, not, List, [], ◌∷◌, ◌++◌, map, filter, length, codes, Option, None, Some, refl, sym, ap, ◌∙◌}
+use Rattle.std.proofs.Common.{◌≡◌, inl, inr, ℕ, ◌+◌, Bool, true, false, ◌&&◌, List, [], ◌∷◌, ◌++◌, map, filter, length, codes, Option, None, Some, refl, ap, ◌∙◌}
 use Rattle.std.specs.Prelude.{if◌then◌else◌, nat_eq, nat_le}
 use Rattle.std.specs.Cmp.Lexicographic.{pointwise}
 use Rattle.std.specs.List.{list_all, find, fold}
 use Rattle.std.proofs.lemmas.List.Folds.{list_all-append, list_all-map}
+use Rattle.mailcore.specs.declared.keywords.Keyword.{Keyword}
 use Rattle.mailcore.specs.declared.mailbox.Message.{Message}
 use Rattle.mailcore.specs.Stores.{Store}
 use Rattle.wire_tokens.specs.Names.{has_name}
 use Rattle.wire_tokens.specs.declared.uid_set.SetItem.{SetItem}
-use Rattle.imap_commands.specs.declared.command.Command.{Command}
 use Rattle.imap_commands.specs.declared.command.Request.{Request}
 use Rattle.imap_commands.specs.declared.command.Request.TheVariants as requests
 use Rattle.imap_commands.specs.declared.command.FetchItems.{FetchItems}
@@ -18,18 +18,18 @@ use Rattle.imap_replies.specs.declared.response.Code.TheVariants as codes_of
 use Rattle.imap_replies.specs.declared.reply.Reply.{Reply}
 use Rattle.imap_replies.specs.declared.reply.Reply.TheVariants.{Enabled, Exists, Expunge, Fetch}
 use Rattle.imap_session.specs.Answering.{Answer, Gives, done, done_with, refused, refused_with, listed, only, out_of_place}
-use Rattle.imap_session.specs.AppendCommand.{Appends, AppendsIf, AppendsAt, AppendsUnder, NoneLeft, grown, appended}
+use Rattle.imap_session.specs.AppendCommand.{AppendsIf, AppendsAt, grown, appended}
 use Rattle.imap_session.specs.Mailboxes.{FarMailbox, mailbox_at, same_name}
 use Rattle.imap_session.specs.MailboxCommands.{empty_mailbox, lists, creates, creates_at, makes, selects, selects_at, closes, opening, names_matched, is_name, next_validity}
 use Rattle.imap_session.specs.MessageCommands.{shown, fetched, fetches_in, fetches, stores_in, stores, removed, expunges_in, expunges}
-use Rattle.imap_session.specs.NameOrder.{put_in, in_order, stands_before}
+use Rattle.imap_session.specs.NameOrder.{put_in, stands_before}
 use Rattle.imap_session.specs.NamedMessages.{named_in, goes}
 use Rattle.imap_session.specs.Patterns.{matches}
 use Rattle.imap_session.specs.Portions.{LineFault, Syntax, LiteralTooLong}
 use Rattle.imap_session.specs.Serving.{fault_reply}
-use Rattle.imap_session.specs.Servers.{Server, Condition, NotAuthenticated, Authenticated, Selected, LoggedOut, is_logged_in, is_before_login, selected, selected_in}
+use Rattle.imap_session.specs.Servers.{Server, Condition, NotAuthenticated, Authenticated, Selected, LoggedOut, is_logged_in, is_before_login, selected}
 use Rattle.imap_session.specs.SessionCommands.{REV2, tells_capabilities, does_nothing, logs_out, lets_in, logs_in, enables}
-use Rattle.imap_session.specs.Steps.{StepOf, Step}
+use Rattle.imap_session.specs.Steps.{StepOf}
 use Rattle.link_face.specs.Hearing.{is_same_near, is_heard}
 use Rattle.link_face.specs.Profile.{NamesAreSame, AreHeard}
 
@@ -123,8 +123,8 @@ closes_heard Authenticated = refl
 closes_heard (Selected name) = refl
 closes_heard LoggedOut = refl
 
-opening_heard : (m : FarMailbox) (tag : List ℕ) → is_same_near m.name ≡ true → AreHeard (opening m tag)
-opening_heard m tag h = both_true (is_same_near m.name) true h refl
+opening_heard : (keywords : List Keyword) (m : FarMailbox) (tag : List ℕ) → is_same_near m.name ≡ true → AreHeard (opening keywords m tag)
+opening_heard keywords m tag h = both_true (is_same_near m.name) true h refl
 
 -- the name of a mailbox, if there is one
 IsSameIn : Option FarMailbox → Type 0
@@ -145,7 +145,7 @@ same_found p (m ∷ ms) h =
 
 selects_at_heard : (found : Option FarMailbox) (s : Server) (tag name : List ℕ) → IsSameIn found → AreHeard (selects_at found s tag name).replies
 unfolding IsSameIn
-selects_at_heard (Some m) s tag name h = both_heard (closes s.condition) (opening m tag) (closes_heard s.condition) (opening_heard m tag h)
+selects_at_heard (Some m) s tag name h = both_heard (closes s.condition) (opening s.keywords m tag) (closes_heard s.condition) (opening_heard s.keywords m tag h)
 selects_at_heard None s tag name h = both_heard (closes s.condition) (refused_with tag (codes "NONEXISTENT") (codes "no mailbox") ∷ []) (closes_heard s.condition) refl
 
 selects_heard : (s : Server) (tag name : List ℕ) → NamesAreSame s → AreHeard (selects s tag name).replies
@@ -155,23 +155,24 @@ selects_heard s tag name h =
 
 -- ---- UID FETCH, UID STORE, UID EXPUNGE
 
-shown_heard : (what : FetchItems) (m : Message) (place : ℕ) → is_heard (Fetch place (shown what m)) ≡ true
-shown_heard wanted.Listing m place = refl
-shown_heard wanted.Body m place = refl
-shown_heard wanted.Head m place = refl
+shown_heard : (keywords : List Keyword) (what : FetchItems) (m : Message) (place : ℕ) → is_heard (Fetch place (shown keywords what m)) ≡ true
+shown_heard keywords wanted.Listing m place = refl
+shown_heard keywords wanted.Body m place = refl
+shown_heard keywords wanted.Head m place = refl
 
-fetched_heard : (named : ℕ → Bool) (what : FetchItems) (place : ℕ) (ms : List Message) → AreHeard (fetched named what place ms)
-fetched_heard named what place [] = refl
-fetched_heard named what place (m ∷ ms) =
-    let others = fetched_heard named what (place + 1) ms in
-    replies_if (named m.uid) (Fetch place (shown what m) ∷ fetched named what (place + 1) ms) (fetched named what (place + 1) ms)
-    (both_true (is_heard (Fetch place (shown what m))) (list_all is_heard (fetched named what (place + 1) ms)) (shown_heard what m place) others) others
+fetched_heard : (keywords : List Keyword) (named : ℕ → Bool) (what : FetchItems) (place : ℕ) (ms : List Message) → AreHeard (fetched keywords named what place ms)
+fetched_heard keywords named what place [] = refl
+fetched_heard keywords named what place (m ∷ ms) =
+    let behind = fetched keywords named what (place + 1) ms in
+    let others = fetched_heard keywords named what (place + 1) ms in
+    replies_if (named m.uid) (Fetch place (shown keywords what m) ∷ behind) behind
+    (both_true (is_heard (Fetch place (shown keywords what m))) (list_all is_heard behind) (shown_heard keywords what m place) others) others
 
 fetches_heard : (found : Option FarMailbox) (s : Server) (tag : List ℕ) (set : List SetItem) (what : FetchItems) → AreHeard (fetches_in found s tag set what).replies
 fetches_heard None s tag set what = refl
-fetches_heard (Some m) s tag set what = both_heard (fetched (named_in m.store set) what 1 m.store.messages) (done tag ∷ []) (fetched_heard (named_in m.store set) what 1 m.store.messages) refl
+fetches_heard (Some m) s tag set what = both_heard (fetched s.keywords (named_in m.store set) what 1 m.store.messages) (done tag ∷ []) (fetched_heard s.keywords (named_in m.store set) what 1 m.store.messages) refl
 
-stores_heard : (found : Option FarMailbox) (s : Server) (tag : List ℕ) (set : List SetItem) (mode : StoreMode) (flags : ℕ) → AreHeard (stores_in found s tag set mode flags).replies
+stores_heard : (found : Option FarMailbox) (s : Server) (tag : List ℕ) (set : List SetItem) (mode : StoreMode) (flags : List (List ℕ)) → AreHeard (stores_in found s tag set mode flags).replies
 stores_heard None s tag set mode flags = refl
 stores_heard (Some m) s tag set mode flags = refl
 
@@ -191,7 +192,7 @@ grown_heard Authenticated name count = refl
 grown_heard (Selected at) name count = replies_if (same_name at name) (Exists count ∷ []) [] refl refl
 grown_heard LoggedOut name count = refl
 
-appends_at_heard : (found : Option FarMailbox) (s : Server) (tag name : List ℕ) (flags : ℕ) (message : List ℕ) (replies : List Reply) (new : Server)
+appends_at_heard : (found : Option FarMailbox) (s : Server) (tag name : List ℕ) (flags : List (List ℕ)) (message : List ℕ) (replies : List Reply) (new : Server)
     → AppendsAt found s tag name flags message replies new → AreHeard replies
 appends_at_heard None s tag name flags message replies new g = given (only s (refused_with tag (codes "TRYCREATE") (codes "no mailbox"))) replies new refl g
 appends_at_heard (Some m) s tag name flags message replies new e =
@@ -202,7 +203,7 @@ appends_at_heard (Some m) s tag name flags message replies new e =
           (grown_heard s.condition name (length m.store.messages + 1)) refl) under.gives
     ]
 
-appends_if_heard : (b : Bool) (s : Server) (tag name : List ℕ) (flags : ℕ) (message : List ℕ) (replies : List Reply) (new : Server)
+appends_if_heard : (b : Bool) (s : Server) (tag name : List ℕ) (flags : List (List ℕ)) (message : List ℕ) (replies : List Reply) (new : Server)
     → AppendsIf b s tag name flags message replies new → AreHeard replies
 appends_if_heard true s tag name flags message replies new e = appends_at_heard (mailbox_at name s.mailboxes) s tag name flags message replies new e
 appends_if_heard false s tag name flags message replies new g = given (out_of_place s tag) replies new refl g

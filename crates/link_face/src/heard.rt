@@ -8,7 +8,7 @@ use imap_replies::fetch::FetchItem;
 use imap_replies::reply::Reply;
 use wire_strings::astring::AString;
 use wire_strings::string::WireString;
-use wire_tokens::flag_list::Attributes;
+use wire_tokens::flag_list::FlagNames;
 
 /// Whether a client hears the reply as it came: not a mailbox that cannot be selected, nor one whose name is another near; and of
 /// FETCH replies those alone that have all items of one of its commands, with octets that need no resolving (RFC 9051, sections
@@ -24,7 +24,7 @@ pub(crate) fn is_heard(reply: &Reply<'_>) -> bool
 }
 
 /// Whether a mailbox with these attributes cannot be selected.
-fn hides(attributes: &Attributes<'_>) -> bool
+fn hides(attributes: &FlagNames<'_>) -> bool
     ensures { result ≡ hides attributes.now }
 {
     attributes.contains(b"\\Noselect") || attributes.contains(b"\\NonExistent")

@@ -6,6 +6,7 @@ mod command;
 mod extent;
 mod face;
 pub mod face_link;
+mod flag_words;
 mod head;
 mod heard;
 mod incoming;

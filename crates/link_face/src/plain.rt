@@ -1,12 +1,11 @@
 //! Replies of names, of flags and of numbers alone, written anew (RFC 9051, sections 7.2, 7.3.5 and 7.4).
 
+use crate::flag_words::append_flags;
 use crate::head::behind_space;
-use crate::row::flags_of;
 use crate::token::read_list;
 use std::alloc::{AllocError, Global};
 use wire_tokens::appending::append;
 use wire_tokens::atom::Atom;
-use wire_tokens::flag_writing::write_flags;
 
 /// CAPABILITY or ENABLED with those of the names that are atoms.
 ///
@@ -25,7 +24,7 @@ pub(crate) fn names_line(alloc: Global, word: &[u8], rest: &[u8]) -> Result<Vec<
     Ok(out)
 }
 
-/// FLAGS with those of the six flags that are named; none where no list stands there.
+/// FLAGS with those of the words that are flags; none where no list stands there.
 ///
 /// `AllocError`: memory ran out.
 pub(crate) fn flags_line(alloc: Global, rest: &[u8]) -> Result<Option<Vec<u8>>, AllocError> {
@@ -34,7 +33,7 @@ pub(crate) fn flags_line(alloc: Global, rest: &[u8]) -> Result<Option<Vec<u8>>, 
     };
     let mut out = Vec::new(alloc);
     append(b"* FLAGS ", &mut out)?;
-    write_flags(flags_of(words), &mut out)?;
+    append_flags(words, &mut out)?;
     append(b"\r\n", &mut out)?;
     Ok(Some(out))
 }

@@ -1,14 +1,13 @@
 //! FETCH replies (RFC 9051, section 7.5.2), written anew.
 
+use crate::flag_words::append_flags;
 use crate::head::behind_space;
 use crate::token::{Token, number_of, read_list, read_token, skip_value};
-use mailcore::flags::Flags;
 use memchr::memchr;
 use std::alloc::{AllocError, Global};
 use wire_strings::octets::Octets;
 use wire_strings::string_writing::write_literal;
 use wire_tokens::appending::append;
-use wire_tokens::flag_writing::write_flags;
 use wire_tokens::number::write_number;
 
 /// The items of a FETCH reply that commands ask for, each from its value on. Of two of a name the first counts.
@@ -109,7 +108,7 @@ impl<'a> Row<'a> {
             return Ok(false);
         };
         append(b" FLAGS ", out)?;
-        write_flags(flags_of(words), out)?;
+        append_flags(words, out)?;
         append(b" RFC822.SIZE ", out)?;
         write_number(size, out)?;
         Ok(true)
@@ -140,11 +139,6 @@ fn name_length(bytes: &[u8]) -> Option<usize> {
     let section = memchr(b']', &bytes[end..])?;
     let behind = memchr(b' ', &bytes[end + section..])?;
     Some(end + section + behind)
-}
-
-/// Those of the six flags that these words name.
-pub(crate) fn flags_of(words: &[u8]) -> Flags {
-    words.split(|b| *b == b' ').fold(Flags::none(), |set, name| set.union(Flags::from_imap(name)))
 }
 
 /// Appends the string at the front as a literal; NIL where there is none, or it has an octet that is 0 (RFC 9051, section 4.3.1).

@@ -1,13 +1,12 @@
 //! Status responses (RFC 9051, section 7.1), written anew.
 
+use crate::flag_words::append_permanent_flags;
 use crate::head::{Status, behind_space};
-use crate::row::flags_of;
 use crate::token::read_list;
 use memchr::memchr;
 use std::alloc::{AllocError, Global};
 use wire_strings::line_text::is_text;
 use wire_tokens::appending::append;
-use wire_tokens::flag_writing::write_permanent_flags;
 
 /// A response code with its brackets, and the text behind it.
 #[derive(Clone, Copy)]
@@ -79,15 +78,12 @@ fn permanent_flags(text: &[u8]) -> Option<(&[u8], &[u8])> {
     }
 }
 
-/// Appends a code and a space: of PERMANENTFLAGS the flags that a client knows, and `\*`.
+/// Appends a code and a space: of PERMANENTFLAGS those words that are flags, and `\*`.
 fn append_code(code: &[u8], out: &mut Vec<u8>) -> Result<(), AllocError> {
     match permanent_flags(code) {
         Some((words, _)) => {
             append(b"[PERMANENTFLAGS ", out)?;
-            let has_star = words
-                .split(|b| *b == b' ')
-                .any(|word| matches!(word, [b'\\', b'*']));
-            write_permanent_flags(flags_of(words), has_star, out)?;
+            append_permanent_flags(words, out)?;
             append(b"]", out)?;
         }
         None => append(code, out)?,

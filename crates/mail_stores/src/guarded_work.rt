@@ -1,11 +1,14 @@
 //! A work over both sides of a mailbox, with a guard.
 
+ghost use Rattle.std.specs.Prelude.{◌≡◌};
+
 use book::shelf::Shelf;
 use both::sides::Sides;
 use far_side::logged_in::LoggedIn;
 use guarded::guard::Guard;
 use guarded::guarded_outside::GuardedOutside;
 use imap_link::link::Link;
+use mailcore::keywords::Keywords;
 use maildir::folder::Folder;
 use near_places::lock::Lock;
 use runner::progress::Progress;
@@ -22,17 +25,22 @@ pub(crate) struct GuardedSides<L: Link, F: Folder, S: Shelf, G> {
 
 impl<L: Link + Drop, F: Folder + Drop, S: Shelf + Drop, G: Guard + Drop> GuardedSides<L, F, S, G> {
     /// Does this over both sides, while the lock of the mailbox is held. Its calls stop where the guard says no. All is closed then, and is
-    /// given back beside what the work came to. The UIDVALIDITY of the near mailbox is `fresh` where it has none.
+    /// given back beside what the work came to. The UIDVALIDITY of the near mailbox is `fresh` where it has none, and its map of keywords
+    /// is that of the far one.
     pub(crate) fn work<W: Work + Drop, P: Progress>(
         self,
         _lock: &Lock,
         alloc: Global,
         fresh: NonZeroU32,
+        keywords: Keywords,
         work: W,
         progress: &P,
-    ) -> (Self, W::Answer) {
+    ) -> (Self, W::Answer)
+        requires map { self.sides.far.far.keywords ≡ keywords }
+    {
         let GuardedSides { sides, guard } = self;
-        let mut outside = GuardedOutside::new(sides.together(alloc, fresh), guard);
+        let both = sides.together(alloc, fresh, keywords);
+        let mut outside = GuardedOutside::new(both, guard);
         let answer = work.over(&mut outside, progress);
         let (both, guard) = outside.into_parts();
         let sides = Sides::of(both);

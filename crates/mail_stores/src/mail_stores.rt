@@ -1,5 +1,7 @@
 //! The real stores: servers over TCP, and folders of a disk.
 
+ghost use Rattle.std.specs.Prelude.{◌≡◌, [], IfOk};
+
 use crate::asked::Asked;
 use crate::guarded_work::GuardedSides;
 use crate::last_box::{BoxPlace, LastBox, cause_of, path_texts};
@@ -16,6 +18,7 @@ use far_side::far_side::FarSide;
 use far_side::logged_in::LoggedIn;
 use imap_link::fault::FarFault;
 use imap_link::link::Link;
+use mailcore::keywords::Keywords;
 use mailcore::mailbox_name::MailboxName;
 use mailcore::side::Side;
 use near_places::home::Home;
@@ -172,18 +175,17 @@ impl<R: Net + Files<File = File> + Clock + AllocGlobal + Clone + Drop, P: Progre
         let lock = Lock::take(&self.reach.rt, folder.as_str())?;
         let sides = self.open_sides(place, folder.as_str())?;
         let (alloc, fresh) = (self.reach.rt.alloc(), self.reach.fresh);
-        let (sides, answer) = sides.work(&lock, alloc, fresh, work, &self.progress);
+        let keywords = Keywords::new(alloc);
+        let (sides, answer) = sides.work(&lock, alloc, fresh, keywords, work, &self.progress);
         self.note_end(place, folder.as_str(), &sides);
         self.keep(place.of.far_store, sides);
         Ok(answer)
     }
 
     /// Both sides of a mailbox. Nothing of them is open.
-    fn open_sides(
-        &mut self,
-        place: ChannelBox<'_>,
-        folder: &str,
-    ) -> Result<RealSides<R>, LockFault> {
+    fn open_sides(&mut self, place: ChannelBox<'_>, folder: &str) -> Result<RealSides<R>, LockFault>
+        ensures map { IfOk result (λ sides. sides.sides.far.far.keywords ≡ []) }
+    {
         let near = self.reach.near_parts(folder).map_err(LockFault::Refused)?;
         match self.far_side(place) {
             Ok(far) => Ok(sides_of(far, near)),
@@ -191,15 +193,20 @@ impl<R: Net + Files<File = File> + Clock + AllocGlobal + Clone + Drop, P: Progre
         }
     }
 
-    /// The far side of a mailbox: over the session that stands, if one does, or else over a link that is not connected yet.
-    fn far_side(&mut self, place: ChannelBox<'_>) -> Result<FarSide<RealLink<R>>, Refusal> {
+    /// The far side of a mailbox: over the session that stands, if one does, or else over a link that is not connected yet. Only the six
+    /// flags have a name.
+    fn far_side(&mut self, place: ChannelBox<'_>) -> Result<FarSide<RealLink<R>>, Refusal>
+        ensures map { IfOk result (λ far. far.far.keywords ≡ []) }
+    {
+        let alloc = self.reach.rt.alloc();
         let store = place.of.far_store;
         let account = self.reach.account(place)?;
+        let keywords = Keywords::new(alloc);
         match self.sessions.take_at(store.name.as_str()) {
-            Some(session) => Ok(FarSide::over(account, session)),
+            Some(session) => Ok(FarSide::over(account, session, keywords)),
             None => {
                 let link = self.reach.link(store)?;
-                Ok(FarSide::new(self.reach.rt.alloc(), account, link))
+                Ok(FarSide::new(alloc, account, link, keywords))
             }
         }
     }
@@ -232,7 +239,9 @@ impl<R: Net + Files<File = File> + Clock + AllocGlobal + Clone + Drop, P: Progre
 fn sides_of<R: Net + Files<File = File> + Clock + AllocGlobal + Clone + Drop>(
     far: FarSide<RealLink<R>>,
     near: NearParts<R>,
-) -> RealSides<R> {
+) -> RealSides<R>
+    ensures map { result.sides.far.far.keywords ≡ far.far.keywords }
+{
     let NearParts {
         folder,
         shelf,

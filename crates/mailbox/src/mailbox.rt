@@ -16,11 +16,13 @@ use mailcore::uid::Uid;
 /// What a call does is said where the device below keeps its word; why it stops is said always.
 pub trait Mailbox {
     ghost use Rattle.device.specs.Calls.{Nothing};
+    ghost use Rattle.mailcore.specs.declared.keywords.Keyword.{Keyword};
     ghost use Rattle.mailcore.specs.declared.side.Side.{Side};
+    ghost use Rattle.mailcore.specs.KeywordNames.{kept};
     ghost use Rattle.mailcore.specs.Operations.{flags_added, flags_removed};
     ghost use Rattle.mailcore.specs.CopyPieces.{text_left};
     ghost use Rattle.mailcore.specs.Spared.{spares};
-    ghost use Rattle.mailbox.specs.Operations.{removed, Admits, AdmitsPart, Answers, Appends, AppendsPart, Finds, HasNumbers, IsCopyText, Lists, Loads, NoRoom, TellsValidity, Turns};
+    ghost use Rattle.mailbox.specs.Operations.{removed, Admits, AdmitsPart, Answers, Appends, AppendsPart, Finds, HasNumbers, IsCopyText, Lists, ListsWithin, Loads, NoRoom, TellsValidity, Turns};
     ghost use Rattle.mailbox.specs.declared.fault.BoxFault.{BoxFault};
     ghost use Rattle.mailbox.specs.Arrivals.{Arrives};
     ghost use Rattle.mailbox.specs.Calls.{Call, IsPlain, Never, Seen};
@@ -36,6 +38,10 @@ pub trait Mailbox {
 
     /// Nobody else adds messages.
     ghost alone: { Bool };
+
+    /// The letters of flags that have a name in IMAP, by the run's map. A mailbox has these flags and the six alone: others that a set has
+    /// are left out.
+    ghost keywords: { Self → List Keyword };
 
     /// Its messages and what waits, whether a call has failed, and how many calls of the device below have stopped.
     ghost seen: { Self → Seen };
@@ -59,6 +65,7 @@ pub trait Mailbox {
     fn open(&mut self) -> Result<u32, BoxFault>
         requires whole { (seen self.old).is_broken ≡ false }
         ensures was_honest { honest self.new → honest self.old }
+        ensures keywords { keywords self.new ≡ keywords self.old }
         ensures open { OnOk result (is_open self.new ≡ true) }
         ensures call { Call (honest self.new) (ended self.old self.new) (Arrives side ours alone) (λ fault _. unfit self.old fault)
             (Answers TellsValidity) Nothing (seen self.old) (seen self.new) result };
@@ -68,8 +75,10 @@ pub trait Mailbox {
         requires whole { (seen self.old).is_broken ≡ false }
         requires open { is_open self.old ≡ true }
         ensures was_honest { honest self.new → honest self.old }
+        ensures keywords { keywords self.new ≡ keywords self.old }
         ensures open { is_open self.new ≡ true }
         ensures numbers { IfOk result HasNumbers }
+        ensures within { honest self.new → IfOk result (ListsWithin (keywords self.old)) }
         ensures call { Call (honest self.new) (ended self.old self.new) (Arrives side ours alone) Never
             (Answers (Lists side alone (seen self.old).stored.store.next (spares spared.now))) Nothing (seen self.old) (seen self.new) result };
 
@@ -78,6 +87,7 @@ pub trait Mailbox {
         requires whole { (seen self.old).is_broken ≡ false }
         requires open { is_open self.old ≡ true }
         ensures was_honest { honest self.new → honest self.old }
+        ensures keywords { keywords self.new ≡ keywords self.old }
         ensures open { is_open self.new ≡ true }
         ensures call { Call (honest self.new) (ended self.old self.new) (Arrives side ours alone) Never (Answers (Finds mark from)) Nothing
             (seen self.old) (seen self.new) result };
@@ -87,6 +97,7 @@ pub trait Mailbox {
         requires whole { (seen self.old).is_broken ≡ false }
         requires open { is_open self.old ≡ true }
         ensures was_honest { honest self.new → honest self.old }
+        ensures keywords { keywords self.new ≡ keywords self.old }
         ensures open { is_open self.new ≡ true }
         ensures call { Call (honest self.new) (ended self.old self.new) (Arrives side ours alone) Never (Answers (Loads uid (body self.new)))
             Nothing (seen self.old) (seen self.new) result };
@@ -102,33 +113,38 @@ pub trait Mailbox {
         requires open { is_open self.old ≡ true }
         requires copy { IsCopyText side (text_left copy) }
         ensures was_honest { honest self.new → honest self.old }
+        ensures keywords { keywords self.new ≡ keywords self.old }
         ensures open { is_open self.new ≡ true }
         ensures call { Call (honest self.new) (ended self.old self.new) (Arrives side ours alone) (NoRoom side (λ _. 1))
-            (Appends side (text_left copy.entry) flags) (AppendsPart side) (seen self.old) (seen self.new) result };
+            (Appends side (text_left copy.entry) (kept (keywords self.old) flags)) (AppendsPart side)
+            (seen self.old) (seen self.new) result };
 
     /// Sets these flags of a message. Nothing is done where it is not there.
     fn add_flags(&mut self, uid: Uid, flags: Flags) -> Result<(), BoxFault>
         requires whole { (seen self.old).is_broken ≡ false }
         requires open { is_open self.old ≡ true }
         ensures was_honest { honest self.new → honest self.old }
+        ensures keywords { keywords self.new ≡ keywords self.old }
         ensures open { is_open self.new ≡ true }
         ensures call { Call {T = Unit {0}} (honest self.new) (ended self.old self.new) (Arrives side ours alone) Never
-            (λ _. Turns (flags_added uid flags)) Nothing (seen self.old) (seen self.new) result };
+            (λ _. Turns (flags_added uid (kept (keywords self.old) flags))) Nothing (seen self.old) (seen self.new) result };
 
     /// Clears these flags of a message. Nothing is done where it is not there.
     fn remove_flags(&mut self, uid: Uid, flags: Flags) -> Result<(), BoxFault>
         requires whole { (seen self.old).is_broken ≡ false }
         requires open { is_open self.old ≡ true }
         ensures was_honest { honest self.new → honest self.old }
+        ensures keywords { keywords self.new ≡ keywords self.old }
         ensures open { is_open self.new ≡ true }
         ensures call { Call {T = Unit {0}} (honest self.new) (ended self.old self.new) (Arrives side ours alone) Never
-            (λ _. Turns (flags_removed uid flags)) Nothing (seen self.old) (seen self.new) result };
+            (λ _. Turns (flags_removed uid (kept (keywords self.old) flags))) Nothing (seen self.old) (seen self.new) result };
 
     /// Removes a message, if it is there. A far message is removed only if it is marked as deleted (RFC 9051, section 6.4.9).
     fn expunge(&mut self, uid: Uid) -> Result<(), BoxFault>
         requires whole { (seen self.old).is_broken ≡ false }
         requires open { is_open self.old ≡ true }
         ensures was_honest { honest self.new → honest self.old }
+        ensures keywords { keywords self.new ≡ keywords self.old }
         ensures open { is_open self.new ≡ true }
         ensures call { Call {T = Unit {0}} (honest self.new) (ended self.old self.new) (Arrives side ours alone) Never
             (λ _. Turns (removed side uid)) Nothing (seen self.old) (seen self.new) result };
@@ -138,6 +154,7 @@ pub trait Mailbox {
         requires whole { (seen self.old).is_broken ≡ false }
         requires open { is_open self.old ≡ true }
         ensures was_honest { honest self.new → honest self.old }
+        ensures keywords { keywords self.new ≡ keywords self.old }
         ensures open { is_open self.new ≡ true }
         ensures call { Call {T = Unit {0}} (honest self.new) (ended self.old self.new) (Arrives side ours alone)
             (NoRoom side (λ b. length b.waiting)) (λ _. Admits alone) (AdmitsPart alone) (seen self.old) (seen self.new) result };
@@ -147,6 +164,7 @@ pub trait Mailbox {
     fn sync(&mut self) -> Result<(), BoxFault>
         requires whole { (seen self.old).is_broken ≡ false }
         ensures was_honest { honest self.new → honest self.old }
+        ensures keywords { keywords self.new ≡ keywords self.old }
         ensures open { is_open self.new ≡ is_open self.old }
         ensures synced { OnOk result (is_open self.old ≡ true → is_synced self.new ≡ true) }
         ensures told { IfErr result IsPlain }
@@ -156,6 +174,7 @@ pub trait Mailbox {
     /// Closes the mailbox and opens the device below again, so that calls are answered again. Its messages stay.
     fn reopen(&mut self)
         ensures was_honest { honest self.new → honest self.old }
+        ensures keywords { keywords self.new ≡ keywords self.old }
         ensures seen { seen self.new ≡ record (seen self.old) { is_broken = false } }
         ensures closed { is_open self.new ≡ false };
 }

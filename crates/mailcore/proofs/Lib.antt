@@ -4,6 +4,7 @@ pub mod PieceLemmas
 pub mod DrawLemmas
 pub mod FlagLetters
 pub mod FlagRules
+pub mod KnownFlags
 pub mod KnownLemmas
 pub mod LineLemmas
 pub mod MarkText
@@ -12,3 +13,5 @@ pub mod PairLemmas
 pub mod RiseLemmas
 pub mod Rising
 pub mod SparedLemmas
+pub mod KeywordLemmas
+pub mod KeywordMaps

@@ -1,6 +1,5 @@
 -- The flags by their letters in Maildir names and state texts, and by their names in IMAP.
-use Rattle.std.specs.Prelude.{ℕ, ◌^◌, Bool, List, [], ◌∷◌, map, filter, find, codes}
-use Rattle.std.specs.Option.{option_map_or}
+use Rattle.std.specs.Prelude.{ℕ, suc, Bool, List, [], ◌∷◌, Option, find, codes, if◌then◌else◌}
 use Rattle.std.specs.Str.{str_eq_ignore_ascii_case}
 use Rattle.mailcore.specs.declared.flags.Flag.{Flag}
 use Rattle.mailcore.specs.declared.flags.Flag.TheVariants.{Draft, Flagged, Forwarded, Answered, Seen, Deleted}
@@ -28,13 +27,18 @@ letter Deleted = 84
 abbrev pub all_flags : List Flag
 all_flags = Draft ∷ Flagged ∷ Forwarded ∷ Answered ∷ Seen ∷ Deleted ∷ []
 
--- the letters of those of some flags that are in a set
-abbrev pub letters_among : List Flag → ℕ → List ℕ
-letters_among some flags = map letter (filter (λ flag. has flags (place flag)) some)
+-- D F P R S T for the flags that IMAP names, and a to z for keywords: a flag's place is that of its letter
+abbrev pub LETTERS : List ℕ
+LETTERS = codes "DFPRSTabcdefghijklmnopqrstuvwxyz"
+
+-- of letters that have the places from this one on, those of flags that are in a set
+abbrev pub letters_from : (from : ℕ) → List ℕ → (flags : ℕ) → List ℕ
+letters_from from [] flags = []
+letters_from from (x ∷ xs) flags = if has flags from then x ∷ letters_from (suc from) xs flags else letters_from (suc from) xs flags
 
 -- the letters of a set, in the order of ASCII
-abbrev pub letters_of : ℕ → List ℕ
-letters_of flags = letters_among all_flags flags
+unfoldable pub letters_of : ℕ → List ℕ
+letters_of flags = letters_from 0 LETTERS flags
 
 -- RFC 9051, section 2.3.2; $Forwarded is a keyword
 abbrev pub imap_name : Flag → List ℕ
@@ -49,6 +53,6 @@ imap_name Deleted = codes "\\Deleted"
 abbrev pub is_named : List ℕ → Flag → Bool
 is_named name flag = str_eq_ignore_ascii_case name (imap_name flag)
 
--- the set of the flag with this name, or the empty set if there is none
-abbrev pub flags_named : List ℕ → ℕ
-flags_named name = option_map_or (λ flag. 2 ^ place flag) (find (is_named name) all_flags) 0
+-- the flag with this name
+abbrev pub flag_named : List ℕ → Option Flag
+flag_named name = find (is_named name) all_flags

@@ -4,7 +4,7 @@ use Rattle.std.specs.Int.{bit_at}
 
 -- how many flags there are
 abbrev pub FLAGS : ℕ
-FLAGS = 6
+FLAGS = 32
 
 -- the place of \Deleted
 abbrev pub DELETED : ℕ
@@ -31,3 +31,10 @@ minus_flag x y _ = if x == 1 && not (y == 1) then 1 else 0
 
 unfoldable pub minus : ℕ → ℕ → ℕ
 minus a b = each_flag minus_flag FLAGS a b 0
+
+-- in both sets
+abbrev pub common_flag : ℕ → ℕ → ℕ → ℕ
+common_flag x y _ = if x == 1 && y == 1 then 1 else 0
+
+unfoldable pub common : ℕ → ℕ → ℕ
+common a b = each_flag common_flag FLAGS a b 0

@@ -1,3 +1,4 @@
+pub mod AtomBytes
 pub mod Content
 pub mod ContentExamples
 pub mod ContentLines
@@ -5,6 +6,7 @@ pub mod CopyPieces
 pub mod Draws
 pub mod FlagNames
 pub mod FlagSet
+pub mod KeywordNames
 pub mod Laws
 pub mod Listed
 pub mod Mark

@@ -1,9 +1,11 @@
 //! Flags of messages, and sets of them.
 
-ghost use Rattle.std.specs.Prelude.{◌≡◌, ◌≢◌, ◌<◌, ◌^◌, ◌==◌, ℕ, IfSome, IfNone};
-ghost use Rattle.mailcore.specs.FlagSet.{FLAGS, has, minus, union};
-ghost use Rattle.mailcore.specs.FlagNames.{place, letter, letters_of, imap_name, flags_named};
+ghost use Rattle.std.specs.Prelude.{◌≡◌, ◌≢◌, ◌<◌, ◌+◌, ◌^◌, ◌==◌, ℕ, true, length, IfSome, IfNone};
+ghost use Rattle.mailcore.specs.FlagSet.{FLAGS, common, has, minus, union};
+ghost use Rattle.mailcore.specs.FlagNames.{place, letter, letters_of, imap_name, flag_named};
+ghost use Rattle.mailcore.specs.KeywordNames.{flags_named, is_keyword_letter, kept, place_of};
 
+use crate::keywords::Keywords;
 use std::marker::Model;
 
 /// A flag that is kept alike on both sides (RFC 9051, section 2.3.2).
@@ -34,6 +36,16 @@ impl Flag {
         Flag::Deleted,
     ];
 
+    /// All flags, in the order in which their names are written in IMAP.
+    pub const WRITTEN: [Flag; 6] = [
+        Flag::Answered,
+        Flag::Deleted,
+        Flag::Draft,
+        Flag::Flagged,
+        Flag::Seen,
+        Flag::Forwarded,
+    ];
+
     /// Its letter in Maildir names, state texts and plans.
     pub fn letter(self) -> u8
         ensures { result ≡ letter self }
@@ -62,21 +74,37 @@ impl Flag {
         }
     }
 
-    /// The set of this flag alone, as bits.
-    fn mask(self) -> u32
-        ensures value { result ≡ 2 ^ place self }
-        ensures fits { result < 2 ^ FLAGS }
+    /// The flag with this name in IMAP.
+    pub fn named(name: &[u8]) -> Option<Flag>
+        ensures { result ≡ flag_named name.now }
+    {
+        match Flag::ALL
+            .iter()
+            .find(|flag| name.eq_ignore_ascii_case(flag.imap_name()))
+        {
+            Some(flag) => Some(*flag),
+            None => None,
+        }
+    }
+
+    /// The place of its letter among the letters of flags.
+    fn place(self) -> u32
+        ensures place { result ≡ place self }
+        ensures within { result < FLAGS }
     {
         match self {
-            Flag::Draft => 1,
-            Flag::Flagged => 2,
-            Flag::Forwarded => 4,
-            Flag::Answered => 8,
-            Flag::Seen => 16,
-            Flag::Deleted => 32,
+            Flag::Draft => 0,
+            Flag::Flagged => 1,
+            Flag::Forwarded => 2,
+            Flag::Answered => 3,
+            Flag::Seen => 4,
+            Flag::Deleted => 5,
         }
     }
 }
+
+/// The letters of flags, in the order of ASCII: of those that IMAP names, and of keywords.
+const LETTERS: [u8; 32] = *b"DFPRSTabcdefghijklmnopqrstuvwxyz";
 
 /// A set of flags.
 #[derive(Clone, Copy, PartialEq, Eq)]
@@ -110,14 +138,30 @@ impl Flags {
     pub fn only(flag: Flag) -> Self
         ensures { result ≡ 2 ^ place flag }
     {
-        Flags { bits: flag.mask() }
+        Flags::at(flag.place())
+    }
+
+    /// The set of the flag at a place alone.
+    fn at(place: u32) -> Self
+        requires within { place < FLAGS }
+        ensures { result ≡ 2 ^ place }
+    {
+        Flags { bits: 1 << place }
     }
 
     /// Whether the flag is in the set.
     pub fn has(self, flag: Flag) -> bool
         ensures { result ≡ has self (place flag) }
     {
-        self.bits & flag.mask() != 0
+        self.has_at(flag.place())
+    }
+
+    /// Whether the flag at a place is in the set.
+    fn has_at(self, place: u32) -> bool
+        requires within { place < FLAGS }
+        ensures { result ≡ has self place }
+    {
+        self.bits & Flags::at(place).bits != 0
     }
 
     /// The flags of both sets.
@@ -138,6 +182,22 @@ impl Flags {
         }
     }
 
+    /// The flags that are in both sets.
+    pub fn common(self, other: Flags) -> Self
+        ensures { result ≡ common self other }
+    {
+        Flags {
+            bits: self.bits & other.bits,
+        }
+    }
+
+    /// Its flags that have a name in IMAP by this map.
+    pub fn kept(self, keywords: &Keywords) -> Self
+        ensures { result ≡ kept keywords.now self }
+    {
+        self.common(keywords.known())
+    }
+
     /// Whether the set has no flag.
     pub fn is_empty(self) -> bool
         ensures { result ≡ (self == 0) }
@@ -145,7 +205,7 @@ impl Flags {
         self.bits == 0
     }
 
-    /// Its flags as the bits of a number, which is below 64.
+    /// Its flags as the bits of a number.
     pub fn bits(self) -> u32
         ensures bits { result ≡ self }
         ensures set { result < 2 ^ FLAGS }
@@ -161,9 +221,9 @@ impl Flags {
     {
         let mut found = Flags::none();
         let mut rest = letters;
-        for flag in Flag::ALL {
-            if rest.first() == Some(&flag.letter()) {
-                found = found.union(Flags::only(flag));
+        for place in 0..32 {
+            if rest.first() == Some(&LETTERS[place as usize]) {
+                found = found.union(Flags::at(place));
                 rest = &rest[1..];
             }
         }
@@ -176,21 +236,39 @@ impl Flags {
     {
         Letters {
             flags: self,
-            left: &Flag::ALL,
+            place: 0,
+            left: &LETTERS,
         }
     }
 
-    /// The set of the flag with this IMAP name, or the empty set if no flag has it: other flags are passed over.
-    pub fn from_imap(name: &[u8]) -> Flags
-        ensures { result ≡ flags_named name.now }
+    /// The set of the flag with this IMAP name, one of the six or a keyword of the map, or the empty set if no flag has it: other flags
+    /// are passed over.
+    pub fn from_imap(name: &[u8], keywords: &Keywords) -> Flags
+        ensures { result ≡ flags_named keywords.now name.now }
     {
-        match Flag::ALL
-            .iter()
-            .find(|flag| name.eq_ignore_ascii_case(flag.imap_name()))
-        {
-            Some(flag) => Flags::only(*flag),
+        if let Some(flag) = Flag::named(name) {
+            return Flags::only(flag);
+        }
+        match keywords.letter_of(name) {
+            Some(letter) => Flags::of_keyword(letter),
             None => Flags::none(),
         }
+    }
+
+    /// Whether the keyword with this letter is in the set.
+    pub fn has_keyword(self, letter: u8) -> bool
+        requires { is_keyword_letter letter ≡ true }
+        ensures { result ≡ has self (place_of letter) }
+    {
+        self.has_at(u32::from(letter - 91))
+    }
+
+    /// The set of the keyword with this letter.
+    pub(crate) fn of_keyword(letter: u8) -> Flags
+        requires { is_keyword_letter letter ≡ true }
+        ensures { result ≡ 2 ^ place_of letter }
+    {
+        Flags::at(u32::from(letter - 91))
     }
 }
 
@@ -198,7 +276,10 @@ impl Flags {
 #[derive(Drop)]
 pub struct Letters {
     flags: Flags,
-    left: &'static [Flag],
+    // The place of the first letter that is left.
+    place: u32,
+    left: &'static [u8],
+    ghost places: { place + length left.now ≡ FLAGS },
 }
 
 impl Model for Letters {
@@ -206,9 +287,9 @@ impl Model for Letters {
 
     ghost Value = { List ℕ };
 
-    ghost use Rattle.mailcore.specs.FlagNames.{letters_among};
+    ghost use Rattle.mailcore.specs.FlagNames.{letters_from};
 
-    ghost view = { λ l. letters_among l.left.now l.flags };
+    ghost view = { λ l. letters_from l.place l.left.now l.flags };
 }
 
 impl Iterator for Letters {
@@ -221,10 +302,12 @@ impl Iterator for Letters {
     ghost remaining = { item_count (λ l. l) };
 
     fn next(&mut self) -> Option<u8> {
-        while let [flag, others @ ..] = self.left {
+        while let [letter, others @ ..] = self.left {
+            let is_in = self.flags.has_at(self.place);
+            self.place += 1;
             self.left = others;
-            if self.flags.has(*flag) {
-                return Some(flag.letter());
+            if is_in {
+                return Some(*letter);
             }
         }
         None

@@ -1,6 +1,7 @@
 //! What a mail message is to a synchroniser: its UID, flags, content and mark, and how mailboxes list their messages.
 #![tactic(auto)]
 
+pub mod atom;
 pub mod content;
 pub mod content_lines;
 pub mod copies;
@@ -8,6 +9,8 @@ pub mod copy_pieces;
 pub mod fault;
 pub mod flag_laws;
 pub mod flags;
+pub mod keyword_laws;
+pub mod keywords;
 pub mod laws;
 pub mod listing;
 pub mod mailbox;

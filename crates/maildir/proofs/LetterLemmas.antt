@@ -1,13 +1,19 @@
 -- The letters of a name once its message has other flags, and what such a name says.
-use Rattle.std.proofs.Common.{◌≡◌, ℕ, ◌<◌, ◌^◌, Bool, true, false, cond, eqb, ltb, List, [], ◌∷◌, filter, Option, None, Some, refl, sym, ap, subst, ◌∙◌, arith}
-use Rattle.std.specs.Prelude.{◌&&◌, ◌||◌, ◌==◌, find}
-use Rattle.std.specs.Option.{option_map_or}
-use Rattle.std.proofs.lemmas.Bool.{and_parts, and_from, and_right, agree_below_at, eqb-true}
+use Rattle.std.proofs.Common.{◌≡◌, ℕ, zero, suc, ◌+◌, ◌<◌, ◌^◌, Bool, true, false, cond, eqb, eq-eqb, get_or, length, ltb, List, [], ◌∷◌, filter, Option, Some, refl, sym, ap, subst, ◌∙◌, arith, lit<}
+use Rattle.std.specs.Prelude.{◌&&◌, ◌||◌, fold, unwrap_or}
+use Rattle.std.specs.Option.{option_map}
+use Rattle.std.specs.List.{list_any}
+use Rattle.std.proofs.lemmas.Bool.{and_parts, and_from, and_right, agree_below_at, eqb-true, false≢true}
 use Rattle.std.proofs.lemmas.Bool.Decides.{nat_tests}
-use Rattle.mailcore.specs.declared.flags.Flag.{Flag}
-use Rattle.mailcore.specs.FlagSet.{FLAGS, has, each_flag, union}
-use Rattle.mailcore.specs.FlagNames.{letter, place, all_flags}
-use Rattle.maildir.specs.Letters.{LETTERS, has_letter, stays, letters_with, flags_in}
+use Rattle.std.proofs.lemmas.Nat.{pow_below}
+use Rattle.mailcore.specs.declared.keywords.Keyword.{Keyword}
+use Rattle.mailcore.specs.FlagSet.{FLAGS, has}
+use Rattle.mailcore.specs.FlagNames.{LETTERS as FLAG_LETTERS, all_flags, letter, letters_from, letters_of, place}
+use Rattle.mailcore.specs.KeywordNames.{is_known, kept, place_of, written_order}
+use Rattle.mailcore.proofs.FlagLetters.{IsAbove, Rise, all_rise, has-pow, has-zero, letter_at}
+use Rattle.mailcore.proofs.FlagRules.{has-union, set_from_flags, union-lt}
+use Rattle.mailcore.proofs.KnownFlags.{has-kept, kept-lt}
+use Rattle.maildir.specs.Letters.{LETTERS, flag_from, flag_with, flags_in, has_letter, is_known_letter, letters_with, stays, with_letter}
 use Rattle.maildir.specs.Names.{NameParts, name_of, is_letter, is_below, are_letters, uid_in}
 use Rattle.maildir.specs.FlaggedNames.{letters_in, flags_by_name, flagged}
 use Rattle.maildir.proofs.NameLemmas.{name_is_spelled, spelled_is_read}
@@ -63,14 +69,15 @@ and_true true = refl
 and_true false = refl
 
 -- strictly rising letters
-pub letters_with-rise : (before : List ℕ) (flags : ℕ) → are_letters (letters_with before flags) ≡ true
+pub letters_with-rise : (keywords : List Keyword) (before : List ℕ) (flags : ℕ) → are_letters (letters_with keywords before flags) ≡ true
 unfolding letters_with
-letters_with-rise before flags = are_letters-filter (stays before flags) LETTERS refl
+letters_with-rise keywords before flags = are_letters-filter (stays keywords before flags) LETTERS refl
 
-has_letter-with : (before : List ℕ) (flags b : ℕ) → has_letter LETTERS b ≡ true → has_letter (letters_with before flags) b ≡ stays before flags b
+has_letter-with : (keywords : List Keyword) (before : List ℕ) (flags b : ℕ) → has_letter LETTERS b ≡ true
+    → has_letter (letters_with keywords before flags) b ≡ stays keywords before flags b
 unfolding letters_with
-has_letter-with before flags b is =
-    has_letter-filter (stays before flags) LETTERS b ∙ ap (λ (t : Bool). stays before flags b && t) is ∙ and_true (stays before flags b)
+has_letter-with keywords before flags b is =
+    has_letter-filter (stays keywords before flags) LETTERS b ∙ ap (λ (t : Bool). stays keywords before flags b && t) is ∙ and_true (stays keywords before flags b)
 
 below_letters : (b : ℕ) → b < 123 → is_letter b ≡ has_letter LETTERS b
 below_letters b small = agree_below_at is_letter (has_letter LETTERS) 123 b refl small
@@ -81,53 +88,288 @@ letter_stands b is = sym (below_letters b (small b is)) ∙ is
     small : (b : ℕ) → is_letter b ≡ true → b < 123
     small b is = grind (arith, nat_tests)
 
--- letters outside the six are kept
-pub letters_with-others : (before : List ℕ) (flags b : ℕ) → is_letter b ≡ true → find (λ flag. letter flag == b) all_flags ≡ None
-    → has_letter (letters_with before flags) b ≡ has_letter before b
-letters_with-others before flags b is none =
-    has_letter-with before flags b (letter_stands b is)
-    ∙ ap (λ (f : Option Flag). option_map_or (λ flag. has flags (place flag)) f (has_letter before b)) none
+-- letters that are not known are kept
+pub letters_with-others : (keywords : List Keyword) (before : List ℕ) (flags b : ℕ) → is_letter b ≡ true → is_known_letter keywords b ≡ false
+    → has_letter (letters_with keywords before flags) b ≡ has_letter before b
+letters_with-others keywords before flags b is other =
+    has_letter-with keywords before flags b (letter_stands b is)
+    ∙ ap (λ (known : Bool). has_letter (cond known (letters_of flags) before) b) other
 
--- the set with a flag more if it is there
-abbrev with_one : Bool → ℕ → ℕ → ℕ
-with_one there k found = cond there (union found (2 ^ k)) found
+-- ---- the letters of a set
 
--- a set from its flags
-abbrev collected : (a b c d e f : Bool) → ℕ
-collected a b c d e f = with_one f 5 (with_one e 4 (with_one d 3 (with_one c 2 (with_one b 1 (with_one a 0 0)))))
+other_number : (a b : ℕ) → a < b → eqb b a ≡ false
+other_number a b less = grind (arith, nat_tests)
 
-abbrev from_flags : ℕ → ℕ
-from_flags n = collected (has n 0) (has n 1) (has n 2) (has n 3) (has n 4) (has n 5)
+above_all : (x y : ℕ) (ys : List ℕ) → x < y → IsAbove y ys → IsAbove x ys
+above_all x y [] less above = tt
+above_all x y (z ∷ ys) less above = omega (arith, less, above)
 
-from_own_flags : (n : ℕ) → n < 64 → from_flags n ≡ n
-unfolding union each_flag
-from_own_flags n small = eqb-true (from_flags n) n (agree_below_at (λ m. eqb (from_flags m) m) (λ m. true) 64 n refl small)
+-- a letter below those of later places is none of them
+not_later : (x from : ℕ) (xs : List ℕ) (flags : ℕ) → IsAbove x xs → Rise xs → has_letter (letters_from from xs flags) x ≡ false
+not_later x from [] flags above rising = refl
+not_later x from (y ∷ ys) flags above rising =
+    let later = not_later x (suc from) ys flags (above_all x y ys above rising.0) rising.1 in
+    elim (has flags from) as (λ b. has_letter (cond b (y ∷ letters_from (suc from) ys flags) (letters_from (suc from) ys flags)) x ≡ false) [
+      | true ↦ ap (λ (t : Bool). t || has_letter (letters_from (suc from) ys flags) x) (other_number x y above) ∙ later
+      | false ↦ later
+    ]
 
--- the flags that the letters stand for
-pub flags_in-with : (before : List ℕ) (flags : ℕ) → flags < 2 ^ FLAGS → flags_in (letters_with before flags) ≡ flags
+above_at : (x : ℕ) (xs : List ℕ) (i : ℕ) → IsAbove x xs → Rise xs → i < length xs → x < get_or xs i 0
+above_at x [] i above rising within = absurd (omega (arith, within))
+above_at x (y ∷ ys) zero above rising within = above
+above_at x (y ∷ ys) (suc i) above rising within = above_at x ys i (above_all x y ys above rising.0) rising.1 (omega (arith, within))
+
+has_letter-from : (from : ℕ) (xs : List ℕ) (flags i k : ℕ) → Rise xs → i < length xs → k ≡ i + from → has_letter (letters_from from xs flags) (get_or xs i 0) ≡ has flags k
+has_letter-from from [] flags i k rising within at = absurd (omega (arith, within))
+has_letter-from from (x ∷ xs) flags zero k rising within at =
+    let none = not_later x (suc from) xs flags rising.0 rising.1 in
+    let here : k ≡ from = omega (arith, at) in
+    elim (has flags from) as (λ b. has_letter (cond b (x ∷ letters_from (suc from) xs flags) (letters_from (suc from) xs flags)) x ≡ b) [
+      | true ↦ ap (λ (t : Bool). t || has_letter (letters_from (suc from) xs flags) x) (eq-eqb x x refl)
+      | false ↦ none
+    ]
+    ∙ ap (has flags) (sym here)
+has_letter-from from (x ∷ xs) flags (suc i) k rising within at =
+    let later = has_letter-from (suc from) xs flags i k rising.1 (omega (arith, within)) (omega (arith, at)) in
+    let apart : eqb x (get_or xs i 0) ≡ false = lower x (get_or xs i 0) (above_at x xs i rising.0 rising.1 (omega (arith, within))) in
+    elim (has flags from) as (λ b. has_letter (cond b (x ∷ letters_from (suc from) xs flags) (letters_from (suc from) xs flags)) (get_or xs i 0) ≡ has flags k) [
+      | true ↦ ap (λ (t : Bool). t || has_letter (letters_from (suc from) xs flags) (get_or xs i 0)) apart ∙ later
+      | false ↦ later
+    ]
+  where
+    lower : (a b : ℕ) → a < b → eqb a b ≡ false
+    lower a b less = grind (arith, nat_tests)
+
+-- a flag is in a set exactly if its letter is one of the set's
+pub has_letter-of : (flags k : ℕ) → k < FLAGS → has_letter (letters_of flags) (letter_at k) ≡ has flags k
+unfolding letters_of
+has_letter-of flags k within = has_letter-from 0 FLAG_LETTERS flags k k all_rise within (omega arith)
+
+-- ---- the flag of a letter
+
+-- a set whose flags are all below has none of these letters
+none_from : (from : ℕ) (xs : List ℕ) (flags : ℕ) → ((k : ℕ) → from < suc k → has flags k ≡ false) → letters_from from xs flags ≡ []
+none_from from [] flags none = refl
+none_from from (x ∷ xs) flags none =
+    ap (λ (b : Bool). cond b (x ∷ letters_from (suc from) xs flags) (letters_from (suc from) xs flags)) (none from (omega arith))
+    ∙ none_from (suc from) xs flags (λ k less. none k (omega (arith, less)))
+
+-- the flag of a letter of later places is none before
+not_before : (from : ℕ) (xs : List ℕ) (b k : ℕ) → k < from → has (flag_from from xs b) k ≡ false
+not_before from [] b k less = has-zero k
+not_before from (x ∷ xs) b k less =
+    let later = not_before (suc from) xs b k (omega (arith, less)) in
+    elim (eqb x b) as (λ t. has (cond t (2 ^ from) (flag_from (suc from) xs b)) k ≡ false) [
+      | true ↦ has-pow from k ∙ lower k from less
+      | false ↦ later
+    ]
+  where
+    lower : (a b : ℕ) → a < b → eqb a b ≡ false
+    lower a b less = grind (arith, nat_tests)
+
+flag_letters : (from : ℕ) (xs : List ℕ) (b : ℕ) → has_letter xs b ≡ true → letters_from from xs (flag_from from xs b) ≡ b ∷ []
+flag_letters from [] b there = absurd (false≢true there)
+flag_letters from (x ∷ xs) b there = by_test (eqb x b) refl there (flag_letters (suc from) xs b)
+  where
+    by_test : (t : Bool) → eqb x b ≡ t → (t || has_letter xs b) ≡ true → (has_letter xs b ≡ true → letters_from (suc from) xs (flag_from (suc from) xs b) ≡ b ∷ [])
+        → letters_from from (x ∷ xs) (cond t (2 ^ from) (flag_from (suc from) xs b)) ≡ b ∷ []
+    by_test true e there later =
+        ap (λ (t : Bool). cond t (x ∷ letters_from (suc from) xs (2 ^ from)) (letters_from (suc from) xs (2 ^ from))) (has-pow from from ∙ eq-eqb from from refl)
+        ∙ ap (λ (l : List ℕ). x ∷ l) (none_from (suc from) xs (2 ^ from) (λ k less. has-pow from k ∙ other_number from k (omega (arith, less))))
+        ∙ ap (λ (l : ℕ). l ∷ []) (eqb-true x b e)
+    by_test false e there later =
+        ap (λ (t : Bool). cond t (x ∷ letters_from (suc from) xs (flag_from (suc from) xs b)) (letters_from (suc from) xs (flag_from (suc from) xs b)))
+        (not_before (suc from) xs b from (omega arith))
+        ∙ later there
+
+no_flag : (from : ℕ) (xs : List ℕ) (b : ℕ) → has_letter xs b ≡ false → flag_from from xs b ≡ 0
+no_flag from [] b none = refl
+no_flag from (x ∷ xs) b none = by_test (eqb x b) none (no_flag (suc from) xs b)
+  where
+    by_test : (t : Bool) → (t || has_letter xs b) ≡ false → (has_letter xs b ≡ false → flag_from (suc from) xs b ≡ 0) → cond t (2 ^ from) (flag_from (suc from) xs b) ≡ 0
+    by_test true none later = absurd (false≢true (sym none))
+    by_test false none later = later none
+
+-- so many places
+flag_from-lt : (from : ℕ) (xs : List ℕ) (b : ℕ) → from + length xs ≡ FLAGS → flag_from from xs b < 2 ^ FLAGS
+flag_from-lt from [] b all = lit< tt
+flag_from-lt from (x ∷ xs) b all =
+    let later = flag_from-lt (suc from) xs b (omega (arith, all)) in
+    elim (eqb x b) as (λ t. cond t (2 ^ from) (flag_from (suc from) xs b) < 2 ^ FLAGS) [
+      | true ↦ pow_below from FLAGS (omega (arith, all))
+      | false ↦ later
+    ]
+
+pub flag_with-lt : (b : ℕ) → flag_with b < 2 ^ FLAGS
+unfolding flag_with
+flag_with-lt b = flag_from-lt 0 FLAG_LETTERS b refl
+
+-- the letter of a flag has that flag alone
+pub flag_with-letters : (b : ℕ) → has_letter FLAG_LETTERS b ≡ true → letters_of (flag_with b) ≡ b ∷ []
+unfolding letters_of flag_with
+flag_with-letters b there = flag_letters 0 FLAG_LETTERS b there
+
+-- and other letters have none
+pub flag_with-none : (b : ℕ) → has_letter FLAG_LETTERS b ≡ false → flag_with b ≡ 0
+unfolding flag_with
+flag_with-none b none = no_flag 0 FLAG_LETTERS b none
+
+or_back : (a b : Bool) → b ≡ true → (a || b) ≡ true
+or_back true b is = refl
+or_back false b is = is
+
+is_there : (xs : List ℕ) (i : ℕ) → i < length xs → has_letter xs (get_or xs i 0) ≡ true
+is_there [] i within = absurd (omega (arith, within))
+is_there (x ∷ xs) zero within = ap (λ (t : Bool). t || has_letter xs x) (eq-eqb x x refl)
+is_there (x ∷ xs) (suc i) within = or_back (eqb x (get_or xs i 0)) (has_letter xs (get_or xs i 0)) (is_there xs i (omega (arith, within)))
+
+or_false : (b : Bool) → (b || false) ≡ b
+or_false true = refl
+or_false false = refl
+
+has-flag_with : (b k : ℕ) → k < FLAGS → has (flag_with b) k ≡ eqb b (letter_at k)
+has-flag_with b k within = by_test (has_letter FLAG_LETTERS b) refl
+  where
+    by_test : (t : Bool) → has_letter FLAG_LETTERS b ≡ t → has (flag_with b) k ≡ eqb b (letter_at k)
+    by_test true e =
+        sym (has_letter-of (flag_with b) k within)
+        ∙ ap (λ (l : List ℕ). has_letter l (letter_at k)) (flag_with-letters b e)
+        ∙ or_false (eqb b (letter_at k))
+    by_test false e =
+        ap (λ (n : ℕ). has n k) (flag_with-none b e) ∙ has-zero k
+        ∙ elim (eqb b (letter_at k)) as (λ t. eqb b (letter_at k) ≡ t → false ≡ t) [
+          | true ↦ λ same. sym e ∙ ap (has_letter FLAG_LETTERS) (eqb-true b (letter_at k) same) ∙ is_there FLAG_LETTERS k within
+          | false ↦ λ same. refl
+        ] refl
+
+-- the only set whose letters are this one
+pub flag_with-only : (b flags : ℕ) → flags < 2 ^ FLAGS → b ∷ [] ≡ letters_of flags → flags ≡ flag_with b
+flag_with-only b flags fits are =
+    set_from_flags flags (flag_with b) fits (flag_with-lt b)
+    (λ k within. sym (has_letter-of flags k within) ∙ ap (λ (l : List ℕ). has_letter l (letter_at k)) (sym are)
+    ∙ or_false (eqb b (letter_at k)) ∙ sym (has-flag_with b k within))
+
+-- ---- the flags of letters
+
+or_assoc : (a b c : Bool) → ((a || b) || c) ≡ (a || (b || c))
+or_assoc true b c = refl
+or_assoc false b c = refl
+
+found_more : (letters : List ℕ) (found k : ℕ) → k < FLAGS → has (fold with_letter found letters) k ≡ (has found k || has_letter letters (letter_at k))
+found_more [] found k within = sym (or_false (has found k))
+found_more (b ∷ letters) found k within =
+    found_more letters (with_letter found b) k within
+    ∙ ap (λ (t : Bool). t || has_letter letters (letter_at k)) (has-union found (flag_with b) k within ∙ ap (λ (t : Bool). has found k || t) (has-flag_with b k within))
+    ∙ or_assoc (has found k) (eqb b (letter_at k)) (has_letter letters (letter_at k))
+
+pub has-flags_in : (letters : List ℕ) (k : ℕ) → k < FLAGS → has (flags_in letters) k ≡ has_letter letters (letter_at k)
 unfolding flags_in
-flags_in-with before flags small =
-    rw (has_letter-with before flags 68 refl, has_letter-with before flags 70 refl, has_letter-with before flags 80 refl, has_letter-with before flags 82 refl, has_letter-with before flags 83 refl, has_letter-with before flags 84 refl)
-    (from_own_flags flags small)
+has-flags_in letters k within = found_more letters 0 k within ∙ ap (λ (t : Bool). t || has_letter letters (letter_at k)) (has-zero k)
+
+found-lt : (letters : List ℕ) (found : ℕ) → found < 2 ^ FLAGS → fold with_letter found letters < 2 ^ FLAGS
+found-lt [] found fits = fits
+found-lt (b ∷ letters) found fits = found-lt letters (with_letter found b) (union-lt found (flag_with b))
+
+pub flags_in-lt : (letters : List ℕ) → flags_in letters < 2 ^ FLAGS
+unfolding flags_in
+flags_in-lt letters = found-lt letters 0 (lit< tt)
+
+-- the letters of a set stand for it
+pub flags_in-own : (flags : ℕ) → flags < 2 ^ FLAGS → flags_in (letters_of flags) ≡ flags
+flags_in-own flags fits =
+    set_from_flags (flags_in (letters_of flags)) flags (flags_in-lt (letters_of flags)) fits (λ k within. has-flags_in (letters_of flags) k within ∙ has_letter-of flags k within)
+
+-- ---- known flags have known letters
+
+six_at : ℕ → Bool
+six_at k = list_any (λ flag. eqb k (place flag)) written_order
+
+six_letter : ℕ → Bool
+six_letter b = list_any (λ flag. eqb (letter flag) b) all_flags
+
+six_by_letters : (k : ℕ) → k < FLAGS → six_at k ≡ six_letter (letter_at k)
+unfolding six_at six_letter
+six_by_letters k within = agree_below_at six_at (λ n. six_letter (letter_at n)) 32 k refl within
+
+-- a letter is one of the six, or 91 above its place
+letter_behind : (k : ℕ) → k < FLAGS → (six_letter (letter_at k) || eqb (letter_at k) (k + 91)) ≡ true
+unfolding six_letter
+letter_behind k within = agree_below_at (λ n. six_letter (letter_at n) || eqb (letter_at n) (n + 91)) (λ n. true) 32 k refl within
+
+named_letter : (k l : ℕ) → k < FLAGS → six_letter (letter_at k) ≡ false → eqb k (place_of l) ≡ true → eqb l (letter_at k) ≡ true
+unfolding six_letter
+named_letter zero l within other same = absurd (false≢true (sym other))
+named_letter (suc n) l within other same =
+    let behind : eqb (letter_at (suc n)) (suc n + 91) ≡ true = subst (λ (t : Bool). (t || eqb (letter_at (suc n)) (suc n + 91)) ≡ true) other (letter_behind (suc n) within) in
+    let at : letter_at (suc n) ≡ suc n + 91 = eqb-true (letter_at (suc n)) (suc n + 91) behind in
+    let place : suc n ≡ place_of l = eqb-true (suc n) (place_of l) same in
+    let is : l ≡ suc n + 91 = omega (arith, place) in
+    eq-eqb l (letter_at (suc n)) (is ∙ sym at)
+
+keyword_letter : (keywords : List Keyword) (k : ℕ) → k < FLAGS → six_letter (letter_at k) ≡ false → list_any (λ x. eqb k (place_of x.letter)) keywords ≡ true
+    → list_any (λ x. eqb x.letter (letter_at k)) keywords ≡ true
+keyword_letter [] k within other there = absurd (false≢true there)
+keyword_letter (x ∷ xs) k within other there = by_test (eqb k (place_of x.letter)) refl there (keyword_letter xs k within other)
+  where
+    by_test : (t : Bool) → eqb k (place_of x.letter) ≡ t → (t || list_any (λ x. eqb k (place_of x.letter)) xs) ≡ true
+        → (list_any (λ x. eqb k (place_of x.letter)) xs ≡ true → list_any (λ x. eqb x.letter (letter_at k)) xs ≡ true)
+        → (eqb x.letter (letter_at k) || list_any (λ x. eqb x.letter (letter_at k)) xs) ≡ true
+    by_test true e there later = ap (λ (t : Bool). t || list_any (λ x. eqb x.letter (letter_at k)) xs) (named_letter k x.letter within other e)
+    by_test false e there later = or_back (eqb x.letter (letter_at k)) (list_any (λ x. eqb x.letter (letter_at k)) xs) (later there)
+
+known_letter : (keywords : List Keyword) (k : ℕ) → k < FLAGS → is_known keywords k ≡ true → is_known_letter keywords (letter_at k) ≡ true
+unfolding six_at six_letter
+known_letter keywords k within known = by_test (six_letter (letter_at k)) refl
+  where
+    by_test : (t : Bool) → six_letter (letter_at k) ≡ t → (t || list_any (λ x. eqb x.letter (letter_at k)) keywords) ≡ true
+    by_test true e = refl
+    by_test false e =
+        keyword_letter keywords k within e
+        (subst (λ (t : Bool). (t || list_any (λ (x : Keyword). eqb k (place_of x.letter)) keywords) ≡ true) (six_by_letters k within ∙ e) known)
+
+letter_of_ascii : (k : ℕ) → k < FLAGS → has_letter LETTERS (letter_at k) ≡ true
+letter_of_ascii k within = agree_below_at (λ n. has_letter LETTERS (letter_at n)) (λ n. true) 32 k refl within
+
+-- the flags with a name that the letters stand for
+pub flags_in-with : (keywords : List Keyword) (before : List ℕ) (flags : ℕ) → kept keywords (flags_in (letters_with keywords before flags)) ≡ kept keywords flags
+flags_in-with keywords before flags =
+    let now : ℕ = flags_in (letters_with keywords before flags) in
+    set_from_flags (kept keywords now) (kept keywords flags) (kept-lt keywords now) (kept-lt keywords flags)
+    (λ k within. has-kept keywords now k within ∙ same k within (is_known keywords k) refl ∙ sym (has-kept keywords flags k within))
+  where
+    and_false : (b : Bool) → (b && false) ≡ false
+    and_false true = refl
+    and_false false = refl
+
+    same : (k : ℕ) → k < FLAGS → (t : Bool) → is_known keywords k ≡ t → (has (flags_in (letters_with keywords before flags)) k && t) ≡ (has flags k && t)
+    same k within false e = and_false (has (flags_in (letters_with keywords before flags)) k) ∙ sym (and_false (has flags k))
+    same k within true e =
+        ap (λ (b : Bool). b && true)
+        (has-flags_in (letters_with keywords before flags) k within
+        ∙ has_letter-with keywords before flags (letter_at k) (letter_of_ascii k within)
+        ∙ ap (λ (known : Bool). has_letter (cond known (letters_of flags) before) (letter_at k)) (known_letter keywords k within e)
+        ∙ has_letter-of flags k within)
 
 -- ---- names
 
-abbrev pub reflagged : NameParts → ℕ → NameParts
-reflagged name flags = record { base = name.base; uid = name.uid; letters = Some (letters_with (letters_in name) flags) }
+abbrev pub reflagged : List Keyword → NameParts → ℕ → NameParts
+reflagged keywords name flags = record { base = name.base; uid = name.uid; letters = Some (letters_with keywords (letters_in name) flags) }
 
 -- base and UID are kept
-pub name_of-flagged : (text : List ℕ) (name : NameParts) (flags : ℕ) → name_of text ≡ Some name → name_of (flagged name flags) ≡ Some (reflagged name flags)
-name_of-flagged text name flags read =
+pub name_of-flagged : (keywords : List Keyword) (text : List ℕ) (name : NameParts) (flags : ℕ) → name_of text ≡ Some name → name_of (flagged keywords name flags) ≡ Some (reflagged keywords name flags)
+name_of-flagged keywords text name flags read =
     let spelled = name_is_spelled name text read in
-    spelled_is_read (reflagged name flags) (flagged name flags) (record {
+    spelled_is_read (reflagged keywords name flags) (flagged keywords name flags) (record {
       parts = refl;
       base = spelled.base;
       uid = spelled.uid;
-      letters = letters_with-rise (letters_in name) flags;
+      letters = letters_with-rise keywords (letters_in name) flags;
     })
 
-pub uid_in-flagged : (text : List ℕ) (name : NameParts) (flags : ℕ) → name_of text ≡ Some name → uid_in (flagged name flags) ≡ name.uid
-uid_in-flagged text name flags read = rw (name_of-flagged text name flags read) refl
+pub uid_in-flagged : (keywords : List Keyword) (text : List ℕ) (name : NameParts) (flags : ℕ) → name_of text ≡ Some name → uid_in (flagged keywords name flags) ≡ name.uid
+uid_in-flagged keywords text name flags read = rw (name_of-flagged keywords text name flags read) refl
 
-pub flags-flagged : (text : List ℕ) (name : NameParts) (flags : ℕ) → name_of text ≡ Some name → flags < 2 ^ FLAGS → flags_by_name (flagged name flags) ≡ flags
-flags-flagged text name flags read small = rw (name_of-flagged text name flags read) (flags_in-with (letters_in name) flags small)
+pub flags-flagged : (keywords : List Keyword) (text : List ℕ) (name : NameParts) (flags : ℕ) → name_of text ≡ Some name → flags_by_name keywords (flagged keywords name flags) ≡ kept keywords flags
+flags-flagged keywords text name flags read =
+    ap (λ (o : Option NameParts). kept keywords (flags_in (unwrap_or (option_map letters_in o) []))) (name_of-flagged keywords text name flags read)
+    ∙ flags_in-with keywords (letters_in name) flags

@@ -1,6 +1,8 @@
 -- The flags that a name bears, and the name that bears others.
 use Rattle.std.specs.Prelude.{ℕ, List, [], Some, unwrap_or}
 use Rattle.std.specs.Option.{option_map}
+use Rattle.mailcore.specs.declared.keywords.Keyword.{Keyword}
+use Rattle.mailcore.specs.KeywordNames.{kept}
 use Rattle.maildir.specs.Letters.{flags_in, letters_with}
 use Rattle.maildir.specs.Names.{NameParts, name_of, name_text}
 
@@ -8,11 +10,15 @@ use Rattle.maildir.specs.Names.{NameParts, name_of, name_text}
 abbrev pub letters_in : NameParts → List ℕ
 letters_in name = unwrap_or name.letters []
 
--- the flags of the message in a file with this name
-abbrev pub flags_by_name : List ℕ → ℕ
-flags_by_name name = unwrap_or (option_map (λ parts. flags_in (letters_in parts)) (name_of name)) (flags_in [])
+-- the letters in a text, none where it spells no name
+abbrev pub letters_by_name : List ℕ → List ℕ
+letters_by_name name = unwrap_or (option_map letters_in (name_of name)) []
 
--- the name of the same file once its message has these flags: base, UID and letters of no flag are kept
-abbrev pub flagged : NameParts → ℕ → List ℕ
-flagged name flags =
-    name_text (record { base = name.base; uid = name.uid; letters = Some (letters_with (letters_in name) flags) })
+-- the flags of the message in a file with this name: those of its letters that have a name in IMAP
+abbrev pub flags_by_name : List Keyword → List ℕ → ℕ
+flags_by_name keywords name = kept keywords (flags_in (letters_by_name name))
+
+-- the name of the same file once its message has these flags: base, UID and letters that are not known are kept
+abbrev pub flagged : List Keyword → NameParts → ℕ → List ℕ
+flagged keywords name flags =
+    name_text (record { base = name.base; uid = name.uid; letters = Some (letters_with keywords (letters_in name) flags) })

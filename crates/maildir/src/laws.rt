@@ -1,14 +1,16 @@
 //! Laws of this crate's definitions, each shown by a function that does nothing.
 
-ghost use Rattle.std.specs.Prelude.{◌≡◌, ◌<◌, ◌^◌, ◌==◌, ℕ, IsTrue, List, false, find, None, Some, true};
+ghost use Rattle.std.specs.Prelude.{◌≡◌, ◌<◌, ◌^◌, ℕ, IsTrue, List, false, slice_index, Some, true};
 ghost use Rattle.std.specs.List.{list_any};
-ghost use Rattle.mailcore.specs.FlagNames.{letter, all_flags};
-ghost use Rattle.mailcore.specs.FlagSet.{FLAGS};
+ghost use Rattle.mailcore.specs.declared.keywords.Keyword.{Keyword};
+ghost use Rattle.mailcore.specs.FlagNames.{LETTERS, letters_of};
+ghost use Rattle.mailcore.specs.FlagSet.{FLAGS, has};
+ghost use Rattle.mailcore.specs.KeywordNames.{kept};
 ghost use Rattle.maildir.specs.declared.folder.FileName.{FileName};
 ghost use Rattle.maildir.specs.declared.meta.Meta.{Meta};
 ghost use Rattle.maildir.specs.Folders.{AreApart, Stored, is_at, placed, removed_file, renamed_file, with_copy, with_meta};
 ghost use Rattle.maildir.specs.Gains.{Adds, Gains};
-ghost use Rattle.maildir.specs.Letters.{flags_in, has_letter, letters_with};
+ghost use Rattle.maildir.specs.Letters.{flags_in, has_letter, is_known_letter, letters_with};
 ghost use Rattle.maildir.specs.Metas.{MetaText, meta_of};
 ghost use Rattle.maildir.specs.Names.{NameParts, NameText, name_of, is_letter, is_waiting, are_letters, uid_in};
 ghost use Rattle.maildir.specs.FlaggedNames.{flags_by_name, flagged, letters_in};
@@ -26,22 +28,31 @@ pub fn metas_by_their_spelling()
     ensures read { (meta : Meta) (text : List ℕ) → MetaText meta text → meta_of text ≡ Some meta }
 {}
 
-/// The letters of a name whose message has some flags stand for these flags, keep each letter that stands for no flag,
-/// and strictly rise.
+/// A flag is among those that letters stand for exactly if its letter is there, so that the letters of a set stand for this set.
+pub fn flags_by_their_letters()
+    ensures flags { (letters : List ℕ) (place : ℕ) → place < FLAGS → has (flags_in letters) place ≡ has_letter letters (slice_index LETTERS place) }
+    ensures set { (letters : List ℕ) → flags_in letters < 2 ^ FLAGS }
+    ensures same { (flags : ℕ) → flags < 2 ^ FLAGS → flags_in (letters_of flags) ≡ flags }
+{}
+
+/// The letters of a name whose message has some flags stand for those of these flags that have a name in IMAP, keep each letter that is
+/// not known, and strictly rise.
 pub fn letters_by_their_flags()
-    ensures flags { (before : List ℕ) (flags : ℕ) → flags < 2 ^ FLAGS → flags_in (letters_with before flags) ≡ flags }
-    ensures others { (before : List ℕ) (flags b : ℕ) → IsTrue (is_letter b) → find (λ flag. letter flag == b) all_flags ≡ None
-        → has_letter (letters_with before flags) b ≡ has_letter before b }
-    ensures rise { (before : List ℕ) (flags : ℕ) → IsTrue (are_letters (letters_with before flags)) }
+    ensures flags { (keywords : List Keyword) (before : List ℕ) (flags : ℕ)
+        → kept keywords (flags_in (letters_with keywords before flags)) ≡ kept keywords flags }
+    ensures others { (keywords : List Keyword) (before : List ℕ) (flags b : ℕ) → IsTrue (is_letter b) → is_known_letter keywords b ≡ false
+        → has_letter (letters_with keywords before flags) b ≡ has_letter before b }
+    ensures rise { (keywords : List Keyword) (before : List ℕ) (flags : ℕ) → IsTrue (are_letters (letters_with keywords before flags)) }
 {}
 
 /// A name whose flags are changed bears the new ones, and keeps its base and its UID.
 pub fn names_by_their_flags()
-    ensures flags { (text : List ℕ) (name : NameParts) (flags : ℕ) → name_of text ≡ Some name → flags < 2 ^ FLAGS
-        → flags_by_name (flagged name flags) ≡ flags }
-    ensures parts { (text : List ℕ) (name : NameParts) (flags : ℕ) → name_of text ≡ Some name
-        → name_of (flagged name flags) ≡ Some (record name { letters = Some (letters_with (letters_in name) flags) }) }
-    ensures uid { (text : List ℕ) (name : NameParts) (flags : ℕ) → name_of text ≡ Some name → uid_in (flagged name flags) ≡ uid_in text }
+    ensures flags { (keywords : List Keyword) (text : List ℕ) (name : NameParts) (flags : ℕ) → name_of text ≡ Some name
+        → flags_by_name keywords (flagged keywords name flags) ≡ kept keywords flags }
+    ensures parts { (keywords : List Keyword) (text : List ℕ) (name : NameParts) (flags : ℕ) → name_of text ≡ Some name
+        → name_of (flagged keywords name flags) ≡ Some (record name { letters = Some (letters_with keywords (letters_in name) flags) }) }
+    ensures uid { (keywords : List Keyword) (text : List ℕ) (name : NameParts) (flags : ℕ) → name_of text ≡ Some name
+        → uid_in (flagged keywords name flags) ≡ uid_in text }
 {}
 
 /// What others add before a call of the folder, they could as well have added behind it: what the call does is not touched by that. A

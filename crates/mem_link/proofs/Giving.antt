@@ -1,5 +1,5 @@
 -- What a server in memory does is what the law of a link asks.
-use Rattle.std.proofs.Common.{◌≡◌, ℕ, List, [], ◌∷◌, ◌++◌, take, drop, Option, None, Some, Result, Ok, Err, OnErr, refl, sym, ◌∙◌, ap, subst, append_assoc, append-nil, take-append-drop}
+use Rattle.std.proofs.Common.{◌≡◌, ℕ, List, [], ◌++◌, take, drop, Option, None, Some, Result, Ok, Err, OnErr, sym, ◌∙◌, ap, subst, append_assoc, append-nil, take-append-drop}
 use Rattle.imap_session.specs.Servers.{Server}
 use Rattle.imap_session.specs.Unread.{Kept}
 use Rattle.imap_session.specs.Serving.{End, Runs, Feeds, FeedsSome}
@@ -38,7 +38,7 @@ sends_of old new bytes out unread after f h =
       out = h.out;
       split = sym (append-nil bytes);
       feeds = fed_ends old new bytes out f;
-      left_out = heard.left_out;
+      heard_as = heard.heard_as old.server.keywords;
       spelled = heard.spelled;
       replied = h.replied;
     }

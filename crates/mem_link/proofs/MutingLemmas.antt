@@ -1,6 +1,7 @@
 -- Replies without APPENDUID, one after another.
 use Rattle.std.proofs.Common.{◌≡◌, ℕ, Bool, true, false, List, [], ◌∷◌, ◌++◌, ◌⊎◌, inl, inr, map, drop, refl, sym, ◌∙◌, ap, subst, append_assoc, append-nil}
 use Rattle.std.specs.Prelude.{if◌then◌else◌}
+use Rattle.mailcore.specs.declared.keywords.Keyword.{Keyword}
 use Rattle.wire_tokens.specs.Writing.{Appended}
 use Rattle.imap_replies.specs.declared.word.Status.TheVariants as statuses
 use Rattle.imap_replies.specs.declared.response.Code.TheVariants as code
@@ -9,9 +10,10 @@ use Rattle.imap_replies.specs.declared.reply.Reply.{Reply}
 use Rattle.imap_replies.specs.declared.reply.Reply.TheVariants.{Continue, Tagged, Notice, Capability, Enabled, List as Listed, Flags, Exists, Expunge, Fetch, Other, OtherNumbered}
 use Rattle.imap_replies.specs.Replies.{WrittenReply}
 use Rattle.imap_replies.proofs.WrittenReplies.{written_spelled}
-use Rattle.imap_session.specs.Heard.{AreReplies, LeavesOut, WithoutUid}
+use Rattle.imap_session.specs.Heard.{AreReplies, AreHeardAs, IsHeardAs, WithoutUid}
 use Rattle.session_laws.specs.Short.{is_short}
 use Rattle.session_laws.proofs.ShortReplies.{short_fits}
+use Rattle.exchange_laws.proofs.HeardAs.{all_heard}
 use Rattle.imap_answers.specs.Spoken.{IsFirst}
 use Rattle.imap_answers.proofs.Left.{no_left}
 use Rattle.mem_link.specs.Muting.{IsFitting, IsHeard, IsLeft, stands_alone, without_uid}
@@ -32,7 +34,7 @@ muted_one (Continue text) = inl refl
 muted_one (Tagged tag statuses.Ok (Plain text)) = inl refl
 muted_one (Tagged tag statuses.Ok (Coded (code.UidNext n) text)) = inl refl
 muted_one (Tagged tag statuses.Ok (Coded (code.UidValidity n) text)) = inl refl
-muted_one (Tagged tag statuses.Ok (Coded (code.PermanentFlags flags others) text)) = inl refl
+muted_one (Tagged tag statuses.Ok (Coded (code.PermanentFlags flags) text)) = inl refl
 muted_one (Tagged tag statuses.Ok (Coded (code.AppendUid validity uid) text)) = coded_muted tag text validity uid (stands_alone text) refl
 muted_one (Tagged tag statuses.Ok (Coded code.ReadOnly text)) = inl refl
 muted_one (Tagged tag statuses.Ok (Coded code.ReadWrite text)) = inl refl
@@ -50,13 +52,13 @@ muted_one (Fetch n items) = inl refl
 muted_one (Other word text) = inl refl
 muted_one (OtherNumbered n event text) = inl refl
 
-pub leaves_uids_out : (said : List Reply) → LeavesOut (map without_uid said) said
-leaves_uids_out [] = tt
-leaves_uids_out (r ∷ rs) = (muted_one r, leaves_uids_out rs)
+heard_one : (keywords : List Keyword) (r : Reply) → IsMuted r → IsHeardAs keywords (without_uid r) r
+heard_one keywords r (inl stays) = inl stays
+heard_one keywords r (inr muted) = inr (inl muted)
 
-pub none_left_out : (said : List Reply) → LeavesOut said said
-none_left_out [] = tt
-none_left_out (reply ∷ replies) = (inl refl, none_left_out replies)
+pub leaves_uids_out : (keywords : List Keyword) (said : List Reply) → AreHeardAs keywords (map without_uid said) said
+leaves_uids_out keywords [] = tt
+leaves_uids_out keywords (r ∷ rs) = (heard_one keywords r (muted_one r), leaves_uids_out keywords rs)
 
 -- ---- one after another
 
@@ -93,7 +95,7 @@ stays_fits reply wanted bytes old new is fits added =
 -- ---- what is heard
 
 pub heard_muted : (said : List Reply) (out : List ℕ) → AreReplies (map without_uid said) out → IsHeard said out
-heard_muted said out h = record { heard = map without_uid said; left_out = leaves_uids_out said; spelled = h }
+heard_muted said out h = record { heard = map without_uid said; heard_as = λ keywords. leaves_uids_out keywords said; spelled = h }
 
 pub heard_all : (said : List Reply) (out : List ℕ) → AreReplies said out → IsHeard said out
-heard_all said out h = record { heard = said; left_out = none_left_out said; spelled = h }
+heard_all said out h = record { heard = said; heard_as = λ keywords. all_heard keywords said; spelled = h }

@@ -1,5 +1,6 @@
 -- Replies without APPENDUID.
 use Rattle.std.specs.Prelude.{◌≡◌, ◌++◌, ◌≤◌, ◌&&◌, ℕ, Bool, not, nat_le, if◌then◌else◌, List, length, map}
+use Rattle.mailcore.specs.declared.keywords.Keyword.{Keyword}
 use Rattle.wire_reader.specs.Lexical.{outside}
 use Rattle.wire_strings.specs.Texts.{begins_with}
 use Rattle.imap_replies.specs.declared.word.Status.TheVariants as statuses
@@ -10,7 +11,7 @@ use Rattle.imap_replies.specs.declared.response.ResponseText.TheVariants.{Plain,
 use Rattle.imap_replies.specs.declared.reply.Reply.{Reply}
 use Rattle.imap_replies.specs.declared.reply.Reply.TheVariants.{Tagged}
 use Rattle.imap_replies.specs.Replies.{ReplyText}
-use Rattle.imap_session.specs.Heard.{AreReplies, LeavesOut}
+use Rattle.imap_session.specs.Heard.{AreReplies, AreHeardAs}
 
 -- it can stand without a code, and is short
 abbrev pub stands_alone : List ℕ → Bool
@@ -40,10 +41,10 @@ pub record IsLeft (said : List Reply) (out rest : List ℕ) : Type 0 where
   pub spelled : AreReplies left rest
   pub goes_on : (more : List ℕ) → AreReplies (map without_uid left) more → AreReplies (map without_uid said) (out ++ more)
 
--- of these replies, or of others that leave out APPENDUID alone
+-- of these replies, or of others that leave out APPENDUID alone: they are heard as these, whatever the map
 pub record IsHeard (said : List Reply) (out : List ℕ) : Type 0 where
   pub heard : List Reply
-  pub left_out : LeavesOut heard said
+  pub heard_as : (keywords : List Keyword) → AreHeardAs keywords heard said
   pub spelled : AreReplies heard out
 
 -- what came of an answer stands behind what was unread

@@ -158,11 +158,10 @@ impl MemLink {
         ensures counted { result ≡ Err LinkFault.Stopped → self.old.stops < self.new.stops }
         ensures no_less { self.old.stops ≤ self.new.stops }
     {
-        // That it is a set of flags is known from this, and of the UID that it is one.
-        let _bits = flags.bits();
         match self.server.arrive(mailbox, flags, message) {
             Ok(None) => Ok(()),
             Ok(Some(uid)) => {
+                // That it is a UID is known from this.
                 let _number = uid.get();
                 Ok(())
             }

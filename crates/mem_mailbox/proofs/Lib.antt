@@ -1,1 +1,2 @@
 pub mod MemCalls
+pub mod Within

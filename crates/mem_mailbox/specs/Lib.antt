@@ -1,4 +1,5 @@
 pub mod BoxConditions
 pub mod Listings
 pub mod Views
+pub mod Named
 pub mod MemMailboxes

@@ -3,15 +3,17 @@
 ghost use Rattle.std.specs.Prelude.{◌≡◌, ◌<◌, ◌^◌, false, true};
 ghost use Rattle.std.specs.Option.{option_map};
 ghost use Rattle.mailbox.specs.Operations.{body_if, is_full};
+ghost use Rattle.mem_mailbox.specs.Named.{AreWithin};
 
 use crate::admission::{above, admit};
 use crate::box_condition::{BoxCall, BoxCondition};
 use crate::kind::{Kind, OfFar, OfNear};
-use crate::mem_store::MemStore;
+use crate::mem_store::{MemStore, name_flags};
 use mailbox::fault::BoxFault;
 use mailbox::mailbox::Mailbox;
 use mailcore::copy_pieces::CopyPieces;
 use mailcore::flags::Flags;
+use mailcore::keywords::Keywords;
 use mailcore::listing::Listing;
 use mailcore::mailbox::Message;
 use mailcore::side::Side;
@@ -22,7 +24,7 @@ use std::alloc::Global;
 use std::marker::PhantomData;
 
 /// A mailbox in memory, closed or open. Its calls stop, or are refused, as its condition says. Refusals of calls for which there is
-/// room are what no server does that keeps its word.
+/// room are what no server does that keeps its word. It has those flags alone that have a name by its map of keywords.
 #[derive(Drop)]
 pub struct MemMailbox<K> {
     alloc: Global,
@@ -34,47 +36,56 @@ pub struct MemMailbox<K> {
     body: Vec<u8>,
     is_open: bool,
     condition: BoxCondition,
+    keywords: Keywords,
     kind: PhantomData<K>,
+    pub ghost within: { AreWithin keywords store.messages.items },
+    pub ghost waiting_within: { AreWithin keywords waiting.items },
 }
 
 impl MemMailbox<OfFar> {
     ghost use Rattle.mem_mailbox.specs.MemMailboxes.{seen_at, seen_of};
+    ghost use Rattle.mem_mailbox.specs.Named.{named};
     ghost use Rattle.mem_mailbox.specs.Views.{near_of};
     ghost use Rattle.std.specs.Prelude.{[]};
 
-    /// The mailbox of a server with these messages, closed.
-    pub fn far(alloc: Global, store: MemStore, condition: BoxCondition) -> Self
-        ensures seen { seen_of result ≡ seen_at (near_of store []) condition }
+    /// The mailbox of a server with these messages, closed. A flag of theirs that has no name by this map is left out.
+    pub fn far(alloc: Global, store: MemStore, condition: BoxCondition, keywords: Keywords) -> Self
+        ensures seen { seen_of result ≡ seen_at (named keywords (near_of store [])) condition }
         ensures condition { result.condition ≡ condition }
+        ensures keywords { result.keywords ≡ keywords }
         ensures closed { result.is_open ≡ false }
     {
-        MemMailbox::closed(alloc, store, Vec::new(alloc), condition)
+        MemMailbox::closed(alloc, store, Vec::new(alloc), condition, keywords)
     }
 }
 
 impl MemMailbox<OfNear> {
     ghost use Rattle.mem_mailbox.specs.MemMailboxes.{seen_at, seen_of};
+    ghost use Rattle.mem_mailbox.specs.Named.{named};
     ghost use Rattle.mem_mailbox.specs.Views.{near_of};
 
     /// The mailbox of a folder with these messages and files that wait, closed. What stands as the UID of a file that waits says
-    /// nothing.
+    /// nothing. A flag that has no name by this map is left out.
     pub fn near(
         alloc: Global,
         store: MemStore,
         waiting: Vec<Message>,
         condition: BoxCondition,
+        keywords: Keywords,
     ) -> Self
-        ensures seen { seen_of result ≡ seen_at (near_of store waiting.items) condition }
+        ensures seen { seen_of result ≡ seen_at (named keywords (near_of store waiting.items)) condition }
         ensures condition { result.condition ≡ condition }
+        ensures keywords { result.keywords ≡ keywords }
         ensures closed { result.is_open ≡ false }
     {
-        MemMailbox::closed(alloc, store, waiting, condition)
+        MemMailbox::closed(alloc, store, waiting, condition, keywords)
     }
 }
 
 impl<K> MemMailbox<K> {
     ghost use Rattle.std.specs.Prelude.{map};
     ghost use Rattle.mem_mailbox.specs.MemMailboxes.{seen_at, seen_of};
+    ghost use Rattle.mem_mailbox.specs.Named.{named};
     ghost use Rattle.mem_mailbox.specs.Views.{near_of, store_of, waiting_of};
 
     fn closed(
@@ -82,11 +93,16 @@ impl<K> MemMailbox<K> {
         store: MemStore,
         waiting: Vec<Message>,
         condition: BoxCondition,
+        keywords: Keywords,
     ) -> Self
-        ensures seen { seen_of result ≡ seen_at (near_of store waiting.items) condition }
+        ensures seen { seen_of result ≡ seen_at (named keywords (near_of store waiting.items)) condition }
         ensures condition { result.condition ≡ condition }
+        ensures keywords { result.keywords ≡ keywords }
         ensures closed { result.is_open ≡ false }
     {
+        let (mut store, mut waiting) = (store, waiting);
+        name_flags(&mut store.messages, &keywords);
+        name_flags(&mut waiting, &keywords);
         MemMailbox {
             alloc,
             store,
@@ -94,6 +110,7 @@ impl<K> MemMailbox<K> {
             body: Vec::new(alloc),
             is_open: false,
             condition,
+            keywords,
             kind: PhantomData,
         }
     }
@@ -155,6 +172,8 @@ impl<K: Kind + Drop> Mailbox for MemMailbox<K> {
 
     ghost alone = { true };
 
+    ghost keywords = { λ m. m.keywords };
+
     ghost seen = { seen_of };
 
     ghost is_open = { λ m. m.is_open };
@@ -205,6 +224,7 @@ impl<K: Kind + Drop> Mailbox for MemMailbox<K> {
         let Some(uid) = self.store.next_uid() else {
             return Err(is_full(K::side()));
         };
+        let flags = flags.kept(&self.keywords);
         let Ok(()) = self.store.add(self.alloc, uid, flags, copy) else {
             return Err(self.condition.lack());
         };
@@ -213,13 +233,13 @@ impl<K: Kind + Drop> Mailbox for MemMailbox<K> {
 
     fn add_flags(&mut self, uid: Uid, flags: Flags) -> Result<(), BoxFault> {
         let stops = self.condition.begin(BoxCall::AddFlags)?;
-        self.store.add_flags(uid, flags);
+        self.store.add_flags(uid, flags.kept(&self.keywords));
         self.condition.end(stops, ())
     }
 
     fn remove_flags(&mut self, uid: Uid, flags: Flags) -> Result<(), BoxFault> {
         let stops = self.condition.begin(BoxCall::RemoveFlags)?;
-        self.store.remove_flags(uid, flags);
+        self.store.remove_flags(uid, flags.kept(&self.keywords));
         self.condition.end(stops, ())
     }
 

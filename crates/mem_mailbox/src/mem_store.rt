@@ -9,11 +9,13 @@ ghost use Rattle.mailcore.specs.Operations.{is_mark, marked_among, with_flags};
 ghost use Rattle.mailcore.specs.Spared.{spares};
 ghost use Rattle.mailbox.specs.Operations.{may_go};
 ghost use Rattle.mem_mailbox.specs.Listings.{item_in};
+ghost use Rattle.mem_mailbox.specs.Named.{named_message};
 
 use mailcore::content::fit;
 use mailcore::copies::mark_of;
 use mailcore::copy_pieces::CopyPieces;
 use mailcore::flags::{Flag, Flags};
+use mailcore::keywords::Keywords;
 use mailcore::listing::{Item, Items, Listing};
 use mailcore::mailbox::{Message, Messages};
 use mailcore::octets::Octets;
@@ -181,6 +183,22 @@ impl MemStore {
         ensures synced { self.new.is_synced ≡ true }
     {
         self.is_synced = true;
+    }
+}
+
+/// Leaves messages those of their flags that have a name by this map.
+pub(crate) fn name_flags(messages: &mut Vec<Message>, keywords: &Keywords)
+    ensures { messages.new.items ≡ map (named_message keywords.now) messages.old.items }
+{
+    name_each(messages, keywords);
+}
+
+fn name_each(messages: &mut [Message], keywords: &Keywords)
+    ensures { messages.new ≡ map (named_message keywords.now) messages.old }
+{
+    if let Some((first, rest)) = messages.split_first_mut() {
+        first.flags = first.flags.kept(keywords);
+        name_each(rest, keywords);
     }
 }
 

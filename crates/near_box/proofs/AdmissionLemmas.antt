@@ -6,6 +6,7 @@ use Rattle.std.proofs.lemmas.Bool.{false_from_ne_true, cases_lt}
 use Rattle.std.proofs.lemmas.Bool.Decides.{nat_tests}
 use Rattle.std.proofs.lemmas.List.{map-append, get_or_at, drop-map, length-map, take_all, drop_all}
 use Rattle.std.proofs.lemmas.List.Elements.{All-nil, All-cons, All-tail, All-weaker, All-filter, filter-append}
+use Rattle.mailcore.specs.declared.keywords.Keyword.{Keyword}
 use Rattle.mailcore.specs.declared.mailbox.Message.{Message}
 use Rattle.mailcore.specs.Stores.{Waiting, numbered}
 use Rattle.maildir.specs.declared.folder.File.{File}
@@ -82,9 +83,9 @@ first_waits files file rest apart is =
     }
 
 -- the file is a message behind the others, and waits no longer
-record Turns (files : List File) (file : File) (rest : List File) (n : ℕ) (new : List File) : Type 0 where
+record Turns (keywords : List Keyword) (files : List File) (file : File) (rest : List File) (n : ℕ) (new : List File) : Type 0 where
   holds : Holds new (n + 1)
-  messages : by_uid (messages_in new) ≡ by_uid (messages_in files) ++ (let m : Message = record { uid = n; flags = flags_by_name file.name; bytes = file.bytes } in m) ∷ []
+  messages : by_uid (messages_in keywords new) ≡ by_uid (messages_in keywords files) ++ (let m : Message = record { uid = n; flags = flags_by_name keywords file.name; bytes = file.bytes } in m) ∷ []
   entries : entries_in new ≡ entries_in files ++ entry_at n (admitted (name_of_file file) n) ∷ []
   waiting : waiting_files new ≡ rest
 
@@ -92,14 +93,14 @@ abbrev renamed_files : List File → File → ℕ → List File
 renamed_files files file n =
     map (moved (name_of_file file) (admitted (name_of_file file) n)) (left (Some (name_of_file file)) file.place (name_admitted file.name n) files)
 
-turns : (files : List File) (file : File) (rest : List File) (n : ℕ) → is_uid n ≡ true → Holds files n → waiting_files files ≡ file ∷ rest
-    → Turns files file rest n (renamed_files files file n)
-turns files file rest n is holds first =
+turns : (keywords : List Keyword) (files : List File) (file : File) (rest : List File) (n : ℕ) → is_uid n ≡ true → Holds files n → waiting_files files ≡ file ∷ rest
+    → Turns keywords files file rest n (renamed_files files file n)
+turns keywords files file rest n is holds first =
     let w = first_waits files file rest holds.apart first in
     let from : FileName = name_of_file file in
     let to : FileName = admitted from n in
     let new : File = admitted_file file n in
-    let has = admitted_is_numbered file.name n w.waits is in
+    let has = admitted_is_numbered keywords file.name n w.waits is in
     let below = All-parts (HasUidBelow n) w.front (file ∷ w.back) (subst (λ (l : List File). All (HasUidBelow n) l) w.parts holds.below) in
     let stays : left (Some from) to.place to.name files ≡ files = left_all (Some from) to files (none_there n files to has.uid holds.below) in
     let itself : moved from to file ≡ new = rw (at_itself file) refl in
@@ -107,14 +108,14 @@ turns files file rest n is holds first =
     ap (map (moved from to)) (stays ∙ w.parts) ∙ map-append (moved from to) w.front (file ∷ w.back)
     ∙ rw (others_stay file to w.front w.before, others_stay file to w.back w.behind, itself) refl in
     let none = waiting_has_no_uid file.name w.waits in
-    let g : Gains files (renamed_files files file n) new n =
-    subst (λ (l : List File). Gains files l new n) (sym now)
-    (gains n files w.front w.back new has.uid (subst AreApart now (apart_moved from to files holds.apart)) below.0 (All-tail (HasUidBelow n) file w.back below.1)
-    (sym (unnumbered_made message_in (λ m. m.uid) (λ file uid. refl) w.front w.back file none) ∙ ap messages_in (sym w.parts))
+    let g : Gains keywords files (renamed_files files file n) new n =
+    subst (λ (l : List File). Gains keywords files l new n) (sym now)
+    (gains keywords n files w.front w.back new has.uid (subst AreApart now (apart_moved from to files holds.apart)) below.0 (All-tail (HasUidBelow n) file w.back below.1)
+    (sym (unnumbered_made (message_in keywords) (λ m. m.uid) (λ file uid. refl) w.front w.back file none) ∙ ap (messages_in keywords) (sym w.parts))
     (sym (unnumbered_made entry_in (λ e. e.uid) (λ file uid. refl) w.front w.back file none) ∙ ap (filter_map entry_of) (sym w.parts)) holds) in
     record {
       holds = g.holds;
-      messages = g.messages ∙ ap (λ (f : ℕ). by_uid (messages_in files) ++ (let m : Message = record { uid = n; flags = f; bytes = file.bytes } in m) ∷ []) has.flags;
+      messages = g.messages ∙ ap (λ (f : ℕ). by_uid (messages_in keywords files) ++ (let m : Message = record { uid = n; flags = f; bytes = file.bytes } in m) ∷ []) has.flags;
       entries = g.entries;
       waiting = ap waiting_files now ∙ ap (sorted is_before) (waits_not w.front w.back new has.waits) ∙ w.others;
     }
@@ -122,38 +123,38 @@ turns files file rest n is holds first =
 -- ---- one after the other
 
 -- the first of the waiting files have their UIDs
-pub record First (s s' : Stored) (files : List File) (n k : ℕ) : Type 0 where
+pub record First (keywords : List Keyword) (s s' : Stored) (files : List File) (n k : ℕ) : Type 0 where
   pub holds : Holds s'.files (n + k)
-  pub messages : by_uid (messages_in s'.files) ≡ by_uid (messages_in s.files) ++ numbered n (take k (map waiting_of files))
+  pub messages : by_uid (messages_in keywords s'.files) ≡ by_uid (messages_in keywords s.files) ++ numbered n (take k (map (waiting_of keywords) files))
   pub entries : entries_in s'.files ≡ entries_in s.files ++ entries_from n (take k (map name_of_file files))
   pub waiting : waiting_files s'.files ≡ drop k files
   pub meta : s'.meta ≡ s.meta
   pub is_there : s'.is_there ≡ s.is_there
 
-first_turn : (k n : ℕ) (files : List File) (s : Stored) → waiting_files s.files ≡ files → k ≤ length files → Holds s.files n → 0 < n → n + k < 2 ^ 32
-    → First s (admitted_all (take k (map name_of_file files)) n s) files n k
-first_turn zero n files s waits within holds positive fits = record {
+first_turn : (keywords : List Keyword) (k n : ℕ) (files : List File) (s : Stored) → waiting_files s.files ≡ files → k ≤ length files → Holds s.files n → 0 < n → n + k < 2 ^ 32
+    → First keywords s (admitted_all (take k (map name_of_file files)) n s) files n k
+first_turn keywords zero n files s waits within holds positive fits = record {
   holds = let same : n ≡ n + 0 = omega arith in subst (λ (m : ℕ). Holds s.files m) same holds;
-  messages = sym (append-nil (by_uid (messages_in s.files)));
+  messages = sym (append-nil (by_uid (messages_in keywords s.files)));
   entries = sym (append-nil (entries_in s.files));
   waiting = waits;
   meta = refl;
   is_there = refl;
 }
-first_turn (suc k) n [] s waits within holds positive fits = absurd (omega arith)
-first_turn (suc k) n (file ∷ files) s waits within holds positive fits =
+first_turn keywords (suc k) n [] s waits within holds positive fits = absurd (omega arith)
+first_turn keywords (suc k) n (file ∷ files) s waits within holds positive fits =
     let is : is_uid n ≡ true = grind (arith, nat_tests) in
-    let one = turns s.files file files n is holds waits in
+    let one = turns keywords s.files file files n is holds waits in
     let s1 : Stored = renamed_file (name_of_file file) (admitted (name_of_file file) n) s in
     let s2 : Stored = admitted_all (take k (map name_of_file files)) (n + 1) s1 in
-    let more : First s1 s2 files (n + 1) k = first_turn k (n + 1) files s1 one.waiting (omega arith) one.holds (omega arith) (omega arith) in
+    let more : First keywords s1 s2 files (n + 1) k = first_turn keywords k (n + 1) files s1 one.waiting (omega arith) one.holds (omega arith) (omega arith) in
     let same : n + 1 + k ≡ n + suc k = omega arith in
-    let message : Message = record { uid = n; flags = flags_by_name file.name; bytes = file.bytes } in
+    let message : Message = record { uid = n; flags = flags_by_name keywords file.name; bytes = file.bytes } in
     let entry : Entry = entry_at n (admitted (name_of_file file) n) in
     record {
       holds = subst (λ (m : ℕ). Holds s2.files m) same more.holds;
-      messages = more.messages ∙ ap (λ (ms : List Message). ms ++ numbered (n + 1) (take k (map waiting_of files))) one.messages
-          ∙ append_assoc (by_uid (messages_in s.files)) (message ∷ []) (numbered (n + 1) (take k (map waiting_of files)));
+      messages = more.messages ∙ ap (λ (ms : List Message). ms ++ numbered (n + 1) (take k (map (waiting_of keywords) files))) one.messages
+          ∙ append_assoc (by_uid (messages_in keywords s.files)) (message ∷ []) (numbered (n + 1) (take k (map (waiting_of keywords) files)));
       entries = more.entries ∙ ap (λ (es : List Entry). es ++ entries_from (n + 1) (take k (map name_of_file files))) one.entries
           ∙ append_assoc (entries_in s.files) (entry ∷ []) (entries_from (n + 1) (take k (map name_of_file files)));
       waiting = more.waiting;
@@ -175,7 +176,7 @@ pub none_of_length : (files : List FileName) → length files ≡ 0 → files �
 none_of_length [] none = refl
 none_of_length (file ∷ files) none = absurd (omega arith)
 
-module _ (survey : Survey) (fresh : ℕ) (s : Stored) (surveys : Surveys survey fresh s) (positive : 0 < fresh) (small : fresh < 2 ^ 32)
+module _ (survey : Survey) (fresh : ℕ) (keywords : List Keyword) (s : Stored) (surveys : Surveys survey fresh keywords s) (positive : 0 < fresh) (small : fresh < 2 ^ 32)
     (room : survey.meta.next + length survey.waiting.items < 2 ^ 32) where
   abbrev pub begun : Stored
   begun = set_aside_all survey.waiting.items survey.meta s
@@ -186,58 +187,58 @@ module _ (survey : Survey) (fresh : ℕ) (s : Stored) (surveys : Surveys survey 
   count : length survey.waiting.items ≡ length (waiting_files s.files)
   count = ap length surveys.waiting ∙ length-map (waiting_files s.files) name_of_file
 
-  pub first_of : (k : ℕ) → k ≤ length survey.waiting.items → First begun (admitted_all (take k survey.waiting.items) survey.meta.next begun) (waiting_files s.files) survey.meta.next k
+  pub first_of : (k : ℕ) → k ≤ length survey.waiting.items → First keywords begun (admitted_all (take k survey.waiting.items) survey.meta.next begun) (waiting_files s.files) survey.meta.next k
   first_of k within =
       let bounds = meta_is_positive survey.meta fits in
-      subst (λ (names : List FileName). First begun (admitted_all (take k names) survey.meta.next begun) (waiting_files s.files) survey.meta.next k) (sym surveys.waiting)
-      (first_turn k survey.meta.next (waiting_files s.files) begun refl (omega (arith, count)) (holds_from_survey survey fresh s surveys) bounds.2 (omega arith))
+      subst (λ (names : List FileName). First keywords begun (admitted_all (take k names) survey.meta.next begun) (waiting_files s.files) survey.meta.next k) (sym surveys.waiting)
+      (first_turn keywords k survey.meta.next (waiting_files s.files) begun refl (omega (arith, count)) (holds_from_survey survey fresh keywords s surveys) bounds.2 (omega arith))
 
   -- what the mailbox is once the first have theirs
-  pub admitted_some : (k : ℕ) → k ≤ length survey.waiting.items → near_of fresh (admitted_all (take k survey.waiting.items) survey.meta.next begun) ≡ some_admitted k (near_of fresh s)
+  pub admitted_some : (k : ℕ) → k ≤ length survey.waiting.items → near_of fresh keywords (admitted_all (take k survey.waiting.items) survey.meta.next begun) ≡ some_admitted k (near_of fresh keywords s)
   admitted_some k within =
       let now : Stored = admitted_all (take k survey.waiting.items) survey.meta.next begun in
       let first = first_of k within in
       let meta = raised survey.meta (length survey.waiting.items) in
-      let old : List Message = by_uid (messages_in s.files) in
-      let new : List Message = old ++ numbered survey.meta.next (take k (map waiting_of (waiting_files s.files))) in
-      near_is fresh now meta (ap (meta_in fresh) first.meta ∙ raised_is_read survey.meta (length survey.waiting.items) fits room)
-      ∙ ap (λ (ms : List Message). near_with meta ms (waiting_files now.files)) first.messages
-      ∙ ap (λ (ws : List File). near_with meta new ws) first.waiting
-      ∙ ap (λ (n : ℕ). near_with (raised survey.meta n) new (drop k (waiting_files s.files))) (count ∙ sym (length-map (waiting_files s.files) waiting_of))
+      let old : List Message = by_uid (messages_in keywords s.files) in
+      let new : List Message = old ++ numbered survey.meta.next (take k (map (waiting_of keywords) (waiting_files s.files))) in
+      near_is fresh keywords now meta (ap (meta_in fresh) first.meta ∙ raised_is_read survey.meta (length survey.waiting.items) fits room)
+      ∙ ap (λ (ms : List Message). near_with keywords meta ms (waiting_files now.files)) first.messages
+      ∙ ap (λ (ws : List File). near_with keywords meta new ws) first.waiting
+      ∙ ap (λ (n : ℕ). near_with keywords (raised survey.meta n) new (drop k (waiting_files s.files))) (count ∙ sym (length-map (waiting_files s.files) (waiting_of keywords)))
       ∙ ap (λ (ws : List Waiting). let n : Mailbox = record {
-        store = record { validity = survey.meta.validity; next = survey.meta.next + length (map waiting_of (waiting_files s.files)); messages = new };
+        store = record { validity = survey.meta.validity; next = survey.meta.next + length (map (waiting_of keywords) (waiting_files s.files)); messages = new };
         waiting = ws;
-      } in n) (sym (drop-map waiting_of k (waiting_files s.files)))
-      ∙ sym (ap (some_admitted k) (near_is fresh s survey.meta surveys.meta))
+      } in n) (sym (drop-map (waiting_of keywords) k (waiting_files s.files)))
+      ∙ sym (ap (some_admitted k) (near_is fresh keywords s survey.meta surveys.meta))
 
   pub all : take (length survey.waiting.items) survey.waiting.items ≡ survey.waiting.items
   all = take_all (length survey.waiting.items) survey.waiting.items (omega arith)
 
-  pub admitted_whole : near_of fresh (admitted_all survey.waiting.items survey.meta.next begun) ≡ all_admitted (near_of fresh s)
+  pub admitted_whole : near_of fresh keywords (admitted_all survey.waiting.items survey.meta.next begun) ≡ all_admitted (near_of fresh keywords s)
   admitted_whole =
-      let waiting : List Waiting = (near_of fresh s).waiting in
-      let same : length survey.waiting.items ≡ length waiting = count ∙ sym (length-map (waiting_files s.files) waiting_of) in
-      ap (λ (names : List FileName). near_of fresh (admitted_all names survey.meta.next begun)) (sym all)
+      let waiting : List Waiting = (near_of fresh keywords s).waiting in
+      let same : length survey.waiting.items ≡ length waiting = count ∙ sym (length-map (waiting_files s.files) (waiting_of keywords)) in
+      ap (λ (names : List FileName). near_of fresh keywords (admitted_all names survey.meta.next begun)) (sym all)
       ∙ admitted_some (length survey.waiting.items) (omega arith)
-      ∙ ap (λ (n : ℕ). some_admitted n (near_of fresh s)) same
+      ∙ ap (λ (n : ℕ). some_admitted n (near_of fresh keywords s)) same
 
   pub admitted_surveys : (new : Survey) → Extends (entries_from survey.meta.next survey.waiting.items) [] (raised survey.meta (length survey.waiting.items)) survey new
-      → Surveys new fresh (admitted_all survey.waiting.items survey.meta.next begun)
+      → Surveys new fresh keywords (admitted_all survey.waiting.items survey.meta.next begun)
   admitted_surveys new extends =
-      subst (λ (names : List FileName). Surveys new fresh (admitted_all names survey.meta.next begun)) all
-      (survey_from_holds new fresh now (subst (λ (n : ℕ). Holds now.files n) (ap (λ m. m.next) (sym extends.meta)) first.holds) (first.is_there ∙ surveys.is_there)
+      subst (λ (names : List FileName). Surveys new fresh keywords (admitted_all names survey.meta.next begun)) all
+      (survey_from_holds new fresh keywords now (subst (λ (n : ℕ). Holds now.files n) (ap (λ m. m.next) (sym extends.meta)) first.holds) (first.is_there ∙ surveys.is_there)
       (extends.entries ∙ ap (λ (es : List Entry). es ++ entries_from survey.meta.next survey.waiting.items) surveys.entries
       ∙ ap (λ (names : List FileName). entries_in s.files ++ entries_from survey.meta.next names) (sym all ∙ ap (take (length survey.waiting.items)) surveys.waiting) ∙ sym first.entries)
       (extends.waiting ∙ ap (map name_of_file) (sym (first.waiting ∙ none_left)))
       (ap (meta_in fresh) first.meta ∙ raised_is_read survey.meta (length survey.waiting.items) fits room ∙ ap Some (sym extends.meta))
       (ap is_some first.meta ∙ sym extends.has_meta)
-      (marks_after (some_admitted (length survey.waiting.items) (near_of fresh s)) (near_of fresh now) survey.marks new.marks (admitted_some (length survey.waiting.items) (omega arith)) extends.marks
-      (marks_numbered (length survey.waiting.items) (near_of fresh s) survey.marks surveys.marks)))
+      (marks_after (some_admitted (length survey.waiting.items) (near_of fresh keywords s)) (near_of fresh keywords now) survey.marks new.marks (admitted_some (length survey.waiting.items) (omega arith)) extends.marks
+      (marks_numbered (length survey.waiting.items) (near_of fresh keywords s) survey.marks surveys.marks)))
     where
       now : Stored
       now = admitted_all (take (length survey.waiting.items) survey.waiting.items) survey.meta.next begun
 
-      first : First begun now (waiting_files s.files) survey.meta.next (length survey.waiting.items)
+      first : First keywords begun now (waiting_files s.files) survey.meta.next (length survey.waiting.items)
       first = first_of (length survey.waiting.items) (omega arith)
 
       none_left : drop (length survey.waiting.items) (waiting_files s.files) ≡ []
@@ -245,23 +246,23 @@ module _ (survey : Survey) (fresh : ℕ) (s : Stored) (surveys : Surveys survey 
 
   -- a fault leaves the mailbox as it was, or with the UIDs set aside, and some of the files have theirs
   pub admission_stopped : (s' : Stored) → (s' ≡ s) ⊎ Admitting survey.waiting.items survey.meta s s'
-      → (near_of fresh s' ≡ near_of fresh s) ⊎ ((near_of fresh s' ≡ all_admitted (near_of fresh s)) ⊎ AdmitsSome (near_of fresh s) (near_of fresh s'))
-  admission_stopped s' (inl same) = inl (ap (near_of fresh) same)
+      → (near_of fresh keywords s' ≡ near_of fresh keywords s) ⊎ ((near_of fresh keywords s' ≡ all_admitted (near_of fresh keywords s)) ⊎ AdmitsSome (near_of fresh keywords s) (near_of fresh keywords s'))
+  admission_stopped s' (inl same) = inl (ap (near_of fresh keywords) same)
   admission_stopped s' (inr some) = by_count (cases_lt some.count (length survey.waiting.items))
     where
       by_count : (some.count < length survey.waiting.items) ⊎ (length survey.waiting.items ≤ some.count)
-          → (near_of fresh s' ≡ near_of fresh s) ⊎ ((near_of fresh s' ≡ all_admitted (near_of fresh s)) ⊎ AdmitsSome (near_of fresh s) (near_of fresh s'))
-      by_count (inl less) = inr (inr (record { count = some.count; now = ap (near_of fresh) some.now ∙ admitted_some some.count (omega arith) }))
+          → (near_of fresh keywords s' ≡ near_of fresh keywords s) ⊎ ((near_of fresh keywords s' ≡ all_admitted (near_of fresh keywords s)) ⊎ AdmitsSome (near_of fresh keywords s) (near_of fresh keywords s'))
+      by_count (inl less) = inr (inr (record { count = some.count; now = ap (near_of fresh keywords) some.now ∙ admitted_some some.count (omega arith) }))
       by_count (inr more) =
-          inr (inl (ap (near_of fresh) (some.now ∙ ap (λ (names : List FileName). admitted_all names survey.meta.next begun) (take_all some.count survey.waiting.items more)) ∙ admitted_whole))
+          inr (inl (ap (near_of fresh keywords) (some.now ∙ ap (λ (names : List FileName). admitted_all names survey.meta.next begun) (take_all some.count survey.waiting.items more)) ∙ admitted_whole))
 
   -- nothing waits, and the meta file stays
-  pub nothing_to_admit : survey.waiting.items ≡ [] → near_of fresh s ≡ all_admitted (near_of fresh s)
-  nothing_to_admit none = near_is fresh s survey.meta surveys.meta ∙ by_files (waiting_files s.files) (sym surveys.waiting ∙ none) ∙ sym (ap all_admitted (near_is fresh s survey.meta surveys.meta))
+  pub nothing_to_admit : survey.waiting.items ≡ [] → near_of fresh keywords s ≡ all_admitted (near_of fresh keywords s)
+  nothing_to_admit none = near_is fresh keywords s survey.meta surveys.meta ∙ by_files (waiting_files s.files) (sym surveys.waiting ∙ none) ∙ sym (ap all_admitted (near_is fresh keywords s survey.meta surveys.meta))
     where
-      by_files : (files : List File) → map name_of_file files ≡ [] → near_with survey.meta (by_uid (messages_in s.files)) files ≡ all_admitted (near_with survey.meta (by_uid (messages_in s.files)) files)
+      by_files : (files : List File) → map name_of_file files ≡ [] → near_with keywords survey.meta (by_uid (messages_in keywords s.files)) files ≡ all_admitted (near_with keywords survey.meta (by_uid (messages_in keywords s.files)) files)
       by_files [] none =
           let same : survey.meta.next ≡ survey.meta.next + 0 = omega arith in
-          ap (λ (ms : List Message). near_with survey.meta ms []) (sym (append-nil (by_uid (messages_in s.files))))
-          ∙ ap (λ (n : ℕ). let l : Mailbox = record { store = record { validity = survey.meta.validity; next = n; messages = by_uid (messages_in s.files) ++ [] }; waiting = [] } in l) same
+          ap (λ (ms : List Message). near_with keywords survey.meta ms []) (sym (append-nil (by_uid (messages_in keywords s.files))))
+          ∙ ap (λ (n : ℕ). let l : Mailbox = record { store = record { validity = survey.meta.validity; next = n; messages = by_uid (messages_in keywords s.files) ++ [] }; waiting = [] } in l) same
       by_files (file ∷ files) none = cc

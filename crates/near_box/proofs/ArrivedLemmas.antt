@@ -10,6 +10,7 @@ use Rattle.mailcore.specs.Stores.{Store, Waiting}
 use Rattle.mailcore.specs.declared.side.Side.TheVariants as side
 use Rattle.mailbox.specs.Arrivals.{Arrives}
 use Rattle.visitors.specs.Visitors.{IsForeign, Visitors}
+use Rattle.mailcore.specs.declared.keywords.Keyword.{Keyword}
 use Rattle.maildir.specs.declared.folder.File.{File}
 use Rattle.maildir.specs.Folders.{Stored}
 use Rattle.maildir.specs.Gains.{Adds, Gains, IsArrival}
@@ -37,24 +38,24 @@ waiting_gathered v s s' gains =
     (sorted_permutes is_before (filter waits s'.files)))
 
 -- where its messages are the same
-arrives_beside : (v : Visitors) (fresh : ℕ) (s s' : Stored) → (near_of fresh s').store ≡ (near_of fresh s).store → Gains v s s'
-    → Arrives side.Near v.ours v.alone (near_of fresh s) (near_of fresh s')
-arrives_beside v fresh s s' same gains = record {
+arrives_beside : (v : Visitors) (fresh : ℕ) (keywords : List Keyword) (s s' : Stored) → (near_of fresh keywords s').store ≡ (near_of fresh keywords s).store → Gains v s s'
+    → Arrives side.Near v.ours v.alone (near_of fresh keywords s) (near_of fresh keywords s')
+arrives_beside v fresh keywords s s' same gains = record {
   comes = record {
-    files = map waiting_of gains.more;
-    waiting = map waiting_of (waiting_files s'.files);
-    gathered = subst (λ (l : List Waiting). IsPermutation l (map waiting_of (waiting_files s'.files))) (map-append waiting_of (waiting_files s.files) gains.more)
-        (IsPermutation-map waiting_of (waiting_files s.files ++ gains.more) (waiting_files s'.files) (waiting_gathered v s s' gains));
-    foreign = All-map (λ w. IsForeign v.ours (mark_of w.bytes)) waiting_of gains.more
-        (All-weaker (IsArrival v.ours s.files) (λ y. IsForeign v.ours (mark_of (waiting_of y).bytes)) (λ y a. a.foreign) gains.more gains.arrivals);
-    now = ap (λ (store : Store). let b : Mailbox = record { store = store; waiting = map waiting_of (waiting_files s'.files) } in b) same;
+    files = map (waiting_of keywords) gains.more;
+    waiting = map (waiting_of keywords) (waiting_files s'.files);
+    gathered = subst (λ (l : List Waiting). IsPermutation l (map (waiting_of keywords) (waiting_files s'.files))) (map-append (waiting_of keywords) (waiting_files s.files) gains.more)
+        (IsPermutation-map (waiting_of keywords) (waiting_files s.files ++ gains.more) (waiting_files s'.files) (waiting_gathered v s s' gains));
+    foreign = All-map (λ w. IsForeign v.ours (mark_of w.bytes)) (waiting_of keywords) gains.more
+        (All-weaker (IsArrival v.ours s.files) (λ y. IsForeign v.ours (mark_of (waiting_of keywords y).bytes)) (λ y a. a.foreign) gains.more gains.arrivals);
+    now = ap (λ (store : Store). let b : Mailbox = record { store = store; waiting = map (waiting_of keywords) (waiting_files s'.files) } in b) same;
   };
-  nobody = λ alone. ap (near_of fresh) (gains.nobody alone);
+  nobody = λ alone. ap (near_of fresh keywords) (gains.nobody alone);
 }
 
-pub gained_arrives : (v : Visitors) (fresh : ℕ) (s s' : Stored) → IsMailbox fresh s → Gains v s s' → Arrives side.Near v.ours v.alone (near_of fresh s) (near_of fresh s')
-gained_arrives v fresh s s' is gains = arrives_beside v fresh s s' (store_gained v fresh s s' is gains) gains
+pub gained_arrives : (v : Visitors) (fresh : ℕ) (keywords : List Keyword) (s s' : Stored) → IsMailbox fresh s → Gains v s s' → Arrives side.Near v.ours v.alone (near_of fresh keywords s) (near_of fresh keywords s')
+gained_arrives v fresh keywords s s' is gains = arrives_beside v fresh keywords s s' (store_gained v fresh keywords s s' is gains) gains
 
 -- of any folder, where the files stand behind the others
-pub added_arrives : (v : Visitors) (fresh : ℕ) (s s' : Stored) → Adds v s s' → Arrives side.Near v.ours v.alone (near_of fresh s) (near_of fresh s')
-added_arrives v fresh s s' adds = arrives_beside v fresh s s' (store_added v fresh s s' adds) adds.gains
+pub added_arrives : (v : Visitors) (fresh : ℕ) (keywords : List Keyword) (s s' : Stored) → Adds v s s' → Arrives side.Near v.ours v.alone (near_of fresh keywords s) (near_of fresh keywords s')
+added_arrives v fresh keywords s s' adds = arrives_beside v fresh keywords s s' (store_added v fresh keywords s s' adds) adds.gains

@@ -10,6 +10,7 @@ use Rattle.std.proofs.lemmas.List.Elements.{All-nil, All-cons, All-head, All-tai
 use Rattle.std.proofs.lemmas.List.Sorted.{All-permutation}
 use Rattle.std.proofs.lemmas.List.Kept.{AllPairs-filter}
 use Rattle.std.proofs.lemmas.List.MinMax.{IsStrictWeakOrder-by_number}
+use Rattle.mailcore.specs.declared.keywords.Keyword.{Keyword}
 use Rattle.mailcore.specs.declared.mailbox.Message.{Message}
 use Rattle.maildir.specs.declared.folder.File.{File}
 use Rattle.maildir.specs.declared.folder.FileName.{FileName}
@@ -43,11 +44,11 @@ module _ (uids : List ℕ) where
   abbrev stays_message : Message → Bool
   stays_message m = not (is_one_of uids (Some m.uid))
 
-  same_message : (file : File) (m : Message) → message_of file ≡ Some m → stays_file file ≡ stays_message m
-  same_message file m is = by_case (uid_in file.name) refl
+  same_message : (keywords : List Keyword) (file : File) (m : Message) → message_of keywords file ≡ Some m → stays_file file ≡ stays_message m
+  same_message keywords file m is = by_case (uid_in file.name) refl
     where
       as_message : Option ℕ → Option Message
-      as_message o = option_map (λ uid. let n : Message = record { uid = uid; flags = flags_by_name file.name; bytes = file.bytes } in n) o
+      as_message o = option_map (λ uid. let n : Message = record { uid = uid; flags = flags_by_name keywords file.name; bytes = file.bytes } in n) o
 
       own_uid : (u : ℕ) → as_message (Some u) ≡ Some m → u ≡ m.uid
       own_uid u e = cc
@@ -68,20 +69,20 @@ module _ (uids : List ℕ) where
   waiting-without files = ap (sorted is_before) (filter-filter (λ file. is_waiting file.name) stays_file (λ file. is_waiting file.name) waiting_stays files)
 
   -- the mailbox without the messages
-  pub near-expunged : (fresh : ℕ) (s : Stored) → near_of fresh (without_uids uids s) ≡ on_store (expunged uids) (near_of fresh s)
-  near-expunged fresh s =
-      let messages : by_uid (messages_in (filter stays_file s.files)) ≡ filter stays_message (by_uid (messages_in s.files)) =
-      ap by_uid (filter_map-filtered message_of stays_file stays_message same_message s.files)
-      ∙ sorted_filter (λ a b. ltb a.uid b.uid) (IsStrictWeakOrder-by_number (λ m. m.uid)) stays_message (messages_in s.files) in
+  pub near-expunged : (fresh : ℕ) (keywords : List Keyword) (s : Stored) → near_of fresh keywords (without_uids uids s) ≡ on_store (expunged uids) (near_of fresh keywords s)
+  near-expunged fresh keywords s =
+      let messages : by_uid (messages_in keywords (filter stays_file s.files)) ≡ filter stays_message (by_uid (messages_in keywords s.files)) =
+      ap by_uid (filter_map-filtered (message_of keywords) stays_file stays_message (same_message keywords) s.files)
+      ∙ sorted_filter (λ a b. ltb a.uid b.uid) (IsStrictWeakOrder-by_number (λ m. m.uid)) stays_message (messages_in keywords s.files) in
       rw (messages, waiting-without s.files) refl
 
-pub changes_messages : {T : Type 0} (uids : List ℕ) (fresh : ℕ) (s s' : Stored) (r : Result T NearFault)
-    → Does (without_uids uids) (RemovesSome uids) s s' r → Changes (on_store (expunged uids)) (ExpungesSome uids) (near_of fresh s) (near_of fresh s') r
-changes_messages uids fresh s s' (Ok answer) done = ap (near_of fresh) done ∙ near-expunged uids fresh s
-changes_messages uids fresh s s' (Err fault) (inl same) = inl (ap (near_of fresh) same)
-changes_messages uids fresh s s' (Err fault) (inr (inl done)) = inr (inl (ap (near_of fresh) done ∙ near-expunged uids fresh s))
-changes_messages uids fresh s s' (Err fault) (inr (inr some)) =
-    inr (inr (record { count = some.count; now = ap (near_of fresh) some.now ∙ near-expunged (take some.count uids) fresh s }))
+pub changes_messages : {T : Type 0} (uids : List ℕ) (fresh : ℕ) (keywords : List Keyword) (s s' : Stored) (r : Result T NearFault)
+    → Does (without_uids uids) (RemovesSome uids) s s' r → Changes (on_store (expunged uids)) (ExpungesSome uids) (near_of fresh keywords s) (near_of fresh keywords s') r
+changes_messages uids fresh keywords s s' (Ok answer) done = ap (near_of fresh keywords) done ∙ near-expunged uids fresh keywords s
+changes_messages uids fresh keywords s s' (Err fault) (inl same) = inl (ap (near_of fresh keywords) same)
+changes_messages uids fresh keywords s s' (Err fault) (inr (inl done)) = inr (inl (ap (near_of fresh keywords) done ∙ near-expunged uids fresh keywords s))
+changes_messages uids fresh keywords s s' (Err fault) (inr (inr some)) =
+    inr (inr (record { count = some.count; now = ap (near_of fresh keywords) some.now ∙ near-expunged (take some.count uids) fresh keywords s }))
 
 -- ---- one after another
 
@@ -135,13 +136,13 @@ without_nowhere uid s none =
     ap (λ (files : List File). let t : Stored = record s { files = files } in t)
     (filter_all (stays_file (uid ∷ [])) s.files (All-weaker (λ x. is_one_of (uid ∷ []) (uid_in x.name) ≡ false) (λ x. stays_file (uid ∷ []) x ≡ true) (λ x e. ap not e) s.files none))
 
-module _ (survey : Survey) (fresh : ℕ) (s : Stored) (surveys : Surveys survey fresh s) (i : ℕ) (entry : Entry) (there : slice_get survey.entries.items i ≡ Some entry) where
+module _ (survey : Survey) (fresh : ℕ) (keywords : List Keyword) (s : Stored) (surveys : Surveys survey fresh keywords s) (i : ℕ) (entry : Entry) (there : slice_get survey.entries.items i ≡ Some entry) where
   -- the removal of its file removes the message
   pub removal_is_expunge : removed_file (file_of entry) s ≡ without_uids (entry.uid ∷ []) s
   removal_is_expunge =
       ap (λ (files : List File). let t : Stored = record s { files = files } in t)
       (filters_agree (is_left None entry.place entry.name) (stays_file (entry.uid ∷ [])) s.files
-      (All-weaker (IsItsFile survey fresh s surveys entry) (λ x. is_left None entry.place entry.name x ≡ stays_file (entry.uid ∷ []) x) (λ x its. ap not (sym its)) s.files (entry_stands survey fresh s surveys i entry there)))
+      (All-weaker (IsItsFile survey fresh keywords s surveys entry) (λ x. is_left None entry.place entry.name x ≡ stays_file (entry.uid ∷ []) x) (λ x its. ap not (sym its)) s.files (entry_stands survey fresh keywords s surveys i entry there)))
 
   pub done_removal : (uid : ℕ) (file : FileName) → entry.uid ≡ uid → file ≡ file_of entry → (s' : Stored) → s' ≡ removed_file file s → s' ≡ without_uids (uid ∷ []) s
   done_removal uid file own at s' done =
@@ -180,18 +181,18 @@ module _ (survey : Survey) (fresh : ℕ) (s : Stored) (surveys : Surveys survey 
   -- the survey after the removal
   pub surveys_removed : (new : Survey) (s' : Stored) → s' ≡ removed_file (file_of entry) s
       → new.entries.items ≡ remove survey.entries.items i
-      → new.waiting.items ≡ survey.waiting.items → new.meta ≡ survey.meta → new.has_meta ≡ survey.has_meta → new.marks ≡ survey.marks → Surveys new fresh s'
+      → new.waiting.items ≡ survey.waiting.items → new.meta ≡ survey.meta → new.has_meta ≡ survey.has_meta → new.marks ≡ survey.marks → Surveys new fresh keywords s'
   surveys_removed new s' now items waiting meta has_meta marks =
       let after : Stored = without_uids (entry.uid ∷ []) s in
       let is : s' ≡ after = now ∙ removal_is_expunge in
       let kept : new.entries.items ≡ filter stays_entry survey.entries.items =
       items
       ∙ subst (λ (e : Entry). remove survey.entries.items i ≡ filter (λ x. not (eqb x.uid e.uid)) survey.entries.items) (get_or_from_slice_get survey.entries.items i entry entry there)
-      (remove_by_key (λ e. e.uid) survey.entries.items surveys.rising i entry (entry_within survey fresh s surveys i entry there)) in
+      (remove_by_key (λ e. e.uid) survey.entries.items surveys.rising i entry (entry_within survey fresh keywords s surveys i entry there)) in
       let sorted_so : entries_in after.files ≡ filter stays_entry (entries_in s.files) =
       ap (sorted (λ a b. ltb a.uid b.uid)) (filter_map-filtered entry_of (stays_file (entry.uid ∷ [])) stays_entry same_entry s.files)
       ∙ sorted_filter (λ a b. ltb a.uid b.uid) (IsStrictWeakOrder-by_number (λ e. e.uid)) stays_entry (filter_map entry_of s.files) in
-      subst (λ (t : Stored). Surveys new fresh t) (sym is) (record {
+      subst (λ (t : Stored). Surveys new fresh keywords t) (sym is) (record {
         is_there = surveys.is_there;
         apart = AllPairs-filter (λ a b. name_of_file a ≡ name_of_file b → ⊥) (stays_file (entry.uid ∷ [])) s.files surveys.apart;
         entries = kept ∙ ap (filter stays_entry) surveys.entries ∙ sym sorted_so;
@@ -201,8 +202,8 @@ module _ (survey : Survey) (fresh : ℕ) (s : Stored) (surveys : Surveys survey 
         waiting = waiting ∙ surveys.waiting ∙ ap (map name_of_file) (sym (waiting-without (entry.uid ∷ []) s.files));
         meta = surveys.meta ∙ ap Some (sym meta);
         has_meta = surveys.has_meta ∙ sym has_meta;
-        marks = marks_after (on_store (expunged (entry.uid ∷ [])) (near_of fresh s)) (near_of fresh after) survey.marks new.marks (near-expunged (entry.uid ∷ []) fresh s) marks
-            (marks_expunged (entry.uid ∷ []) (near_of fresh s).store survey.marks surveys.marks);
+        marks = marks_after (on_store (expunged (entry.uid ∷ [])) (near_of fresh keywords s)) (near_of fresh keywords after) survey.marks new.marks (near-expunged (entry.uid ∷ []) fresh keywords s) marks
+            (marks_expunged (entry.uid ∷ []) (near_of fresh keywords s).store survey.marks surveys.marks);
       })
 
 -- ---- nothing is removed
@@ -238,9 +239,9 @@ entries_stay uids (x ∷ files) stay =
     by_uid None stays more = more
     by_uid (Some uid) stays more = All-cons (λ e. not (list_any (λ v. eqb e.uid v) uids) ≡ true) (record { uid = uid; place = x.place; name = x.name }) (filter_map entry_of files) stays more
 
-pub none_named : (survey : Survey) (fresh : ℕ) (s : Stored) → Surveys survey fresh s → (uids : List ℕ) (k uid : ℕ) → k < length uids → uid ≡ get_or uids k uid → without_uids uids s ≡ s
+pub none_named : (survey : Survey) (fresh : ℕ) (keywords : List Keyword) (s : Stored) → Surveys survey fresh keywords s → (uids : List ℕ) (k uid : ℕ) → k < length uids → uid ≡ get_or uids k uid → without_uids uids s ≡ s
     → All (λ e. e.uid ≡ uid → ⊥) survey.entries.items
-none_named survey fresh s surveys uids k uid within is same =
+none_named survey fresh keywords s surveys uids k uid within is same =
     All-weaker (λ e. not (list_any (λ v. eqb e.uid v) uids) ≡ true) (λ e. e.uid ≡ uid → ⊥)
     (λ e stays own. false≢true (sym (ap (λ (u : ℕ). not (list_any (λ v. eqb u v) uids)) own ∙ ap not (named_at uids k uid within is)) ∙ stays))
     survey.entries.items

@@ -3,6 +3,7 @@ use Rattle.std.proofs.Common.{◌≡◌, ℕ, ◌<◌, ◌⊎◌, inl, inr, true
 use Rattle.std.specs.Prelude.{unwrap_or, Result, Ok, Err}
 use Rattle.std.proofs.lemmas.Bool.{cases_order}
 use Rattle.std.proofs.lemmas.List.Sorted.{IsStrictWeakOrder-by_number, IsPermutation-sym}
+use Rattle.mailcore.specs.declared.keywords.Keyword.{Keyword}
 use Rattle.mailcore.specs.declared.mailbox.Message.{Message}
 use Rattle.mailcore.specs.Stores.{IsStore}
 use Rattle.maildir.specs.declared.meta.Meta.{Meta}
@@ -10,6 +11,7 @@ use Rattle.maildir.specs.Folders.{Stored, AreApart, with_copy}
 use Rattle.near_box.specs.declared.near_fault.NearFault.{NearFault}
 use Rattle.near_box.specs.Mailboxes.{messages_in, by_uid, meta_in, first_meta, near_of, IsMailbox}
 use Rattle.near_box.specs.NearEffects.{Does}
+use Rattle.near_box.proofs.OpenLemmas.{apart_of_messages, below_of_messages, messages_apart, messages_are_below}
 use Rattle.near_box.proofs.PutLemmas.{All-sorted, All-from_sorted}
 use Rattle.maildir.proofs.PermutedLemmas.{pairs_permuted}
 use Rattle.near_box.proofs.SortingLemmas.{sorted_permutes, sorted_rises_by}
@@ -23,19 +25,19 @@ ordered a b other = elim (cases_order a.uid b.uid) [
 
 -- ---- the store of a mailbox
 
-pub mailbox_store : (fresh : ℕ) (s : Stored) → IsMailbox fresh s → IsStore (near_of fresh s).store
-mailbox_store fresh s is = record {
+pub mailbox_store : (fresh : ℕ) (keywords : List Keyword) (s : Stored) → IsMailbox fresh s → IsStore (near_of fresh keywords s).store
+mailbox_store fresh keywords s is = record {
   rising = λ i j d less within. ltb-true (get_or messages i d).uid (get_or messages j d).uid
-      (sorted_rises_by (λ a b. ltb a.uid b.uid) (IsStrictWeakOrder-by_number (λ m. m.uid)) (messages_in s.files)
-      (λ i j d less within. ordered (get_or (messages_in s.files) i d) (get_or (messages_in s.files) j d) (is.once i j d less within)) i j d less within);
-  below = All-sorted (λ a b. ltb a.uid b.uid) (λ m. m.uid < (near_of fresh s).store.next) (messages_in s.files)
-      (subst (λ (n : ℕ). All (λ m. m.uid < n) (messages_in s.files)) (sym next) is.meta.below);
+      (sorted_rises_by (λ a b. ltb a.uid b.uid) (IsStrictWeakOrder-by_number (λ m. m.uid)) (messages_in keywords s.files)
+      (λ i j d less within. ordered (get_or (messages_in keywords s.files) i d) (get_or (messages_in keywords s.files) j d) (messages_apart keywords s.files is.once i j d less within)) i j d less within);
+  below = All-sorted (λ a b. ltb a.uid b.uid) (λ m. m.uid < (near_of fresh keywords s).store.next) (messages_in keywords s.files)
+      (subst (λ (n : ℕ). All (λ m. m.uid < n) (messages_in keywords s.files)) (sym next) (messages_are_below keywords s.files is.meta.meta.next is.meta.below));
 }
   where
     messages : List Message
-    messages = by_uid (messages_in s.files)
+    messages = by_uid (messages_in keywords s.files)
 
-    next : (near_of fresh s).store.next ≡ is.meta.meta.next
+    next : (near_of fresh keywords s).store.next ≡ is.meta.meta.next
     next = ap (λ (o : Option Meta). (unwrap_or o (first_meta fresh)).next) is.meta.is
 
 -- ---- and back
@@ -43,25 +45,25 @@ mailbox_store fresh s is = record {
 turned : (a b : Message) → (a.uid ≡ b.uid → ⊥) → b.uid ≡ a.uid → ⊥
 turned a b other same = other (sym same)
 
-pub store_mailbox : (fresh : ℕ) (s : Stored) (meta : Meta) → s.is_there ≡ true → AreApart s.files → meta_in fresh s.meta ≡ Some meta → IsStore (near_of fresh s).store → IsMailbox fresh s
-store_mailbox fresh s meta is_there apart read store = record {
+pub store_mailbox : (fresh : ℕ) (keywords : List Keyword) (s : Stored) (meta : Meta) → s.is_there ≡ true → AreApart s.files → meta_in fresh s.meta ≡ Some meta → IsStore (near_of fresh keywords s).store → IsMailbox fresh s
+store_mailbox fresh keywords s meta is_there apart read store = record {
   is_there = is_there;
   apart = apart;
-  once = pairs_permuted (λ a b. a.uid ≡ b.uid → ⊥) turned messages (messages_in s.files)
-      (IsPermutation-sym (messages_in s.files) messages (sorted_permutes (λ a b. ltb a.uid b.uid) (messages_in s.files)))
-      (λ i j d less within same. let up = store.rising i j d less within in omega arith);
+  once = apart_of_messages keywords s.files (pairs_permuted (λ a b. a.uid ≡ b.uid → ⊥) turned messages (messages_in keywords s.files)
+      (IsPermutation-sym (messages_in keywords s.files) messages (sorted_permutes (λ a b. ltb a.uid b.uid) (messages_in keywords s.files)))
+      (λ i j d less within same. let up = store.rising i j d less within in omega arith));
   meta = record {
     meta = meta;
     is = read;
-    below = All-from_sorted (λ a b. ltb a.uid b.uid) (λ m. m.uid < meta.next) (messages_in s.files)
-        (subst (λ (n : ℕ). All (λ m. m.uid < n) messages) next store.below);
+    below = below_of_messages keywords s.files meta.next (All-from_sorted (λ a b. ltb a.uid b.uid) (λ m. m.uid < meta.next) (messages_in keywords s.files)
+        (subst (λ (n : ℕ). All (λ m. m.uid < n) messages) next store.below));
   };
 }
   where
     messages : List Message
-    messages = by_uid (messages_in s.files)
+    messages = by_uid (messages_in keywords s.files)
 
-    next : (near_of fresh s).store.next ≡ meta.next
+    next : (near_of fresh keywords s).store.next ≡ meta.next
     next = ap (λ (o : Option Meta). (unwrap_or o (first_meta fresh)).next) read
 
 -- ---- what a call leaves

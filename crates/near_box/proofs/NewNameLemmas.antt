@@ -7,7 +7,8 @@ use Rattle.std.proofs.lemmas.Bool.{and_parts, false≢true, ne_eqb}
 use Rattle.std.proofs.lemmas.Fmt.{decimal_is_IsNumeral}
 use Rattle.std.proofs.lemmas.List.Folds.{list_all-append}
 use Rattle.std.proofs.lemmas.List.Elements.{All-head, All-tail}
-use Rattle.mailcore.specs.FlagSet.{FLAGS}
+use Rattle.mailcore.specs.KeywordNames.{kept}
+use Rattle.mailcore.specs.declared.keywords.Keyword.{Keyword}
 use Rattle.maildir.specs.Letters.{letters_with, flags_in}
 use Rattle.maildir.specs.Names.{NameParts, has_letters, is_base, is_base_byte, is_uid, name_of, name_text, uid_in, is_waiting, lacks_uid}
 use Rattle.maildir.specs.FlaggedNames.{letters_in, flags_by_name}
@@ -57,41 +58,41 @@ copy_is_base validity uid small fits =
 -- ---- what the names say
 
 -- a name with this UID and these flags
-pub record IsNumbered (name : List ℕ) (number set : ℕ) : Type 0 where
+pub record IsNumbered (keywords : List Keyword) (name : List ℕ) (number set : ℕ) : Type 0 where
   pub uid : uid_in name ≡ Some number
   pub waits : is_waiting name ≡ false
-  pub flags : flags_by_name name ≡ set
+  pub flags : flags_by_name keywords name ≡ set
 
 -- a name that is put together of parts
-numbered_name : (base : List ℕ) (uid : ℕ) (letters : Option (List ℕ)) → is_base base ≡ true → is_uid uid ≡ true → has_letters letters ≡ true
-    → IsNumbered (name_text (record { base = base; uid = Some uid; letters = letters })) uid (flags_in (unwrap_or letters []))
-numbered_name base uid letters is number are =
+numbered_name : (keywords : List Keyword) (base : List ℕ) (uid : ℕ) (letters : Option (List ℕ)) → is_base base ≡ true → is_uid uid ≡ true → has_letters letters ≡ true
+    → IsNumbered keywords (name_text (record { base = base; uid = Some uid; letters = letters })) uid (kept keywords (flags_in (unwrap_or letters [])))
+numbered_name keywords base uid letters is number are =
     let parts : NameParts = record { base = base; uid = Some uid; letters = letters } in
     let read : name_of (name_text parts) ≡ Some parts = spelled_is_read parts (name_text parts) (record { parts = refl; base = is; uid = number; letters = are }) in
     record {
       uid = ap (λ (r : Option NameParts). option_and_then (λ parts. parts.uid) r) read;
       waits = ap lacks_uid read;
-      flags = ap (λ (r : Option NameParts). unwrap_or (option_map (λ parts. flags_in (letters_in parts)) r) (flags_in [])) read;
+      flags = ap (λ (r : Option NameParts). kept keywords (flags_in (unwrap_or (option_map letters_in r) []))) read;
     }
 
-pub copy_is_numbered : (validity uid flags : ℕ) → validity < 2 ^ 64 → is_uid uid ≡ true → flags < 2 ^ FLAGS → IsNumbered (copy_name validity uid flags) uid flags
-copy_is_numbered validity uid flags small is fits =
-    subst (λ (f : ℕ). IsNumbered (copy_name validity uid flags) uid f) (flags_in-with [] flags fits)
-    (numbered_name (copy_base validity uid) uid (Some (letters_with [] flags)) (copy_is_base validity uid small (uid_is_small uid is)) is (letters_with-rise [] flags))
+pub copy_is_numbered : (keywords : List Keyword) (validity uid flags : ℕ) → validity < 2 ^ 64 → is_uid uid ≡ true → IsNumbered keywords (copy_name keywords validity uid flags) uid (kept keywords flags)
+copy_is_numbered keywords validity uid flags small is =
+    subst (λ (f : ℕ). IsNumbered keywords (copy_name keywords validity uid flags) uid f) (flags_in-with keywords [] flags)
+    (numbered_name keywords (copy_base validity uid) uid (Some (letters_with keywords [] flags)) (copy_is_base validity uid small (uid_is_small uid is)) is (letters_with-rise keywords [] flags))
 
-pub admitted_is_numbered : (name : List ℕ) (uid : ℕ) → is_waiting name ≡ true → is_uid uid ≡ true → IsNumbered (name_admitted name uid) uid (flags_by_name name)
-admitted_is_numbered name uid waits is = by_name (name_of name) refl waits
+pub admitted_is_numbered : (keywords : List Keyword) (name : List ℕ) (uid : ℕ) → is_waiting name ≡ true → is_uid uid ≡ true → IsNumbered keywords (name_admitted name uid) uid (flags_by_name keywords name)
+admitted_is_numbered keywords name uid waits is = by_name (name_of name) refl waits
   where
-    by_name : (r : Option NameParts) → name_of name ≡ r → lacks_uid r ≡ true → IsNumbered (name_admitted name uid) uid (flags_by_name name)
+    by_name : (r : Option NameParts) → name_of name ≡ r → lacks_uid r ≡ true → IsNumbered keywords (name_admitted name uid) uid (flags_by_name keywords name)
     by_name None read waits = absurd (false≢true waits)
     by_name (Some parts) read waits =
         let spelled = name_is_spelled parts name read in
         let now : name_text (record { base = parts.base; uid = Some uid; letters = parts.letters }) ≡ name_admitted name uid =
         ap (λ (r : Option NameParts). option_map_or (λ parts. name_text (record { base = parts.base; uid = Some uid; letters = parts.letters })) r name) (sym read) in
-        let flags : flags_in (unwrap_or parts.letters []) ≡ flags_by_name name =
-        ap (λ (r : Option NameParts). unwrap_or (option_map (λ parts. flags_in (letters_in parts)) r) (flags_in [])) (sym read) in
-        subst (λ (n : List ℕ). IsNumbered n uid (flags_by_name name)) now
-        (subst (λ (f : ℕ). IsNumbered (name_text (record { base = parts.base; uid = Some uid; letters = parts.letters })) uid f) flags (numbered_name parts.base uid parts.letters spelled.base is spelled.letters))
+        let flags : kept keywords (flags_in (unwrap_or parts.letters [])) ≡ flags_by_name keywords name =
+        ap (λ (r : Option NameParts). kept keywords (flags_in (unwrap_or (option_map letters_in r) []))) (sym read) in
+        subst (λ (n : List ℕ). IsNumbered keywords n uid (flags_by_name keywords name)) now
+        (subst (λ (f : ℕ). IsNumbered keywords (name_text (record { base = parts.base; uid = Some uid; letters = parts.letters })) uid f) flags (numbered_name keywords parts.base uid parts.letters spelled.base is spelled.letters))
 
 -- a waiting file has no UID
 pub waiting_has_no_uid : (name : List ℕ) → is_waiting name ≡ true → uid_in name ≡ None

@@ -7,6 +7,7 @@ use Rattle.std.proofs.lemmas.Bool.{false_from_ne_true, lt-ltb, le-ltb, or_right}
 use Rattle.std.proofs.lemmas.Bool.Decides.{nat_tests}
 use Rattle.std.proofs.lemmas.List.Elements.{All-nil, All-cons, All-head, All-tail, All-append, All-weaker, filter_map-append, filter-append}
 use Rattle.std.proofs.lemmas.List.Quantifiers.{all_pairs_push}
+use Rattle.mailcore.specs.declared.keywords.Keyword.{Keyword}
 use Rattle.mailcore.specs.declared.mailbox.Message.{Message}
 use Rattle.maildir.specs.declared.folder.File.{File}
 use Rattle.maildir.specs.declared.folder.FileName.{FileName}
@@ -98,8 +99,8 @@ module _ {T : Type 0} (make : File → ℕ → T) (key : T → ℕ) (is_key : (f
       ∙ ap (λ (u : Option ℕ). filter_map made front ++ cons_option (option_map (make file) u) (filter_map made back)) none
       ∙ sym (filter_map-append made front back)
 
-abbrev pub message_in : File → ℕ → Message
-message_in file uid = record { uid = uid; flags = flags_by_name file.name; bytes = file.bytes }
+abbrev pub message_in : (keywords : List Keyword) → File → ℕ → Message
+message_in keywords file uid = record { uid = uid; flags = flags_by_name keywords file.name; bytes = file.bytes }
 
 abbrev pub entry_in : File → ℕ → Entry
 entry_in file uid = entry_at uid (name_of_file file)
@@ -131,16 +132,16 @@ pub record Holds (files : List File) (next : ℕ) : Type 0 where
   pub rising : AllPairs (λ a b. a.uid < b.uid) (entries_in files)
 
 -- a file with the next UID is there too
-pub record Gains (old new : List File) (file : File) (number : ℕ) : Type 0 where
+pub record Gains (keywords : List Keyword) (old new : List File) (file : File) (number : ℕ) : Type 0 where
   pub holds : Holds new (number + 1)
-  pub messages : by_uid (messages_in new) ≡ by_uid (messages_in old) ++ message_in file number ∷ []
+  pub messages : by_uid (messages_in keywords new) ≡ by_uid (messages_in keywords old) ++ message_in keywords file number ∷ []
   pub entries : entries_in new ≡ entries_in old ++ entry_in file number ∷ []
 
 -- where the rest of the files are the ones of messages before
-pub gains : (n : ℕ) (old front back : List File) (file : File) → uid_in file.name ≡ Some n → AreApart (front ++ file ∷ back) → UidsBelow n front → UidsBelow n back
-    → messages_in (front ++ back) ≡ messages_in old → filter_map entry_of (front ++ back) ≡ filter_map entry_of old → Holds old n → Gains old (front ++ file ∷ back) file n
-gains n old front back file has apart before after same_messages same_entries holds =
-    let messages = numbered_made message_in (λ m. m.uid) (λ file uid. refl) n front back file has before after ∙ ap (λ (ms : List Message). by_uid ms ++ message_in file n ∷ []) same_messages in
+pub gains : (keywords : List Keyword) (n : ℕ) (old front back : List File) (file : File) → uid_in file.name ≡ Some n → AreApart (front ++ file ∷ back) → UidsBelow n front → UidsBelow n back
+    → messages_in keywords (front ++ back) ≡ messages_in keywords old → filter_map entry_of (front ++ back) ≡ filter_map entry_of old → Holds old n → Gains keywords old (front ++ file ∷ back) file n
+gains keywords n old front back file has apart before after same_messages same_entries holds =
+    let messages = numbered_made (message_in keywords) (λ m. m.uid) (λ file uid. refl) n front back file has before after ∙ ap (λ (ms : List Message). by_uid ms ++ message_in keywords file n ∷ []) same_messages in
     let entries : entries_in (front ++ file ∷ back) ≡ entries_in old ++ entry_in file n ∷ [] =
     numbered_made entry_in (λ e. e.uid) (λ file uid. refl) n front back file has before after
     ∙ ap (λ (es : List Entry). sorted (λ a b. ltb a.uid b.uid) es ++ entry_in file n ∷ []) same_entries in
@@ -163,8 +164,8 @@ gains n old front back file has apart before after same_messages same_entries ho
 
 -- ---- surveys
 
-pub holds_from_survey : (survey : Survey) (fresh : ℕ) (s : Stored) → Surveys survey fresh s → Holds s.files survey.meta.next
-holds_from_survey survey fresh s surveys = record {
+pub holds_from_survey : (survey : Survey) (fresh : ℕ) (keywords : List Keyword) (s : Stored) → Surveys survey fresh keywords s → Holds s.files survey.meta.next
+holds_from_survey survey fresh keywords s surveys = record {
   apart = surveys.apart;
   below = below_made entry_in (λ e. e.uid) (λ file uid. refl) survey.meta.next s.files
       (All-from_sorted (λ (a b : Entry). ltb a.uid b.uid) (λ (e : Entry). e.uid < survey.meta.next) (filter_map entry_of s.files)
@@ -172,10 +173,10 @@ holds_from_survey survey fresh s surveys = record {
   rising = subst (λ (es : List Entry). AllPairs (λ a b. a.uid < b.uid) es) surveys.entries surveys.rising;
 }
 
-pub survey_from_holds : (survey : Survey) (fresh : ℕ) (s : Stored) → Holds s.files survey.meta.next → s.is_there ≡ true → survey.entries.items ≡ entries_in s.files
+pub survey_from_holds : (survey : Survey) (fresh : ℕ) (keywords : List Keyword) (s : Stored) → Holds s.files survey.meta.next → s.is_there ≡ true → survey.entries.items ≡ entries_in s.files
     → survey.waiting.items ≡ map name_of_file (waiting_files s.files) → meta_in fresh s.meta ≡ Some survey.meta → is_some s.meta ≡ survey.has_meta
-    → AreMarksOf (near_of fresh s).store survey.marks → Surveys survey fresh s
-survey_from_holds survey fresh s holds is_there entries waiting meta has_meta marks = record {
+    → AreMarksOf (near_of fresh keywords s).store survey.marks → Surveys survey fresh keywords s
+survey_from_holds survey fresh keywords s holds is_there entries waiting meta has_meta marks = record {
   is_there = is_there;
   apart = holds.apart;
   entries = entries;
@@ -189,20 +190,21 @@ survey_from_holds survey fresh s holds is_there entries waiting meta has_meta ma
   marks = marks;
 }
 
-pub surveys_same : (v v' : Survey) (n n' : ℕ) (s s' : Stored) → v ≡ v' → n ≡ n' → s ≡ s' → Surveys v' n' s' → Surveys v n s
-surveys_same v v' n n' s s' a b c surveys =
-    subst (λ (x : Survey). Surveys x n s) (sym a) (subst (λ (x : ℕ). Surveys v' x s) (sym b) (subst (λ (x : Stored). Surveys v' n' x) (sym c) surveys))
+pub surveys_same : (k k' : List Keyword) (v v' : Survey) (n n' : ℕ) (s s' : Stored) → k ≡ k' → v ≡ v' → n ≡ n' → s ≡ s' → Surveys v' n' k' s' → Surveys v n k s
+surveys_same k k' v v' n n' s s' words a b c surveys =
+    subst (λ (x : List Keyword). Surveys v n x s) (sym words)
+    (subst (λ (x : Survey). Surveys x n k' s) (sym a) (subst (λ (x : ℕ). Surveys v' x k' s) (sym b) (subst (λ (x : Stored). Surveys v' n' k' x) (sym c) surveys)))
 
 -- ---- the mailbox by its parts
 
-abbrev pub near_with : Meta → List Message → List File → Mailbox
-near_with meta messages waiting = record {
+abbrev pub near_with : (keywords : List Keyword) → Meta → List Message → List File → Mailbox
+near_with keywords meta messages waiting = record {
   store = record { validity = meta.validity; next = meta.next; messages = messages };
-  waiting = map waiting_of waiting;
+  waiting = map (waiting_of keywords) waiting;
 }
 
-pub near_is : (fresh : ℕ) (s : Stored) (meta : Meta) → meta_in fresh s.meta ≡ Some meta → near_of fresh s ≡ near_with meta (by_uid (messages_in s.files)) (waiting_files s.files)
-near_is fresh s meta e = ap (λ (m : Option Meta). let n : Mailbox = record { store = store_of (unwrap_or m (first_meta fresh)) s.files; waiting = map waiting_of (waiting_files s.files) } in n) e
+pub near_is : (fresh : ℕ) (keywords : List Keyword) (s : Stored) (meta : Meta) → meta_in fresh s.meta ≡ Some meta → near_of fresh keywords s ≡ near_with keywords meta (by_uid (messages_in keywords s.files)) (waiting_files s.files)
+near_is fresh keywords s meta e = ap (λ (m : Option Meta). let n : Mailbox = record { store = store_of keywords (unwrap_or m (first_meta fresh)) s.files; waiting = map (waiting_of keywords) (waiting_files s.files) } in n) e
 
 -- a file that does not wait
 pub waits_not : (front back : List File) (file : File) → is_waiting file.name ≡ false

@@ -1,5 +1,5 @@
 -- What the messages of a folder have in common with their entries.
-use Rattle.std.proofs.Common.{◌≡◌, ℕ, zero, suc, ◌+◌, ◌-◌, ◌<◌, ◌≤◌, Bool, true, false, ltb, ltb-true, ltb-false, List, [], ◌∷◌, length, get_or, map, Option, None, Some, refl, sym, ap, subst, ◌∙◌, arith}
+use Rattle.std.proofs.Common.{◌≡◌, ℕ, zero, suc, ◌+◌, ◌-◌, ◌<◌, ◌≤◌, Bool, true, false, ltb, ltb-true, ltb-false, List, [], ◌∷◌, length, get_or, map, All, Option, None, Some, refl, sym, ap, subst, ◌∙◌, arith}
 use Rattle.std.specs.Prelude.{AllPairs, MatchBool}
 use Rattle.std.specs.List.{filter_map, cons_option, AllAdjacentBelow, IsAllAdjacentAnswer}
 use Rattle.std.specs.Option.{option_map}
@@ -9,12 +9,13 @@ use Rattle.std.specs.Cmp.{nat_cmp_total}
 use Rattle.std.proofs.lemmas.List.{get_or-map, length-map}
 use Rattle.std.proofs.lemmas.List.Sorted.{ranks_by, sorted_far}
 use Rattle.std.proofs.lemmas.Map.Keys.{ge_from_not_lt}
+use Rattle.mailcore.specs.declared.keywords.Keyword.{Keyword}
 use Rattle.mailcore.specs.declared.mailbox.Message.{Message}
 use Rattle.maildir.specs.declared.folder.File.{File}
 use Rattle.maildir.specs.declared.folder.FileName.{FileName}
 use Rattle.near_box.specs.declared.survey.Entry.{Entry}
 use Rattle.maildir.specs.Folders.{name_of_file}
-use Rattle.near_box.specs.Mailboxes.{AreDistinct, messages_in}
+use Rattle.near_box.specs.Mailboxes.{AreDistinct, messages_in, uids_in}
 use Rattle.maildir.specs.Names.{uid_in}
 use Rattle.maildir.specs.FlaggedNames.{flags_by_name}
 use Rattle.near_box.specs.SurveyParts.{named_entry}
@@ -39,26 +40,73 @@ module _ {A : Type 0} (key : A → ℕ) where
       let at_j : get_or (map key xs) j 0 ≡ key (get_or xs j d) = get_or-map key xs j d 0 below in
       once i j 0 less (omega (arith, size, below)) (at_i ∙ same ∙ sym at_j)
 
--- messages and entries have the same UIDs
-pub same_uids : (files : List File) → map (λ m. m.uid) (messages_in files) ≡ map (λ e. e.uid) (filter_map entry_of files)
-same_uids [] = refl
-same_uids (file ∷ files) = by_uid (uid_in file.name) (same_uids files)
+-- messages and entries have the UIDs of the files
+pub uids_of_entries : (files : List File) → map (λ e. e.uid) (filter_map entry_of files) ≡ uids_in files
+uids_of_entries [] = refl
+uids_of_entries (file ∷ files) = by_uid (uid_in file.name) (uids_of_entries files)
   where
-    by_uid : (uid : Option ℕ) → map (λ (m : Message). m.uid) (messages_in files) ≡ map (λ (e : Entry). e.uid) (filter_map entry_of files)
-        → map (λ (m : Message). m.uid) (cons_option (option_map (λ u. let m : Message = record { uid = u; flags = flags_by_name file.name; bytes = file.bytes } in m) uid) (messages_in files))
-        ≡ map (λ (e : Entry). e.uid) (cons_option (option_map (λ u. let e : Entry = record { uid = u; place = file.place; name = file.name } in e) uid) (filter_map entry_of files))
+    by_uid : (uid : Option ℕ) → map (λ (e : Entry). e.uid) (filter_map entry_of files) ≡ uids_in files
+        → map (λ (e : Entry). e.uid) (cons_option (option_map (λ u. let e : Entry = record { uid = u; place = file.place; name = file.name } in e) uid) (filter_map entry_of files))
+        ≡ cons_option uid (uids_in files)
     by_uid None more = more
     by_uid (Some uid) more = ap (λ (l : List ℕ). uid ∷ l) more
 
-pub entries_apart : (files : List File) → AreDistinct (messages_in files) → AllPairs (λ a b. a.uid ≡ b.uid → ⊥) (filter_map entry_of files)
-entries_apart files once =
-    pairs_of_keys (λ (e : Entry). e.uid) (filter_map entry_of files)
-    (subst (AllPairs (λ (m n : ℕ). m ≡ n → ⊥)) (same_uids files) (keys_of_pairs (λ (m : Message). m.uid) (messages_in files) once))
+pub uids_of_messages : (keywords : List Keyword) (files : List File) → map (λ m. m.uid) (messages_in keywords files) ≡ uids_in files
+uids_of_messages keywords [] = refl
+uids_of_messages keywords (file ∷ files) = by_uid (uid_in file.name) (uids_of_messages keywords files)
+  where
+    by_uid : (uid : Option ℕ) → map (λ (m : Message). m.uid) (messages_in keywords files) ≡ uids_in files
+        → map (λ (m : Message). m.uid) (cons_option (option_map (λ u. let m : Message = record { uid = u; flags = flags_by_name keywords file.name; bytes = file.bytes } in m) uid) (messages_in keywords files))
+        ≡ cons_option uid (uids_in files)
+    by_uid None more = more
+    by_uid (Some uid) more = ap (λ (l : List ℕ). uid ∷ l) more
 
-pub messages_apart : (files : List File) → AllPairs (λ a b. a.uid ≡ b.uid → ⊥) (filter_map entry_of files) → AreDistinct (messages_in files)
-messages_apart files once =
-    pairs_of_keys (λ (m : Message). m.uid) (messages_in files)
-    (subst (AllPairs (λ (m n : ℕ). m ≡ n → ⊥)) (sym (same_uids files)) (keys_of_pairs (λ (e : Entry). e.uid) (filter_map entry_of files) once))
+pub entries_apart : (files : List File) → AreDistinct (uids_in files) → AllPairs (λ a b. a.uid ≡ b.uid → ⊥) (filter_map entry_of files)
+entries_apart files once =
+    pairs_of_keys (λ (e : Entry). e.uid) (filter_map entry_of files) (subst (AllPairs (λ (m n : ℕ). m ≡ n → ⊥)) (sym (uids_of_entries files)) once)
+
+pub uids_apart : (files : List File) → AllPairs (λ a b. a.uid ≡ b.uid → ⊥) (filter_map entry_of files) → AreDistinct (uids_in files)
+uids_apart files once =
+    subst (AllPairs (λ (m n : ℕ). m ≡ n → ⊥)) (uids_of_entries files) (keys_of_pairs (λ (e : Entry). e.uid) (filter_map entry_of files) once)
+
+pub messages_apart : (keywords : List Keyword) (files : List File) → AreDistinct (uids_in files) → AllPairs (λ a b. a.uid ≡ b.uid → ⊥) (messages_in keywords files)
+messages_apart keywords files once =
+    pairs_of_keys (λ (m : Message). m.uid) (messages_in keywords files) (subst (AllPairs (λ (m n : ℕ). m ≡ n → ⊥)) (sym (uids_of_messages keywords files)) once)
+
+pub apart_of_messages : (keywords : List Keyword) (files : List File) → AllPairs (λ a b. a.uid ≡ b.uid → ⊥) (messages_in keywords files) → AreDistinct (uids_in files)
+apart_of_messages keywords files once =
+    subst (AllPairs (λ (m n : ℕ). m ≡ n → ⊥)) (uids_of_messages keywords files) (keys_of_pairs (λ (m : Message). m.uid) (messages_in keywords files) once)
+
+-- ---- UIDs below the next one
+
+module _ {A : Type 0} (key : A → ℕ) (next : ℕ) where
+  keys_below : (xs : List A) → All (λ x. key x < next) xs → All (λ n. n < next) (map key xs)
+  keys_below [] below k d within = absurd (omega (arith, within))
+  keys_below (x ∷ xs) below k d within =
+      let size : length (map key (x ∷ xs)) ≡ length (x ∷ xs) = length-map (x ∷ xs) key in
+      let at : get_or (map key (x ∷ xs)) k d ≡ key (get_or (x ∷ xs) k x) = get_or-map key (x ∷ xs) k x d (omega (arith, size, within)) in
+      subst (λ (n : ℕ). n < next) (sym at) (below k x (omega (arith, size, within)))
+
+  below_keys : (xs : List A) → All (λ n. n < next) (map key xs) → All (λ x. key x < next) xs
+  below_keys xs below k d within =
+      let size : length (map key xs) ≡ length xs = length-map xs key in
+      subst (λ (n : ℕ). n < next) (get_or-map key xs k d 0 within) (below k 0 (omega (arith, size, within)))
+
+pub entries_are_below : (files : List File) (next : ℕ) → All (λ uid. uid < next) (uids_in files) → All (λ e. e.uid < next) (filter_map entry_of files)
+entries_are_below files next below =
+    below_keys (λ (e : Entry). e.uid) next (filter_map entry_of files) (subst (All (λ (n : ℕ). n < next)) (sym (uids_of_entries files)) below)
+
+pub uids_are_below : (files : List File) (next : ℕ) → All (λ e. e.uid < next) (filter_map entry_of files) → All (λ uid. uid < next) (uids_in files)
+uids_are_below files next below =
+    subst (All (λ (n : ℕ). n < next)) (uids_of_entries files) (keys_below (λ (e : Entry). e.uid) next (filter_map entry_of files) below)
+
+pub messages_are_below : (keywords : List Keyword) (files : List File) (next : ℕ) → All (λ uid. uid < next) (uids_in files) → All (λ m. m.uid < next) (messages_in keywords files)
+messages_are_below keywords files next below =
+    below_keys (λ (m : Message). m.uid) next (messages_in keywords files) (subst (All (λ (n : ℕ). n < next)) (sym (uids_of_messages keywords files)) below)
+
+pub below_of_messages : (keywords : List Keyword) (files : List File) (next : ℕ) → All (λ m. m.uid < next) (messages_in keywords files) → All (λ uid. uid < next) (uids_in files)
+below_of_messages keywords files next below =
+    subst (All (λ (n : ℕ). n < next)) (uids_of_messages keywords files) (keys_below (λ (m : Message). m.uid) next (messages_in keywords files) below)
 
 -- names in any order, as a folder tells them
 entries_by_name : (files : List File) → filter_map entry_of files ≡ filter_map named_entry (map name_of_file files)

@@ -1,24 +1,24 @@
 -- What files are named after is in its range: UIDs, flags, and the numbers of the meta file.
-use Rattle.std.proofs.Common.{◌≡◌, ℕ, ◌+◌, ◌<◌, ◌^◌, Bool, true, false, cond, ltb, leb, List, [], ◌∷◌, map, Option, None, Some, All, refl, ap, sym, subst, ◌∙◌, arith}
-use Rattle.std.specs.Prelude.{fold, unwrap_or}
+use Rattle.std.proofs.Common.{◌≡◌, ℕ, ◌+◌, ◌<◌, ◌^◌, Bool, true, false, ltb, List, [], ◌∷◌, map, Option, None, Some, All, refl, ap, sym, subst, ◌∙◌, arith}
+use Rattle.std.specs.Prelude.{unwrap_or}
 use Rattle.std.specs.List.{cons_option}
 use Rattle.std.specs.Option.{option_map, option_and_then}
 use Rattle.std.proofs.lemmas.Bool.Decides.{nat_tests}
 use Rattle.std.proofs.lemmas.List.Elements.{All-nil, All-cons, All-head, All-tail}
-use Rattle.mailcore.specs.declared.flags.Flag.{Flag}
+use Rattle.mailcore.specs.declared.keywords.Keyword.{Keyword}
 use Rattle.mailcore.specs.declared.mailbox.Message.{Message}
 use Rattle.mailcore.specs.declared.side.Side.{Side}
-use Rattle.mailcore.specs.FlagNames.{all_flags, letter, place}
-use Rattle.mailcore.specs.FlagSet.{FLAGS, union}
+use Rattle.mailcore.specs.FlagSet.{FLAGS}
+use Rattle.mailcore.specs.KeywordNames.{IsWithin}
 use Rattle.mailcore.specs.Listed.{item_of}
 use Rattle.mailcore.specs.Operations.{item_sparing}
 use Rattle.mailcore.specs.Ranges.{IsNumber, IsInRange, AreFlagSets}
-use Rattle.mailcore.proofs.FlagRules.{union-lt}
+use Rattle.mailcore.proofs.KnownFlags.{kept-lt, kept-within}
 use Rattle.maildir.specs.declared.folder.File.{File}
 use Rattle.maildir.specs.declared.meta.Meta.{Meta}
 use Rattle.maildir.specs.Folders.{Stored}
-use Rattle.maildir.specs.FlaggedNames.{flags_by_name, letters_in}
-use Rattle.maildir.specs.Letters.{flags_in, has_letter, with_flag}
+use Rattle.maildir.specs.FlaggedNames.{flags_by_name, letters_by_name}
+use Rattle.maildir.specs.Letters.{flags_in}
 use Rattle.maildir.specs.Metas.{is_meta}
 use Rattle.maildir.specs.Names.{NameParts, name_of, uid_in, is_uid}
 use Rattle.maildir.proofs.NameLemmas.{name_is_spelled}
@@ -28,28 +28,34 @@ use Rattle.near_box.proofs.PutLemmas.{All-sorted}
 
 -- ---- flags
 
-found_lt : (letters : List ℕ) (flags : List Flag) (found : ℕ) → found < 2 ^ FLAGS → fold (with_flag letters) found flags < 2 ^ FLAGS
-found_lt letters [] found small = small
-found_lt letters (flag ∷ flags) found small = found_lt letters flags (with_flag letters found flag) (by_test (has_letter letters (letter flag)))
+pub flags_by_name-lt : (keywords : List Keyword) (name : List ℕ) → flags_by_name keywords name < 2 ^ FLAGS
+flags_by_name-lt keywords name = kept-lt keywords (flags_in (letters_by_name name))
+
+flags_by_name-within : (keywords : List Keyword) (name : List ℕ) → IsWithin keywords (flags_by_name keywords name)
+flags_by_name-within keywords name = kept-within keywords (flags_in (letters_by_name name))
+
+pub waiting_within : (keywords : List Keyword) (files : List File) → All (λ w. IsWithin keywords w.flags) (map (waiting_of keywords) files)
+waiting_within keywords [] = All-nil (λ w. IsWithin keywords w.flags)
+waiting_within keywords (file ∷ files) =
+    All-cons (λ w. IsWithin keywords w.flags) (waiting_of keywords file) (map (waiting_of keywords) files) (flags_by_name-within keywords file.name) (waiting_within keywords files)
+
+messages_in-within : (keywords : List Keyword) (files : List File) → All (λ m. IsWithin keywords m.flags) (messages_in keywords files)
+messages_in-within keywords [] = All-nil (λ m. IsWithin keywords m.flags)
+messages_in-within keywords (file ∷ files) = by_case (uid_in file.name) (messages_in-within keywords files)
   where
-    by_test : (b : Bool) → cond b (union found (2 ^ place flag)) found < 2 ^ FLAGS
-    by_test true = union-lt found (2 ^ place flag)
-    by_test false = small
+    by_case : (u : Option ℕ) → All (λ m. IsWithin keywords m.flags) (messages_in keywords files)
+        → All (λ m. IsWithin keywords m.flags) (cons_option (option_map (λ uid. let m : Message = record { uid = uid; flags = flags_by_name keywords file.name; bytes = file.bytes } in m) u) (messages_in keywords files))
+    by_case None more = more
+    by_case (Some uid) more =
+        All-cons (λ m. IsWithin keywords m.flags) (record { uid = uid; flags = flags_by_name keywords file.name; bytes = file.bytes }) (messages_in keywords files)
+        (flags_by_name-within keywords file.name) more
 
-flags_in-lt : (letters : List ℕ) → flags_in letters < 2 ^ FLAGS
-unfolding flags_in
-flags_in-lt letters = found_lt letters all_flags 0 (omega arith)
+pub messages_within : (fresh : ℕ) (keywords : List Keyword) (s : Stored) → All (λ m. IsWithin keywords m.flags) (near_of fresh keywords s).store.messages
+messages_within fresh keywords s = All-sorted (λ a b. ltb a.uid b.uid) (λ m. IsWithin keywords m.flags) (messages_in keywords s.files) (messages_in-within keywords s.files)
 
-pub flags_by_name-lt : (name : List ℕ) → flags_by_name name < 2 ^ FLAGS
-flags_by_name-lt name = by_case (name_of name)
-  where
-    by_case : (o : Option NameParts) → unwrap_or (option_map (λ parts. flags_in (letters_in parts)) o) (flags_in []) < 2 ^ FLAGS
-    by_case None = flags_in-lt []
-    by_case (Some parts) = flags_in-lt (letters_in parts)
-
-pub waiting_flags : (files : List File) → AreFlagSets (map waiting_of files)
-waiting_flags [] = All-nil (λ w. w.flags < 2 ^ FLAGS)
-waiting_flags (file ∷ files) = All-cons (λ w. w.flags < 2 ^ FLAGS) (waiting_of file) (map waiting_of files) (flags_by_name-lt file.name) (waiting_flags files)
+pub waiting_flags : (keywords : List Keyword) (files : List File) → AreFlagSets (map (waiting_of keywords) files)
+waiting_flags keywords [] = All-nil (λ w. w.flags < 2 ^ FLAGS)
+waiting_flags keywords (file ∷ files) = All-cons (λ w. w.flags < 2 ^ FLAGS) (waiting_of keywords file) (map (waiting_of keywords) files) (flags_by_name-lt keywords file.name) (waiting_flags keywords files)
 
 -- ---- UIDs
 
@@ -74,28 +80,28 @@ pub record IsGood (m : Message) : Type 0 where
   pub last : m.uid + 1 < 2 ^ 32
   pub flags : m.flags < 2 ^ FLAGS
 
-good_messages : (files : List File) → All IsGood (messages_in files)
-good_messages [] = All-nil IsGood
-good_messages (file ∷ files) = by_case (uid_in file.name) refl (good_messages files)
+good_messages : (keywords : List Keyword) (files : List File) → All IsGood (messages_in keywords files)
+good_messages keywords [] = All-nil IsGood
+good_messages keywords (file ∷ files) = by_case (uid_in file.name) refl (good_messages keywords files)
   where
-    by_case : (u : Option ℕ) → uid_in file.name ≡ u → All IsGood (messages_in files)
-        → All IsGood (cons_option (option_map (λ uid. let m : Message = record { uid = uid; flags = flags_by_name file.name; bytes = file.bytes } in m) u) (messages_in files))
+    by_case : (u : Option ℕ) → uid_in file.name ≡ u → All IsGood (messages_in keywords files)
+        → All IsGood (cons_option (option_map (λ uid. let m : Message = record { uid = uid; flags = flags_by_name keywords file.name; bytes = file.bytes } in m) u) (messages_in keywords files))
     by_case None e more = more
     by_case (Some uid) e more =
         let is : is_uid uid ≡ true = uid_is file.name uid e in
-        All-cons IsGood (record { uid = uid; flags = flags_by_name file.name; bytes = file.bytes }) (messages_in files)
-        (record { positive = grind (arith, nat_tests); last = grind (arith, nat_tests); flags = flags_by_name-lt file.name }) more
+        All-cons IsGood (record { uid = uid; flags = flags_by_name keywords file.name; bytes = file.bytes }) (messages_in keywords files)
+        (record { positive = grind (arith, nat_tests); last = grind (arith, nat_tests); flags = flags_by_name-lt keywords file.name }) more
 
-pub messages_good : (fresh : ℕ) (s : Stored) → All IsGood (near_of fresh s).store.messages
-messages_good fresh s = All-sorted (λ a b. ltb a.uid b.uid) IsGood (messages_in s.files) (good_messages s.files)
+pub messages_good : (fresh : ℕ) (keywords : List Keyword) (s : Stored) → All IsGood (near_of fresh keywords s).store.messages
+messages_good fresh keywords s = All-sorted (λ a b. ltb a.uid b.uid) IsGood (messages_in keywords s.files) (good_messages keywords s.files)
 
 -- ---- the mailbox
 
-pub near_in_range : (fresh : ℕ) (s : Stored) → 0 < fresh → fresh < 2 ^ 32 → IsMailbox fresh s → IsInRange (near_of fresh s).store
-near_in_range fresh s positive small is =
+pub near_in_range : (fresh : ℕ) (keywords : List Keyword) (s : Stored) → 0 < fresh → fresh < 2 ^ 32 → IsMailbox fresh s → IsInRange (near_of fresh keywords s).store
+near_in_range fresh keywords s positive small is =
     let fits : is_meta is.meta.meta ≡ true = meta_fits fresh s.meta is.meta.meta positive small is.meta.is in
     let same = ap (λ (o : Option Meta). unwrap_or o (first_meta fresh)) is.meta.is in
-    let good = messages_good fresh s in
+    let good = messages_good fresh keywords s in
     record {
       validity = subst (λ (m : Meta). IsNumber m.validity) (sym same) (record { positive = grind (arith, nat_tests); below = grind (arith, nat_tests) });
       next = subst (λ (m : Meta). IsNumber m.next) (sym same) (record { positive = grind (arith, nat_tests); below = grind (arith, nat_tests) });

@@ -20,15 +20,16 @@ use Rattle.maildir.specs.declared.meta.Meta.{Meta}
 use Rattle.near_box.specs.declared.survey.Entry.{Entry}
 use Rattle.near_box.specs.declared.survey.Survey.{Survey}
 use Rattle.maildir.specs.Folders.{Stored, AreApart, Lists, name_of_file}
-use Rattle.near_box.specs.Mailboxes.{AreDistinct, messages_in, meta_in, HasMeta, IsMailbox, name_cmp, place_cmp, waiting_files, is_before as is_file_before}
+use Rattle.near_box.specs.Mailboxes.{AreDistinct, meta_in, uids_in, HasMeta, IsMailbox, name_cmp, place_cmp, waiting_files, is_before as is_file_before}
 use Rattle.maildir.specs.Names.{is_waiting}
 use Rattle.near_box.specs.Sorting.{put, sorted}
 use Rattle.near_box.specs.SurveyParts.{named_entry, waits, file_cmp, is_before}
 use Rattle.near_box.specs.Surveys.{entry_of, Surveys}
-use Rattle.near_box.proofs.OpenLemmas.{same_uids, entries_apart, messages_apart, entries_of_names, apart_rise, rising_apart}
+use Rattle.near_box.proofs.OpenLemmas.{entries_apart, entries_are_below, entries_of_names, uids_apart, uids_are_below, apart_rise, rising_apart}
 use Rattle.near_box.proofs.OrderLemmas.{names_total, names_in_order}
 use Rattle.maildir.proofs.PermutedLemmas.{pairs_permuted, passing_in_any_order}
 use Rattle.near_box.proofs.SortingLemmas.{sorted_permuted, sorted_permutes}
+use Rattle.mailcore.specs.declared.keywords.Keyword.{Keyword}
 use Rattle.mailcore.specs.declared.mailbox.Message.{Message}
 use Rattle.near_box.specs.KnownMarks.{AreKnown}
 
@@ -43,39 +44,23 @@ turned : (a b : Entry) → (a.uid ≡ b.uid → ⊥) → b.uid ≡ a.uid → ⊥
 turned a b other same = other (sym same)
 
 pub two_alike : (files : List File) (entries : List Entry) → IsPermutation (filter_map entry_of files) entries → IsSortedByKey (λ entry. entry.uid) nat_cmp entries
-    → ¬ AllPairs (λ a b. a.uid < b.uid) entries → ¬ AreDistinct (messages_in files)
+    → ¬ AllPairs (λ a b. a.uid < b.uid) entries → ¬ AreDistinct (uids_in files)
 two_alike files entries found fall not_up = λ once.
     not_up (apart_rise entries fall (pairs_permuted (λ a b. a.uid ≡ b.uid → ⊥) turned (filter_map entry_of files) entries found (entries_apart files once)))
 
-pub once_each : (files : List File) (entries : List Entry) → IsPermutation (filter_map entry_of files) entries → AllPairs (λ a b. a.uid < b.uid) entries → AreDistinct (messages_in files)
+pub once_each : (files : List File) (entries : List Entry) → IsPermutation (filter_map entry_of files) entries → AllPairs (λ a b. a.uid < b.uid) entries → AreDistinct (uids_in files)
 once_each files entries found up =
-    messages_apart files (pairs_permuted (λ a b. a.uid ≡ b.uid → ⊥) turned entries (filter_map entry_of files) (IsPermutation-sym _ _ found) (rising_apart entries up))
+    uids_apart files (pairs_permuted (λ a b. a.uid ≡ b.uid → ⊥) turned entries (filter_map entry_of files) (IsPermutation-sym _ _ found) (rising_apart entries up))
 
 -- ---- UIDs below the next one
 
-module _ {A : Type 0} (key : A → ℕ) (next : ℕ) where
-  keys_below : (xs : List A) → All (λ x. key x < next) xs → All (λ n. n < next) (map key xs)
-  keys_below [] below k d within = absurd (omega (arith, within))
-  keys_below (x ∷ xs) below k d within =
-      let size : length (map key (x ∷ xs)) ≡ length (x ∷ xs) = length-map (x ∷ xs) key in
-      let at : get_or (map key (x ∷ xs)) k d ≡ key (get_or (x ∷ xs) k x) = get_or-map key (x ∷ xs) k x d (omega (arith, size, within)) in
-      subst (λ (n : ℕ). n < next) (sym at) (below k x (omega (arith, size, within)))
-
-  below_keys : (xs : List A) → All (λ n. n < next) (map key xs) → All (λ x. key x < next) xs
-  below_keys xs below k d within =
-      let size : length (map key xs) ≡ length xs = length-map xs key in
-      subst (λ (n : ℕ). n < next) (get_or-map key xs k d 0 within) (below k 0 (omega (arith, size, within)))
-
-pub entries_below : (files : List File) (entries : List Entry) (next : ℕ) → IsPermutation (filter_map entry_of files) entries → All (λ m. m.uid < next) (messages_in files) → All (λ e. e.uid < next) entries
+pub entries_below : (files : List File) (entries : List Entry) (next : ℕ) → IsPermutation (filter_map entry_of files) entries → All (λ uid. uid < next) (uids_in files) → All (λ e. e.uid < next) entries
 entries_below files entries next found below =
-    All-permutation (λ e. e.uid < next) (filter_map entry_of files) entries found
-    (below_keys (λ e. e.uid) next (filter_map entry_of files) (subst (All (λ (n : ℕ). n < next)) (same_uids files) (keys_below (λ m. m.uid) next (messages_in files) below)))
+    All-permutation (λ e. e.uid < next) (filter_map entry_of files) entries found (entries_are_below files next below)
 
-pub messages_below : (files : List File) (entries : List Entry) (next : ℕ) → IsPermutation (filter_map entry_of files) entries → All (λ e. e.uid < next) entries → All (λ m. m.uid < next) (messages_in files)
-messages_below files entries next found below =
-    below_keys (λ m. m.uid) next (messages_in files)
-    (subst (All (λ (n : ℕ). n < next)) (sym (same_uids files))
-    (keys_below (λ e. e.uid) next (filter_map entry_of files) (All-permutation (λ e. e.uid < next) entries (filter_map entry_of files) (IsPermutation-sym _ _ found) below)))
+pub uids_below : (files : List File) (entries : List Entry) (next : ℕ) → IsPermutation (filter_map entry_of files) entries → All (λ e. e.uid < next) entries → All (λ uid. uid < next) (uids_in files)
+uids_below files entries next found below =
+    uids_are_below files next (All-permutation (λ e. e.uid < next) entries (filter_map entry_of files) (IsPermutation-sym _ _ found) below)
 
 -- ---- waiting files
 
@@ -157,12 +142,12 @@ waiting_found files names waiting apart listed found up =
 
 -- ---- the whole
 
-pub surveyed : (survey : Survey) (fresh : ℕ) (s : Stored) (names : List FileName) → Lists (Some names) s
+pub surveyed : (survey : Survey) (fresh : ℕ) (keywords : List Keyword) (s : Stored) (names : List FileName) → Lists (Some names) s
     → IsPermutation (filter_map named_entry names) survey.entries.items → AllPairs (λ a b. a.uid < b.uid) survey.entries.items
     → IsPermutation (filter waits names) survey.waiting.items → IsSortedBy is_before survey.waiting.items
     → meta_in fresh s.meta ≡ Some survey.meta → All (λ e. e.uid < survey.meta.next) survey.entries.items → survey.has_meta ≡ is_some s.meta
-    → ((next : ℕ) (messages : List Message) → AreKnown next messages survey.marks) → Surveys survey fresh s
-surveyed survey fresh s names lists entries rising waiting in_order meta below has_meta none_known = record {
+    → ((next : ℕ) (messages : List Message) → AreKnown next messages survey.marks) → Surveys survey fresh keywords s
+surveyed survey fresh keywords s names lists entries rising waiting in_order meta below has_meta none_known = record {
   is_there = lists.0;
   apart = lists.2;
   entries =
@@ -177,33 +162,33 @@ surveyed survey fresh s names lists entries rising waiting in_order meta below h
 }
 
 pub told_two : (s : Stored) (names : List FileName) (entries : List Entry) → Lists (Some names) s → IsPermutation (filter_map named_entry names) entries → IsSortedByKey (λ entry. entry.uid) nat_cmp entries
-    → ¬ AllPairs (λ a b. a.uid < b.uid) entries → (s.is_there ≡ true) × ¬ AreDistinct (messages_in s.files)
+    → ¬ AllPairs (λ a b. a.uid < b.uid) entries → (s.is_there ≡ true) × ¬ AreDistinct (uids_in s.files)
 told_two s names entries lists found fall not_up = (lists.0, two_alike s.files entries (of_files s.files names entries lists.1 found) fall not_up)
 
 pub told_unspelled : (fresh : ℕ) (s : Stored) (names : List FileName) (entries : List Entry) → Lists (Some names) s → IsPermutation (filter_map named_entry names) entries → AllPairs (λ a b. a.uid < b.uid) entries
-    → meta_in fresh s.meta ≡ None → (s.is_there ≡ true) × AreDistinct (messages_in s.files) × ¬ HasMeta fresh s
+    → meta_in fresh s.meta ≡ None → (s.is_there ≡ true) × AreDistinct (uids_in s.files) × ¬ HasMeta fresh s
 told_unspelled fresh s names entries lists found up none =
     (lists.0, once_each s.files entries (of_files s.files names entries lists.1 found) up, λ has. none-some _ (sym none ∙ has.is))
 
 pub told_not_below : (fresh : ℕ) (s : Stored) (meta : Meta) (names : List FileName) (entries : List Entry) → Lists (Some names) s → IsPermutation (filter_map named_entry names) entries → AllPairs (λ a b. a.uid < b.uid) entries
-    → meta_in fresh s.meta ≡ Some meta → ¬ All (λ e. e.uid < meta.next) entries → (s.is_there ≡ true) × AreDistinct (messages_in s.files) × ¬ HasMeta fresh s
+    → meta_in fresh s.meta ≡ Some meta → ¬ All (λ e. e.uid < meta.next) entries → (s.is_there ≡ true) × AreDistinct (uids_in s.files) × ¬ HasMeta fresh s
 told_not_below fresh s meta names entries lists found up is not_below =
     let all = of_files s.files names entries lists.1 found in (
       lists.0,
       once_each s.files entries all up,
       λ has.
           let same : has.meta ≡ meta = same_Some _ _ (sym has.is ∙ is) in
-          not_below (entries_below s.files entries meta.next all (subst (λ (m : Meta). All (λ x. x.uid < m.next) (messages_in s.files)) same has.below)),
+          not_below (entries_below s.files entries meta.next all (subst (λ (m : Meta). All (λ uid. uid < m.next) (uids_in s.files)) same has.below)),
     )
 
 -- a folder that was surveyed holds a mailbox
-pub surveyed_mailbox : (survey : Survey) (fresh : ℕ) (s : Stored) → Surveys survey fresh s → IsMailbox fresh s
-surveyed_mailbox survey fresh s surveys =
+pub surveyed_mailbox : (survey : Survey) (fresh : ℕ) (keywords : List Keyword) (s : Stored) → Surveys survey fresh keywords s → IsMailbox fresh s
+surveyed_mailbox survey fresh keywords s surveys =
     let found : IsPermutation (filter_map entry_of s.files) survey.entries.items =
     subst (λ (l : List Entry). IsPermutation (filter_map entry_of s.files) l) (sym surveys.entries) (sorted_permutes (λ (a b : Entry). ltb a.uid b.uid) (filter_map entry_of s.files)) in
     record {
       is_there = surveys.is_there;
       apart = surveys.apart;
       once = once_each s.files survey.entries.items found surveys.rising;
-      meta = record { meta = survey.meta; is = surveys.meta; below = messages_below s.files survey.entries.items survey.meta.next found surveys.below };
+      meta = record { meta = survey.meta; is = surveys.meta; below = uids_below s.files survey.entries.items survey.meta.next found surveys.below };
     }

@@ -7,6 +7,7 @@ use Rattle.std.proofs.lemmas.Bool.{eqb-true, eqb-false, ne_eqb, false_from_ne_tr
 use Rattle.std.proofs.lemmas.Option.{none-some, same_Some, slice_get_read, slice_get_within, get_or_from_slice_get}
 use Rattle.std.proofs.lemmas.List.Elements.{All-nil, All-cons, All-weaker, All-get_or, All-contains, Contains-append_right}
 use Rattle.std.proofs.lemmas.List.Sorted.{All-permutation, Contains-permutation}
+use Rattle.mailcore.specs.declared.keywords.Keyword.{Keyword}
 use Rattle.maildir.specs.declared.folder.File.{File}
 use Rattle.maildir.specs.declared.folder.FileName.{FileName}
 use Rattle.near_box.specs.declared.survey.Entry.{Entry}
@@ -62,7 +63,7 @@ entered (x ∷ files) =
 
 -- ---- of a survey
 
-module _ (survey : Survey) (fresh : ℕ) (s : Stored) (surveys : Surveys survey fresh s) where
+module _ (survey : Survey) (fresh : ℕ) (keywords : List Keyword) (s : Stored) (surveys : Surveys survey fresh keywords s) where
   pub entries_named : All IsNamed survey.entries.items
   entries_named = subst (λ (l : List Entry). All IsNamed l) (sym surveys.entries) (All-permutation IsNamed (filter_map entry_of s.files) (entries_in s.files) (sorted_permutes _ (filter_map entry_of s.files)) (named s.files))
 

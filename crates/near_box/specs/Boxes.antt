@@ -22,15 +22,15 @@ module _ {F : Type 0} {folders : folder.Ghosts F} where
 
   -- the box between two calls
   abbrev pub box_of : NearBox F folders → Box
-  box_of near = record { is_ready = near.is_ready; fresh = near.fresh; missed = length near.missed.items; folder = seen_in near }
+  box_of near = record { is_ready = near.is_ready; fresh = near.fresh; keywords = near.keywords; missed = length near.missed.items; folder = seen_in near }
 
   -- the mailbox that stands in its folder
   abbrev pub mailbox_of : NearBox F folders → Mailbox
-  mailbox_of near = near_of near.fresh (stored_in near)
+  mailbox_of near = near_of near.fresh near.keywords (stored_in near)
 
   -- what a call does to it
   abbrev pub TurnsMailbox : {T : Type 0} → (Mailbox → Mailbox) → (part : Effect Mailbox) → (old new : NearBox F folders) → Result T NearFault → Type 0
-  TurnsMailbox effect part old new result = Changes effect part (mailbox_of old) (near_of old.fresh (stored_in new)) result
+  TurnsMailbox effect part old new result = Changes effect part (mailbox_of old) (near_of old.fresh old.keywords (stored_in new)) result
 
   -- and to the files
   abbrev pub TurnsFiles : {T : Type 0} → (Stored → Stored) → (part : Effect Stored) → (old new : NearBox F folders) → Result T NearFault → Type 0

@@ -1,22 +1,25 @@
 -- The messages that a survey names, and the files that wait.
 use Rattle.std.specs.Prelude.{◌≡◌, ◌<◌, ℕ, Bool, true, false, not, List, [], Some, All, AllPairs, filter, length, unwrap_or}
+use Rattle.mailcore.specs.declared.keywords.Keyword.{Keyword}
 use Rattle.mailcore.specs.declared.mailbox.Message.{Message}
 use Rattle.mailcore.specs.declared.listing.Item.{Item}
 use Rattle.mailcore.specs.declared.side.Side.TheVariants.{Near}
 use Rattle.mailcore.specs.Operations.{item_sparing}
-use Rattle.mailcore.specs.Stores.{Waiting}
-use Rattle.maildir.specs.declared.folder.FileName.{FileName}
 use Rattle.near_box.specs.declared.survey.Entry.{Entry}
 use Rattle.maildir.specs.Folders.{Stored, bytes_at}
 use Rattle.maildir.specs.FlaggedNames.{flags_by_name}
 
--- the message in the file of an entry
-abbrev pub message_at : Stored → Entry → Message
-message_at s entry = record { uid = entry.uid; flags = flags_by_name entry.name; bytes = unwrap_or (bytes_at entry.place entry.name s) [] }
+-- what the file of an entry holds
+abbrev pub bytes_in : Stored → Entry → List ℕ
+bytes_in s entry = unwrap_or (bytes_at entry.place entry.name s) []
+
+-- the message in it
+abbrev pub message_at : List Keyword → Stored → Entry → Message
+message_at keywords s entry = record { uid = entry.uid; flags = flags_by_name keywords entry.name; bytes = bytes_in s entry }
 
 -- what it lists, where some messages are not asked whether they are fit
-abbrev pub item_at : (spared : ℕ → Bool) → Stored → Entry → Item
-item_at spared s entry = item_sparing Near spared (message_at s entry)
+abbrev pub item_at : List Keyword → (spared : ℕ → Bool) → Stored → Entry → Item
+item_at keywords spared s entry = item_sparing Near spared (message_at keywords s entry)
 
 -- the messages that are asked
 abbrev pub asked : (spared : ℕ → Bool) → List Message → List Message
@@ -26,13 +29,9 @@ asked spared = filter (λ m. not (spared m.uid))
 abbrev pub count_asked : (spared : ℕ → Bool) → List Entry → ℕ
 count_asked spared entries = length (filter (λ entry. not (spared entry.uid)) entries)
 
--- the message in a file that waits
-abbrev pub waiting_at : Stored → FileName → Waiting
-waiting_at s file = record { flags = flags_by_name file.name; bytes = unwrap_or (bytes_at file.place file.name s) [] }
-
 -- an entry's file stands in the folder
 abbrev pub IsThere : Stored → Entry → Type 0
-IsThere s entry = bytes_at entry.place entry.name s ≡ Some (message_at s entry).bytes
+IsThere s entry = bytes_at entry.place entry.name s ≡ Some (bytes_in s entry)
 
 abbrev pub AreThere : List Entry → Stored → Type 0
 AreThere entries s = All (IsThere s) entries

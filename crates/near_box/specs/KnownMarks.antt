@@ -7,7 +7,7 @@ use Rattle.maildir.specs.Folders.{Stored}
 use Rattle.near_box.specs.declared.known_mark.KnownMark.{KnownMark}
 use Rattle.near_box.specs.declared.known_mark.KnownMarks.{KnownMarks}
 use Rattle.near_box.specs.declared.survey.Entry.{Entry}
-use Rattle.near_box.specs.Entries.{message_at}
+use Rattle.near_box.specs.Entries.{bytes_in}
 use Rattle.passed_marks.specs.Passed.{ArePassed}
 
 -- the UID is below the next one, and each of the messages that has it bears this mark, or none
@@ -20,11 +20,11 @@ AreMarksAmong next messages known = All (IsMarkAmong next messages) known
 
 -- the mark of the message in the file of an entry
 abbrev pub mark_at : Stored → Entry → KnownMark
-mark_at s entry = record { uid = entry.uid; mark = mark_of (message_at s entry).bytes }
+mark_at s entry = record { uid = entry.uid; mark = mark_of (bytes_in s entry) }
 
 -- what is known of its UID is its mark
 abbrev pub AreMarksOfFile : Stored → Entry → List KnownMark → Type 0
-AreMarksOfFile s entry known = All (λ k. entry.uid ≡ k.uid → mark_of (message_at s entry).bytes ≡ k.mark) known
+AreMarksOfFile s entry known = All (λ k. entry.uid ≡ k.uid → mark_of (bytes_in s entry) ≡ k.mark) known
 
 -- what is known of the marks of messages
 pub record AreKnown (next : ℕ) (messages : List Message) (known : KnownMarks) : Type 0 where

@@ -6,6 +6,7 @@ use Rattle.std.specs.Ordering.{nat_cmp, is_lt, ordering_then}
 use Rattle.std.specs.Cmp.Lexicographic.{slice_cmp}
 use Rattle.std.specs.declared.cmp.Ordering.{Ordering}
 use Rattle.std.specs.declared.cmp.Ordering.TheVariants.{Less, Equal, Greater}
+use Rattle.mailcore.specs.declared.keywords.Keyword.{Keyword}
 use Rattle.mailcore.specs.declared.mailbox.Message.{Message}
 use Rattle.mailcore.specs.Mailboxes.{Mailbox}
 use Rattle.mailcore.specs.Stores.{Store, Waiting}
@@ -22,18 +23,23 @@ use Rattle.near_box.specs.Sorting.{sorted}
 
 -- ---- messages: the files with a UID, in the order of their UIDs
 
-abbrev pub message_of : File → Option Message
-message_of file = option_map (λ uid. record { uid = uid; flags = flags_by_name file.name; bytes = file.bytes }) (uid_in file.name)
+-- their flags are those that have a name by a map
+abbrev pub message_of : List Keyword → File → Option Message
+message_of keywords file = option_map (λ uid. record { uid = uid; flags = flags_by_name keywords file.name; bytes = file.bytes }) (uid_in file.name)
 
-abbrev pub messages_in : List File → List Message
-messages_in files = filter_map message_of files
+abbrev pub messages_in : List Keyword → List File → List Message
+messages_in keywords files = filter_map (message_of keywords) files
 
 abbrev pub by_uid : List Message → List Message
 by_uid messages = sorted (λ a b. nat_lt a.uid b.uid) messages
 
--- no two have one UID
-abbrev pub AreDistinct : List Message → Type 0
-AreDistinct messages = AllPairs (λ a b. a.uid ≡ b.uid → ⊥) messages
+-- their UIDs, in the order of the files
+abbrev pub uids_in : List File → List ℕ
+uids_in files = filter_map (λ file. uid_in file.name) files
+
+-- no UID is there twice
+abbrev pub AreDistinct : List ℕ → Type 0
+AreDistinct uids = AllPairs (λ a b. a ≡ b → ⊥) uids
 
 -- ---- waiting files: in the byte order of their names, `new` before `cur`
 
@@ -52,8 +58,8 @@ is_before a b = is_lt (ordering_then (name_cmp a.name b.name) (place_cmp a.place
 abbrev pub waiting_files : List File → List File
 waiting_files files = sorted is_before (filter (λ file. is_waiting file.name) files)
 
-abbrev pub waiting_of : File → Waiting
-waiting_of file = record { flags = flags_by_name file.name; bytes = file.bytes }
+abbrev pub waiting_of : List Keyword → File → Waiting
+waiting_of keywords file = record { flags = flags_by_name keywords file.name; bytes = file.bytes }
 
 -- ---- the meta file
 
@@ -75,13 +81,14 @@ meta_at fresh s = unwrap_or (meta_in fresh s.meta) (first_meta fresh)
 abbrev pub waiting_names : Stored → List FileName
 waiting_names s = map name_of_file (waiting_files s.files)
 
-abbrev pub store_of : Meta → List File → Store
-store_of meta files = record { validity = meta.validity; next = meta.next; messages = by_uid (messages_in files) }
+abbrev pub store_of : List Keyword → Meta → List File → Store
+store_of keywords meta files = record { validity = meta.validity; next = meta.next; messages = by_uid (messages_in keywords files) }
 
-abbrev pub near_of : (fresh : ℕ) → Stored → Mailbox
-near_of fresh s = record {
-  store = store_of (meta_at fresh s) s.files;
-  waiting = map waiting_of (waiting_files s.files);
+-- as it is seen by a map of keywords
+abbrev pub near_of : (fresh : ℕ) (keywords : List Keyword) → Stored → Mailbox
+near_of fresh keywords s = record {
+  store = store_of keywords (meta_at fresh s) s.files;
+  waiting = map (waiting_of keywords) (waiting_files s.files);
 }
 
 -- a validity and a next UID are the mailbox's
@@ -92,11 +99,11 @@ IsMetaOf store meta = (meta.validity ≡ store.validity) × (meta.next ≡ store
 pub record HasMeta (fresh : ℕ) (s : Stored) : Type 0 where
   pub meta : Meta
   pub is : meta_in fresh s.meta ≡ Some meta
-  pub below : All (λ m. m.uid < meta.next) (messages_in s.files)
+  pub below : All (λ uid. uid < meta.next) (uids_in s.files)
 
--- the folder holds a mailbox
+-- the folder holds a mailbox, whatever the map
 pub record IsMailbox (fresh : ℕ) (s : Stored) : Type 0 where
   pub is_there : s.is_there ≡ true
   pub apart : AreApart s.files
-  pub once : AreDistinct (messages_in s.files)
+  pub once : AreDistinct (uids_in s.files)
   pub meta : HasMeta fresh s

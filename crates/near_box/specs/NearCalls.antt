@@ -1,7 +1,8 @@
 -- What every call of the near mailbox keeps, whatever it does.
-use Rattle.std.specs.Prelude.{◌≡◌, ℕ, ◌+◌, ◌<◌, ◌≤◌, ◌⊎◌, Bool, true, false, Result, Ok, Err}
+use Rattle.std.specs.Prelude.{◌≡◌, ℕ, ◌+◌, ◌<◌, ◌≤◌, ◌⊎◌, Bool, true, false, List, Result, Ok, Err}
 use Rattle.device.specs.Calls.{Seen}
 use Rattle.device.specs.declared.DeviceFault.TheVariants.{Stopped as DeviceStopped, NoMemory as DeviceNoMemory}
+use Rattle.mailcore.specs.declared.keywords.Keyword.{Keyword}
 use Rattle.visitors.specs.Visitors.{Visitors}
 use Rattle.maildir.specs.Folders.{Stored}
 use Rattle.maildir.specs.Gains.{Adds}
@@ -43,10 +44,11 @@ Told (Device fault) old new told = (told ≡ near_fault fault) × (new ≡ old)
 -- ---- the box
 
 -- the box as a contract sees it between two calls: whether it goes on, the validity that it has where there is no meta
--- file, how many files it has missed, and its folder
+-- file, its map of keywords, how many files it has missed, and its folder
 pub record Box : Type 0 where
   pub is_ready : Bool
   pub fresh : ℕ
+  pub keywords : List Keyword
   pub missed : ℕ
   pub folder : Seen Stored
 
@@ -57,6 +59,7 @@ stops_of box = box.folder.stops + box.missed
 -- the box answers: it was ready and goes on, its folder is whole, and nothing has stopped
 pub record Goes (old new : Box) : Type 0 where
   pub fresh : new.fresh ≡ old.fresh
+  pub keywords : new.keywords ≡ old.keywords
   pub was_ready : old.is_ready ≡ true
   pub is_ready : new.is_ready ≡ true
   pub is_whole : new.folder.is_broken ≡ false
@@ -66,6 +69,7 @@ pub record Goes (old new : Box) : Type 0 where
 -- in it is broken. From then on the box has failed.
 pub record Halts (old new : Box) : Type 0 where
   pub fresh : new.fresh ≡ old.fresh
+  pub keywords : new.keywords ≡ old.keywords
   pub is_ready : new.is_ready ≡ false
   pub stuck : old.is_ready ≡ false → new ≡ old
   pub counted : old.is_ready ≡ true → stops_of old < stops_of new
@@ -74,6 +78,7 @@ pub record Halts (old new : Box) : Type 0 where
 -- memory ran out, which is no stop: the box was ready, and has failed
 pub record Starves (old new : Box) : Type 0 where
   pub fresh : new.fresh ≡ old.fresh
+  pub keywords : new.keywords ≡ old.keywords
   pub was_ready : old.is_ready ≡ true
   pub is_ready : new.is_ready ≡ false
   pub no_less : stops_of old ≤ stops_of new

@@ -5,7 +5,7 @@ use Rattle.device.specs.Calls.{Effect, Seen}
 use Rattle.near_box.specs.declared.near_fault.NearFault.{NearFault}
 use Rattle.near_box.specs.declared.near_fault.NearFault.TheVariants.{Stopped, Absent, TwoWithOneUid, BadMeta, UidsExhausted, NoMemory}
 use Rattle.maildir.specs.Folders.{Stored}
-use Rattle.near_box.specs.Mailboxes.{AreDistinct, messages_in, HasMeta, IsMailbox}
+use Rattle.near_box.specs.Mailboxes.{AreDistinct, uids_in, HasMeta, IsMailbox}
 
 -- ---- open
 
@@ -13,8 +13,8 @@ use Rattle.near_box.specs.Mailboxes.{AreDistinct, messages_in, HasMeta, IsMailbo
 abbrev pub TellsWhy : (fresh : ℕ) → Stored → NearFault → Type 0
 TellsWhy fresh s Stopped = Unit {0}
 TellsWhy fresh s Absent = s.is_there ≡ false
-TellsWhy fresh s TwoWithOneUid = (s.is_there ≡ true) × ¬ AreDistinct (messages_in s.files)
-TellsWhy fresh s BadMeta = (s.is_there ≡ true) × AreDistinct (messages_in s.files) × ¬ HasMeta fresh s
+TellsWhy fresh s TwoWithOneUid = (s.is_there ≡ true) × ¬ AreDistinct (uids_in s.files)
+TellsWhy fresh s BadMeta = (s.is_there ≡ true) × AreDistinct (uids_in s.files) × ¬ HasMeta fresh s
 TellsWhy fresh s UidsExhausted = ⊥
 TellsWhy fresh s NoMemory = Unit {0}
 

@@ -2,6 +2,7 @@
 use Rattle.std.specs.Prelude.{◌≡◌, ◌⊎◌, ℕ, ◌+◌, List, [], ◌++◌, ◌∷◌, decimal, codes, Option, None, Some, Result, Ok, Err, nat_eq, if◌then◌else◌, length, take, map, filter, not, Bool, true, false}
 use Rattle.std.specs.Option.{option_map, option_map_or}
 use Rattle.std.specs.Cmp.Lexicographic.{pointwise}
+use Rattle.mailcore.specs.declared.keywords.Keyword.{Keyword}
 use Rattle.maildir.specs.declared.folder.Place.TheVariants.{Cur}
 use Rattle.maildir.specs.declared.folder.File.{File}
 use Rattle.maildir.specs.declared.folder.FileName.{FileName}
@@ -22,8 +23,8 @@ if_other name None = None
 if_other name (Some other) = if pointwise nat_eq other name then None else Some other
 
 -- the name that a change of flags gives, or none where the name stays
-abbrev pub name_flagged : List ℕ → ℕ → Option (List ℕ)
-name_flagged name flags = if_other name (option_map (λ parts. flagged parts flags) (name_of name))
+abbrev pub name_flagged : List Keyword → List ℕ → ℕ → Option (List ℕ)
+name_flagged keywords name flags = if_other name (option_map (λ parts. flagged keywords parts flags) (name_of name))
 
 -- the name of a waiting file once it has this UID
 abbrev pub name_admitted : List ℕ → ℕ → List ℕ
@@ -38,12 +39,12 @@ abbrev pub copy_base : (validity uid : ℕ) → List ℕ
 copy_base validity uid = decimal validity ++ codes "." ++ decimal uid ++ codes ".mbsync"
 
 -- the name of a copy
-abbrev pub copy_name : (validity uid flags : ℕ) → List ℕ
-copy_name validity uid flags =
+abbrev pub copy_name : List Keyword → (validity uid flags : ℕ) → List ℕ
+copy_name keywords validity uid flags =
     name_text (record {
       base = copy_base validity uid;
       uid = Some uid;
-      letters = Some (letters_with [] flags);
+      letters = Some (letters_with keywords [] flags);
     })
 
 -- ---- effects
@@ -61,12 +62,14 @@ under_name file None = file
 under_name file (Some name) = record { place = Cur; name = name; bytes = file.bytes }
 
 -- the flags of the message with this UID are changed: its file gets the name that they ask for
-abbrev pub flagged_file : (ℕ → ℕ) → (uid : ℕ) → File → File
-flagged_file change uid file =
-    if is_one_of (uid ∷ []) (uid_in file.name) then under_name file (name_flagged file.name (change (flags_by_name file.name))) else file
+abbrev pub flagged_file : List Keyword → (ℕ → ℕ) → (uid : ℕ) → File → File
+flagged_file keywords change uid file =
+    if is_one_of (uid ∷ []) (uid_in file.name)
+    then under_name file (name_flagged keywords file.name (change (flags_by_name keywords file.name)))
+    else file
 
-abbrev pub flagged_files : (ℕ → ℕ) → (uid : ℕ) → Stored → Stored
-flagged_files change uid s = record s { files = map (flagged_file change uid) s.files }
+abbrev pub flagged_files : List Keyword → (ℕ → ℕ) → (uid : ℕ) → Stored → Stored
+flagged_files keywords change uid s = record s { files = map (flagged_file keywords change uid) s.files }
 
 -- the files of these messages are removed
 abbrev pub without_uids : List ℕ → Stored → Stored
@@ -84,9 +87,9 @@ raised meta count = record { validity = meta.validity; next = meta.next + count 
 abbrev pub set_aside : Meta → List ℕ → Stored → Stored
 set_aside meta bytes s = with_meta (meta_text (raised meta 1)) (with_copy bytes s)
 
-abbrev pub appended : Meta → (bytes : List ℕ) (flags : ℕ) → Stored → Stored
-appended meta bytes flags s =
-    placed (record { place = Cur; name = copy_name meta.validity meta.next flags }) (set_aside meta bytes s)
+abbrev pub appended : List Keyword → Meta → (bytes : List ℕ) (flags : ℕ) → Stored → Stored
+appended keywords meta bytes flags s =
+    placed (record { place = Cur; name = copy_name keywords meta.validity meta.next flags }) (set_aside meta bytes s)
 
 -- a part of an append: a beginning of the copy in `tmp`, all of it, or the next UID set aside too
 abbrev pub AppendsPart : Meta → List ℕ → Stored → Stored → Type 0

@@ -1,8 +1,9 @@
 -- What the parts of a survey tell.
-use Rattle.std.specs.Prelude.{◌≡◌, ℕ, Bool, Option, None, Some, Result, Ok, Err}
+use Rattle.std.specs.Prelude.{◌≡◌, ℕ, Bool, List, Option, None, Some, Result, Ok, Err}
 use Rattle.std.specs.Option.{option_map}
 use Rattle.std.specs.Ordering.{is_lt, ordering_then}
 use Rattle.std.specs.declared.cmp.Ordering.{Ordering}
+use Rattle.mailcore.specs.declared.keywords.Keyword.{Keyword}
 use Rattle.maildir.specs.declared.folder.FileName.{FileName}
 use Rattle.near_box.specs.declared.near_fault.NearFault.{NearFault}
 use Rattle.near_box.specs.declared.near_fault.NearFault.TheVariants.{Stopped, Absent, TwoWithOneUid, BadMeta, UidsExhausted, NoMemory}
@@ -49,6 +50,6 @@ IsOwnFault UidsExhausted = ⊥
 IsOwnFault NoMemory = Unit {0}
 
 -- what a survey tells of the folder
-abbrev pub SurveyTells : (fresh : ℕ) → Stored → Result Survey NearFault → Type 0
-SurveyTells fresh s (Ok survey) = Surveys survey fresh s
-SurveyTells fresh s (Err fault) = TellsWhy fresh s fault
+abbrev pub SurveyTells : (fresh : ℕ) (keywords : List Keyword) → Stored → Result Survey NearFault → Type 0
+SurveyTells fresh keywords s (Ok survey) = Surveys survey fresh keywords s
+SurveyTells fresh keywords s (Err fault) = TellsWhy fresh s fault

@@ -2,6 +2,7 @@
 use Rattle.std.specs.Prelude.{◌≡◌, ◌<◌, ℕ, ◌+◌, true, nat_lt, List, [], ◌∷◌, ◌++◌, map, Option, Some, is_some, All, AllPairs}
 use Rattle.std.specs.List.{filter_map}
 use Rattle.std.specs.Option.{option_map}
+use Rattle.mailcore.specs.declared.keywords.Keyword.{Keyword}
 use Rattle.maildir.specs.declared.folder.File.{File}
 use Rattle.maildir.specs.declared.folder.FileName.{FileName}
 use Rattle.maildir.specs.declared.meta.Meta.{Meta}
@@ -23,7 +24,7 @@ abbrev pub entries_in : List File → List Entry
 entries_in files = sorted (λ a b. nat_lt a.uid b.uid) (filter_map entry_of files)
 
 -- what was surveyed is so of the folder
-pub record Surveys (survey : Survey) (fresh : ℕ) (s : Stored) : Type 0 where
+pub record Surveys (survey : Survey) (fresh : ℕ) (keywords : List Keyword) (s : Stored) : Type 0 where
   pub is_there : s.is_there ≡ true
   pub apart : AreApart s.files
   pub entries : survey.entries.items ≡ entries_in s.files
@@ -32,7 +33,7 @@ pub record Surveys (survey : Survey) (fresh : ℕ) (s : Stored) : Type 0 where
   pub waiting : survey.waiting.items ≡ map name_of_file (waiting_files s.files)
   pub meta : meta_in fresh s.meta ≡ Some survey.meta
   pub has_meta : is_some s.meta ≡ survey.has_meta
-  pub marks : AreMarksOf (near_of fresh s).store survey.marks
+  pub marks : AreMarksOf (near_of fresh keywords s).store survey.marks
 
 -- ---- what it remembers more once UIDs are given
 

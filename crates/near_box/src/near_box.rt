@@ -1,37 +1,37 @@
 //! The near mailbox over a folder.
 
 ghost use Rattle.std.specs.Prelude.{◌≡◌, ◌≢◌, ◌↔◌, ◌<◌, ◌≤◌, ◌+◌, ◌^◌, ◌++◌, ◌∷◌, [], true, false, length, vec_len, slice_get, is_some, IsTrue};
-ghost use Rattle.std.specs.Prelude.{All, Some, None, IsErrOf, if◌then◌else◌, IfErr, IfOk, OnOk};
+ghost use Rattle.std.specs.Prelude.{All, Some, None, IsErrOf, if◌then◌else◌, IfOk, OnOk};
 ghost use Rattle.near_box.specs.declared.survey.Entry.{Entry};
-ghost use Rattle.device.specs.Calls.{Nothing, Reopens};
+ghost use Rattle.device.specs.Calls.{Nothing};
 ghost use Rattle.std.specs.Int.NonZero.{non_zero_u32_get};
 ghost use Rattle.std.specs.Option.{option_map};
 ghost use Rattle.mailcore.specs.FlagSet.{union, minus};
+ghost use Rattle.mailcore.specs.KeywordNames.{kept};
 ghost use Rattle.mailcore.specs.Operations.{Shows, ShowsSparing, bytes_of, expunged, flagged, flags_added, flags_removed, marked_from};
 ghost use Rattle.mailcore.specs.CopyPieces.{text_left};
 ghost use Rattle.mailcore.specs.Spared.{spares};
 ghost use Rattle.near_box.specs.Entries.{AreSpared, asked};
-ghost use Rattle.near_box.specs.FlagChanges.{changed_flags};
+ghost use Rattle.near_box.specs.FlagChanges.{changed_flags, kept_change};
 ghost use Rattle.mailcore.specs.Mailboxes.{on_store, delivered, all_admitted, ExpungesSome, SetsAside, AdmitsSome};
-ghost use Rattle.near_box.specs.Mailboxes.{IsMailbox, IsMetaOf, near_of, meta_at, waiting_names};
-ghost use Rattle.near_box.specs.NearContracts.{Tells, TellsOf, Changes};
+ghost use Rattle.near_box.specs.Mailboxes.{IsMailbox, IsMetaOf, meta_at, waiting_names};
 ghost use Rattle.maildir.specs.Folders.{renamed_file, with_meta};
 ghost use Rattle.maildir.specs.Metas.{meta_text};
 ghost use Rattle.near_box.specs.NearEffects.{flagged_files, without_uids, RemovesSome, Admits, AdmitsIf, AppendsPart, admitted, appended};
 ghost use Rattle.near_box.specs.NearEffects.{copy_name as copy_name_of, file_of, name_flagged, raised, set_name};
-ghost use Rattle.near_box.specs.NearCalls.{Part, Told, Ends, Looks, Opens};
+ghost use Rattle.near_box.specs.NearCalls.{Part, Ends};
 ghost use Rattle.near_box.specs.Surveys.{Surveys, Extends, entries_from, entry_at};
 ghost use Rattle.std.proofs.Props.{props};
 
 use crate::flag_change::FlagChange;
 use crate::near_calls::{admit_file, copy_name, flags_of, location, place_of, room_for, set_name};
 use crate::near_fault::NearFault;
-use crate::read_fault::ReadFault;
 use crate::reading::{find_mark, find_message, listed};
 use crate::survey::{Entry, Survey, survey_of};
 use device::history::History;
 use mailcore::copy_pieces::CopyPieces;
 use mailcore::flags::Flags;
+use mailcore::keywords::Keywords;
 use mailcore::listing::Listing;
 use mailcore::octets::Octets;
 use mailcore::side::Side;
@@ -52,6 +52,8 @@ pub struct NearBox<F: Folder> {
     pub(crate) alloc: Global,
     pub(crate) folder: F,
     pub(crate) fresh: u32,
+    // The names of the flags that its messages have.
+    pub(crate) keywords: Keywords,
     pub(crate) survey: Survey,
     pub(crate) body: Vec<u8>,
     // An item for each file that stood in the folder and was gone when it was to be read.
@@ -60,7 +62,7 @@ pub struct NearBox<F: Folder> {
     pub ghost is_whole: { is_ready ≡ true → (F.seen folder).is_broken ≡ false },
     pub ghost has_numbers: { (0 < survey.meta.validity) × (0 < survey.meta.next) },
     pub ghost has_fresh: { (0 < fresh) × (fresh < 2 ^ 32) },
-    pub ghost surveys: { is_ready ≡ true → F.is_honest ≡ true → Surveys survey fresh (F.seen folder).stored } by { Prim.hlevel props },
+    pub ghost surveys: { is_ready ≡ true → F.is_honest ≡ true → Surveys survey fresh keywords (F.seen folder).stored } by { Prim.hlevel props },
 }
 
 impl<F: Folder> NearBox<F> {
@@ -103,7 +105,13 @@ impl<F: Folder> NearBox<F> {
         ensures ends { Ends false (box_of self.old) (box_of self.new) result }
     {
         self.begin()?;
-        let items = match listed(self.alloc, &mut self.folder, &self.survey.entries, spared) {
+        let items = match listed(
+            self.alloc,
+            &mut self.folder,
+            &self.survey.entries,
+            spared,
+            &self.keywords,
+        ) {
             Ok(items) => items,
             Err(fault) => return Err(self.failed(fault)),
         };
@@ -180,12 +188,13 @@ impl<F: Folder> NearBox<F> {
         Ok(found)
     }
 
-    /// Sets these flags of a message: one `rename`, or none where the name stays or the message is not there.
+    /// Sets these flags of a message, those of them that have a name by the map: one `rename`, or none where the name stays or the message
+    /// is not there. Letters that stand for no such flag stay in the name of its file.
     pub fn add_flags(&mut self, uid: Uid, flags: Flags) -> Result<(), NearFault>
-        ensures files { F.is_honest ≡ true → TurnsFiles (flagged_files (λ f. union f flags) uid) Nothing self.old self.new result }
-        ensures effect { F.is_honest ≡ true → TurnsMailbox (on_store (flags_added uid flags)) Nothing self.old self.new result }
+        ensures files { F.is_honest ≡ true → TurnsFiles (flagged_files self.old.keywords (λ f. union f flags) uid) Nothing self.old self.new result }
+        ensures effect { F.is_honest ≡ true → TurnsMailbox (on_store (flags_added uid (kept self.old.keywords flags))) Nothing self.old self.new result }
         ensures mailbox { F.is_honest ≡ true → IsMailbox self.old.fresh (stored_in self.old) → IsMailbox self.old.fresh (stored_in self.new) }
-        ensures untouched { F.is_honest ≡ true → flagged_files (λ f. union f flags) uid (stored_in self.old) ≡ stored_in self.old
+        ensures untouched { F.is_honest ≡ true → flagged_files self.old.keywords (λ f. union f flags) uid (stored_in self.old) ≡ stored_in self.old
             → seen_in self.new ≡ seen_in self.old }
         ensures ends { Ends false (box_of self.old) (box_of self.new) result }
     {
@@ -194,10 +203,10 @@ impl<F: Folder> NearBox<F> {
 
     /// Clears these flags of a message, as `add_flags` sets them.
     pub fn remove_flags(&mut self, uid: Uid, flags: Flags) -> Result<(), NearFault>
-        ensures files { F.is_honest ≡ true → TurnsFiles (flagged_files (λ f. minus f flags) uid) Nothing self.old self.new result }
-        ensures effect { F.is_honest ≡ true → TurnsMailbox (on_store (flags_removed uid flags)) Nothing self.old self.new result }
+        ensures files { F.is_honest ≡ true → TurnsFiles (flagged_files self.old.keywords (λ f. minus f flags) uid) Nothing self.old self.new result }
+        ensures effect { F.is_honest ≡ true → TurnsMailbox (on_store (flags_removed uid (kept self.old.keywords flags))) Nothing self.old self.new result }
         ensures mailbox { F.is_honest ≡ true → IsMailbox self.old.fresh (stored_in self.old) → IsMailbox self.old.fresh (stored_in self.new) }
-        ensures untouched { F.is_honest ≡ true → flagged_files (λ f. minus f flags) uid (stored_in self.old) ≡ stored_in self.old
+        ensures untouched { F.is_honest ≡ true → flagged_files self.old.keywords (λ f. minus f flags) uid (stored_in self.old) ≡ stored_in self.old
             → seen_in self.new ≡ seen_in self.old }
         ensures ends { Ends false (box_of self.old) (box_of self.new) result }
     {
@@ -206,10 +215,11 @@ impl<F: Folder> NearBox<F> {
 
     // Changes the flags of a message.
     fn change_flags(&mut self, uid: Uid, change: FlagChange) -> Result<(), NearFault>
-        ensures files { F.is_honest ≡ true → TurnsFiles (flagged_files (changed_flags change) uid) Nothing self.old self.new result }
-        ensures effect { F.is_honest ≡ true → TurnsMailbox (on_store (flagged (changed_flags change) uid)) Nothing self.old self.new result }
+        ensures files { F.is_honest ≡ true → TurnsFiles (flagged_files self.old.keywords (changed_flags change) uid) Nothing self.old self.new result }
+        ensures effect { F.is_honest ≡ true → TurnsMailbox (on_store (flagged (changed_flags (kept_change self.old.keywords change)) uid)) Nothing
+            self.old self.new result }
         ensures mailbox { F.is_honest ≡ true → IsMailbox self.old.fresh (stored_in self.old) → IsMailbox self.old.fresh (stored_in self.new) }
-        ensures untouched { F.is_honest ≡ true → flagged_files (changed_flags change) uid (stored_in self.old) ≡ stored_in self.old
+        ensures untouched { F.is_honest ≡ true → flagged_files self.old.keywords (changed_flags change) uid (stored_in self.old) ≡ stored_in self.old
             → seen_in self.new ≡ seen_in self.old }
         ensures ends { Ends false (box_of self.old) (box_of self.new) result }
     {
@@ -218,7 +228,7 @@ impl<F: Folder> NearBox<F> {
             self.is_ready = true;
             return Ok(());
         };
-        let flags = change.of(flags_of(&self.survey.entries[i]));
+        let flags = change.of(flags_of(&self.survey.entries[i], &self.keywords));
         self.set_flags(i, flags)?;
         self.is_ready = true;
         Ok(())
@@ -241,16 +251,18 @@ impl<F: Folder> NearBox<F> {
         Ok(())
     }
 
-    /// Adds a copy with these flags, and tells its UID: `write_tmp`, `replace_meta` one UID higher, and `rename` into `cur`.
+    /// Adds a copy with those of these flags that have a name by the map, and tells its UID: `write_tmp`, `replace_meta` one UID higher, and
+    /// `rename` into `cur`.
     ///
     /// `UidsExhausted`: there is no UID left.
     pub fn append_copy(&mut self, copy: CopyPieces<'_>, flags: Flags) -> Result<Uid, NearFault>
         ensures uid { F.is_honest ≡ true → IfOk result (λ uid. uid ≡ (mailbox_of self.old).store.next) }
         ensures exhausted { F.is_honest ≡ true
             → IsErrOf result NearFault.UidsExhausted ↔ ((self.old.is_ready ≡ true) × ((mailbox_of self.old).store.next + 1 ≡ 2 ^ 32)) }
-        ensures effect { F.is_honest ≡ true → TurnsMailbox (delivered (text_left copy.entry) flags) SetsAside self.old self.new result }
+        ensures effect { F.is_honest ≡ true
+            → TurnsMailbox (delivered (text_left copy.entry) (kept self.old.keywords flags)) SetsAside self.old self.new result }
         ensures files { F.is_honest ≡ true → (let meta = meta_at self.old.fresh (stored_in self.old) in
-            TurnsFiles (appended meta (text_left copy.entry) flags) (AppendsPart meta (text_left copy.entry)) self.old self.new result) }
+            TurnsFiles (appended self.old.keywords meta (text_left copy.entry) flags) (AppendsPart meta (text_left copy.entry)) self.old self.new result) }
         ensures mailbox { F.is_honest ≡ true → IsMailbox self.old.fresh (stored_in self.old) → IsMailbox self.old.fresh (stored_in self.new) }
         ensures ends { Ends true (box_of self.old) (box_of self.new) result }
     {
@@ -304,51 +316,27 @@ impl<F: Folder> NearBox<F> {
         Ok(())
     }
 
-    // A call begins: the box counts as failed until it has ended well.
-    fn begin(&mut self) -> Result<(), NearFault>
-        ensures folder { self.new.folder ≡ self.old.folder }
-        ensures ready { OnOk result (self.old.is_ready ≡ true) }
-        ensures failed { IfErr result (λ fault. (fault ≡ NearFault.Stopped) × (self.old.is_ready ≡ false)) }
-        ensures begun { self.new.is_ready ≡ false }
-        ensures same { (self.new.survey ≡ self.old.survey) × (self.new.fresh ≡ self.old.fresh) × (self.new.missed ≡ self.old.missed) }
-        ensures surveys { F.is_honest ≡ true → OnOk result (Surveys self.new.survey self.new.fresh (stored_in self.new)) }
-    {
-        if !self.is_ready {
-            return Err(NearFault::Stopped);
-        }
-        self.is_ready = false;
-        Ok(())
-    }
-
-    // What a fault in reading is to the caller: a file that is gone is a stop, which the box counts.
-    fn failed(&mut self, fault: ReadFault) -> NearFault
-        ensures folder { self.new.folder ≡ self.old.folder }
-        ensures same { (self.new.is_ready ≡ self.old.is_ready) × (self.new.fresh ≡ self.old.fresh) }
-        ensures told { Told fault (length self.old.missed.items) (length self.new.missed.items) result }
-    {
-        match fault {
-            ReadFault::Gone => {
-                self.missed = self.missed.and(&());
-                NearFault::Stopped
-            }
-            ReadFault::Device(fault) => NearFault::from(fault),
-        }
-    }
-
     // Gives the message at this place of the list these flags.
     fn set_flags(&mut self, i: usize, flags: Flags) -> Result<(), NearFault>
         requires within { i < vec_len self.old.survey.entries }
         requires begun { self.old.is_ready ≡ false }
-        requires surveyed { F.is_honest ≡ true → Surveys self.old.survey self.old.fresh (stored_in self.old) }
+        requires surveyed { F.is_honest ≡ true → Surveys self.old.survey self.old.fresh self.old.keywords (stored_in self.old) }
         ensures effect { F.is_honest ≡ true → (entry : Entry) → slice_get self.old.survey.entries.items i ≡ Some entry
-            → TurnsFiles (set_name (file_of entry) (name_flagged entry.name flags)) Nothing self.old self.new result }
-        ensures untouched { (entry : Entry) → slice_get self.old.survey.entries.items i ≡ Some entry → name_flagged entry.name flags ≡ None
+            → TurnsFiles (set_name (file_of entry) (name_flagged self.old.keywords entry.name flags)) Nothing self.old self.new result }
+        ensures untouched { (entry : Entry) → slice_get self.old.survey.entries.items i ≡ Some entry → name_flagged self.old.keywords entry.name flags ≡ None
             → seen_in self.new ≡ seen_in self.old }
-        ensures surveys { F.is_honest ≡ true → OnOk result (Surveys self.new.survey self.new.fresh (stored_in self.new)) }
+        ensures surveys { F.is_honest ≡ true → OnOk result (Surveys self.new.survey self.new.fresh self.new.keywords (stored_in self.new)) }
         ensures part { Part (seen_in self.old) (seen_in self.new) result }
         ensures failed { (self.new.is_ready ≡ self.old.is_ready) × (self.new.fresh ≡ self.old.fresh) × (self.new.missed ≡ self.old.missed) }
+        ensures keywords { self.new.keywords ≡ self.old.keywords }
     {
-        let Some(name) = set_name(self.alloc, &mut self.folder, &self.survey.entries[i], flags)?
+        let Some(name) = set_name(
+            self.alloc,
+            &mut self.folder,
+            &self.survey.entries[i],
+            flags,
+            &self.keywords,
+        )?
         else {
             return Ok(());
         };
@@ -361,12 +349,13 @@ impl<F: Folder> NearBox<F> {
     // Removes the message with this UID, if it is there.
     fn expunge_one(&mut self, uid: Uid) -> Result<(), NearFault>
         requires begun { self.old.is_ready ≡ false }
-        requires surveyed { F.is_honest ≡ true → Surveys self.old.survey self.old.fresh (stored_in self.old) }
+        requires surveyed { F.is_honest ≡ true → Surveys self.old.survey self.old.fresh self.old.keywords (stored_in self.old) }
         ensures untouched { All (λ entry. entry.uid ≢ uid) self.old.survey.entries.items → seen_in self.new ≡ seen_in self.old }
         ensures effect { F.is_honest ≡ true → TurnsFiles (without_uids (uid ∷ [])) Nothing self.old self.new result }
-        ensures surveys { F.is_honest ≡ true → OnOk result (Surveys self.new.survey self.new.fresh (stored_in self.new)) }
+        ensures surveys { F.is_honest ≡ true → OnOk result (Surveys self.new.survey self.new.fresh self.new.keywords (stored_in self.new)) }
         ensures part { Part (seen_in self.old) (seen_in self.new) result }
         ensures failed { (self.new.is_ready ≡ self.old.is_ready) × (self.new.fresh ≡ self.old.fresh) × (self.new.missed ≡ self.old.missed) }
+        ensures keywords { self.new.keywords ≡ self.old.keywords }
     {
         let Some(i) = place_of(&self.survey.entries, uid) else {
             return Ok(());
@@ -381,14 +370,16 @@ impl<F: Folder> NearBox<F> {
         requires begun { self.old.is_ready ≡ false }
         requires next { uid ≡ self.old.survey.meta.next }
         ensures effect { F.is_honest ≡ true → (let meta = self.old.survey.meta in
-            TurnsFiles (appended meta (text_left copy.entry) flags) (AppendsPart meta (text_left copy.entry)) self.old self.new result) }
+            TurnsFiles (appended self.old.keywords meta (text_left copy.entry) flags) (AppendsPart meta (text_left copy.entry)) self.old self.new result) }
         ensures survey { OnOk result (let old = self.old.survey in
-            Extends (entry_at uid (record { place = Place.Cur; name = copy_name_of old.meta.validity uid flags }) ∷ [])
+            Extends (entry_at uid (record { place = Place.Cur; name = copy_name_of self.old.keywords old.meta.validity uid flags }) ∷ [])
             old.waiting.items (raised old.meta 1) old self.new.survey) }
         ensures part { Part (seen_in self.old) (seen_in self.new) result }
         ensures failed { (self.new.is_ready ≡ self.old.is_ready) × (self.new.fresh ≡ self.old.fresh) × (self.new.missed ≡ self.old.missed) }
+        ensures keywords { self.new.keywords ≡ self.old.keywords }
     {
-        let name = copy_name(self.alloc, self.survey.meta.validity, uid, flags)?;
+        let validity = self.survey.meta.validity;
+        let name = copy_name(self.alloc, validity, uid, flags, &self.keywords)?;
         self.survey.entries.reserve(1)?;
         self.folder.write_tmp(copy)?;
         self.raise_next(1)?;
@@ -417,6 +408,7 @@ impl<F: Folder> NearBox<F> {
         ensures marks { self.new.survey.marks ≡ self.old.survey.marks }
         ensures part { Part (seen_in self.old) (seen_in self.new) result }
         ensures failed { (self.new.is_ready ≡ self.old.is_ready) × (self.new.fresh ≡ self.old.fresh) × (self.new.missed ≡ self.old.missed) }
+        ensures keywords { self.new.keywords ≡ self.old.keywords }
     {
         let meta = Meta {
             validity: self.survey.meta.validity,
@@ -437,6 +429,7 @@ impl<F: Folder> NearBox<F> {
         requires positive { 0 < self.old.survey.meta.next }
         ensures part { Part (seen_in self.old) (seen_in self.new) result }
         ensures failed { (self.new.is_ready ≡ self.old.is_ready) × (self.new.fresh ≡ self.old.fresh) × (self.new.missed ≡ self.old.missed) }
+        ensures keywords { self.new.keywords ≡ self.old.keywords }
         ensures survey { OnOk result (let old = self.old.survey in
             Extends (entries_from old.meta.next old.waiting.items) [] (raised old.meta count) old self.new.survey) }
         ensures effect { F.is_honest ≡ true → Admits self.old.survey.waiting.items self.old.survey.meta (stored_in self.old)
@@ -458,6 +451,7 @@ impl<F: Folder> NearBox<F> {
         requires uid { (0 < number) × (number + 1 < 2 ^ 32) }
         ensures part { Part (seen_in self.old) (seen_in self.new) result }
         ensures failed { (self.new.is_ready ≡ self.old.is_ready) × (self.new.fresh ≡ self.old.fresh) × (self.new.missed ≡ self.old.missed) }
+        ensures keywords { self.new.keywords ≡ self.old.keywords }
         ensures meta { (self.new.survey.meta ≡ self.old.survey.meta) × (self.new.survey.has_meta ≡ self.old.survey.has_meta) }
         ensures waiting { self.new.survey.waiting ≡ self.old.survey.waiting }
         ensures marks { self.new.survey.marks ≡ self.old.survey.marks }

@@ -5,13 +5,14 @@ ghost use Rattle.std.specs.List.{HoldsAt};
 ghost use Rattle.device.specs.Calls.{Nothing};
 ghost use Rattle.near_box.specs.Entries.{AreRising};
 ghost use Rattle.maildir.specs.Folders.{text_of, name_at, renamed_file};
-ghost use Rattle.maildir.specs.FlaggedNames.{flags_by_name};
+ghost use Rattle.maildir.specs.FlaggedNames.{flags_by_name, letters_by_name};
 ghost use Rattle.near_box.specs.NearEffects.{name_flagged, copy_name, copy_base, set_name, file_of, admitted, name_admitted, Does};
 ghost use Rattle.near_box.specs.NearCalls.{Part};
 
 use crate::near_fault::NearFault;
 use crate::survey::Entry;
 use mailcore::flags::Flags;
+use mailcore::keywords::Keywords;
 use mailcore::uid::Uid;
 use maildir::folder::{FileName, Folder, Location, Origin, Place};
 use maildir::letters::{flags_in, letters_with};
@@ -50,17 +51,20 @@ pub fn place_of(entries: &[Entry], uid: Uid) -> Option<usize>
         .ok()
 }
 
-/// The flags of a message.
-#[tactic(auto, unfolding(maildir::specs::Letters::flags_in))]
-pub fn flags_of(entry: &Entry) -> Flags
-    ensures { result ≡ flags_by_name entry.now.name }
+/// The flags of a message: those of its letters that have a name in IMAP.
+pub fn flags_of(entry: &Entry, keywords: &Keywords) -> Flags
+    ensures { result ≡ flags_by_name keywords.now entry.now.name }
+{
+    flags_in(letters_of(entry)).kept(keywords)
+}
+
+/// The letters in the name of a message's file.
+fn letters_of(entry: &Entry) -> &[u8]
+    ensures { result.now ≡ letters_by_name entry.now.name }
 {
     match read_name(entry.name.as_slice()) {
-        Some(name) => match name.letters {
-            Some(letters) => flags_in(letters),
-            None => Flags::none(),
-        },
-        None => Flags::none(),
+        Some(name) => name.letters.unwrap_or(b""),
+        None => b"",
     }
 }
 
@@ -70,14 +74,15 @@ pub fn set_name<F: Folder>(
     folder: &mut F,
     entry: &Entry,
     flags: Flags,
+    keywords: &Keywords,
 ) -> Result<Option<Vec<u8>>, NearFault>
     ensures part { Part (F.seen folder.old) (F.seen folder.new) result }
-    ensures name { IfOk result (λ name. text_of name ≡ name_flagged entry.now.name flags) }
-    ensures untouched { name_flagged entry.now.name flags ≡ None → F.seen folder.new ≡ F.seen folder.old }
-    ensures effect { F.is_honest ≡ true → Does (set_name (file_of entry.now) (name_flagged entry.now.name flags))
+    ensures name { IfOk result (λ name. text_of name ≡ name_flagged keywords.now entry.now.name flags) }
+    ensures untouched { name_flagged keywords.now entry.now.name flags ≡ None → F.seen folder.new ≡ F.seen folder.old }
+    ensures effect { F.is_honest ≡ true → Does (set_name (file_of entry.now) (name_flagged keywords.now entry.now.name flags))
         Nothing (F.seen folder.old).stored (F.seen folder.new).stored result }
 {
-    match renamed(alloc, entry, flags)? {
+    match renamed(alloc, entry, flags, keywords)? {
         Some(name) => {
             rename_to(folder, location(entry), Place::Cur, &name)?;
             Ok(Some(name))
@@ -119,14 +124,19 @@ pub fn rename_to<F: Folder>(
 }
 
 /// The name of a message once it has these flags, or none where its name stays.
-pub fn renamed(alloc: Global, entry: &Entry, flags: Flags) -> Result<Option<Vec<u8>>, AllocError>
-    ensures { IfOk result (λ name. text_of name ≡ name_flagged entry.now.name flags) }
+pub fn renamed(
+    alloc: Global,
+    entry: &Entry,
+    flags: Flags,
+    keywords: &Keywords,
+) -> Result<Option<Vec<u8>>, AllocError>
+    ensures { IfOk result (λ name. text_of name ≡ name_flagged keywords.now entry.now.name flags) }
 {
     let Some(name) = read_name(entry.name.as_slice()) else {
         return Ok(None);
     };
     let before = name.letters.unwrap_or(b"");
-    let letters = letters_with(alloc, before, flags)?;
+    let letters = letters_with(alloc, before, flags, keywords)?;
     let text = spell(alloc, name.base, name.uid, Some(&letters))?;
     if text.as_slice() == entry.name.as_slice() {
         Ok(None)
@@ -151,11 +161,12 @@ pub fn copy_name(
     validity: u32,
     uid: Uid,
     flags: Flags,
+    keywords: &Keywords,
 ) -> Result<Vec<u8>, AllocError>
-    ensures { IfOk result (λ name. name.items ≡ copy_name validity uid flags) }
+    ensures { IfOk result (λ name. name.items ≡ copy_name keywords.now validity uid flags) }
 {
     let base = copy_base(alloc, validity, uid)?;
-    let letters = letters_with(alloc, b"", flags)?;
+    let letters = letters_with(alloc, b"", flags, keywords)?;
     spell(alloc, &base, Some(uid), Some(&letters))
 }
 

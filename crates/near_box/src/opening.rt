@@ -11,6 +11,7 @@ use crate::near_box::NearBox;
 use crate::near_fault::NearFault;
 use crate::survey::{Survey, survey_of};
 use device::history::History;
+use mailcore::keywords::Keywords;
 use maildir::folder::Folder;
 use std::alloc::Global;
 use std::num::NonZeroU32;
@@ -18,14 +19,20 @@ use std::num::NonZeroU32;
 impl<F: Folder> NearBox<F> {
     ghost use Rattle.near_box.specs.Boxes.{seen_in, stored_in};
 
-    /// The mailbox of a folder, whose validity is `fresh` where it has no meta file. It reads the folder and changes nothing; others may
-    /// have added files. Beside a fault the folder comes back.
+    /// The mailbox of a folder, whose validity is `fresh` where it has no meta file, with the flags that have a name by a map of keywords.
+    /// It reads the folder and changes nothing; others may have added files. Beside a fault the folder comes back.
     ///
     /// Faults: `Stopped` and `NoMemory`, and the first that holds of `Absent`, `TwoWithOneUid` and `BadMeta`.
-    pub fn open(alloc: Global, folder: F, fresh: NonZeroU32) -> Result<NearBox<F>, (NearFault, F)>
+    pub fn open(
+        alloc: Global,
+        folder: F,
+        fresh: NonZeroU32,
+        keywords: Keywords,
+    ) -> Result<NearBox<F>, (NearFault, F)>
         ensures opens { Opens (λ near. F.seen near.folder) F.seen (F.seen folder) result }
         ensures adds { F.is_honest ≡ true → Gathers F.visitors (λ near. F.seen near.folder) F.seen (F.seen folder) result }
         ensures ready { IfOk result (λ near. (near.is_ready ≡ true) × (near.fresh ≡ non_zero_u32_get fresh) × (length near.missed.items ≡ 0)) }
+        ensures keywords { IfOk result (λ near. near.keywords ≡ keywords) }
         ensures mailbox { F.is_honest ≡ true → Tells (non_zero_u32_get fresh) (λ near. F.seen near.folder) F.seen result }
     {
         let mut folder = folder;
@@ -34,6 +41,7 @@ impl<F: Folder> NearBox<F> {
                 alloc,
                 folder,
                 fresh: fresh.get(),
+                keywords,
                 survey,
                 body: Vec::new(alloc),
                 missed: History::new(),
@@ -43,16 +51,19 @@ impl<F: Folder> NearBox<F> {
         }
     }
 
-    /// The mailbox of a folder, closed. Its validity is `fresh` where the folder has no meta file. The folder is not called.
-    pub fn closed(alloc: Global, folder: F, fresh: NonZeroU32) -> NearBox<F>
+    /// The mailbox of a folder, closed. Its validity is `fresh` where the folder has no meta file, and its flags are those that have a name
+    /// by this map. The folder is not called.
+    pub fn closed(alloc: Global, folder: F, fresh: NonZeroU32, keywords: Keywords) -> NearBox<F>
         ensures folder { result.folder ≡ folder }
         ensures fresh { result.fresh ≡ non_zero_u32_get fresh }
+        ensures keywords { result.keywords ≡ keywords }
         ensures closed { (result.is_ready ≡ false) × (length result.missed.items ≡ 0) }
     {
         NearBox {
             alloc,
             folder,
             fresh: fresh.get(),
+            keywords,
             survey: Survey::none(alloc, fresh),
             body: Vec::new(alloc),
             missed: History::new(),
@@ -70,6 +81,7 @@ impl<F: Folder> NearBox<F> {
         ensures ready { OnOk result (self.new.is_ready ≡ true) }
         ensures closed { IfErr result (λ _. self.new.is_ready ≡ false) }
         ensures fresh { self.new.fresh ≡ non_zero_u32_get fresh }
+        ensures keywords { self.new.keywords ≡ self.old.keywords }
         ensures missed { self.new.missed ≡ self.old.missed }
         ensures mailbox { F.is_honest ≡ true → TellsOf (non_zero_u32_get fresh) (stored_in self.new) result }
     {
@@ -85,6 +97,7 @@ impl<F: Folder> NearBox<F> {
         ensures folder { Reopens (seen_in self.old) (seen_in self.new) }
         ensures closed { self.new.is_ready ≡ false }
         ensures fresh { self.new.fresh ≡ self.old.fresh }
+        ensures keywords { self.new.keywords ≡ self.old.keywords }
         ensures missed { self.new.missed ≡ self.old.missed }
     {
         self.is_ready = false;

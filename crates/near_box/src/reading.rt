@@ -4,11 +4,12 @@
 ghost use Rattle.std.specs.Prelude.{◌≡◌, ◌≢◌, ◌<◌, ◌≤◌, ◌+◌, ℕ, List, All, true, false, [], ◌∷◌, ◌++◌, ◌⊎◌, map, nat_lt, IfOk, IfErr, OnOk};
 ghost use Rattle.std.specs.List.{list_all};
 ghost use Rattle.mailcore.specs.Content.{mark_of};
-ghost use Rattle.mailcore.specs.Operations.{bytes_among, is_mark, marked_among};
+ghost use Rattle.mailcore.specs.Operations.{bytes_among, marked_among};
 ghost use Rattle.mailcore.specs.Spared.{spares};
 ghost use Rattle.maildir.specs.Folders.{text_of};
-ghost use Rattle.near_box.specs.Entries.{AreRising, AreThere, AreThereUnless, IsThere, IsThereUnless, AreSpared, count_asked, message_at, item_at};
+ghost use Rattle.near_box.specs.Entries.{AreRising, AreThere, AreThereUnless, IsThere, IsThereUnless, AreSpared, bytes_in, count_asked, message_at, item_at};
 ghost use Rattle.near_box.specs.KnownMarks.{AreKnown, AreMarksAmong, AreMarksOfFile, IsMarkAmong, mark_at};
+ghost use Rattle.mailcore.specs.declared.keywords.Keyword.{Keyword};
 ghost use Rattle.mailcore.specs.declared.mailbox.Message.{Message};
 ghost use Rattle.near_box.specs.NearCalls.{Reads};
 
@@ -20,6 +21,7 @@ use device::DeviceFault;
 use mailcore::content::fit;
 use mailcore::copies::mark_of;
 use mailcore::fault::PushFault;
+use mailcore::keywords::Keywords;
 use mailcore::listing::{Item, Items};
 use mailcore::side::Side;
 use mailcore::spared::Spared;
@@ -34,7 +36,7 @@ pub fn read_message<F: Folder>(folder: &mut F, entry: &Entry) -> Result<Vec<u8>,
     ensures keeps { F.is_honest ≡ true → (F.seen folder.new).stored ≡ (F.seen folder.old).stored }
     ensures counted { F.is_honest ≡ true → F.reads folder.new ≡ F.reads folder.old + 1 }
     ensures bytes { F.is_honest ≡ true → IsThere (F.seen folder.old).stored entry.now
-        → IfOk result (λ bytes. bytes.items ≡ (message_at (F.seen folder.old).stored entry.now).bytes) }
+        → IfOk result (λ bytes. bytes.items ≡ bytes_in (F.seen folder.old).stored entry.now) }
     ensures there { F.is_honest ≡ true → IsThere (F.seen folder.old).stored entry.now → result ≢ Err ReadFault.Gone }
 {
     match folder.read(Source::Mail(location(entry)))? {
@@ -51,8 +53,8 @@ pub fn find_message<F: Folder>(
 ) -> Result<Option<Vec<u8>>, ReadFault>
     ensures reads { Reads (F.seen folder.old) (F.seen folder.new) result }
     ensures keeps { F.is_honest ≡ true → (F.seen folder.new).stored ≡ (F.seen folder.old).stored }
-    ensures bytes { F.is_honest ≡ true → AreRising entries.now → AreThere entries.now (F.seen folder.old).stored
-        → IfOk result (λ bytes. text_of bytes ≡ bytes_among uid (map (message_at (F.seen folder.old).stored) entries.now)) }
+    ensures bytes { F.is_honest ≡ true → (keywords : List Keyword) → AreRising entries.now → AreThere entries.now (F.seen folder.old).stored
+        → IfOk result (λ bytes. text_of bytes ≡ bytes_among uid (map (message_at keywords (F.seen folder.old).stored) entries.now)) }
     ensures there { F.is_honest ≡ true → AreThere entries.now (F.seen folder.old).stored → result ≢ Err ReadFault.Gone }
 {
     match place_of(entries, uid) {
@@ -68,11 +70,12 @@ pub fn listed<F: Folder>(
     folder: &mut F,
     entries: &[Entry],
     spared: &Spared,
+    keywords: &Keywords,
 ) -> Result<Items, ReadFault>
     ensures reads { Reads (F.seen folder.old) (F.seen folder.new) result }
     ensures keeps { F.is_honest ≡ true → (F.seen folder.new).stored ≡ (F.seen folder.old).stored }
     ensures shows { F.is_honest ≡ true → AreRising entries.now → AreThereUnless (spares spared.now) entries.now (F.seen folder.old).stored
-        → IfOk result (λ items. items ≡ map (item_at (spares spared.now) (F.seen folder.old).stored) entries.now) }
+        → IfOk result (λ items. items ≡ map (item_at keywords.now (spares spared.now) (F.seen folder.old).stored) entries.now) }
     ensures there { F.is_honest ≡ true → AreRising entries.now → AreThereUnless (spares spared.now) entries.now (F.seen folder.old).stored
         → result ≢ Err ReadFault.Gone }
     ensures counted { F.is_honest ≡ true → OnOk result (F.reads folder.new ≡ F.reads folder.old + count_asked (spares spared.now) entries.now) }
@@ -82,7 +85,7 @@ pub fn listed<F: Folder>(
     for entry in entries {
         let item = Item {
             uid: entry.uid,
-            flags: flags_of(entry),
+            flags: flags_of(entry, keywords),
             fit: is_fit(folder, entry, spared)?,
         };
         push_item(&mut items, item)?;
@@ -94,8 +97,8 @@ pub fn listed<F: Folder>(
 fn is_fit<F: Folder>(folder: &mut F, entry: &Entry, spared: &Spared) -> Result<bool, ReadFault>
     ensures reads { Reads (F.seen folder.old) (F.seen folder.new) result }
     ensures keeps { F.is_honest ≡ true → (F.seen folder.new).stored ≡ (F.seen folder.old).stored }
-    ensures fit { F.is_honest ≡ true → IsThereUnless (spares spared.now) (F.seen folder.old).stored entry.now
-        → IfOk result (λ is. is ≡ (item_at (spares spared.now) (F.seen folder.old).stored entry.now).fit) }
+    ensures fit { F.is_honest ≡ true → IsThereUnless (spares spared.now) (F.seen folder.old).stored entry.now → (keywords : List Keyword)
+        → IfOk result (λ is. is ≡ (item_at keywords (spares spared.now) (F.seen folder.old).stored entry.now).fit) }
     ensures there { F.is_honest ≡ true → IsThereUnless (spares spared.now) (F.seen folder.old).stored entry.now
         → result ≢ Err ReadFault.Gone }
     ensures counted { F.is_honest ≡ true → F.reads folder.new ≡ F.reads folder.old + count_asked (spares spared.now) (entry.now ∷ []) }
@@ -131,11 +134,11 @@ pub fn find_mark<F: Folder>(
 ) -> Result<Option<Uid>, ReadFault>
     ensures reads { Reads (F.seen folder.old) (F.seen folder.new) result }
     ensures keeps { F.is_honest ≡ true → (F.seen folder.new).stored ≡ (F.seen folder.old).stored }
-    ensures found { F.is_honest ≡ true → AreThere entries.now (F.seen folder.old).stored → (next : ℕ) → AreRising entries.now
-        → All (λ e. e.uid < next) entries.now
-        → AreKnown next (map (message_at (F.seen folder.old).stored) entries.now) known.old
-        → IfOk result (λ found. (found ≡ marked_among mark from (map (message_at (F.seen folder.old).stored) entries.now))
-        × AreKnown next (map (message_at (F.seen folder.old).stored) entries.now) known.new) }
+    ensures found { F.is_honest ≡ true → AreThere entries.now (F.seen folder.old).stored → (next : ℕ) (keywords : List Keyword)
+        → AreRising entries.now → All (λ e. e.uid < next) entries.now
+        → AreKnown next (map (message_at keywords (F.seen folder.old).stored) entries.now) known.old
+        → IfOk result (λ found. (found ≡ marked_among mark from (map (message_at keywords (F.seen folder.old).stored) entries.now))
+        × AreKnown next (map (message_at keywords (F.seen folder.old).stored) entries.now) known.new) }
     ensures there { F.is_honest ≡ true → AreThere entries.now (F.seen folder.old).stored → result ≢ Err ReadFault.Gone }
 {
     known.passed.begin(mark, from);
@@ -161,7 +164,7 @@ fn known_mark<F: Folder>(
     ensures keeps { F.is_honest ≡ true → (F.seen folder.new).stored ≡ (F.seen folder.old).stored }
     ensures mark { F.is_honest ≡ true → IsThere (F.seen folder.old).stored entry.now
         → AreMarksOfFile (F.seen folder.old).stored entry.now known.old.items
-        → IfOk result (λ mark. mark ≡ mark_of (message_at (F.seen folder.old).stored entry.now).bytes) }
+        → IfOk result (λ mark. mark ≡ mark_of (bytes_in (F.seen folder.old).stored entry.now)) }
     ensures known { F.is_honest ≡ true → IsThere (F.seen folder.old).stored entry.now → (next : ℕ) → (messages : List Message)
         → IsMarkAmong next messages (mark_at (F.seen folder.old).stored entry.now) → AreMarksAmong next messages known.old.items
         → OnOk result (AreMarksAmong next messages known.new.items) }

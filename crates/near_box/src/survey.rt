@@ -1,10 +1,11 @@
 //! What stands in a folder: its messages by their UIDs, and the files that wait for one.
 
-ghost use Rattle.std.specs.Prelude.{◌≡◌, ◌<◌, true, filter, All, AllPairs, IfOk, IfErr, OnOk, IfSome, MatchBool, Some, ◌++◌, ◌∷◌, []};
+ghost use Rattle.std.specs.Prelude.{◌≡◌, ◌<◌, true, filter, All, AllPairs, List, IfOk, IfErr, OnOk, IfSome, MatchBool, Some, ◌++◌, ◌∷◌, []};
 ghost use Rattle.std.specs.List.{filter_map};
 ghost use Rattle.std.specs.List.Sorted.{IsPermutation, IsSortedBy, IsSortedByKey};
 ghost use Rattle.std.specs.Ordering.{nat_cmp};
 ghost use Rattle.std.specs.Int.NonZero.{non_zero_u32_get};
+ghost use Rattle.mailcore.specs.declared.keywords.Keyword.{Keyword};
 ghost use Rattle.maildir.specs.declared.meta.Meta.{Meta};
 ghost use Rattle.maildir.specs.Folders.{Stored, Lists, text_of};
 ghost use Rattle.maildir.specs.Gains.{Adds};
@@ -77,7 +78,7 @@ pub fn survey_of<F: Folder>(
     ensures looks { Looks (F.seen folder.old) (F.seen folder.new) result }
     ensures numbers { IfOk result (λ survey. (0 < survey.meta.validity) × (0 < survey.meta.next)) }
     ensures adds { F.is_honest ≡ true → Adds F.visitors (F.seen folder.old).stored (F.seen folder.new).stored }
-    ensures tells { F.is_honest ≡ true → SurveyTells (non_zero_u32_get fresh) (F.seen folder.new).stored result }
+    ensures tells { F.is_honest ≡ true → (keywords : List Keyword) → SurveyTells (non_zero_u32_get fresh) keywords (F.seen folder.new).stored result }
 {
     let Some(names) = folder.names()? else {
         return Err(NearFault::Absent);
@@ -95,7 +96,8 @@ fn survey_from(
 ) -> Result<Survey, NearFault>
     ensures numbers { IfOk result (λ survey. (0 < survey.meta.validity) × (0 < survey.meta.next)) }
     ensures calls_nothing { IfErr result (λ fault. IsOwnFault fault) }
-    ensures tells { (s : Stored) → Lists (Some names.items) s → text_of text ≡ s.meta → SurveyTells (non_zero_u32_get fresh) s result }
+    ensures tells { (s : Stored) (keywords : List Keyword) → Lists (Some names.items) s → text_of text ≡ s.meta
+        → SurveyTells (non_zero_u32_get fresh) keywords s result }
 {
     let mut found = Found::among(alloc, names)?;
     found.sort()?;

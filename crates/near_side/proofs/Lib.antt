@@ -1,3 +1,4 @@
 pub mod Removals
 pub mod NearCalls
 pub mod Opening
+pub mod Within

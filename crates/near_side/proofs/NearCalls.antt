@@ -3,6 +3,7 @@ use Rattle.std.proofs.Common.{◌≡◌, ◌⊎◌, inl, inr, ap, refl, subst, s
 use Rattle.std.specs.Prelude.{IfOk, IsErrOf, not}
 use Rattle.std.specs.Int.NonZero.{non_zero_u32_get}
 use Rattle.device.specs.Calls.{Effect, Follows, Leaves, Nothing, Went}
+use Rattle.mailcore.specs.declared.keywords.Keyword.{Keyword}
 use Rattle.mailcore.specs.Ranges.{IsInRange}
 use Rattle.mailcore.specs.declared.side.Side.TheVariants as side
 use Rattle.visitors.specs.Visitors.{Visitors}
@@ -64,23 +65,30 @@ module _ {F : Type 0} {folders : folder.Ghosts F} (s : NearSide F folders) (new 
   others = Arrives side.Near folders.visitors.ours folders.visitors.alone
 
   abbrev now : Seen
-  now = seen_at s.is_open (non_zero_u32_get s.fresh) new
+  now = seen_at s.is_open (non_zero_u32_get s.fresh) new.keywords new
 
   -- the box's mailbox before the call, and behind it
   abbrev n : Mailbox
   n = mailbox_of s.near
 
   abbrev n' : Mailbox
-  n' = near_of s.near.fresh (stored_in new)
+  n' = near_of s.near.fresh s.near.keywords (stored_in new)
 
-  says_so : (does : Effect Mailbox) → does n n' → Follows others does (seen_of s).stored now.stored
-  says_so does h = unvisited folders.visitors does (subst (λ (f : ℕ). does (near_of f (stored_in s.near)) (near_of f (stored_in new))) s.same_fresh h)
+  -- a call changes no map
+  abbrev SameMap : Type 0
+  SameMap = new.keywords ≡ s.near.keywords
+
+  says_so : (does : Effect Mailbox) → SameMap → does n n' → Follows others does (seen_of s).stored now.stored
+  says_so does same h =
+      let stored : Mailbox = (seen_of s).stored in
+      unvisited folders.visitors does (subst (λ (keywords : List Keyword). does stored (near_of (non_zero_u32_get s.fresh) keywords (stored_in new))) (sym same)
+      (subst (λ (f : ℕ). does (near_of f s.near.keywords (stored_in s.near)) (near_of f s.near.keywords (stored_in new))) s.same_fresh h))
 
   pub ready : s.near.is_ready ≡ true
   ready = ready_of s.is_open s.near.is_ready (seen_in s.near).is_broken is_open whole
 
   same_near : stored_in new ≡ stored_in s.near → n' ≡ n
-  same_near same = ap (near_of s.near.fresh) same
+  same_near same = ap (near_of s.near.fresh s.near.keywords) same
 
   same_box : (gives_uids : Bool) → RunsOut gives_uids (box_of s.near) (box_of new) → box_of new ≡ box_of s.near
   same_box gives_uids out = as_it_was gives_uids (box_of s.near) (box_of new) out
@@ -93,18 +101,18 @@ module _ {F : Type 0} {folders : folder.Ghosts F} (s : NearSide F folders) (new 
     was_whole = whole;
     is_whole = rw is_open (ap not ends.is_ready);
     stops = ends.stops;
-    effect = λ h. says_so (does answer) (does_so h);
+    effect = λ h. says_so (does answer) ends.keywords (does_so h);
   }
 
-  halts : {is_stop : Type 0} (leaves : Effect Mailbox) → (is_stop → HasCause ⊥ (seen_of s) now) → (seen_of s).stops ≤ now.stops → (honest → leaves n n')
+  halts : {is_stop : Type 0} (leaves : Effect Mailbox) → SameMap → (is_stop → HasCause ⊥ (seen_of s) now) → (seen_of s).stops ≤ now.stops → (honest → leaves n n')
       → Halts honest ⊥ is_stop (Follows others leaves) (seen_of s) now
-  halts leaves cause no_less leaves_so = record { cause = cause; no_less = no_less; left = λ h. says_so leaves (leaves_so h) }
+  halts leaves same cause no_less leaves_so = record { cause = cause; no_less = no_less; left = λ h. says_so leaves same (leaves_so h) }
 
   fails : (T : Type 0) (gives_uids : Bool) (leaves : Effect Mailbox) (e : NearFault) → Ends {T = T} gives_uids (box_of s.near) (box_of new) (Err e) → (honest → leaves n n')
       → Halts honest ⊥ (told e ≡ fault.Stopped) (Follows others leaves) (seen_of s) now
-  fails T gives_uids leaves near.Stopped ends leaves_so = halts leaves (λ _. inl (ends.counted ready)) (omega (arith, ends.counted ready)) leaves_so
-  fails T gives_uids leaves near.NoMemory ends leaves_so = halts leaves (λ is. absurd (cc)) ends.no_less leaves_so
-  fails T gives_uids leaves near.UidsExhausted ends leaves_so = halts leaves (λ is. absurd (cc)) (omega (arith, ap stops_of (same_box gives_uids ends))) leaves_so
+  fails T gives_uids leaves near.Stopped ends leaves_so = halts leaves ends.keywords (λ _. inl (ends.counted ready)) (omega (arith, ends.counted ready)) leaves_so
+  fails T gives_uids leaves near.NoMemory ends leaves_so = halts leaves ends.keywords (λ is. absurd (cc)) ends.no_less leaves_so
+  fails T gives_uids leaves near.UidsExhausted ends leaves_so = halts leaves (ap (λ (b : Box). b.keywords) (same_box gives_uids ends)) (λ is. absurd (cc)) (omega (arith, ap stops_of (same_box gives_uids ends))) leaves_so
   fails T gives_uids leaves near.Absent ends leaves_so = absurd ends
   fails T gives_uids leaves near.TwoWithOneUid ends leaves_so = absurd ends
   fails T gives_uids leaves near.BadMeta ends leaves_so = absurd ends
@@ -214,10 +222,11 @@ module _ {F : Type 0} {folders : folder.Ghosts F} (s : NearSide F folders) (new 
   -- ---- a full mailbox
 
   pub has_no_room : (count : Mailbox → ℕ) → IsFull (count (seen_of s).stored) (seen_of s).stored → IsFull (count n) n
-  has_no_room count h = subst (λ (f : ℕ). IsFull (count (near_of f (stored_in s.near))) (near_of f (stored_in s.near))) (sym s.same_fresh) h
+  has_no_room count h =
+      subst (λ (f : ℕ). IsFull (count (near_of f s.near.keywords (stored_in s.near))) (near_of f s.near.keywords (stored_in s.near))) (sym s.same_fresh) h
 
   pub has_no_uid : honest → IsFull 1 (seen_of s).stored → n.store.next + 1 ≡ 2 ^ 32
   has_no_uid h is_full =
-      let mailbox : IsMailbox s.near.fresh (stored_in s.near) = surveyed_mailbox s.near.survey s.near.fresh (stored_in s.near) (s.near.surveys ready h) in
-      let range : IsInRange n.store = near_in_range s.near.fresh (stored_in s.near) s.near.has_fresh.0 s.near.has_fresh.1 mailbox in
+      let mailbox : IsMailbox s.near.fresh (stored_in s.near) = surveyed_mailbox s.near.survey s.near.fresh s.near.keywords (stored_in s.near) (s.near.surveys ready h) in
+      let range : IsInRange n.store = near_in_range s.near.fresh s.near.keywords (stored_in s.near) s.near.has_fresh.0 s.near.has_fresh.1 mailbox in
       omega (arith, has_no_room (λ _. 1) is_full, range.next.below)

@@ -1,9 +1,10 @@
 -- What the near box says where it is opened, as the trait says it.
-use Rattle.std.proofs.Common.{◌≡◌, ◌⊎◌, ◌<◌, inl, inr, ap, ◌∙◌, refl, ℕ, ◌≤◌, Bool, true, false, length, Ok, Err, arith}
+use Rattle.std.proofs.Common.{◌≡◌, ◌⊎◌, ◌<◌, inl, inr, ap, ◌∙◌, refl, sym, subst, ℕ, ◌≤◌, Bool, true, false, List, length, Ok, Err, arith}
 use Rattle.std.specs.Prelude.{not}
 use Rattle.std.specs.Int.NonZero.{non_zero_u32_get}
 use Rattle.device.specs.Calls.{Effect, Follows, Nothing, Seen as FolderSeen, Went}
 use Rattle.device.specs.declared.history.History.{History}
+use Rattle.mailcore.specs.declared.keywords.Keyword.{Keyword}
 use Rattle.mailcore.specs.declared.side.Side.TheVariants as side
 use Rattle.maildir.specs.declared.folder.Folder as folder
 use Rattle.maildir.specs.declared.meta.Meta.{Meta}
@@ -37,12 +38,12 @@ stopped_now : (old new : FolderSeen Stored) → old.is_broken ≡ false → (old
 stopped_now old new whole (inl broken) = absurd (cc)
 stopped_now old new whole (inr rose) = rose
 
-module _ {F : Type 0} {folders : folder.Ghosts F} (s : NearSide F folders) (new : NearBox F folders) (whole : (seen_of s).is_broken ≡ false) (missed : new.missed ≡ s.near.missed) (adds : folders.is_honest ≡ true → Adds folders.visitors (stored_in s.near) (stored_in new)) where
+module _ {F : Type 0} {folders : folder.Ghosts F} (s : NearSide F folders) (new : NearBox F folders) (whole : (seen_of s).is_broken ≡ false) (missed : new.missed ≡ s.near.missed) (same_map : new.keywords ≡ s.near.keywords) (adds : folders.is_honest ≡ true → Adds folders.visitors (stored_in s.near) (stored_in new)) where
   abbrev honest : Type 0
   honest = folders.is_honest ≡ true
 
   abbrev now : Bool → Seen
-  now is_open = seen_at is_open (non_zero_u32_get s.fresh) new
+  now is_open = seen_at is_open (non_zero_u32_get s.fresh) new.keywords new
 
   abbrev Leaves : NearFault → Effect Mailbox
   Leaves e = LeavesBy (Answers TellsValidity) Nothing (λ f _. Unfit s f) (told e)
@@ -54,7 +55,8 @@ module _ {F : Type 0} {folders : folder.Ghosts F} (s : NearSide F folders) (new 
   others_first : (does : Effect Mailbox) → honest → does (now false).stored (now false).stored → Follows (Arrives side.Near folders.visitors.ours folders.visitors.alone) does (seen_of s).stored (now false).stored
   others_first does h done = record {
     mid = (now false).stored;
-    before = added_arrives folders.visitors (non_zero_u32_get s.fresh) (stored_in s.near) (stored_in new) (adds h);
+    before = subst (λ (keywords : List Keyword). Arrives side.Near folders.visitors.ours folders.visitors.alone (seen_of s).stored (near_of (non_zero_u32_get s.fresh) keywords (stored_in new))) (sym same_map)
+        (added_arrives folders.visitors (non_zero_u32_get s.fresh) s.near.keywords (stored_in s.near) (stored_in new) (adds h));
     behind = done;
   }
 
@@ -69,7 +71,7 @@ module _ {F : Type 0} {folders : folder.Ghosts F} (s : NearSide F folders) (new 
     was_whole = whole;
     is_whole = ap not is_ready;
     stops = omega (arith, missed_same, looks.2);
-    effect = λ h. others_first (Answers TellsValidity meta.validity) h (refl, (is h).0 ∙ ap (λ (f : ℕ). (near_of f (stored_in new)).store.validity) fresh);
+    effect = λ h. others_first (Answers TellsValidity meta.validity) h (refl, (is h).0 ∙ ap (λ (f : ℕ). (near_of f new.keywords (stored_in new)).store.validity) fresh);
   }
 
   -- ---- or not

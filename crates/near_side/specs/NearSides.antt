@@ -1,7 +1,8 @@
 -- The near mailbox of a run as the clauses of its calls name it.
-use Rattle.std.specs.Prelude.{◌≡◌, ◌⊎◌, ℕ, Bool, true, false, length, not, Result}
+use Rattle.std.specs.Prelude.{◌≡◌, ◌⊎◌, ℕ, Bool, true, false, List, length, not, Result}
 use Rattle.std.specs.Int.NonZero.{non_zero_u32_get}
 use Rattle.device.specs.Calls.{Effect}
+use Rattle.mailcore.specs.declared.keywords.Keyword.{Keyword}
 use Rattle.mailcore.specs.declared.side.Side.TheVariants as side
 use Rattle.maildir.specs.declared.folder.Folder as folder
 use Rattle.near_box.specs.declared.near_box.NearBox.{NearBox}
@@ -24,16 +25,16 @@ is_broken_in true is_ready is_broken = not is_ready
 is_broken_in false is_ready is_broken = is_broken
 
 module _ {F : Type 0} {folders : folder.Ghosts F} where
-  abbrev pub seen_at : (is_open : Bool) → (fresh : ℕ) → NearBox F folders → Seen
-  seen_at is_open fresh near = record {
-    stored = near_of fresh (stored_in near);
+  abbrev pub seen_at : (is_open : Bool) → (fresh : ℕ) → List Keyword → NearBox F folders → Seen
+  seen_at is_open fresh keywords near = record {
+    stored = near_of fresh keywords (stored_in near);
     is_broken = is_broken_in is_open near.is_ready (seen_in near).is_broken;
     stops = stops_of (box_of near);
   }
 
   -- its messages and what waits, whether a call has failed, and how many calls of the folder have stopped or missed a file
   abbrev pub seen_of : NearSide F folders → Seen
-  seen_of side = seen_at side.is_open (non_zero_u32_get side.fresh) side.near
+  seen_of side = seen_at side.is_open (non_zero_u32_get side.fresh) side.near.keywords side.near
 
   -- why the folder holds no mailbox: the first that holds of three
   abbrev pub Unfit : NearSide F folders → BoxFault → Type 0

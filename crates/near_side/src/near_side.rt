@@ -8,6 +8,7 @@ use mailbox::fault::BoxFault;
 use mailbox::mailbox::Mailbox;
 use mailcore::copy_pieces::CopyPieces;
 use mailcore::flags::Flags;
+use mailcore::keywords::Keywords;
 use mailcore::listing::Listing;
 use mailcore::spared::Spared;
 use mailcore::tuid::Tuid;
@@ -33,16 +34,18 @@ impl<F: Folder> NearSide<F> {
     ghost use Rattle.near_box.specs.Mailboxes.{near_of};
     ghost use Rattle.near_side.specs.NearSides.{seen_of};
 
-    /// The mailbox of this folder, closed. Its UIDVALIDITY is `fresh` where the folder has no meta file. The folder is not called.
-    pub fn new(alloc: Global, folder: F, fresh: NonZeroU32) -> Self
+    /// The mailbox of this folder, closed. Its UIDVALIDITY is `fresh` where the folder has no meta file. By the map letters of file names
+    /// stand for flags that have a name in IMAP. The folder is not called.
+    pub fn new(alloc: Global, folder: F, fresh: NonZeroU32, keywords: Keywords) -> Self
         ensures folder { result.near.folder ≡ folder }
-        ensures mailbox { (seen_of result).stored ≡ near_of (non_zero_u32_get fresh) (F.seen folder).stored }
+        ensures mailbox { (seen_of result).stored ≡ near_of (non_zero_u32_get fresh) keywords (F.seen folder).stored }
         ensures stops { (seen_of result).stops ≡ (F.seen folder).stops }
         ensures broken { (seen_of result).is_broken ≡ (F.seen folder).is_broken }
+        ensures keywords { result.near.keywords ≡ keywords }
         ensures closed { result.is_open ≡ false }
     {
         NearSide {
-            near: NearBox::closed(alloc, folder, fresh),
+            near: NearBox::closed(alloc, folder, fresh, keywords),
             fresh,
             is_open: false,
         }
@@ -57,17 +60,18 @@ impl<F: Folder> NearSide<F> {
 }
 
 impl<F: Folder + Drop> Mailbox for NearSide<F> {
-    ghost use Rattle.std.specs.Prelude.{Bool, List, ℕ};
+    ghost use Rattle.std.specs.Prelude.{ℕ};
     ghost use Rattle.device.specs.Calls.{Nothing};
     ghost use Rattle.mailcore.specs.declared.side.Side.TheVariants.{Near};
     ghost use Rattle.near_box.specs.Boxes.{stored_in};
     ghost use Rattle.near_box.specs.Mailboxes.{IsMailbox};
+    ghost use Rattle.mailcore.specs.KeywordNames.{kept};
     ghost use Rattle.mailcore.specs.Mailboxes.{SetsAside};
     ghost use Rattle.mailcore.specs.CopyPieces.{text_left};
     ghost use Rattle.mailcore.specs.Spared.{spares};
     ghost use Rattle.near_box.specs.Entries.{asked};
     ghost use Rattle.mailbox.specs.Calls.{IsPlain, Never};
-    ghost use Rattle.mailbox.specs.Operations.{Answers, Appends, HasNumbers, IsCopyText, IsFull, Lists, NoRoom, TellsValidity};
+    ghost use Rattle.mailbox.specs.Operations.{Answers, Appends, HasNumbers, IsCopyText, IsFull, Lists, ListsWithin, NoRoom, TellsValidity};
     ghost use Rattle.near_side.specs.NearSides.{Calls, CallsAdmit, Unfit, seen_of};
 
     ghost side = { Near };
@@ -84,6 +88,8 @@ impl<F: Folder + Drop> Mailbox for NearSide<F> {
 
     ghost body = { λ side. side.near.body.items };
 
+    ghost keywords = { λ side. side.near.keywords };
+
     ghost ended = { λ _ _. ⊥ };
 
     ghost unfit = { Unfit };
@@ -92,6 +98,7 @@ impl<F: Folder + Drop> Mailbox for NearSide<F> {
 
     fn open(&mut self) -> Result<u32, BoxFault>
         requires whole { (seen_of self.old).is_broken ≡ false }
+        ensures keywords { self.new.near.keywords ≡ self.old.near.keywords }
         ensures open { OnOk result (self.new.is_open ≡ true) }
         ensures mailbox { F.is_honest ≡ true → OnOk result (IsMailbox (non_zero_u32_get self.old.fresh) (stored_in self.new.near)) }
         ensures call { Calls (λ fault _. Unfit self.old fault) (Answers TellsValidity) Nothing self.old self.new result }
@@ -109,8 +116,10 @@ impl<F: Folder + Drop> Mailbox for NearSide<F> {
     fn list(&mut self, spared: &Spared) -> Result<Listing, BoxFault>
         requires whole { (seen_of self.old).is_broken ≡ false }
         requires open { self.old.is_open ≡ true }
+        ensures keywords { self.new.near.keywords ≡ self.old.near.keywords }
         ensures open { self.new.is_open ≡ true }
         ensures numbers { IfOk result HasNumbers }
+        ensures within { F.is_honest ≡ true → IfOk result (ListsWithin self.old.near.keywords) }
         ensures asked { F.is_honest ≡ true → OnOk result (F.reads self.new.near.folder
             ≡ F.reads self.old.near.folder + length (asked (spares spared.now) (seen_of self.old).stored.store.messages)) }
         ensures call { Calls Never (Answers (Lists Near F.visitors.alone 0 (spares spared.now))) Nothing self.old self.new result }
@@ -134,9 +143,10 @@ impl<F: Folder + Drop> Mailbox for NearSide<F> {
         requires whole { (seen_of self.old).is_broken ≡ false }
         requires open { self.old.is_open ≡ true }
         requires copy { IsCopyText Near (text_left copy) }
+        ensures keywords { self.new.near.keywords ≡ self.old.near.keywords }
         ensures open { self.new.is_open ≡ true }
         ensures full { F.is_honest ≡ true → IsFull 1 (seen_of self.old).stored → IsErrOf result (BoxFault.Own 5) }
-        ensures call { Calls (NoRoom Near (λ _. 1)) (Appends Near (text_left copy.entry) flags) SetsAside self.old self.new result }
+        ensures call { Calls (NoRoom Near (λ _. 1)) (Appends Near (text_left copy.entry) (kept self.old.near.keywords flags)) SetsAside self.old self.new result }
     {
         match self.near.append_copy(copy, flags) {
             Ok(uid) => Ok(Some(uid)),
@@ -159,6 +169,7 @@ impl<F: Folder + Drop> Mailbox for NearSide<F> {
     fn admit(&mut self) -> Result<(), BoxFault>
         requires whole { (seen_of self.old).is_broken ≡ false }
         requires open { self.old.is_open ≡ true }
+        ensures keywords { self.new.near.keywords ≡ self.old.near.keywords }
         ensures open { self.new.is_open ≡ true }
         ensures full { F.is_honest ≡ true → (let b = (seen_of self.old).stored in IsFull (length b.waiting) b)
             → IsErrOf result (BoxFault.Own 5) }
@@ -169,6 +180,7 @@ impl<F: Folder + Drop> Mailbox for NearSide<F> {
 
     fn sync(&mut self) -> Result<(), BoxFault>
         requires whole { (seen_of self.old).is_broken ≡ false }
+        ensures keywords { self.new.near.keywords ≡ self.old.near.keywords }
         ensures open { self.new.is_open ≡ self.old.is_open }
         ensures synced { OnOk result (self.old.is_open ≡ true → F.is_synced self.new.near.folder ≡ true) }
         ensures closed { self.old.is_open ≡ false → self.new ≡ self.old }

@@ -1,6 +1,6 @@
 //! All that a run calls: the calls of both boxes and of the book.
 
-ghost use Rattle.std.specs.Prelude.{◌≡◌, ℕ, List, ◌∷◌, [], Bool, Option, None, Some, Ok, IfOk, OnOk, false};
+ghost use Rattle.std.specs.Prelude.{◌≡◌, ℕ, List, ◌∷◌, [], Bool, Option, None, Some, Ok, IfOk, OnOk};
 ghost use Rattle.std.specs.Option.{option_map};
 
 use crate::fault::OutsideFault;
@@ -29,7 +29,8 @@ pub enum Carried {
 ///
 /// What its calls do is said where server, folder and shelf keep their word; which faults they count holds of each outside.
 pub trait Outside {
-    ghost use Rattle.device.specs.Calls.{Nothing};
+    ghost use Rattle.mailcore.specs.declared.keywords.Keyword.{Keyword};
+    ghost use Rattle.mailcore.specs.KeywordNames.{kept};
     ghost use Rattle.mailcore.specs.Operations.{flags_added, flags_removed, marked_from};
     ghost use Rattle.mailcore.specs.Sides.{target};
     ghost use Rattle.mailcore.specs.Spared.{spares};
@@ -43,7 +44,7 @@ pub trait Outside {
     ghost use Rattle.outside.specs.Calls.{Call, Changes, FromBook, FromBox, FromShelf, LeavesBy, Reads, Seen, Writes, opened_again, stopped};
     ghost use Rattle.outside.specs.Opened.{IsBook, IsHeld, IsOpen, IsRead, Opened, AreCommitted, TakesCommit, TakesDiscard, TakesLog, TakesPlan, journal_of, state_of, turned, with_box};
     ghost use Rattle.outside.specs.BookCalls.{FromLog, LeavesUnread, OfBook, ReadsBook};
-    ghost use Rattle.mailbox.specs.Operations.{HasNumbers, removed};
+    ghost use Rattle.mailbox.specs.Operations.{HasNumbers, ListsWithin, removed};
     ghost use Rattle.outside.specs.BoxCalls.{Admits, AdmitsPart, Carry, ListsFar, ListsNear, Names, SetsAside, Turns, copies_made};
 
     /// Server, folder and shelf have kept their word so far.
@@ -55,6 +56,10 @@ pub trait Outside {
     /// Nobody else adds messages.
     ghost alone: { Bool };
 
+    /// The letters of flags that have a name in IMAP, by the run's map. Both mailboxes have these flags and the six alone: others that a
+    /// set has are left out.
+    ghost keywords: { Self → List Keyword };
+
     /// The device, whether a call has failed since it was opened, what was counted, and how the device was each time it was opened again.
     ghost seen: { Self → Seen };
 
@@ -64,6 +69,7 @@ pub trait Outside {
     /// Reads the shelf. `BadState` and `BadJournal`: its files hold no book, and this is the first line that shows it.
     fn open_book(&mut self) -> Result<(), OutsideFault>
         ensures was_honest { honest self.new → honest self.old }
+        ensures keywords { keywords self.new ≡ keywords self.old }
         ensures book { OnOk result (IsBook (opened self.new)) }
         ensures call { Call (honest self.new) (Arrives ours alone) (λ _. 0) FromShelf (λ _. ReadsBook (opened self.new)) LeavesUnread
             (seen self.old) (seen self.new) result };
@@ -83,6 +89,7 @@ pub trait Outside {
     fn discard(&mut self) -> Result<(), OutsideFault>
         requires takes { TakesDiscard (opened self.old) }
         ensures was_honest { honest self.new → honest self.old }
+        ensures keywords { keywords self.new ≡ keywords self.old }
         ensures opened { OnOk result (opened self.new ≡ turned (λ _. Missing) (opened self.old)) }
         ensures call { Writes (honest self.new) (Arrives ours alone) FromBook (OfBook (λ p. TurnsJournal p Missing) (opened self.old))
             (OfBook (λ p. TurnsHalf p Missing) (opened self.old)) (seen self.old) (seen self.new) result };
@@ -91,6 +98,7 @@ pub trait Outside {
     fn mend(&mut self) -> Result<(), OutsideFault>
         requires read { IsRead (opened self.old) }
         ensures was_honest { honest self.new → honest self.old }
+        ensures keywords { keywords self.new ≡ keywords self.old }
         ensures opened { OnOk result (opened self.new ≡ turned mended (opened self.old)) }
         ensures call { Writes (honest self.new) (Arrives ours alone) FromBook (OfBook (λ p. TurnsJournal p (mended p)) (opened self.old))
             (OfBook (λ p. TurnsHalf p p) (opened self.old)) (seen self.old) (seen self.new) result };
@@ -99,6 +107,7 @@ pub trait Outside {
     fn begin(&mut self, plan: Plan) -> Result<(), OutsideFault>
         requires takes { TakesPlan (opened self.old) plan }
         ensures was_honest { honest self.new → honest self.old }
+        ensures keywords { keywords self.new ≡ keywords self.old }
         ensures opened { OnOk result (opened self.new ≡ turned (λ _. begun plan) (opened self.old)) }
         ensures call { Writes (honest self.new) (Arrives ours alone) FromBook
             (OfBook (λ _. TurnsJournal Missing (begun plan)) (opened self.old)) (OfBook (λ _. TurnsHalf Missing Useless) (opened self.old))
@@ -110,6 +119,7 @@ pub trait Outside {
     fn done(&mut self, step: usize, copy: Option<Uid>) -> Result<(), OutsideFault>
         requires takes { TakesLog (opened self.old) step (as_done copy) }
         ensures was_honest { honest self.new → honest self.old }
+        ensures keywords { keywords self.new ≡ keywords self.old }
         ensures opened { OnOk result (opened self.new ≡ turned (λ p. logged_more p (as_done copy)) (opened self.old)) }
         ensures call { Writes (honest self.new) (Arrives ours alone) (FromLog (opened self.old) (as_done copy))
             (OfBook (λ p. TurnsJournal p (logged_more p (as_done copy))) (opened self.old))
@@ -119,6 +129,7 @@ pub trait Outside {
     fn void(&mut self, step: usize) -> Result<(), OutsideFault>
         requires takes { TakesLog (opened self.old) step Void }
         ensures was_honest { honest self.new → honest self.old }
+        ensures keywords { keywords self.new ≡ keywords self.old }
         ensures opened { OnOk result (opened self.new ≡ turned (λ p. logged_more p Void) (opened self.old)) }
         ensures call { Writes (honest self.new) (Arrives ours alone) FromBook
             (OfBook (λ p. TurnsJournal p (logged_more p Void)) (opened self.old)) (OfBook (λ p. TurnsHalf p (torn p)) (opened self.old))
@@ -128,6 +139,7 @@ pub trait Outside {
     fn commit(&mut self) -> Result<(), OutsideFault>
         requires takes { TakesCommit (opened self.old) }
         ensures was_honest { honest self.new → honest self.old }
+        ensures keywords { keywords self.new ≡ keywords self.old }
         ensures opened { OnOk result (AreCommitted (opened self.old) (opened self.new)) }
         ensures held { result ≡ Ok tt → honest self.new → IsHeld (opened self.new) (seen self.new).device }
         ensures call { Writes (honest self.new) (Arrives ours alone) FromBook (OfBook CommitsTo (opened self.old))
@@ -136,6 +148,7 @@ pub trait Outside {
     /// Selects the far mailbox, or opens the near one, and tells its UIDVALIDITY.
     fn open_box(&mut self, side: Side) -> Result<u32, OutsideFault>
         ensures was_honest { honest self.new → honest self.old }
+        ensures keywords { keywords self.new ≡ keywords self.old }
         ensures opened { OnOk result (opened self.new ≡ with_box side (opened self.old)) }
         ensures call { Reads (honest self.new) (Arrives ours alone) (λ validity d. validity ≡ (box d side).validity) (seen self.old)
             (seen self.new) result };
@@ -144,6 +157,7 @@ pub trait Outside {
     fn admit(&mut self) -> Result<(), OutsideFault>
         requires is_open { IsOpen Side.Near (opened self.old) }
         ensures was_honest { honest self.new → honest self.old }
+        ensures keywords { keywords self.new ≡ keywords self.old }
         ensures opened { opened self.new ≡ opened self.old }
         ensures call { Changes {T = Unit {0}} (honest self.new) (Arrives ours alone) (λ _. Admits alone) (AdmitsPart alone) (seen self.old)
             (seen self.new) result };
@@ -152,8 +166,10 @@ pub trait Outside {
     fn list_far(&mut self) -> Result<Listing, OutsideFault>
         requires is_open { IsOpen Side.Far (opened self.old) }
         ensures was_honest { honest self.new → honest self.old }
+        ensures keywords { keywords self.new ≡ keywords self.old }
         ensures opened { opened self.new ≡ opened self.old }
         ensures numbers { IfOk result HasNumbers }
+        ensures within { honest self.new → IfOk result (ListsWithin (keywords self.old)) }
         ensures call { Reads (honest self.new) (Arrives ours alone) (ListsFar alone (seen self.old).device.far.next) (seen self.old)
             (seen self.new) result };
 
@@ -161,14 +177,17 @@ pub trait Outside {
     fn list_near(&mut self, spared: &Spared) -> Result<Listing, OutsideFault>
         requires is_open { IsOpen Side.Near (opened self.old) }
         ensures was_honest { honest self.new → honest self.old }
+        ensures keywords { keywords self.new ≡ keywords self.old }
         ensures opened { opened self.new ≡ opened self.old }
         ensures numbers { IfOk result HasNumbers }
+        ensures within { honest self.new → IfOk result (ListsWithin (keywords self.old)) }
         ensures call { Reads (honest self.new) (Arrives ours alone) (ListsNear (spares spared.now)) (seen self.old) (seen self.new) result };
 
     /// The least UID of at least `from` whose message has the mark.
     fn find_mark(&mut self, side: Side, mark: Tuid, from: u32) -> Result<Option<Uid>, OutsideFault>
         requires is_open { IsOpen side (opened self.old) }
         ensures was_honest { honest self.new → honest self.old }
+        ensures keywords { keywords self.new ≡ keywords self.old }
         ensures opened { opened self.new ≡ opened self.old }
         ensures call { Reads (honest self.new) (Arrives ours alone) (λ found d. found ≡ marked_from mark from (box d side)) (seen self.old)
             (seen self.new) result };
@@ -184,30 +203,36 @@ pub trait Outside {
         requires far_open { IsOpen Side.Far (opened self.old) }
         requires near_open { IsOpen Side.Near (opened self.old) }
         ensures was_honest { honest self.new → honest self.old }
+        ensures keywords { keywords self.new ≡ keywords self.old }
         ensures opened { opened self.new ≡ opened self.old }
-        ensures call { Call (honest self.new) (Arrives ours alone) copies_made FromBox (Carry direction uid flags mark)
-            (LeavesBy (Carry direction uid flags mark) (SetsAside (target direction))) (seen self.old) (seen self.new) result };
+        ensures call { Call (honest self.new) (Arrives ours alone) copies_made FromBox
+            (Carry direction uid (kept (keywords self.old) flags) mark)
+            (LeavesBy (Carry direction uid (kept (keywords self.old) flags) mark) (SetsAside (target direction)))
+            (seen self.old) (seen self.new) result };
 
     /// Sets these flags of a message. Nothing is done where it is not there.
     fn add_flags(&mut self, side: Side, uid: Uid, flags: Flags) -> Result<(), OutsideFault>
         requires is_open { IsOpen side (opened self.old) }
         ensures was_honest { honest self.new → honest self.old }
+        ensures keywords { keywords self.new ≡ keywords self.old }
         ensures opened { opened self.new ≡ opened self.old }
-        ensures call { Changes {T = Unit {0}} (honest self.new) (Arrives ours alone) (λ _. Turns side uid (flags_added uid flags))
-            (Names side uid) (seen self.old) (seen self.new) result };
+        ensures call { Changes {T = Unit {0}} (honest self.new) (Arrives ours alone)
+            (λ _. Turns side uid (flags_added uid (kept (keywords self.old) flags))) (Names side uid) (seen self.old) (seen self.new) result };
 
     /// Clears these flags of a message. Nothing is done where it is not there.
     fn remove_flags(&mut self, side: Side, uid: Uid, flags: Flags) -> Result<(), OutsideFault>
         requires is_open { IsOpen side (opened self.old) }
         ensures was_honest { honest self.new → honest self.old }
+        ensures keywords { keywords self.new ≡ keywords self.old }
         ensures opened { opened self.new ≡ opened self.old }
-        ensures call { Changes {T = Unit {0}} (honest self.new) (Arrives ours alone) (λ _. Turns side uid (flags_removed uid flags))
-            (Names side uid) (seen self.old) (seen self.new) result };
+        ensures call { Changes {T = Unit {0}} (honest self.new) (Arrives ours alone)
+            (λ _. Turns side uid (flags_removed uid (kept (keywords self.old) flags))) (Names side uid) (seen self.old) (seen self.new) result };
 
     /// Removes a message, if it is there. A far message is removed only if it is marked as deleted (RFC 9051, section 6.4.9).
     fn expunge(&mut self, side: Side, uid: Uid) -> Result<(), OutsideFault>
         requires is_open { IsOpen side (opened self.old) }
         ensures was_honest { honest self.new → honest self.old }
+        ensures keywords { keywords self.new ≡ keywords self.old }
         ensures opened { opened self.new ≡ opened self.old }
         ensures call { Changes {T = Unit {0}} (honest self.new) (Arrives ours alone) (λ _. Turns side uid (removed side uid))
             (Names side uid) (seen self.old) (seen self.new) result };
@@ -215,6 +240,7 @@ pub trait Outside {
     /// Stops as a call does that stops before it has an effect: whoever calls it does not let the run go on.
     fn stop(&mut self) -> OutsideFault
         ensures was_honest { honest self.new → honest self.old }
+        ensures keywords { keywords self.new ≡ keywords self.old }
         ensures fault { result ≡ OutsideFault.Stopped }
         ensures stopped { seen self.new ≡ stopped (seen self.old) }
         ensures opened { opened self.new ≡ opened self.old };
@@ -223,5 +249,6 @@ pub trait Outside {
     fn reopen(&mut self)
         ensures seen { seen self.new ≡ opened_again (seen self.old) }
         ensures was_honest { honest self.new → honest self.old }
+        ensures keywords { keywords self.new ≡ keywords self.old }
         ensures opened { opened self.new ≡ None };
 }

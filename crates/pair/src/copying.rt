@@ -1,7 +1,8 @@
 //! A message of one mailbox is copied to the other.
 
-ghost use Rattle.std.specs.Prelude.{◌≡◌, ◌⊎◌, ℕ, List, Bool, false, true, IfErr, IsErrOf, OnOk};
+ghost use Rattle.std.specs.Prelude.{◌≡◌, ◌⊎◌, ℕ, List, Bool, false, true, IfErr, OnOk};
 ghost use Rattle.device.specs.Calls.{Follows};
+ghost use Rattle.mailcore.specs.KeywordNames.{kept};
 ghost use Rattle.mailcore.specs.Sides.{source, target};
 ghost use Rattle.mailbox.specs.Calls.{HasCause, Never};
 ghost use Rattle.mailbox.specs.Operations.{NoRoom};
@@ -41,6 +42,8 @@ pub(crate) fn copy<A: Mailbox, B: Mailbox>(
     requires to_open { B.is_open to.old ≡ true }
     ensures from_was { A.honest from.new → A.honest from.old }
     ensures to_was { B.honest to.new → B.honest to.old }
+    ensures from_keywords { A.keywords from.new ≡ A.keywords from.old }
+    ensures to_keywords { B.keywords to.new ≡ B.keywords to.old }
     ensures from_open { A.is_open from.new ≡ true }
     ensures to_open { B.is_open to.new ≡ true }
     ensures from_whole { OnOk result ((A.seen from.new).is_broken ≡ false) }
@@ -52,7 +55,7 @@ pub(crate) fn copy<A: Mailbox, B: Mailbox>(
         (target direction) (NoRoom (target direction) (λ _. 1)) (B.seen to.new).stored fault) }
     ensures effect { A.honest from.new → B.honest to.new → (ours : List ℕ → Bool) (alone : Bool) (d : Device)
         → IsLess A.ours ours → IsLess B.ours ours → (alone ≡ true → A.alone ≡ true) → (alone ≡ true → B.alone ≡ true)
-        → Follows (Arrives ours alone) (carries direction uid flags mark result)
+        → Follows (Arrives ours alone) (carries direction uid (kept (B.keywords to.old) flags) mark result)
         (with_two direction (A.seen from.old).stored (B.seen to.old).stored d)
         (with_two direction (A.seen from.new).stored (B.seen to.new).stored d) }
 {

@@ -1,6 +1,7 @@
 //! The outside of a run over any two mailboxes and any shelf.
 #![tactic(auto)]
 
+mod apart;
 pub mod book_part;
 mod book_told;
 mod copying;

@@ -10,7 +10,6 @@ use crate::plan_written::begin_synced;
 use crate::run_ended::commit_synced;
 use crate::tally::Tally;
 use book::shelf::Shelf;
-use mailbox::far_next::FarNext;
 use mailbox::mailbox::Mailbox;
 use mailcore::flags::Flags;
 use mailcore::listing::Listing;
@@ -32,12 +31,13 @@ use sync_state::journal::Journal;
 #[derive(Drop)]
 pub struct Pair<F: Mailbox, N: Mailbox, S: Shelf> {
     alloc: Global,
-    far: F,
-    near: N,
-    book: BookPart<S>,
+    pub(crate) far: F,
+    pub(crate) near: N,
+    pub(crate) book: BookPart<S>,
     tally: Tally,
     pub ghost far_is: { F.side ≡ sides.Far },
     pub ghost near_is: { N.side ≡ sides.Near },
+    pub ghost one_map: { F.keywords far ≡ N.keywords near },
     pub ghost far_whole: { tally.is_broken ≡ false → (F.seen far).is_broken ≡ false },
     pub ghost near_whole: { tally.is_broken ≡ false → (N.seen near).is_broken ≡ false },
     pub ghost book_whole: { tally.is_broken ≡ false → (standing_of book).is_ready ≡ true },
@@ -47,11 +47,13 @@ impl<F: Mailbox + Drop, N: Mailbox + Drop, S: Shelf + Drop> Pair<F, N, S> {
     ghost use Rattle.pair.specs.Tallies.{seen_with, untouched};
     ghost use Rattle.pair.specs.Pairs.{IsWhole, device_of, honest_of, opened_of, seen_of};
 
-    /// The outside of these parts, which are opened again. Nothing is open, and no call was made.
+    /// The outside of these parts, which are opened again. Both mailboxes go by one map of keywords. Nothing is open, and no call was made.
     pub fn new(alloc: Global, far: F, near: N, book: BookPart<S>) -> Self
         requires far { F.side ≡ sides.Far }
         requires near { N.side ≡ sides.Near }
+        requires map { F.keywords far ≡ N.keywords near }
         ensures was_honest { honest_of result → (F.honest far) × (N.honest near) }
+        ensures keywords { F.keywords result.far ≡ F.keywords far }
         ensures far { F.seen result.far ≡ record (F.seen far) { is_broken = false } }
         ensures near { N.seen result.near ≡ record (N.seen near) { is_broken = false } }
         ensures book { standing_of result.book ≡ record (standing_of book) { is_ready = true } }
@@ -73,31 +75,11 @@ impl<F: Mailbox + Drop, N: Mailbox + Drop, S: Shelf + Drop> Pair<F, N, S> {
             tally: Tally::new(),
         }
     }
-
-    /// Gives its parts back, without taking memory.
-    pub fn into_parts(self) -> (F, N, BookPart<S>)
-        ensures far { result.0 ≡ self.far }
-        ensures near { result.1 ≡ self.near }
-        ensures book { result.2 ≡ self.book }
-    {
-        let Pair {
-            far,
-            near,
-            book,
-            ..
-        } = self;
-        (far, near, book)
-    }
-}
-
-impl<F: Mailbox + FarNext + Drop, N: Mailbox + Drop, S: Shelf + Drop> FarNext for Pair<F, N, S> {
-    fn far_next(&self) -> Option<u32> {
-        self.far.far_next()
-    }
 }
 
 impl<F: Mailbox + Drop, N: Mailbox + Drop, S: Shelf + Drop> Outside for Pair<F, N, S> {
-    ghost use Rattle.std.specs.Prelude.{◌&&◌, List, ℕ, Bool};
+    ghost use Rattle.std.specs.Prelude.{◌&&◌, ℕ};
+    ghost use Rattle.mailcore.specs.KeywordNames.{kept};
     ghost use Rattle.mailcore.specs.Operations.{flags_added, flags_removed, marked_from};
     ghost use Rattle.mailcore.specs.Sides.{target};
     ghost use Rattle.mailcore.specs.Spared.{spares};
@@ -111,7 +93,7 @@ impl<F: Mailbox + Drop, N: Mailbox + Drop, S: Shelf + Drop> Outside for Pair<F, 
     ghost use Rattle.outside.specs.Opened.{AreCommitted, IsBook, IsHeld, IsOpen, IsRead, turned, with_box};
     ghost use Rattle.outside.specs.Opened.{TakesCommit, TakesDiscard, TakesLog, TakesPlan};
     ghost use Rattle.outside.specs.BookCalls.{FromLog, LeavesUnread, ReadsBook};
-    ghost use Rattle.mailbox.specs.Operations.{HasNumbers, removed, NoRoom};
+    ghost use Rattle.mailbox.specs.Operations.{HasNumbers, ListsWithin, removed, NoRoom};
     ghost use Rattle.outside.specs.BoxCalls.{Admits, AdmitsPart, Carry, ListsFar, ListsNear, Names, SetsAside, Turns};
     ghost use Rattle.outside.specs.BoxCalls.{copies_made};
     ghost use Rattle.mailbox.specs.Calls.{Never};
@@ -126,12 +108,15 @@ impl<F: Mailbox + Drop, N: Mailbox + Drop, S: Shelf + Drop> Outside for Pair<F, 
 
     ghost alone = { F.alone && N.alone };
 
+    ghost keywords = { λ pair. F.keywords pair.far };
+
     ghost seen = { seen_of };
 
     ghost opened = { opened_of };
 
     fn open_book(&mut self) -> Result<(), OutsideFault>
         ensures was_honest { honest_of self.new → honest_of self.old }
+        ensures keywords { F.keywords self.new.far ≡ F.keywords self.old.far }
         ensures book { OnOk result (IsBook (opened_of self.new)) }
         ensures call { PairCall (λ _. 0) FromShelf (λ _. ReadsBook (opened_of self.new)) LeavesUnread self.old self.new result }
         ensures why { IsErrOf result OutsideFault.Stopped → ByBook self.old self.new }
@@ -155,6 +140,7 @@ impl<F: Mailbox + Drop, N: Mailbox + Drop, S: Shelf + Drop> Outside for Pair<F, 
     fn discard(&mut self) -> Result<(), OutsideFault>
         requires takes { TakesDiscard (opened_of self.old) }
         ensures was_honest { honest_of self.new → honest_of self.old }
+        ensures keywords { F.keywords self.new.far ≡ F.keywords self.old.far }
         ensures opened { OnOk result (opened_of self.new ≡ turned (λ _. Missing) (opened_of self.old)) }
         ensures call { BookCall FromBook (λ p. TurnsJournal p Missing) (λ p. TurnsHalf p Missing) self.old self.new result }
         ensures why { IsErrOf result OutsideFault.Stopped → ByBook self.old self.new }
@@ -170,6 +156,7 @@ impl<F: Mailbox + Drop, N: Mailbox + Drop, S: Shelf + Drop> Outside for Pair<F, 
     fn mend(&mut self) -> Result<(), OutsideFault>
         requires read { IsRead (opened_of self.old) }
         ensures was_honest { honest_of self.new → honest_of self.old }
+        ensures keywords { F.keywords self.new.far ≡ F.keywords self.old.far }
         ensures opened { OnOk result (opened_of self.new ≡ turned mended (opened_of self.old)) }
         ensures call { BookCall FromBook (λ p. TurnsJournal p (mended p)) (λ p. TurnsHalf p p) self.old self.new result }
         ensures why { IsErrOf result OutsideFault.Stopped → ByBook self.old self.new }
@@ -185,6 +172,7 @@ impl<F: Mailbox + Drop, N: Mailbox + Drop, S: Shelf + Drop> Outside for Pair<F, 
     fn begin(&mut self, plan: Plan) -> Result<(), OutsideFault>
         requires takes { TakesPlan (opened_of self.old) plan }
         ensures was_honest { honest_of self.new → honest_of self.old }
+        ensures keywords { F.keywords self.new.far ≡ F.keywords self.old.far }
         ensures opened { OnOk result (opened_of self.new ≡ turned (λ _. begun plan) (opened_of self.old)) }
         ensures call { BookCall FromBook (λ _. TurnsJournal Missing (begun plan)) (λ _. TurnsHalf Missing Useless)
             self.old self.new result }
@@ -202,6 +190,7 @@ impl<F: Mailbox + Drop, N: Mailbox + Drop, S: Shelf + Drop> Outside for Pair<F, 
     fn done(&mut self, step: usize, copy: Option<Uid>) -> Result<(), OutsideFault>
         requires takes { TakesLog (opened_of self.old) step (as_done copy) }
         ensures was_honest { honest_of self.new → honest_of self.old }
+        ensures keywords { F.keywords self.new.far ≡ F.keywords self.old.far }
         ensures opened { OnOk result (opened_of self.new ≡ turned (λ p. logged_more p (as_done copy)) (opened_of self.old)) }
         ensures call { BookCall (FromLog (opened_of self.old) (as_done copy)) (λ p. TurnsJournal p (logged_more p (as_done copy)))
             (λ p. TurnsHalf p (torn p)) self.old self.new result }
@@ -218,6 +207,7 @@ impl<F: Mailbox + Drop, N: Mailbox + Drop, S: Shelf + Drop> Outside for Pair<F, 
     fn void(&mut self, step: usize) -> Result<(), OutsideFault>
         requires takes { TakesLog (opened_of self.old) step Void }
         ensures was_honest { honest_of self.new → honest_of self.old }
+        ensures keywords { F.keywords self.new.far ≡ F.keywords self.old.far }
         ensures opened { OnOk result (opened_of self.new ≡ turned (λ p. logged_more p Void) (opened_of self.old)) }
         ensures call { BookCall FromBook (λ p. TurnsJournal p (logged_more p Void)) (λ p. TurnsHalf p (torn p)) self.old self.new result }
         ensures why { IsErrOf result OutsideFault.Stopped → ByBook self.old self.new }
@@ -233,6 +223,7 @@ impl<F: Mailbox + Drop, N: Mailbox + Drop, S: Shelf + Drop> Outside for Pair<F, 
     fn commit(&mut self) -> Result<(), OutsideFault>
         requires takes { TakesCommit (opened_of self.old) }
         ensures was_honest { honest_of self.new → honest_of self.old }
+        ensures keywords { F.keywords self.new.far ≡ F.keywords self.old.far }
         ensures opened { OnOk result (AreCommitted (opened_of self.old) (opened_of self.new)) }
         ensures held { result ≡ Ok tt → honest_of self.new → IsHeld (opened_of self.new) (seen_of self.new).device }
         ensures call { BookCall FromBook CommitsTo CommitsHalf self.old self.new result }
@@ -249,6 +240,7 @@ impl<F: Mailbox + Drop, N: Mailbox + Drop, S: Shelf + Drop> Outside for Pair<F, 
 
     fn open_box(&mut self, side: Side) -> Result<u32, OutsideFault>
         ensures was_honest { honest_of self.new → honest_of self.old }
+        ensures keywords { F.keywords self.new.far ≡ F.keywords self.old.far }
         ensures opened { OnOk result (opened_of self.new ≡ with_box side (opened_of self.old)) }
         ensures call { BoxRead (λ validity d. validity ≡ (box d side).validity) self.old self.new result }
         ensures why { IfErr result (ByBox side (CannotOpen side self.old) self.old self.new) }
@@ -272,6 +264,7 @@ impl<F: Mailbox + Drop, N: Mailbox + Drop, S: Shelf + Drop> Outside for Pair<F, 
     fn admit(&mut self) -> Result<(), OutsideFault>
         requires is_open { IsOpen Side.Near (opened_of self.old) }
         ensures was_honest { honest_of self.new → honest_of self.old }
+        ensures keywords { F.keywords self.new.far ≡ F.keywords self.old.far }
         ensures opened { opened_of self.new ≡ opened_of self.old }
         ensures call { BoxChange (Admits (F.alone && N.alone)) (AdmitsPart (F.alone && N.alone)) self.old self.new result }
         ensures why { IfErr result (ByBox Side.Near (NoRoom Side.Near (λ b. length b.waiting)) self.old self.new) }
@@ -287,8 +280,10 @@ impl<F: Mailbox + Drop, N: Mailbox + Drop, S: Shelf + Drop> Outside for Pair<F, 
     fn list_far(&mut self) -> Result<Listing, OutsideFault>
         requires is_open { IsOpen Side.Far (opened_of self.old) }
         ensures was_honest { honest_of self.new → honest_of self.old }
+        ensures keywords { F.keywords self.new.far ≡ F.keywords self.old.far }
         ensures opened { opened_of self.new ≡ opened_of self.old }
         ensures numbers { IfOk result HasNumbers }
+        ensures within { honest_of self.new → IfOk result (ListsWithin (F.keywords self.old.far)) }
         ensures call { BoxRead (ListsFar (F.alone && N.alone) (seen_of self.old).device.far.next) self.old self.new result }
         ensures why { IfErr result (ByBox Side.Far Never self.old self.new) }
         ensures tallied { Tallied (ended no_copies) result self.old.tally self.new.tally }
@@ -303,8 +298,10 @@ impl<F: Mailbox + Drop, N: Mailbox + Drop, S: Shelf + Drop> Outside for Pair<F, 
     fn list_near(&mut self, spared: &Spared) -> Result<Listing, OutsideFault>
         requires is_open { IsOpen Side.Near (opened_of self.old) }
         ensures was_honest { honest_of self.new → honest_of self.old }
+        ensures keywords { F.keywords self.new.far ≡ F.keywords self.old.far }
         ensures opened { opened_of self.new ≡ opened_of self.old }
         ensures numbers { IfOk result HasNumbers }
+        ensures within { honest_of self.new → IfOk result (ListsWithin (F.keywords self.old.far)) }
         ensures call { BoxRead (ListsNear (spares spared.now)) self.old self.new result }
         ensures why { IfErr result (ByBox Side.Near Never self.old self.new) }
         ensures tallied { Tallied (ended no_copies) result self.old.tally self.new.tally }
@@ -319,6 +316,7 @@ impl<F: Mailbox + Drop, N: Mailbox + Drop, S: Shelf + Drop> Outside for Pair<F, 
     fn find_mark(&mut self, side: Side, mark: Tuid, from: u32) -> Result<Option<Uid>, OutsideFault>
         requires is_open { IsOpen side (opened_of self.old) }
         ensures was_honest { honest_of self.new → honest_of self.old }
+        ensures keywords { F.keywords self.new.far ≡ F.keywords self.old.far }
         ensures opened { opened_of self.new ≡ opened_of self.old }
         ensures call { BoxRead (λ found d. found ≡ marked_from mark from (box d side)) self.old self.new result }
         ensures why { IfErr result (ByBox side Never self.old self.new) }
@@ -349,9 +347,11 @@ impl<F: Mailbox + Drop, N: Mailbox + Drop, S: Shelf + Drop> Outside for Pair<F, 
         requires far_open { IsOpen Side.Far (opened_of self.old) }
         requires near_open { IsOpen Side.Near (opened_of self.old) }
         ensures was_honest { honest_of self.new → honest_of self.old }
+        ensures keywords { F.keywords self.new.far ≡ F.keywords self.old.far }
         ensures opened { opened_of self.new ≡ opened_of self.old }
-        ensures call { PairCall copies_made FromBox (Carry direction uid flags mark)
-            (LeavesBy (Carry direction uid flags mark) (SetsAside (target direction))) self.old self.new result }
+        ensures call { PairCall copies_made FromBox (Carry direction uid (kept (F.keywords self.old.far) flags) mark)
+            (LeavesBy (Carry direction uid (kept (F.keywords self.old.far) flags) mark) (SetsAside (target direction)))
+            self.old self.new result }
         ensures why { IfErr result (ByCopy direction self.old self.new) }
         ensures tallied { Tallied (ended copies_made) result self.old.tally self.new.tally }
     {
@@ -387,8 +387,10 @@ impl<F: Mailbox + Drop, N: Mailbox + Drop, S: Shelf + Drop> Outside for Pair<F, 
     fn add_flags(&mut self, side: Side, uid: Uid, flags: Flags) -> Result<(), OutsideFault>
         requires is_open { IsOpen side (opened_of self.old) }
         ensures was_honest { honest_of self.new → honest_of self.old }
+        ensures keywords { F.keywords self.new.far ≡ F.keywords self.old.far }
         ensures opened { opened_of self.new ≡ opened_of self.old }
-        ensures call { BoxChange (Turns side uid (flags_added uid flags)) (Names side uid) self.old self.new result }
+        ensures call { BoxChange (Turns side uid (flags_added uid (kept (F.keywords self.old.far) flags))) (Names side uid)
+            self.old self.new result }
         ensures why { IfErr result (ByBox side Never self.old self.new) }
         ensures tallied { Tallied (ended_naming side uid) result self.old.tally self.new.tally }
     {
@@ -410,8 +412,10 @@ impl<F: Mailbox + Drop, N: Mailbox + Drop, S: Shelf + Drop> Outside for Pair<F, 
     fn remove_flags(&mut self, side: Side, uid: Uid, flags: Flags) -> Result<(), OutsideFault>
         requires is_open { IsOpen side (opened_of self.old) }
         ensures was_honest { honest_of self.new → honest_of self.old }
+        ensures keywords { F.keywords self.new.far ≡ F.keywords self.old.far }
         ensures opened { opened_of self.new ≡ opened_of self.old }
-        ensures call { BoxChange (Turns side uid (flags_removed uid flags)) (Names side uid) self.old self.new result }
+        ensures call { BoxChange (Turns side uid (flags_removed uid (kept (F.keywords self.old.far) flags))) (Names side uid)
+            self.old self.new result }
         ensures why { IfErr result (ByBox side Never self.old self.new) }
         ensures tallied { Tallied (ended_naming side uid) result self.old.tally self.new.tally }
     {
@@ -433,6 +437,7 @@ impl<F: Mailbox + Drop, N: Mailbox + Drop, S: Shelf + Drop> Outside for Pair<F, 
     fn expunge(&mut self, side: Side, uid: Uid) -> Result<(), OutsideFault>
         requires is_open { IsOpen side (opened_of self.old) }
         ensures was_honest { honest_of self.new → honest_of self.old }
+        ensures keywords { F.keywords self.new.far ≡ F.keywords self.old.far }
         ensures opened { opened_of self.new ≡ opened_of self.old }
         ensures call { BoxChange (Turns side uid (removed side uid)) (Names side uid) self.old self.new result }
         ensures why { IfErr result (ByBox side Never self.old self.new) }
@@ -455,6 +460,7 @@ impl<F: Mailbox + Drop, N: Mailbox + Drop, S: Shelf + Drop> Outside for Pair<F, 
 
     fn stop(&mut self) -> OutsideFault
         ensures was_honest { honest_of self.new → honest_of self.old }
+        ensures keywords { F.keywords self.new.far ≡ F.keywords self.old.far }
         ensures fault { result ≡ OutsideFault.Stopped }
         ensures stopped { seen_of self.new ≡ stopped (seen_of self.old) }
         ensures opened { opened_of self.new ≡ opened_of self.old }
@@ -468,6 +474,7 @@ impl<F: Mailbox + Drop, N: Mailbox + Drop, S: Shelf + Drop> Outside for Pair<F, 
     fn reopen(&mut self)
         ensures seen { seen_of self.new ≡ opened_again (seen_of self.old) }
         ensures was_honest { honest_of self.new → honest_of self.old }
+        ensures keywords { F.keywords self.new.far ≡ F.keywords self.old.far }
         ensures opened { opened_of self.new ≡ None }
         ensures far { F.seen self.new.far ≡ record (F.seen self.old.far) { is_broken = false } }
         ensures near { N.seen self.new.near ≡ record (N.seen self.old.near) { is_broken = false } }

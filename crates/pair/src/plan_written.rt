@@ -31,6 +31,7 @@ pub(crate) fn begin_synced<N: Mailbox, S: Shelf + Drop>(
     requires ready { (standing_of book.old).is_ready ≡ true }
     requires takes { TakesPlan (kept_of book.old) plan }
     ensures was_honest { N.honest near.new → N.honest near.old }
+    ensures keywords { N.keywords near.new ≡ N.keywords near.old }
     ensures open { N.is_open near.new ≡ N.is_open near.old }
     ensures synced { N.is_open near.old ≡ true → (book.new ≡ book.old) ⊎ (N.is_synced near.new ≡ true) }
     ensures whole { OnOk result ((N.seen near.new).is_broken ≡ false) }

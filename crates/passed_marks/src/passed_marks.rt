@@ -36,7 +36,8 @@ impl PassedMarks {
 
     /// Forgets all, unless the mailbox is still the one that was searched.
     pub fn keep_if(&mut self, is_same: bool)
-        ensures { (next : ℕ) (messages : List Message) → (is_same ≡ true → ArePassed next messages self.old)
+        ensures kept { is_same ≡ true → self.new ≡ self.old }
+        ensures passed { (next : ℕ) (messages : List Message) → (is_same ≡ true → ArePassed next messages self.old)
             → ArePassed next messages self.new }
     {
         if !is_same {

@@ -1,5 +1,5 @@
 -- The worked examples meet the premises of the laws.
-use Rattle.std.proofs.Common.{◌≡◌, ◌≢◌, ◌<◌, ◌≤◌, ℕ, List, [], ◌∷◌, ◌++◌, length, refl, arith, inr, true, false, Some, None}
+use Rattle.std.proofs.Common.{◌≡◌, ◌≢◌, ◌<◌, ◌≤◌, ◌^◌, ℕ, List, [], ◌∷◌, ◌++◌, length, refl, arith, inr, true, false, Some, None}
 use Rattle.std.specs.Prelude.{All, AllPairs, ◌&&◌, nat_le, nat_lt, codes}
 use Rattle.std.specs.List.{list_all}
 use Rattle.std.proofs.lemmas.Bool.{and_parts, leb-true, ltb-true}
@@ -10,7 +10,7 @@ use Rattle.std.proofs.lemmas.List.Sorted.{IsPermutation-refl}
 use Rattle.mailcore.specs.declared.side.Side.{Side}
 use Rattle.mailcore.specs.declared.side.Side.TheVariants.{Far, Near}
 use Rattle.mailcore.specs.declared.mailbox.Message.{Message}
-use Rattle.mailcore.specs.FlagSet.{each_flag, union, minus}
+use Rattle.mailcore.specs.FlagSet.{FLAGS, each_flag, union, minus}
 use Rattle.mailcore.specs.Content.{LF, content, without_marks, copy_text}
 use Rattle.mailcore.specs.Mark.{IsMark}
 use Rattle.mailcore.specs.Rise.{Rise}
@@ -72,7 +72,7 @@ waits_is_opening = record {
   mailbox = mailbox;
   waiting = one IsFile _ (record { in_set = omega arith; bytes = bytes_are 0 (codes "y" ++ LF ∷ []) refl });
   named = named;
-  recorded = one (λ (e : Entry). e.flags < 64) _ (omega arith);
+  recorded = one (λ (e : Entry). e.flags < 2 ^ FLAGS) _ (omega arith);
   unchanged = inr later;
 }
   where
@@ -88,8 +88,8 @@ waits_is_opening = record {
           near_once = alone (λ (a b : Entry). a.near ≡ b.near → a.near ≡ None) (pair 8 3 16);
         };
       };
-      far_flags = one (λ (m : Message). m.flags < 64) _ (omega arith);
-      near_flags = one (λ (m : Message). m.flags < 64) _ (omega arith);
+      far_flags = one (λ (m : Message). m.flags < 2 ^ FLAGS) _ (omega arith);
+      near_flags = one (λ (m : Message). m.flags < 2 ^ FLAGS) _ (omega arith);
     }
 
     mailbox : (side : Side) → IsMailbox side (store waits side)
@@ -170,7 +170,7 @@ cleaned_is_opening = record {
   mailbox = mailbox;
   waiting = All-nil IsFile;
   named = named;
-  recorded = two (λ (e : Entry). e.flags < 64) _ _ (omega arith) (omega arith);
+  recorded = two (λ (e : Entry). e.flags < 2 ^ FLAGS) _ _ (omega arith) (omega arith);
   unchanged = inr later;
 }
   where
@@ -192,8 +192,8 @@ cleaned_is_opening = record {
           near_once = both (λ (a b : Entry). a.near ≡ b.near → a.near ≡ None) (pair 1 5 0) (pair 2 6 16) near_apart;
         };
       };
-      far_flags = two (λ (m : Message). m.flags < 64) _ _ (omega arith) (omega arith);
-      near_flags = two (λ (m : Message). m.flags < 64) _ _ (omega arith) (omega arith);
+      far_flags = two (λ (m : Message). m.flags < 2 ^ FLAGS) _ _ (omega arith) (omega arith);
+      near_flags = two (λ (m : Message). m.flags < 2 ^ FLAGS) _ _ (omega arith) (omega arith);
     }
 
     mailbox : (side : Side) → IsMailbox side (store cleaned side)

@@ -1,10 +1,16 @@
 -- The setting of a trial holds its world, and what a run over it leaves.
-use Rattle.std.proofs.Common.{◌≡◌, ℕ, ◌+◌, ◌-◌, ◌<◌, ◌≤◌, ◌^◌, true, List, [], Option, None, refl, sym, ap, subst, ◌∙◌, ⊎_elim, arith}
+use Rattle.std.proofs.Common.{◌≡◌, ℕ, ◌+◌, ◌-◌, ◌<◌, ◌≤◌, ◌^◌, true, List, [], ◌∷◌, All, map, Option, None, refl, sym, ap, subst, ◌∙◌, ⊎_elim, arith}
 use Rattle.std.specs.Prelude.{Result, Ok, Err, OnOk, IfOk, IsErrAnd, codes, Vec}
 use Rattle.std.specs.Global.{Global}
 use Rattle.std.proofs.lemmas.Bool.{cases_lt}
-use Rattle.std.proofs.lemmas.List.Elements.{All-nil}
+use Rattle.std.proofs.lemmas.List.Elements.{All-nil, All-head, All-tail}
+use Rattle.mailcore.specs.declared.keywords.Keyword.{Keyword}
+use Rattle.mailcore.specs.declared.mailbox.Message.{Message}
+use Rattle.mailcore.specs.KeywordNames.{IsWithin}
 use Rattle.mailcore.specs.Mailboxes.{Mailbox}
+use Rattle.mailcore.specs.Stores.{Store}
+use Rattle.mailcore.proofs.KnownFlags.{kept-same}
+use Rattle.imap_client.specs.Seen.{seen_message, seen_through}
 use Rattle.rules.specs.declared.options.Options.{Options}
 use Rattle.rules.specs.Opening.{IsOpening}
 use Rattle.rules.specs.World.{World}
@@ -27,31 +33,42 @@ use Rattle.runner.specs.declared.fault.RunFault.{RunFault}
 use Rattle.runner.specs.Attempts.{HasNoNext, TellsNoNext}
 use Rattle.trial.specs.declared.trial.Trial.{Trial}
 use Rattle.trial.specs.Shelves.{shelf_of}
-use Rattle.trial.specs.Worlds.{FitsWords, device_of, world_of}
+use Rattle.trial.specs.Worlds.{FitsWords, IsNamed, device_of, world_of}
 use Rattle.trial.proofs.FolderLemmas.{folder_holds}
 use Rattle.trial.proofs.ShelfLemmas.{shelf_holds}
-use Rattle.trial.proofs.WorldLemmas.{few_files, near_in_range, waiting_in_sets}
+use Rattle.trial.proofs.WorldLemmas.{few_files, near_in_range}
 use Rattle.run_trial.specs.declared.setting.Setting.{Setting}
 use Rattle.run_trial.specs.Settings.{IsSettingOf, device_at, device_in}
 
 -- ---- the world stands there
 
+-- what has names alone is seen as it is
+each_seen : (keywords : List Keyword) (ms : List Message) → All (λ m. IsWithin keywords m.flags) ms → map (seen_message keywords) ms ≡ ms
+each_seen keywords [] h = refl
+each_seen keywords (m ∷ ms) h =
+    ap (λ (f : ℕ). (let x : Message = record m { flags = f } in x) ∷ map (seen_message keywords) ms) (kept-same keywords m.flags (All-head (λ (x : Message). IsWithin keywords x.flags) m ms h))
+    ∙ ap (λ (xs : List Message). m ∷ xs) (each_seen keywords ms (All-tail (λ (x : Message). IsWithin keywords x.flags) m ms h))
+
+all_seen : (keywords : List Keyword) (s : Store) → All (λ m. IsWithin keywords m.flags) s.messages → seen_through keywords s ≡ s
+all_seen keywords s h = ap (λ (ms : List Message). record s { messages = ms }) (each_seen keywords s.messages h)
+
 stands_so : (trial : Trial) (s : Setting) → IsSettingOf trial s → trial.course.journal ≡ None
-    → IsOpening (world_of trial.world) → FitsWords (world_of trial.world) → device_in s ≡ device_of (world_of trial.world)
-stands_so trial s holds none opening fits =
+    → IsOpening (world_of trial.world) → FitsWords (world_of trial.world) → IsNamed [] (world_of trial.world) → device_in s ≡ device_of (world_of trial.world)
+stands_so trial s holds none opening fits named =
     let w : World = world_of trial.world in
     let near : Mailbox = record { store = w.near; waiting = w.waiting } in
-    ap (λ (ms : List FarMailbox). device_with (settled (store_at (codes "INBOX") ms)) (near_of 1 (stored_in s.folder)) (files_of s.shelf) []) holds.far
-    ∙ ap (λ (f : Stored). device_with (settled w.far) (near_of 1 f) (files_of s.shelf) []) holds.folder
+    ap (λ (ms : List FarMailbox). device_with (settled (seen_through [] (store_at (codes "INBOX") ms))) (near_of 1 [] (stored_in s.folder)) (files_of s.shelf) []) holds.far
+    ∙ ap (λ (far : Store). device_with (settled far) (near_of 1 [] (stored_in s.folder)) (files_of s.shelf) []) (all_seen [] w.far named.far.there)
+    ∙ ap (λ (f : Stored). device_with (settled w.far) (near_of 1 [] f) (files_of s.shelf) []) holds.folder
     ∙ ap (λ (n : Mailbox). device_with (settled w.far) n (files_of s.shelf) [])
-    (folder_holds 1 w.near w.waiting opening.world.in_order.near (near_in_range w opening fits) (waiting_in_sets w opening) (few_files w opening fits))
+    (folder_holds [] 1 w.near w.waiting opening.world.in_order.near (near_in_range w opening fits) named.near (few_files w opening fits))
     ∙ ap (λ (f : Files). device_with (settled w.far) near f [])
     (holds.shelf ∙ ap (λ (j : Option (Vec ℕ Global)). shelf_of w.state (bytes_of j)) none)
 
 pub stands : (trial : Trial) (s : Setting) (w : World) → w ≡ world_of trial.world → IsSettingOf trial s → trial.course.journal ≡ None
-    → IsOpening w → FitsWords w → device_in s ≡ device_of w
+    → IsOpening w → FitsWords w → IsNamed [] w → device_in s ≡ device_of w
 stands trial s w same holds none =
-    subst (λ (x : World). IsOpening x → FitsWords x → device_in s ≡ device_of x) (sym same) (stands_so trial s holds none)
+    subst (λ (x : World). IsOpening x → FitsWords x → IsNamed [] x → device_in s ≡ device_of x) (sym same) (stands_so trial s holds none)
 
 pub holds_world : (w : World) (d : Device) → IsOpening w → FitsWords w → d ≡ device_of w → HoldsWorld w d
 holds_world w d opening fits same = subst (HoldsWorld w) (sym same) (record { world = refl; files = shelf_holds w opening fits; spares = All-nil _ })

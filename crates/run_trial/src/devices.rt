@@ -1,8 +1,10 @@
 //! The devices of a trial, and a run over them.
 
-ghost use Rattle.std.specs.Prelude.{◌≡◌, IfErr, IfOk, IsErrOf, OnOk, true};
+ghost use Rattle.std.specs.Prelude.{◌≡◌, [], IfErr, IfOk, IsErrOf, OnOk, true};
+ghost use Rattle.std.proofs.Props.{props};
 ghost use Rattle.rules.specs.World.{World};
 ghost use Rattle.book.specs.MemShelves.{files_of};
+ghost use Rattle.imap_client.specs.Seen.{HasMap};
 ghost use Rattle.pair.specs.Pairs.{seen_of};
 ghost use Rattle.pair.specs.Tallies.{seen_with, untouched};
 ghost use Rattle.underway.specs.Conditions.{IsOver, Underway};
@@ -20,6 +22,7 @@ use book::shelf::Shelf;
 use both::both::Both;
 use both::sides::Sides;
 use far_side::far_side::FarSide;
+use mailcore::keywords::Keywords;
 use maildir::folder::Folder;
 use maildir::mem_folder::MemFolder;
 use maildir::meta::Meta;
@@ -52,9 +55,10 @@ pub fn settle_all<O: Outside>(
     ensures done { (start : World) → start.state ≡ state.now → O.honest result.0 → O.alone ≡ true → AreOurs O.ours
         → Begins start (O.seen outside).device → OnOk result.1 (IsDone start options.now (O.seen result.0).device) }
     ensures over { (start : World) → start.state ≡ state.now → O.honest result.0 → AreOurs O.ours → Begins start (O.seen outside).device
-        → OnOk result.1 (IsOver O.ours O.alone (opening_of start options.now) (O.seen result.0).device) }
+        → OnOk result.1 (IsOver O.ours O.alone (opening_of (O.keywords outside) start options.now) (O.seen result.0).device) }
     ensures left { (start : World) → start.state ≡ state.now → O.honest result.0 → AreOurs O.ours → Begins start (O.seen outside).device
-        → IfErr result.1 (λ fault. LeavesRun (Underway O.ours O.alone (opening_of start options.now)) fault (O.seen outside) (O.seen result.0)) }
+        → IfErr result.1 (λ fault. LeavesRun (Underway O.ours O.alone (opening_of (O.keywords outside) start options.now)) fault (O.seen outside) (O.seen result.0)) }
+    ensures keywords { O.keywords result.0 ≡ O.keywords outside }
     ensures greatest { HasNoNext (O.honest result.0) O.alone (O.seen outside).device (O.seen result.0).device result.1 }
     ensures stopped { IsErrOf result.1 RunFault.Stopped → MetStops tries (O.seen outside) (O.seen result.0) }
 {
@@ -73,9 +77,10 @@ fn settle_from<O: Outside>(
     ensures done { O.honest result.0 → O.alone ≡ true → AreOurs O.ours → Begins start (O.seen outside).device
         → OnOk result.1 (IsDone start options.now (O.seen result.0).device) }
     ensures over { O.honest result.0 → AreOurs O.ours → Begins start (O.seen outside).device
-        → OnOk result.1 (IsOver O.ours O.alone (opening_of start options.now) (O.seen result.0).device) }
+        → OnOk result.1 (IsOver O.ours O.alone (opening_of (O.keywords outside) start options.now) (O.seen result.0).device) }
     ensures left { O.honest result.0 → AreOurs O.ours → Begins start (O.seen outside).device
-        → IfErr result.1 (λ fault. LeavesRun (Underway O.ours O.alone (opening_of start options.now)) fault (O.seen outside) (O.seen result.0)) }
+        → IfErr result.1 (λ fault. LeavesRun (Underway O.ours O.alone (opening_of (O.keywords outside) start options.now)) fault (O.seen outside) (O.seen result.0)) }
+    ensures keywords { O.keywords result.0 ≡ O.keywords outside }
     ensures greatest { HasNoNext (O.honest result.0) O.alone (O.seen outside).device (O.seen result.0).device result.1 }
     ensures stopped { IsErrOf result.1 RunFault.Stopped → MetStops tries (O.seen outside) (O.seen result.0) }
 {
@@ -94,15 +99,18 @@ pub fn together<L: TrialLink + Drop, F: Folder + Drop>(
     folder: F,
     shelf: MemShelf,
 ) -> Result<Both<L, F, MemShelf>, Failure>
-    ensures { IfOk result (λ both. seen_of both ≡ seen_with (device_at (L.line link).end.server (F.seen folder).stored (files_of shelf)) untouched) }
+    requires letters { L.honest link → HasMap [] (L.line link).end.server }
+    ensures seen { IfOk result (λ both. seen_of both
+        ≡ seen_with (device_at (L.line link).end.server (F.seen folder).stored (files_of shelf)) untouched) }
+    ensures keywords { IfOk result (λ both. both.far.far.keywords ≡ []) }
 {
     let sides = Sides {
-        far: FarSide::new(alloc, account_of(alloc)?, link),
+        far: FarSide::new(alloc, account_of(alloc)?, link, Keywords::new(alloc)),
         folder,
         shelf,
     };
     // The folder of a trial has a meta file, so that this is of no use.
-    Ok(sides.together(alloc, NonZeroU32::MIN))
+    Ok(sides.together(alloc, NonZeroU32::MIN, Keywords::new(alloc)))
 }
 
 /// The near mailbox's folder, the shelf, and the far mailbox's link.
@@ -114,14 +122,36 @@ pub struct Devices<L: TrialLink + Drop> {
     pub folder: MemFolder,
     /// The state, and the journal.
     pub shelf: MemShelf,
+    // Only the six flags have a name.
+    pub ghost letters: { L.honest link → HasMap [] (L.line link).end.server } by { Prim.hlevel props },
 }
 
 impl<L: TrialLink + Drop> Devices<L> {
     ghost use Rattle.maildir.specs.MemFolders.{stored_in};
 
     /// What the outside of a run stands on.
-    pub fn of(outside: Both<L, MemFolder, MemShelf>) -> Self {
+    pub fn of(outside: Both<L, MemFolder, MemShelf>) -> Self
+        requires map { outside.far.far.keywords ≡ [] }
+    {
         let Sides { far, folder, shelf } = Sides::of(outside);
+        Devices::over(far, folder, shelf)
+    }
+
+    /// The same where others add files to the folder: it has all that has come.
+    pub(crate) fn among<const MARKS: u32>(
+        outside: Both<L, VisitedFolder<MARKS>, MemShelf>,
+    ) -> Result<Self, Failure>
+        requires map { outside.far.far.keywords ≡ [] }
+    {
+        let Sides { far, folder, shelf } = Sides::of(outside);
+        let folder = folder.into_folder()?;
+        Ok(Devices::over(far, folder, shelf))
+    }
+
+    /// The link of this far mailbox, this folder and this shelf.
+    fn over(far: FarSide<L>, folder: MemFolder, shelf: MemShelf) -> Self
+        requires map { far.far.keywords ≡ [] }
+    {
         Devices {
             link: far.into_link(),
             folder,
@@ -129,22 +159,11 @@ impl<L: TrialLink + Drop> Devices<L> {
         }
     }
 
-    /// The same where others add files to the folder: it has all that has come.
-    pub(crate) fn among<const MARKS: u32>(
-        outside: Both<L, VisitedFolder<MARKS>, MemShelf>,
-    ) -> Result<Self, Failure> {
-        let Sides { far, folder, shelf } = Sides::of(outside);
-        Ok(Devices {
-            link: far.into_link(),
-            folder: folder.into_folder()?,
-            shelf,
-        })
-    }
-
     /// The outside of another run over these devices, which are reopened. All that the run before left stands there, the journal too.
     pub fn again(self, alloc: Global) -> Result<Both<L, MemFolder, MemShelf>, Failure>
-        ensures { IfOk result (λ both. seen_of both ≡ seen_with
+        ensures seen { IfOk result (λ both. seen_of both ≡ seen_with
             (device_at (L.line self.link).end.server (stored_in self.folder) (files_of self.shelf)) untouched) }
+        ensures keywords { IfOk result (λ both. both.far.far.keywords ≡ []) }
     {
         let Devices {
             link,
@@ -173,7 +192,7 @@ impl<L: TrialLink + Drop> Devices<L> {
             return Err(Failure::NoWorld);
         };
         let state = state_in(alloc, &self.shelf)?;
-        let near = contents_of(alloc, &self.folder)?;
+        let near = contents_of(alloc, &self.folder, &Keywords::new(alloc))?;
         let world = WrittenWorld {
             far: WrittenMailbox::of(far),
             near: WrittenMailbox {

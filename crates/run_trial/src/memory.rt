@@ -1,14 +1,15 @@
 //! A run over a server, a folder and a shelf in memory: what it leaves of a world, with no word of a device to rely on.
 
-ghost use Rattle.std.specs.Prelude.{◌≡◌, ◌+◌, ◌<◌, ◌^◌, IfErr, IfOk, IsErrAnd, IsErrOf, None, OnOk, true};
+ghost use Rattle.std.specs.Prelude.{◌≡◌, ◌+◌, ◌<◌, ◌^◌, IfErr, IfOk, [], IsErrAnd, IsErrOf, None, OnOk, true};
 ghost use Rattle.rules.specs.Opening.{IsOpening};
 ghost use Rattle.rules.specs.World.{World};
+ghost use Rattle.imap_client.specs.Seen.{HasMap};
 ghost use Rattle.imap_server.specs.Boxes.{AreServed};
 ghost use Rattle.pair.specs.Pairs.{seen_of};
 ghost use Rattle.underway.specs.Endings.{IsDone};
 ghost use Rattle.alike_laws.specs.Beginnings.{Begins};
 ghost use Rattle.runner.specs.Attempts.{HasNoNext, TellsNoNext};
-ghost use Rattle.trial.specs.Worlds.{device_of, world_of};
+ghost use Rattle.trial.specs.Worlds.{IsNamed, device_of, world_of};
 ghost use Rattle.run_trial.specs.Memory.{LeavesWorld};
 ghost use Rattle.run_trial.specs.Settings.{device_in};
 
@@ -25,19 +26,20 @@ use trial::trial::Trial;
 /// Makes the run of a trial to which others add no message, and gives its outside beside what it came to. If its lines say that some
 /// come, they do not.
 ///
-/// Where the trial has no journal, and its world is one that a run may begin with: an answer leaves both mailboxes and the state alike
-/// to the outcome that the rules name for that world, and a fault leaves the run underway, whatever the attempts and the stops. Behind
-/// the greatest run number there is no other run: a fault says so, or a call stopped before, and nothing has changed. It is told as
-/// stopped only where as many calls stopped as there were attempts.
+/// Where the trial has no journal, and its world is one that a run may begin with, whose flags are of the six: an answer leaves both
+/// mailboxes and the state alike to the outcome that the rules name for that world, and a fault leaves the run underway, whatever the
+/// attempts and the stops. Behind the greatest run number there is no other run: a fault says so, or a call stopped before, and nothing
+/// has changed. It is told as stopped only where as many calls stopped as there were attempts.
 pub fn run_in_memory(alloc: Global, trial: Trial) -> Result<Run<MemLink, MemFolder>, Failure>
-    ensures done { trial.course.journal ≡ None → IsOpening (world_of trial.world)
+    ensures done { trial.course.journal ≡ None → IsOpening (world_of trial.world) → IsNamed [] (world_of trial.world)
         → IfOk result (λ run. OnOk run.1 (IsDone (world_of trial.world) trial.world.options (seen_of run.0).device)) }
-    ensures left { trial.course.journal ≡ None → IsOpening (world_of trial.world) → trial.world.state.run + 1 < 2 ^ 64
+    ensures left { trial.course.journal ≡ None → IsOpening (world_of trial.world) → IsNamed [] (world_of trial.world) → trial.world.state.run + 1 < 2 ^ 64
         → IfOk result (λ run. IfErr run.1 (λ fault.
         LeavesWorld (world_of trial.world) trial.world.options (device_of (world_of trial.world)) fault (seen_of run.0))) }
-    ensures greatest { trial.course.journal ≡ None → IsOpening (world_of trial.world) → trial.world.state.run + 1 ≡ 2 ^ 64
+    ensures greatest { trial.course.journal ≡ None → IsOpening (world_of trial.world) → IsNamed [] (world_of trial.world) → trial.world.state.run + 1 ≡ 2 ^ 64
         → IfOk result (λ run. IsErrAnd run.1 TellsNoNext × ((seen_of run.0).device ≡ device_of (world_of trial.world))) }
     ensures stopped { IfOk result (λ run. IsErrOf run.1 RunFault.Stopped → (seen_of run.0).stops ≡ trial.course.tries) }
+    ensures map { IfOk result (λ run. run.0.far.far.keywords ≡ []) }
 {
     let options = trial.world.options;
     let tries = trial.course.tries;
@@ -52,13 +54,15 @@ fn run_over(
     options: &Options,
     tries: u32,
 ) -> Result<Run<MemLink, MemFolder>, Failure>
-    requires { AreServed setting.far.server.server.mailboxes }
+    requires served { AreServed setting.far.server.server.mailboxes }
+    requires letters { HasMap [] setting.far.server.server }
     ensures done { (start : World) → start.state ≡ setting.state → Begins start (device_in setting)
         → IfOk result (λ run. OnOk run.1 (IsDone start options.now (seen_of run.0).device)) }
     ensures left { (start : World) → start.state ≡ setting.state → Begins start (device_in setting)
         → IfOk result (λ run. IfErr run.1 (λ fault. LeavesWorld start options.now (device_in setting) fault (seen_of run.0))) }
     ensures greatest { IfOk result (λ run. HasNoNext (Unit {0}) true (device_in setting) (seen_of run.0).device run.1) }
     ensures stopped { IfOk result (λ run. IsErrOf run.1 RunFault.Stopped → (seen_of run.0).stops ≡ tries) }
+    ensures map { IfOk result (λ run. run.0.far.far.keywords ≡ []) }
 {
     let Setting {
         far,

@@ -1,6 +1,7 @@
 //! The program `mbtrial`, over readers and writers.
 
-ghost use Rattle.std.specs.Prelude.{◌≡◌, ◌≤◌, IfOk, IsErr};
+ghost use Rattle.std.specs.Prelude.{◌≡◌, ◌≤◌, [], IfOk, IsErr};
+ghost use Rattle.imap_client.specs.Seen.{HasMap};
 
 use crate::among::run_among;
 use crate::devices::{Devices, settle_all, together};
@@ -191,6 +192,7 @@ fn told_over<L: TrialLink + Drop>(
     options: &Options,
     tries: u32,
 ) -> Result<(String, u8), Failure>
+    requires { L.honest link → HasMap [] (L.line link).end.server }
     ensures { IfOk result (λ told. told.1 ≤ 1) }
 {
     let NearSetting {

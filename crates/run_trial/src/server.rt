@@ -1,6 +1,7 @@
 //! The far mailbox of a trial, as the INBOX of a server, and the links to it.
 
-ghost use Rattle.std.specs.Prelude.{◌≡◌, IfOk, codes};
+ghost use Rattle.std.specs.Prelude.{◌≡◌, [], IfOk, codes};
+ghost use Rattle.imap_client.specs.Seen.{HasMap};
 ghost use Rattle.imap_server.specs.Boxes.{AreServed};
 ghost use Rattle.run_trial.specs.Settings.{inbox_of};
 
@@ -29,6 +30,7 @@ pub(crate) const MAILBOX: &[u8] = b"INBOX";
 pub(crate) fn server_with(alloc: Global, far: Mailbox) -> Result<Server, Failure>
     ensures served { IfOk result (λ server. AreServed server.server.mailboxes) }
     ensures inbox { IfOk result (λ server. server.server.mailboxes ≡ inbox_of far) }
+    ensures letters { IfOk result (λ server. HasMap [] server.server) }
 {
     let mut inbox = far;
     inbox.name = MailboxName::inbox(alloc)?;

@@ -1,6 +1,7 @@
 //! What the run of a trial is made over: the server with its far mailbox and where the link to it stops, the folder and the shelf.
 
-ghost use Rattle.std.specs.Prelude.{◌≡◌, IfOk};
+ghost use Rattle.std.specs.Prelude.{◌≡◌, [], IfOk};
+ghost use Rattle.imap_client.specs.Seen.{HasMap};
 ghost use Rattle.imap_server.specs.Boxes.{AreServed};
 ghost use Rattle.trial.specs.Worlds.{FitsWords, world_of};
 ghost use Rattle.run_trial.specs.Settings.{IsSettingOf, inbox_of};
@@ -10,6 +11,7 @@ use crate::schedule::schedule_of;
 use crate::server::server_with;
 use book::mem_shelf::MemShelf;
 use imap_server::server::Server;
+use mailcore::keywords::Keywords;
 use mailcore::mailbox::Mailbox;
 use maildir::mem_folder::MemFolder;
 use mem_link::schedule::Schedule;
@@ -55,6 +57,7 @@ fn far_with(
 ) -> Result<FarSetting, Failure>
     ensures served { IfOk result (λ far. AreServed far.server.server.mailboxes) }
     ensures inbox { IfOk result (λ setting. setting.server.server.mailboxes ≡ inbox_of far) }
+    ensures letters { IfOk result (λ setting. HasMap [] setting.server.server) }
 {
     let server = server_with(alloc, far)?;
     let schedule = schedule_of(alloc, stops, mutes)?;
@@ -65,6 +68,7 @@ fn far_with(
 /// that was read.
 pub fn setting_of(alloc: Global, trial: Trial) -> Result<Setting, Failure>
     ensures served { IfOk result (λ setting. AreServed setting.far.server.server.mailboxes) }
+    ensures letters { IfOk result (λ setting. HasMap [] setting.far.server.server) }
     ensures holds { IfOk result (λ setting. IsSettingOf trial setting) }
     ensures arrivals { IfOk result (λ setting. setting.arrivals ≡ trial.course.arrivals) }
     ensures fits { IfOk result (λ _. FitsWords (world_of trial.world)) }
@@ -94,7 +98,7 @@ pub fn setting_of(alloc: Global, trial: Trial) -> Result<Setting, Failure>
         waiting.len(),
     );
     let far = far_with(alloc, far, &stops.link, mutes);
-    let folder = folder_with(alloc, near, waiting, stops.folder);
+    let folder = folder_with(alloc, near, waiting, stops.folder, &Keywords::new(alloc));
     let shelf = shelf_with(alloc, &state, journal, stops.shelf);
     Ok(Setting {
         far: far?,

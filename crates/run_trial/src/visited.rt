@@ -44,6 +44,7 @@ pub(crate) fn visited<const MARKS: u32>(
 ) -> Result<VisitedSetting<MARKS>, AllocError>
     requires { AreServed setting.far.server.server.mailboxes }
     ensures served { IfOk result (λ v. AreServed v.far.server.server.mailboxes) }
+    ensures letters { IfOk result (λ v. v.far.server.server.keywords ≡ setting.far.server.server.keywords) }
     ensures far { IfOk result (λ v. v.far ≡ setting.far) }
     ensures arrivals { IfOk result (λ v. v.arrivals.list.items ≡ map arrival_of setting.arrivals.far.items) }
     ensures near { IfOk result (λ v. (stored_in v.near.folder.folder ≡ stored_in setting.folder) × (v.near.folder.arrivals ≡ setting.arrivals.near)) }

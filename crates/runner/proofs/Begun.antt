@@ -1,9 +1,10 @@
 -- Admission, two listings and the writing of the plan.
 use Rattle.std.proofs.Common.{◌≡◌, ◌⊎◌, inl, inr, ℕ, Bool, true, false, List, ◌++◌, length, Option, Some, None, refl, ◌∙◌, ap}
 use Rattle.std.proofs.lemmas.Bool.{both_ways}
-use Rattle.mailcore.specs.declared.side.Side.TheVariants.{Near as NearSide}
+use Rattle.mailcore.specs.declared.side.Side.TheVariants.{Far, Near as NearSide}
 use Rattle.mailcore.specs.declared.listing.Listing.{Listing}
-use Rattle.mailcore.specs.Operations.{ShowsSparing}
+use Rattle.mailcore.specs.Listed.{item_of}
+use Rattle.mailcore.specs.Operations.{ShowsSparing, item_sparing}
 use Rattle.mailcore.specs.Mailboxes.{Mailbox}
 use Rattle.mailcore.specs.Stores.{Waiting}
 use Rattle.rules.specs.declared.plan.Plan.{Plan}
@@ -12,6 +13,7 @@ use Rattle.book.specs.Books.{Holds, Turns as TurnsJournal, TurnsHalf}
 use Rattle.book.specs.BookLogs.{begun}
 use Rattle.outside.specs.Arrivals.{Arrives}
 use Rattle.outside.specs.BookCalls.{OfBook}
+use Rattle.mailbox.specs.Operations.{ListsWithin}
 use Rattle.mailbox.proofs.Listed.{lists_since, told_most}
 use Rattle.outside.specs.BoxCalls.{Admits, AdmitsPart, ListsFar}
 use Rattle.outside.specs.Devices.{Device}
@@ -25,6 +27,7 @@ use Rattle.underway.proofs.Listings.{grows_next, listed_arrives, listed_grows, l
 use Rattle.underway.proofs.Moves.{spares_more}
 use Rattle.runner.specs.Before.{AreOld, AreShown, BothListed, FarListed, IsClear, IsMade}
 use Rattle.runner.specs.Going.{AtReady}
+use Rattle.runner.proofs.Within.{shown_within}
 
 module _ (ours : List ℕ → Bool) (alone : Bool) (opening : Opening) where
   pub clear_unplanned : (opened : Option Opened) (is_admitted : Bool) (d : Device) → IsClear alone opening opened is_admitted d → Unplanned alone opening d
@@ -78,13 +81,13 @@ module _ (ours : List ℕ → Bool) (alone : Bool) (opening : Opening) where
 
   -- ---- the listings
 
-  pub far_listed : (opened : Option Opened) (far : Listing) (d m d' : Device) → Arrives ours alone d m → IsClear alone opening opened true d → d' ≡ m → ListsFar alone d.far.next far m → FarListed alone opening opened far d'
-  far_listed opened far d m d' a c is l =
+  pub far_listed : (opened : Option Opened) (far : Listing) (d m d' : Device) → ListsWithin opening.keywords far → Arrives ours alone d m → IsClear alone opening opened true d → d' ≡ m → ListsFar alone d.far.next far m → FarListed alone opening opened far d'
+  far_listed opened far d m d' within a c is l =
       let g = c.grows in
-      rw is (record { clear = clear_arrives opened true d m a c; lists = lists_since alone d.far.next opening.world.far.next far m.far g.far_next l })
+      rw is (record { clear = clear_arrives opened true d m a c; lists = lists_since alone d.far.next opening.world.far.next far m.far g.far_next l; within = within })
 
-  pub near_listed : (opened : Option Opened) (far near : Listing) (spared : ℕ → Bool) (d m d' : Device) → AreOld opening.world.state.max_pushed opening.world.state.entries spared → Arrives ours alone d m → FarListed alone opening opened far d → d' ≡ m → ShowsSparing NearSide spared m.near.store near → BothListed ours alone opening opened far near d'
-  near_listed opened far near spared d m d' old a f is l =
+  pub near_listed : (opened : Option Opened) (far near : Listing) (spared : ℕ → Bool) (d m d' : Device) → ListsWithin opening.keywords near → AreOld opening.world.state.max_pushed opening.world.state.entries spared → Arrives ours alone d m → FarListed alone opening opened far d → d' ≡ m → ShowsSparing NearSide spared m.near.store near → BothListed ours alone opening opened far near d'
+  near_listed opened far near spared d m d' within old a f is l =
       let c = clear_arrives opened true d m a f.clear in
       let s = opening.world.state in
       let told = f.lists.next in
@@ -95,6 +98,7 @@ module _ (ours : List ℕ → Bool) (alone : Bool) (opening : Opening) where
         grows = grows;
         admitted = λ e. c.admitted refl e;
         below = names_below alone opening.world (listed_world s far.next d m) grows c.below;
+        within = record { far = shown_within opening.keywords (item_of Far) (λ _. refl) far.items d.far.messages f.lists.shows.items f.within; near = shown_within opening.keywords (item_sparing NearSide spared) (λ _. refl) near.items m.near.store.messages l.items within };
         holds = (record { far_is = f.lists.shows; spared = spared; old = old; near_is = l }, listed_here ours alone opening.world s far.next d m grows most (λ e. c.admitted refl e) a c.files (spares_more opening.world (listed_world s far.next d m) m (grows_next alone opening.world (listed_world s far.next d m) grows) c.spares));
       } in
       rw is (record { clear = c; since = since })

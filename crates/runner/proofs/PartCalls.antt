@@ -213,8 +213,9 @@ broken_or_whole s = either s.is_broken
 
 module _ {T : Type 0} (honest : Type 0) (from : Device → Type 0) (others : Effect Device) (copies : T → ℕ) (tells : OutsideFault → Type 0) (does : T → Effect Device) (leaves : OutsideFault → Effect Device) (s0 s1 : Seen) where
   -- that went
-  pub passed_call : (to : Device → Type 0) (x : T) → Call honest others copies tells does leaves s0 s1 (Ok x) → ((m : Device) → from s0.device → others s0.device m → does x m s1.device → to s1.device) → Passed honest from to (copies x) s0 s1
-  passed_call to x c f =
+  -- by what was told where the outside has kept its word
+  pub passed_told : (to : Device → Type 0) (x : T) → Call honest others copies tells does leaves s0 s1 (Ok x) → (honest → (m : Device) → from s0.device → others s0.device m → does x m s1.device → to s1.device) → Passed honest from to (copies x) s0 s1
+  passed_told to x c f =
       let a = c.acts in
       let n = c.counts in
       record {
@@ -224,8 +225,11 @@ module _ {T : Type 0} (honest : Type 0) (from : Device → Type 0) (others : Eff
         appends = n.appends;
         reopened = n.reopened;
         goes_on = c.goes_on;
-        reaches = λ h at. let e = a.effect h in f e.mid at e.before e.behind;
+        reaches = λ h at. let e = a.effect h in f h e.mid at e.before e.behind;
       }
+
+  pub passed_call : (to : Device → Type 0) (x : T) → Call honest others copies tells does leaves s0 s1 (Ok x) → ((m : Device) → from s0.device → others s0.device m → does x m s1.device → to s1.device) → Passed honest from to (copies x) s0 s1
+  passed_call to x c f = passed_told to x c (λ h. f)
 
   no_less : (e : OutsideFault) → Call honest others copies tells does leaves s0 s1 (Err e) → NoLess s0 s1
   no_less e c = let a = c.acts in let n = c.counts in record { stops = a.no_less; told = more (broken_or_whole s0); appends = omega (arith, n.appends); reopened = n.reopened }

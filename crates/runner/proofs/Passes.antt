@@ -304,8 +304,8 @@ module _ (ours : List ℕ → Bool) (alone : Bool) (opening : Opening) where
   split_done d s = by_world s.holds
     where
       by_world : PlannedAt ours alone s.world opening.options d ⊎ DoneAt ours alone s.world opening.options d → Underway ours alone opening d
-      by_world (inl p) = inr (inl (record { world = s.world; grows = s.grows; admitted = s.admitted; below = s.below; holds = p }))
-      by_world (inr x) = inr (inr (record { world = s.world; grows = s.grows; admitted = s.admitted; below = s.below; holds = x }))
+      by_world (inl p) = inr (inl (record { world = s.world; grows = s.grows; admitted = s.admitted; below = s.below; within = s.within; holds = p }))
+      by_world (inr x) = inr (inr (record { world = s.world; grows = s.grows; admitted = s.admitted; below = s.below; within = s.within; holds = x }))
 
   pub half_ended_at : (opened : Option Opened) (is_taken_up : Bool) (d m d' : Device) → IsGoing opened → next_at opened ≡ None → Arrives ours alone d m → AtReady ours alone opening opened is_taken_up d → OfBook CommitsHalf opened m d' → Underway ours alone opening d'
   half_ended_at opened is_taken_up d m d' g none a k t =

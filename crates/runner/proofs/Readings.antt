@@ -283,7 +283,7 @@ module _ (ours : List ℕ → Bool) (alone : Bool) (opening : Opening) where
           let one = mended_stands written o.state s.world m d' held t.far t.near t.named now s.holds in
           record {
             state = ap (λ (x : SyncState). Some x) (one.0 ∙ s.grows.state);
-            since = record { world = s.world; grows = s.grows; admitted = s.admitted; below = s.below; holds = one.1 };
+            since = record { world = s.world; grows = s.grows; admitted = s.admitted; below = s.below; within = s.within; holds = one.1 };
           }
 
   pub half_untorn : (opened : Option Opened) (d m d' : Device) → HasPlan opened → Arrives ours alone d m → IsTakenUp ours alone opening opened d → OfBook (λ p. TurnsHalf p p) opened m d' → Underway ours alone opening d'

@@ -13,7 +13,7 @@ use Rattle.rules.specs.declared.plan.Step.TheVariants as step
 use Rattle.rules.specs.World.{World, IsInOrder, NamesBelow, store}
 use Rattle.sync_state.specs.declared.journal.Logged.{Logged}
 use Rattle.sync_state.specs.declared.journal.Logged.TheVariants.{Copied, Done}
-use Rattle.step_laws.specs.Steps.{Boxes, changed_uid, step_after, box as messages_in, with_box as with_messages_in}
+use Rattle.step_laws.specs.Steps.{changed_uid, step_after, box as messages_in}
 use Rattle.outside.specs.declared.fault.OutsideFault.{OutsideFault}
 use Rattle.outside.specs.declared.fault.OutsideFault.TheVariants as out
 use Rattle.outside.specs.declared.outside.Carried.{Carried}
@@ -43,7 +43,7 @@ use Rattle.runner.proofs.Wholes.{removed_is}
 pub moment_map : (alone : Bool) (opening : Opening) (opened : Option Opened) (P Q : World → Type 0) → ((w : World) → Grows alone opening.world w → NamesBelow w → P w → Q w) → AtMoment alone opening opened P → AtMoment alone opening opened Q
 moment_map alone opening opened P Q f k =
     let s = k.since in
-    record { state = k.state; since = record { world = s.world; grows = s.grows; admitted = s.admitted; below = s.below; holds = f s.world s.grows s.below s.holds } }
+    record { state = k.state; since = record { world = s.world; grows = s.grows; admitted = s.admitted; below = s.below; within = s.within; holds = f s.world s.grows s.below s.holds } }
 
 -- a call that stopped or had another fault: with no effect, with a part of it, or with it
 pub left_by : {T : Type 0} (q : Device → Type 0) (does : T → Device → Device → Type 0) (part : Device → Device → Type 0) (e : OutsideFault) (m d' : Device) → LeavesBy does part e m d' → q m → (part m d' → q d') → ((x : T) → does x m d' → q d') → q d'
@@ -97,7 +97,7 @@ module _ (ours : List ℕ → Bool) (alone : Bool) (opening : Opening) (opened :
   -- ---- each leaves a run underway
 
   pub planned : (P : World → Type 0) (d : Device) → ((w : World) → P w → PlannedAt ours alone w opening.options d) → AtMoment alone opening opened P → Underway ours alone opening d
-  planned P d f k = let s = k.since in inr (inl (record { world = s.world; grows = s.grows; admitted = s.admitted; below = s.below; holds = f s.world s.holds }))
+  planned P d f k = let s = k.since in inr (inl (record { world = s.world; grows = s.grows; admitted = s.admitted; below = s.below; within = s.within; holds = f s.world s.holds }))
 
   stands_at : (w : World) (d : Device) → Stands ours alone w opening.options plan log false d → PlannedAt ours alone w opening.options d
   stands_at w d s = record { plan = plan; log = log; is_torn = false; stands = s }

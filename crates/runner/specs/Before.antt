@@ -11,6 +11,7 @@ use Rattle.rules.specs.Entries.{uid_of}
 use Rattle.rules.specs.World.{World, NamesBelow}
 use Rattle.book.specs.Books.{Holds, IsPlanned as HasPlanned}
 use Rattle.book.specs.declared.book.Pending.TheVariants.{Missing}
+use Rattle.mailbox.specs.Operations.{ListsWithin}
 use Rattle.outside.specs.BoxCalls.{ListsFar}
 use Rattle.outside.specs.Devices.{Device}
 use Rattle.outside.specs.Opened.{IsHeld, Opened, state_of}
@@ -64,10 +65,11 @@ pub record IsClear (alone : Bool) (opening : Opening) (opened : Option Opened) (
   pub spares : SparesLater opening.world d
   pub admitted : is_admitted ≡ true → alone ≡ true → d.near.waiting ≡ []
 
--- the far mailbox was listed; others may have added since
+-- the far mailbox was listed, each flag by its name; others may have added since
 pub record FarListed (alone : Bool) (opening : Opening) (opened : Option Opened) (far : Listing) (d : Device) : Type 0 where
   pub clear : IsClear alone opening opened true d
   pub lists : ListsFar alone opening.world.far.next far d
+  pub within : ListsWithin opening.keywords far
 
 -- spared are those near messages that cannot be new: each is not above the highest one that was pushed, or an entry names it
 abbrev pub AreOld : (pushed : ℕ) → List Entry → (spared : ℕ → Bool) → Type 0

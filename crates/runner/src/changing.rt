@@ -55,7 +55,9 @@ fn set_flags<O: Outside>(outside: &mut O, number: usize, flags: &FlagStep) -> Re
     requires next { next_at (O.opened outside.old) ≡ Some (step.Flags flags.now.direction flags.now.far flags.now.near flags.now.set
         flags.now.cleared) }
     requires whole { (O.seen outside.old).is_broken ≡ false }
+    requires map { opening.keywords ≡ O.keywords outside.old }
     ensures was_honest { O.honest outside.new → O.honest outside.old }
+    ensures keywords { O.keywords outside.new ≡ O.keywords outside.old }
     ensures opened { O.opened outside.new ≡ O.opened outside.old }
     ensures idle { sets_first flags.now.set flags.now.cleared ≡ false → O.seen outside.new ≡ O.seen outside.old }
     ensures part { StepPart number (O.opened outside.old) (O.honest outside.new)
@@ -81,7 +83,9 @@ fn clear_flags<O: Outside>(outside: &mut O, number: usize, flags: &FlagStep) -> 
     requires next { next_at (O.opened outside.old) ≡ Some (step.Flags flags.now.direction flags.now.far flags.now.near flags.now.set
         flags.now.cleared) }
     requires whole { (O.seen outside.old).is_broken ≡ false }
+    requires map { opening.keywords ≡ O.keywords outside.old }
     ensures was_honest { O.honest outside.new → O.honest outside.old }
+    ensures keywords { O.keywords outside.new ≡ O.keywords outside.old }
     ensures opened { O.opened outside.new ≡ O.opened outside.old }
     ensures idle { flags.now.cleared ≡ 0 → O.seen outside.new ≡ O.seen outside.old }
     ensures part { StepPart number (O.opened outside.old) (O.honest outside.new)
@@ -111,7 +115,9 @@ pub(crate) fn carry_flags<O: Outside>(
     requires next { next_at (O.opened outside.old) ≡ Some (step.Flags flags.now.direction flags.now.far flags.now.near flags.now.set
         flags.now.cleared) }
     requires whole { (O.seen outside.old).is_broken ≡ false }
+    requires map { opening.keywords ≡ O.keywords outside.old }
     ensures was_honest { O.honest outside.new → O.honest outside.old }
+    ensures keywords { O.keywords outside.new ≡ O.keywords outside.old }
     ensures opened { O.opened outside.new ≡ O.opened outside.old }
     ensures fits { IfOk result (λ r. logged_of r ≡ Done) }
     ensures part { StepPart number (O.opened outside.old) (O.honest outside.new)
@@ -135,6 +141,7 @@ pub(crate) fn mark_deleted<O: Outside>(
     requires going { IsGoing (O.opened outside.old) }
     requires next { next_at (O.opened outside.old) ≡ Some (step.Gone direction far near) }
     ensures was_honest { O.honest outside.new → O.honest outside.old }
+    ensures keywords { O.keywords outside.new ≡ O.keywords outside.old }
     ensures opened { O.opened outside.new ≡ O.opened outside.old }
     ensures fits { IfOk result (λ r. logged_of r ≡ Done) }
     ensures part { StepPart number (O.opened outside.old) (O.honest outside.new)
@@ -160,6 +167,7 @@ pub(crate) fn remove<O: Outside>(
     requires going { IsGoing (O.opened outside.old) }
     requires next { next_at (O.opened outside.old) ≡ Some (step.Expunge side uid) }
     ensures was_honest { O.honest outside.new → O.honest outside.old }
+    ensures keywords { O.keywords outside.new ≡ O.keywords outside.old }
     ensures opened { O.opened outside.new ≡ O.opened outside.old }
     ensures fits { IfOk result (λ r. logged_of r ≡ Done) }
     ensures part { StepPart number (O.opened outside.old) (O.honest outside.new)

@@ -3,7 +3,6 @@
 ghost use Rattle.std.specs.Prelude.{◌≡◌, None, Some, IfOk, true, false};
 ghost use Rattle.rules.specs.declared.plan.Step.TheVariants as step;
 ghost use Rattle.sync_state.specs.JournalText.{LogsNew};
-ghost use Rattle.sync_state.specs.declared.journal.Logged.TheVariants.{Copied};
 ghost use Rattle.underway.specs.Conditions.{Underway};
 ghost use Rattle.underway.specs.Openings.{Opening};
 ghost use Rattle.runner.specs.Parts.{StepPart};
@@ -31,6 +30,7 @@ fn seek<O: Outside>(
     requires going { IsGoing (O.opened outside.old) }
     requires next { CopiesUnder (O.opened outside.old) direction mark }
     ensures was_honest { O.honest outside.new → O.honest outside.old }
+    ensures keywords { O.keywords outside.new ≡ O.keywords outside.old }
     ensures opened { O.opened outside.new ≡ O.opened outside.old }
     ensures part { StepPart number (O.opened outside.old) (O.honest outside.new)
         (AtReady O.ours O.alone opening (O.opened outside.old) true) (Underway O.ours O.alone opening) (λ _. 0)
@@ -58,6 +58,7 @@ fn find_copy<O: Outside>(
     requires going { IsGoing (O.opened outside.old) }
     requires next { CopiesUnder (O.opened outside.old) direction mark }
     ensures was_honest { O.honest outside.new → O.honest outside.old }
+    ensures keywords { O.keywords outside.new ≡ O.keywords outside.old }
     ensures opened { O.opened outside.new ≡ O.opened outside.old }
     ensures part { StepPart number (O.opened outside.old) (O.honest outside.new)
         (AtCopied O.ours O.alone opening (O.opened outside.old)) (Underway O.ours O.alone opening) (λ _. 0)
@@ -83,7 +84,9 @@ fn copy<O: Outside>(
     ghost opening: { Opening }
     requires going { IsGoing (O.opened outside.old) }
     requires next { next_at (O.opened outside.old) ≡ Some (step.New direction uid flags mark) }
+    requires map { opening.keywords ≡ O.keywords outside.old }
     ensures was_honest { O.honest outside.new → O.honest outside.old }
+    ensures keywords { O.keywords outside.new ≡ O.keywords outside.old }
     ensures opened { O.opened outside.new ≡ O.opened outside.old }
     ensures fits { IfOk result (λ r. LogsNew (logged_of r)) }
     ensures made { IfOk result (λ r. told_found r ≡ None) }
@@ -122,7 +125,9 @@ pub(crate) fn bring<O: Outside>(
     ghost opening: { Opening }
     requires going { IsGoing (O.opened outside.old) }
     requires next { next_at (O.opened outside.old) ≡ Some (step.New direction uid flags mark) }
+    requires map { opening.keywords ≡ O.keywords outside.old }
     ensures was_honest { O.honest outside.new → O.honest outside.old }
+    ensures keywords { O.keywords outside.new ≡ O.keywords outside.old }
     ensures opened { O.opened outside.new ≡ O.opened outside.old }
     ensures fits { IfOk result (λ r. LogsNew (logged_of r)) }
     ensures found { IfOk result (λ r. O.honest outside.new → AtReady O.ours O.alone opening (O.opened outside.old) is_taken_up

@@ -29,6 +29,7 @@ use std::alloc::Global;
 pub(crate) fn recall<O: Outside>(outside: &mut O) -> Result<(), RunFault>
     ghost opening: { Opening }
     ensures was_honest { O.honest outside.new → O.honest outside.old }
+    ensures keywords { O.keywords outside.new ≡ O.keywords outside.old }
     ensures book { OnOk result (IsBook (O.opened outside.new)) }
     ensures held { OnOk result (O.honest outside.new → IsHeld (O.opened outside.new) (O.seen outside.old).device) }
     ensures kept { O.honest outside.new → IsKept O.alone (O.seen outside.old).device (O.seen outside.new).device }
@@ -50,6 +51,7 @@ pub(crate) fn forget<O: Outside>(outside: &mut O) -> Result<(), RunFault>
     requires read { IsRead (O.opened outside.old) }
     requires whole { (O.seen outside.old).is_broken ≡ false }
     ensures was_honest { O.honest outside.new → O.honest outside.old }
+    ensures keywords { O.keywords outside.new ≡ O.keywords outside.old }
     ensures state { OnOk result (state_of (O.opened outside.new) ≡ state_of (O.opened outside.old)) }
     ensures gone { OnOk result (HasNoPlan (O.opened outside.old) → HasNoJournal (O.opened outside.new)) }
     ensures emptied { OnOk result (O.honest outside.new → IsHeld (O.opened outside.old) (O.seen outside.old).device
@@ -72,6 +74,7 @@ pub(crate) fn untear<O: Outside>(outside: &mut O) -> Result<(), RunFault>
     ghost opening: { Opening }
     requires plan { HasPlan (O.opened outside.old) }
     ensures was_honest { O.honest outside.new → O.honest outside.old }
+    ensures keywords { O.keywords outside.new ≡ O.keywords outside.old }
     ensures opened { OnOk result (O.opened outside.new ≡ turned mended (O.opened outside.old)) }
     ensures same { OnOk result (O.honest outside.new → FindsSame O.ours (O.seen outside.old).device (O.seen outside.new).device) }
     ensures part { Part (O.honest outside.new) (IsTakenUp O.ours O.alone opening (O.opened outside.old)) (Underway O.ours O.alone opening)
@@ -88,6 +91,7 @@ fn empty<O: Outside>(outside: &mut O) -> Result<(), RunFault>
     ghost opening: { Opening }
     requires none { HasNoPlan (O.opened outside.old) }
     ensures was_honest { O.honest outside.new → O.honest outside.old }
+    ensures keywords { O.keywords outside.new ≡ O.keywords outside.old }
     ensures opened { OnOk result (O.opened outside.new ≡ turned (λ _. Missing) (O.opened outside.old)) }
     ensures validities { OnOk result (O.honest outside.new → KeepsValidities (O.seen outside.old).device (O.seen outside.new).device) }
     ensures part { Part (O.honest outside.new) (HasNone O.alone opening (O.opened outside.old)) (Underway O.ours O.alone opening) (λ _. 0)
@@ -104,6 +108,7 @@ fn admit<O: Outside>(outside: &mut O) -> Result<(), RunFault>
     ghost opening: { Opening }
     requires is_open { IsOpen Side.Near (O.opened outside.old) }
     ensures was_honest { O.honest outside.new → O.honest outside.old }
+    ensures keywords { O.keywords outside.new ≡ O.keywords outside.old }
     ensures opened { O.opened outside.new ≡ O.opened outside.old }
     ensures validities { OnOk result (O.honest outside.new → KeepsValidities (O.seen outside.old).device (O.seen outside.new).device) }
     ensures part { Part (O.honest outside.new) (IsClear O.alone opening (O.opened outside.old) false) (Underway O.ours O.alone opening)
@@ -121,6 +126,7 @@ pub(crate) fn clear<O: Outside>(outside: &mut O) -> Result<(), RunFault>
     requires none { HasNoPlan (O.opened outside.old) }
     requires boxes { AreOpen (O.opened outside.old) }
     ensures was_honest { O.honest outside.new → O.honest outside.old }
+    ensures keywords { O.keywords outside.new ≡ O.keywords outside.old }
     ensures opened { OnOk result (O.opened outside.new ≡ turned (λ _. Missing) (O.opened outside.old)) }
     ensures validities { OnOk result (O.honest outside.new → KeepsValidities (O.seen outside.old).device (O.seen outside.new).device) }
     ensures part { Part (O.honest outside.new) (HasNone O.alone opening (O.opened outside.old)) (Underway O.ours O.alone opening) (λ _. 0)
@@ -134,7 +140,9 @@ pub(crate) fn clear<O: Outside>(outside: &mut O) -> Result<(), RunFault>
 fn list_far<O: Outside>(outside: &mut O) -> Result<Listing, RunFault>
     ghost opening: { Opening }
     requires boxes { AreOpen (O.opened outside.old) }
+    requires map { opening.keywords ≡ O.keywords outside.old }
     ensures was_honest { O.honest outside.new → O.honest outside.old }
+    ensures keywords { O.keywords outside.new ≡ O.keywords outside.old }
     ensures opened { O.opened outside.new ≡ O.opened outside.old }
     ensures numbers { IfOk result HasNumbers }
     ensures validities { OnOk result (O.honest outside.new → KeepsValidities (O.seen outside.old).device (O.seen outside.new).device) }
@@ -157,7 +165,9 @@ fn list_near<O: Outside>(
     ghost opening: { Opening }
     requires spared { SparesOld (O.opened outside.old) (spares spared.now) }
     requires boxes { AreOpen (O.opened outside.old) }
+    requires map { opening.keywords ≡ O.keywords outside.old }
     ensures was_honest { O.honest outside.new → O.honest outside.old }
+    ensures keywords { O.keywords outside.new ≡ O.keywords outside.old }
     ensures opened { O.opened outside.new ≡ O.opened outside.old }
     ensures numbers { IfOk result HasNumbers }
     ensures validities { OnOk result (O.honest outside.new → KeepsValidities (O.seen outside.old).device (O.seen outside.new).device) }
@@ -186,7 +196,9 @@ pub(crate) fn list_both<O: Outside>(alloc: Global, outside: &mut O) -> Result<Li
     ghost opening: { Opening }
     requires read { IsRead (O.opened outside.old) }
     requires boxes { AreOpen (O.opened outside.old) }
+    requires map { opening.keywords ≡ O.keywords outside.old }
     ensures was_honest { O.honest outside.new → O.honest outside.old }
+    ensures keywords { O.keywords outside.new ≡ O.keywords outside.old }
     ensures opened { O.opened outside.new ≡ O.opened outside.old }
     ensures far_numbers { IfOk result (λ both. HasNumbers both.far) }
     ensures near_numbers { IfOk result (λ both. HasNumbers both.near) }
@@ -208,6 +220,7 @@ pub(crate) fn write_plan<O: Outside>(outside: &mut O, plan: Plan) -> Result<(), 
     ghost opening: { Opening }
     requires takes { TakesPlan (O.opened outside.old) plan }
     ensures was_honest { O.honest outside.new → O.honest outside.old }
+    ensures keywords { O.keywords outside.new ≡ O.keywords outside.old }
     ensures opened { OnOk result (O.opened outside.new ≡ turned (λ _. begun plan) (O.opened outside.old)) }
     ensures part { Part (O.honest outside.new) (IsMade O.ours O.alone opening (O.opened outside.old) plan) (Underway O.ours O.alone opening)
         (λ _. 0) (λ _. AtReady O.ours O.alone opening (O.opened outside.new) false) (O.seen outside.old) (O.seen outside.new) result }
@@ -244,6 +257,7 @@ fn open_one<O: Outside>(outside: &mut O, side: Side) -> Result<(), RunFault>
     ghost opening: { Opening }
     requires read { IsRead (O.opened outside.old) }
     ensures was_honest { O.honest outside.new → O.honest outside.old }
+    ensures keywords { O.keywords outside.new ≡ O.keywords outside.old }
     ensures opened { OnOk result (O.opened outside.new ≡ with_box side (O.opened outside.old)) }
     ensures kept { OnOk result (O.honest outside.new → HasSame (O.opened outside.old) side (O.seen outside.new).device × IsKept O.alone
         (O.seen outside.old).device (O.seen outside.new).device) }
@@ -274,6 +288,7 @@ pub(crate) fn open_boxes<O: Outside>(outside: &mut O) -> Result<(), RunFault>
     ghost opening: { Opening }
     requires read { IsRead (O.opened outside.old) }
     ensures was_honest { O.honest outside.new → O.honest outside.old }
+    ensures keywords { O.keywords outside.new ≡ O.keywords outside.old }
     ensures opened { OnOk result (O.opened outside.new ≡ with_box Side.Near (with_box Side.Far (O.opened outside.old))) }
     ensures kept { OnOk result (O.honest outside.new → BothSame (O.opened outside.old) (O.seen outside.new).device × IsKept O.alone
         (O.seen outside.old).device (O.seen outside.new).device) }

@@ -1,6 +1,6 @@
 //! A whole run: it is begun, or taken up where its plan is pending, and its state is committed.
 
-ghost use Rattle.std.specs.Prelude.{◌≡◌, ◌<◌, ◌+◌, ◌^◌, [], None, Some, IsErr, OnOk, IfOk, true, false};
+ghost use Rattle.std.specs.Prelude.{◌≡◌, ◌<◌, ◌+◌, ◌^◌, [], None, IsErr, OnOk, IfOk, true, false};
 ghost use Rattle.outside.specs.Opened.{AreCommitted, IsBook, IsHeld, IsRead, TakesCommit};
 ghost use Rattle.underway.specs.Conditions.{Underway};
 ghost use Rattle.underway.specs.Openings.{Opening};
@@ -35,6 +35,7 @@ fn conclude<O: Outside>(outside: &mut O, is_taken_up: bool) -> Result<(), RunFau
     requires takes { TakesCommit (O.opened outside.old) }
     requires ended { next_at (O.opened outside.old) ≡ None }
     ensures was_honest { O.honest outside.new → O.honest outside.old }
+    ensures keywords { O.keywords outside.new ≡ O.keywords outside.old }
     ensures committed { OnOk result (AreCommitted (O.opened outside.old) (O.opened outside.new)) }
     ensures held { OnOk result (O.honest outside.new → IsHeld (O.opened outside.new) (O.seen outside.new).device) }
     ensures ends { OnOk result (O.honest outside.new → AtReady O.ours O.alone opening (O.opened outside.old) is_taken_up
@@ -60,7 +61,9 @@ fn propose<O: Outside, R: Rng>(
     requires none { HasNoPlan (O.opened outside.old) }
     requires boxes { AreOpen (O.opened outside.old) }
     requires room { run_of (O.opened outside.old) + 1 < 2 ^ 64 }
+    requires map { opening.keywords ≡ O.keywords outside.old }
     ensures was_honest { O.honest outside.new → O.honest outside.old }
+    ensures keywords { O.keywords outside.new ≡ O.keywords outside.old }
     ensures going { OnOk result (IsGoing (O.opened outside.new)) }
     ensures log { OnOk result (log_at (O.opened outside.new) ≡ []) }
     ensures run { IfOk result (λ unfit. IsRun (O.opened outside.old) options.now (R.stream rng.old) (plan_at (O.opened outside.new)).steps
@@ -94,7 +97,9 @@ fn begin<O: Outside, R: Rng, P: Progress>(
     requires none { HasNoPlan (O.opened outside.old) }
     requires boxes { AreOpen (O.opened outside.old) }
     requires room { run_of (O.opened outside.old) + 1 < 2 ^ 64 }
+    requires map { opening.keywords ≡ O.keywords outside.old }
     ensures was_honest { O.honest outside.new → O.honest outside.old }
+    ensures keywords { O.keywords outside.new ≡ O.keywords outside.old }
     ensures answer { IfOk result (AnswersTo (run_of (O.opened outside.old) + 1) (O.opened outside.old)) }
     ensures results { IfOk result (λ pass. O.honest outside.new → HasResults pass (O.seen outside.new).device) }
     ensures told { IfOk result (λ pass. O.honest outside.new → IsChosen O.ours O.alone opening (O.opened outside.old)
@@ -127,7 +132,9 @@ fn resume<O: Outside, P: Progress>(
     requires book { IsBook (O.opened outside.old) }
     requires plan { HasPlan (O.opened outside.old) }
     requires boxes { AreOpen (O.opened outside.old) }
+    requires map { opening.keywords ≡ O.keywords outside.old }
     ensures was_honest { O.honest outside.new → O.honest outside.old }
+    ensures keywords { O.keywords outside.new ≡ O.keywords outside.old }
     ensures answer { IfOk result (AnswersTo (run_of (O.opened outside.old) + 1) (O.opened outside.old)) }
     ensures results { IfOk result (λ pass. O.honest outside.new → HasResults pass (O.seen outside.new).device) }
     ensures told { IfOk result (λ pass. O.honest outside.new → IsTakenUp O.ours O.alone opening (O.opened outside.old)
@@ -151,6 +158,7 @@ fn skip<O: Outside>(outside: &mut O) -> Result<Pass, RunFault>
     requires read { IsRead (O.opened outside.old) }
     requires whole { (O.seen outside.old).is_broken ≡ false }
     ensures was_honest { O.honest outside.new → O.honest outside.old }
+    ensures keywords { O.keywords outside.new ≡ O.keywords outside.old }
     ensures answer { IfOk result (λ pass. pass ≡ Pass.Already) }
     ensures stores { OnOk result (LeavesBoxes (O.honest outside.new) O.alone (O.seen outside.old).device (O.seen outside.new).device) }
     ensures emptied { OnOk result (O.honest outside.new → IsHeld (O.opened outside.old) (O.seen outside.old).device
@@ -174,7 +182,9 @@ fn work<O: Outside, R: Rng, P: Progress>(
     requires book { IsBook (O.opened outside.old) }
     requires boxes { AreOpen (O.opened outside.old) }
     requires room { run_of (O.opened outside.old) + 1 < 2 ^ 64 }
+    requires map { opening.keywords ≡ O.keywords outside.old }
     ensures was_honest { O.honest outside.new → O.honest outside.old }
+    ensures keywords { O.keywords outside.new ≡ O.keywords outside.old }
     ensures answer { IfOk result (AnswersTo (run_of (O.opened outside.old) + 1) (O.opened outside.old)) }
     ensures results { IfOk result (λ pass. O.honest outside.new → HasResults pass (O.seen outside.new).device) }
     ensures told { IfOk result (λ pass. O.honest outside.new → IsKnownEntry O.ours O.alone opening (O.opened outside.old)
@@ -211,7 +221,9 @@ fn open_and_work<O: Outside, R: Rng, P: Progress>(
     ghost opening: { Opening }
     requires book { IsBook (O.opened outside.old) }
     requires room { run_of (O.opened outside.old) + 1 < 2 ^ 64 }
+    requires map { opening.keywords ≡ O.keywords outside.old }
     ensures was_honest { O.honest outside.new → O.honest outside.old }
+    ensures keywords { O.keywords outside.new ≡ O.keywords outside.old }
     ensures answer { IfOk result (AnswersTo (run_of (O.opened outside.old) + 1) (O.opened outside.old)) }
     ensures results { IfOk result (λ pass. O.honest outside.new → HasResults pass (O.seen outside.new).device) }
     ensures told { IfOk result (λ pass. O.honest outside.new → IsKnownEntry O.ours O.alone opening (O.opened outside.old)
@@ -247,7 +259,9 @@ fn take_up<O: Outside, R: Rng, P: Progress>(
     ghost opening: { Opening }
     requires book { IsBook (O.opened outside.old) }
     requires whole { (O.seen outside.old).is_broken ≡ false }
+    requires map { opening.keywords ≡ O.keywords outside.old }
     ensures was_honest { O.honest outside.new → O.honest outside.old }
+    ensures keywords { O.keywords outside.new ≡ O.keywords outside.old }
     ensures answer { IfOk result (AnswersTo run (O.opened outside.old)) }
     ensures results { IfOk result (λ pass. O.honest outside.new → HasResults pass (O.seen outside.new).device) }
     ensures told { IfOk result (λ pass. O.honest outside.new → IsKnownEntry O.ours O.alone opening (O.opened outside.old)
@@ -291,7 +305,9 @@ pub fn pass<O: Outside, R: Rng, P: Progress>(
     progress: &P,
 ) -> Result<Pass, RunFault>
     ghost opening: { Opening }
+    requires map { opening.keywords ≡ O.keywords outside.old }
     ensures was_honest { O.honest outside.new → O.honest outside.old }
+    ensures keywords { O.keywords outside.new ≡ O.keywords outside.old }
 
     // What is answered goes by what the files held, and what is run by the marks that the generator gave, which moves by whole pairs.
     ensures answers { IfOk result (λ pass. O.honest outside.new

@@ -25,6 +25,7 @@ use std::alloc::Global;
 fn next_run<O: Outside>(outside: &mut O) -> Result<u64, RunFault>
     ghost opening: { Opening }
     ensures was_honest { O.honest outside.new → O.honest outside.old }
+    ensures keywords { O.keywords outside.new ≡ O.keywords outside.old }
     ensures number { IfOk result (λ number. O.honest outside.new → HasReached number (O.seen outside.new).device.files) }
     ensures kept { OnOk result (O.honest outside.new → IsKept O.alone (O.seen outside.old).device (O.seen outside.new).device) }
     ensures greatest { HasNoNext (O.honest outside.new) O.alone (O.seen outside.old).device (O.seen outside.new).device result }
@@ -52,6 +53,7 @@ fn fix_run<O: Outside>(outside: &mut O, run: &mut Option<u64>) -> Result<u64, Ru
     ghost opening: { Opening }
     requires whole { (number : ℕ) → run.old ≡ Some number → (O.seen outside.old).is_broken ≡ false }
     ensures was_honest { O.honest outside.new → O.honest outside.old }
+    ensures keywords { O.keywords outside.new ≡ O.keywords outside.old }
     ensures unfixed { OnErr result ((run.old ≡ None) × (run.new ≡ None)) }
     ensures fixed { IfOk result (λ number. run.new ≡ Some number) }
     ensures number { IfOk result (λ number. O.honest outside.new → IsReached run.old (O.seen outside.old).device.files
@@ -83,7 +85,9 @@ fn attempt<O: Outside, R: Rng, P: Progress>(
 ) -> Result<Pass, RunFault>
     ghost opening: { Opening }
     requires whole { (number : ℕ) → run.old ≡ Some number → (O.seen outside.old).is_broken ≡ false }
+    requires map { opening.keywords ≡ O.keywords outside.old }
     ensures was_honest { O.honest outside.new → O.honest outside.old }
+    ensures keywords { O.keywords outside.new ≡ O.keywords outside.old }
     ensures moved { Moves (R.stream rng.old) (R.stream rng.new) }
     ensures answer { IfOk result (λ pass. O.honest outside.new → TriedAt O.ours O.alone opening run.old (O.seen outside.old).device
         → AnswersAt (opening.world.state.run + 1) options.now pass (O.seen outside.old).device (R.stream rng.old)) }
@@ -113,6 +117,7 @@ fn attempt<O: Outside, R: Rng, P: Progress>(
 /// Opens all again, but for the first attempt.
 fn again<O: Outside>(outside: &mut O, tried: u32)
     ensures was_honest { O.honest outside.new → O.honest outside.old }
+    ensures keywords { O.keywords outside.new ≡ O.keywords outside.old }
     ensures seen { O.seen outside.new ≡ found_by tried (O.seen outside.old) }
 {
     if tried == 0 {
@@ -134,7 +139,9 @@ pub fn settle<O: Outside, R: Rng, P: Progress>(
     progress: &P,
 ) -> Result<Settled, RunFault>
     ghost opening: { Opening }
+    requires map { opening.keywords ≡ O.keywords outside.old }
     ensures was_honest { O.honest outside.new → O.honest outside.old }
+    ensures keywords { O.keywords outside.new ≡ O.keywords outside.old }
 
     // From an opening: an answer leaves the run over, and tells what the last attempt answered, which began on a device that is known; a
     // fault leaves the run underway.

@@ -37,7 +37,9 @@ fn perform<O: Outside>(
     requires going { IsGoing (O.opened outside.old) }
     requires next { next_at (O.opened outside.old) ≡ Some step.now }
     requires whole { (O.seen outside.old).is_broken ≡ false }
+    requires map { opening.keywords ≡ O.keywords outside.old }
     ensures was_honest { O.honest outside.new → O.honest outside.old }
+    ensures keywords { O.keywords outside.new ≡ O.keywords outside.old }
     ensures opened { O.opened outside.new ≡ O.opened outside.old }
     ensures fits { IfOk result (λ r. FitsStep step.now (logged_of r)) }
     ensures found { IfOk result (λ r. O.honest outside.new → AtReady O.ours O.alone opening (O.opened outside.old) is_taken_up
@@ -94,6 +96,7 @@ fn logged_as(became: &StepResult) -> Logged
 fn write<O: Outside>(outside: &mut O, number: usize, logged: Logged) -> Result<(), OutsideFault>
     requires takes { TakesLog (O.opened outside.old) number logged }
     ensures was_honest { O.honest outside.new → O.honest outside.old }
+    ensures keywords { O.keywords outside.new ≡ O.keywords outside.old }
     ensures opened { OnOk result (O.opened outside.new ≡ turned (λ p. logged_more p logged) (O.opened outside.old)) }
     ensures call { Writes (O.honest outside.new) (Arrives O.ours O.alone) (FromLog (O.opened outside.old) logged)
         (OfBook (λ p. Turns p (logged_more p logged)) (O.opened outside.old)) (OfBook (λ p. TurnsHalf p (torn p)) (O.opened outside.old))
@@ -113,6 +116,7 @@ fn log<O: Outside>(outside: &mut O, number: usize, became: &StepResult) -> Resul
     requires number { number ≡ number_at (O.opened outside.old) }
     requires fits { FitsNext (next_at (O.opened outside.old)) (logged_of became.now) }
     ensures was_honest { O.honest outside.new → O.honest outside.old }
+    ensures keywords { O.keywords outside.new ≡ O.keywords outside.old }
     ensures opened { OnOk result (HasLogged (O.opened outside.old) (O.opened outside.new) (logged_of became.now ∷ [])) }
     ensures part { StepPart number (O.opened outside.old) (O.honest outside.new)
         (AtDone O.ours O.alone opening (O.opened outside.old) (logged_of became.now)) (Underway O.ours O.alone opening) (λ _. 0)
@@ -136,7 +140,9 @@ fn advance<O: Outside>(
     requires number { number ≡ number_at (O.opened outside.old) }
     requires next { next_at (O.opened outside.old) ≡ Some step }
     requires whole { (O.seen outside.old).is_broken ≡ false }
+    requires map { opening.keywords ≡ O.keywords outside.old }
     ensures was_honest { O.honest outside.new → O.honest outside.old }
+    ensures keywords { O.keywords outside.new ≡ O.keywords outside.old }
     ensures opened { IfOk result (λ p. HasLogged (O.opened outside.old) (O.opened outside.new) (logged_of p.result ∷ [])) }
     ensures step { IfOk result (λ p. p.step ≡ step) }
     ensures fits { IfOk result (λ p. FitsStep p.step (logged_of p.result)) }
@@ -162,7 +168,9 @@ pub(crate) fn carry_out<O: Outside, P: Progress>(
     ghost opening: { Opening }
     requires going { IsGoing (O.opened outside.old) }
     requires whole { (O.seen outside.old).is_broken ≡ false }
+    requires map { opening.keywords ≡ O.keywords outside.old }
     ensures was_honest { O.honest outside.new → O.honest outside.old }
+    ensures keywords { O.keywords outside.new ≡ O.keywords outside.old }
     ensures opened { IfOk result (λ performed. HasLogged (O.opened outside.old) (O.opened outside.new) (logs_of performed.items)) }
     ensures ended { OnOk result (next_at (O.opened outside.new) ≡ None) }
     ensures steps { IfOk result (λ performed. steps_of performed.items ≡ drop (length (log_at (O.opened outside.old)))

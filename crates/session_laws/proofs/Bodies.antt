@@ -1,6 +1,7 @@
 -- UID STORE changes flags alone.
 use Rattle.std.proofs.Common.{◌≡◌, ℕ, Bool, true, false, cond, List, [], ◌∷◌, map, refl, ◌∙◌, ap, Option, Some, None}
 use Rattle.mailcore.specs.declared.mailbox.Message.{Message}
+use Rattle.mailcore.specs.KeywordNames.{named_set}
 use Rattle.mailcore.specs.Stores.{Store}
 use Rattle.mailcore.specs.Operations.{flagged, with_flags}
 use Rattle.wire_tokens.specs.declared.uid_set.SetItem.{SetItem}
@@ -63,14 +64,14 @@ change_in_shows change Authenticated ms same = refl
 change_in_shows change (Selected name) ms same = change_shows change name ms same
 change_in_shows change LoggedOut ms same = refl
 
-stores_shows : (s : Server) (tag : List ℕ) (at : Option FarMailbox) (set : List SetItem) (mode : StoreMode) (flags : ℕ) (rs : List Reply) (new : Server)
+stores_shows : (s : Server) (tag : List ℕ) (at : Option FarMailbox) (set : List SetItem) (mode : StoreMode) (flags : List (List ℕ)) (rs : List Reply) (new : Server)
     → Gives (stores_in at s tag set mode flags) rs new → map bodies_of new.mailboxes ≡ map bodies_of s.mailboxes
 stores_shows s tag None set mode flags rs new h = ap (λ (v : Server). map bodies_of v.mailboxes) h.1
 stores_shows s tag (Some m) set mode flags rs new h =
     ap (λ (v : Server). map bodies_of v.mailboxes) h.1
-    ∙ change_in_shows (stored mode flags set) s.condition s.mailboxes (λ n. each_shows n.name mode flags (uids_named set n.store) n.store)
+    ∙ change_in_shows (stored mode (named_set s.keywords flags) set) s.condition s.mailboxes (λ n. each_shows n.name mode (named_set s.keywords flags) (uids_named set n.store) n.store)
 
-pub store_keeps : (old new : Server) (tag : List ℕ) (set : List SetItem) (mode : StoreMode) (flags : ℕ) (replies : List Reply)
+pub store_keeps : (old new : Server) (tag : List ℕ) (set : List SetItem) (mode : StoreMode) (flags : List (List ℕ)) (replies : List Reply)
     → Gives (stores_in (selected old) old tag set mode flags) replies new → map bodies_of new.mailboxes ≡ map bodies_of old.mailboxes
 store_keeps old new tag set mode flags replies h = stores_shows old tag (selected old) set mode flags replies new h
 

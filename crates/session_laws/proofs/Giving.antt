@@ -1,5 +1,6 @@
 -- The mailbox that a command changes, and the UID that an APPEND gives.
 use Rattle.std.proofs.Common.{◌≡◌, ◌≤◌, inl, inr, ℕ, ◌+◌, Bool, true, false, cond, List, [], ◌∷◌, ◌++◌, refl, sym, ◌∙◌, ap, subst, Option, Some, None}
+use Rattle.mailcore.specs.KeywordNames.{named_set}
 use Rattle.mailcore.specs.Stores.{Store}
 use Rattle.mailcore.specs.Operations.{added}
 use Rattle.imap_replies.specs.declared.reply.Reply.{Reply}
@@ -47,7 +48,7 @@ not_grown (Selected at) name n tag v u others h = by_test (same_name at name) h
     by_test false k = k
 not_grown LoggedOut name n tag v u others h = h
 
-module _ (s : Server) (tag name message : List ℕ) (flags v u : ℕ) (new : Server) where
+module _ (s : Server) (tag name message : List ℕ) (flags : List (List ℕ)) (v u : ℕ) (new : Server) where
   gives_it : (m : FarMailbox) (uid : ℕ) → mailbox_at name s.mailboxes ≡ Some m → m.store.next ≤ uid → new ≡ (appended s m uid tag name flags message).after
       → v ≡ m.store.validity → u ≡ uid → GivesUid name v u s new
   gives_it m uid at above is ve ue = record {
@@ -55,8 +56,8 @@ module _ (s : Server) (tag name message : List ℕ) (flags v u : ℕ) (new : Ser
     was = at;
     validity_is = ve;
     at_least = subst (λ (n : ℕ). m.store.next ≤ n) (sym ue) above;
-    after = record m { store = added uid flags message m.store };
-    is = ap (λ (t : Server). mailbox_at name t.mailboxes) is ∙ mailbox_at-changed (added uid flags message) name s.mailboxes m at;
+    after = record m { store = added uid (named_set s.keywords flags) message m.store };
+    is = ap (λ (t : Server). mailbox_at name t.mailboxes) is ∙ mailbox_at-changed (added uid (named_set s.keywords flags) message) name s.mailboxes m at;
     next = ap (λ (n : ℕ). n + 1) (sym ue);
   }
 

@@ -4,6 +4,7 @@ use Rattle.std.specs.Prelude.{nat_eq, nat_le}
 use Rattle.std.specs.Cmp.Lexicographic.{pointwise}
 use Rattle.std.proofs.lemmas.List.Elements.{All-nil}
 use Rattle.mailcore.specs.declared.mailbox.Message.{Message}
+use Rattle.mailcore.specs.KeywordNames.{named_set}
 use Rattle.mailcore.specs.Stores.{IsStore}
 use Rattle.mailcore.specs.Operations.{added}
 use Rattle.wire_tokens.specs.declared.uid_set.SetItem.{SetItem}
@@ -62,9 +63,9 @@ module _ (s : Server) (tag : List ℕ) (are : AreStores s.mailboxes) where
   fetches_on None set what = same
   fetches_on (Some m) set what = same
 
-  stores_on : (m : Option FarMailbox) (set : List SetItem) (mode : StoreMode) (flags : ℕ) → On s (stores_in m s tag set mode flags)
+  stores_on : (m : Option FarMailbox) (set : List SetItem) (mode : StoreMode) (flags : List (List ℕ)) → On s (stores_in m s tag set mode flags)
   stores_on None set mode flags = same
-  stores_on (Some m) set mode flags = changed_in_goes_on (stored mode flags set) s.condition s.mailboxes (stored_on mode flags set) are
+  stores_on (Some m) set mode flags = changed_in_goes_on (stored mode (named_set s.keywords flags) set) s.condition s.mailboxes (stored_on mode (named_set s.keywords flags) set) are
 
   expunges_on : (m : Option FarMailbox) (set : List SetItem) → On s (expunges_in m s tag set)
   expunges_on None set = same
@@ -78,13 +79,13 @@ module _ (s : Server) (tag : List ℕ) (are : AreStores s.mailboxes) where
       added_on uid flags message n.store (subst (λ (x : FarMailbox). x.store.next ≤ uid) one above) is)
       are
 
-  appends_at_on : (at : Option FarMailbox) (name : List ℕ) (flags : ℕ) (message : List ℕ) (rs : List Reply) (new : Server)
+  appends_at_on : (at : Option FarMailbox) (name : List ℕ) (flags : List (List ℕ)) (message : List ℕ) (rs : List Reply) (new : Server)
       → mailbox_at name s.mailboxes ≡ at → AppendsAt at s tag name flags message rs new → GoOn s.mailboxes new.mailboxes
   appends_at_on None name flags message rs new e h = given s _ rs new h same
   appends_at_on (Some m) name flags message rs new e (inl h) = given s _ rs new h.gives same
-  appends_at_on (Some m) name flags message rs new e (inr h) = given s _ rs new h.gives (added_goes_on m name h.uid flags message e h.may.at_least)
+  appends_at_on (Some m) name flags message rs new e (inr h) = given s _ rs new h.gives (added_goes_on m name h.uid (named_set s.keywords flags) message e h.may.at_least)
 
-  appends_on : (b : Bool) (name : List ℕ) (flags : ℕ) (message : List ℕ) (rs : List Reply) (new : Server)
+  appends_on : (b : Bool) (name : List ℕ) (flags : List (List ℕ)) (message : List ℕ) (rs : List Reply) (new : Server)
       → AppendsIf b s tag name flags message rs new → GoOn s.mailboxes new.mailboxes
   appends_on false name flags message rs new h = given s _ rs new h same
   appends_on true name flags message rs new h = appends_at_on (mailbox_at name s.mailboxes) name flags message rs new refl h

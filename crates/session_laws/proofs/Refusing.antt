@@ -73,7 +73,7 @@ module _ (s : Server) (tag : List ℕ) where
   fetches_fine None set what = inl refl
   fetches_fine (Some m) set what = inl refl
 
-  stores_fine : (m : Option FarMailbox) (set : List SetItem) (mode : StoreMode) (flags : ℕ) → Fine s (stores_in m s tag set mode flags)
+  stores_fine : (m : Option FarMailbox) (set : List SetItem) (mode : StoreMode) (flags : List (List ℕ)) → Fine s (stores_in m s tag set mode flags)
   stores_fine None set mode flags = inl refl
   stores_fine (Some m) set mode flags = inr refl
 
@@ -81,7 +81,7 @@ module _ (s : Server) (tag : List ℕ) where
   expunges_fine None set = inl refl
   expunges_fine (Some m) set = inr (removed_fine (named_in m.store set) 1 m.store.messages tag)
 
-  appends_fine : (b : Bool) (at : Option FarMailbox) (name : List ℕ) (flags : ℕ) (message : List ℕ) (rs : List Reply) (new : Server)
+  appends_fine : (b : Bool) (at : Option FarMailbox) (name : List ℕ) (flags : List (List ℕ)) (message : List ℕ) (rs : List Reply) (new : Server)
       → mailbox_at name s.mailboxes ≡ at → AppendsIf b s tag name flags message rs new → Settled s rs new
   appends_fine false at name flags message rs new e h = given s _ rs new h (inl refl)
   appends_fine true at name flags message rs new e h = at_fine at (subst (λ (o : Option FarMailbox). AppendsAt o s tag name flags message rs new) e h)

@@ -1,14 +1,18 @@
 -- What a server says is short.
-use Rattle.std.proofs.Common.{◌≡◌, ◌≤◌, inl, inr, ℕ, ◌+◌, Bool, true, false, ◌&&◌, cond, List, [], ◌∷◌, ◌++◌, length, map, filter, fold, refl, sym, ◌∙◌, ap, subst, Option, Some, None, if◌then◌else◌, arith}
+use Rattle.std.proofs.Common.{◌≡◌, ◌≤◌, inl, inr, ℕ, ◌+◌, Bool, true, false, ◌&&◌, cond, List, [], ◌∷◌, ◌++◌, length, map, filter, fold, codes, refl, sym, ◌∙◌, ap, subst, Option, Some, None, if◌then◌else◌, arith}
 use Rattle.std.specs.Prelude.{nat_eq, nat_le}
 use Rattle.std.specs.List.{list_all}
 use Rattle.std.specs.Cmp.Lexicographic.{pointwise}
 use Rattle.std.proofs.lemmas.Bool.{cases_Bool, leb-true, le-leb, and_parts, and_from}
 use Rattle.std.proofs.lemmas.List.Elements.{All-head, All-tail}
+use Rattle.mailcore.specs.declared.keywords.Keyword.{Keyword}
 use Rattle.mailcore.specs.declared.mailbox.Message.{Message}
+use Rattle.mailcore.specs.KeywordNames.{IsMap, known_set, names_of}
 use Rattle.wire_reader.specs.Lexical.{outside}
 use Rattle.wire_tokens.specs.declared.uid_set.SetItem.{SetItem}
 use Rattle.wire_tokens.specs.Names.{has_name}
+use Rattle.wire_tokens.specs.Room.{most_names}
+use Rattle.wire_tokens.proofs.FlagTexts.{set_names_few}
 use Rattle.imap_commands.specs.declared.command.FetchItems.{FetchItems}
 use Rattle.imap_commands.specs.declared.command.FetchItems.TheVariants as wanted
 use Rattle.imap_commands.specs.declared.command.StoreMode.{StoreMode}
@@ -18,6 +22,8 @@ use Rattle.imap_replies.specs.declared.word.Status.{Status}
 use Rattle.imap_replies.specs.declared.word.Status.TheVariants as statuses
 use Rattle.imap_replies.specs.declared.word.NoticeKind.{NoticeKind}
 use Rattle.imap_replies.specs.declared.word.NoticeKind.TheVariants as notices
+use Rattle.imap_replies.specs.declared.fetch.FetchItem.TheVariants as items
+use Rattle.imap_replies.specs.declared.response.Code.TheVariants as codes_of
 use Rattle.imap_replies.specs.declared.response.ResponseText.{ResponseText}
 use Rattle.imap_replies.specs.declared.response.ResponseText.TheVariants.{Plain, Coded}
 use Rattle.imap_replies.specs.declared.reply.Reply.{Reply}
@@ -31,9 +37,9 @@ use Rattle.imap_session.specs.NameOrder.{stands_before, put_in}
 use Rattle.imap_session.specs.Patterns.{matches}
 use Rattle.imap_session.specs.NamedMessages.{goes, named_in}
 use Rattle.imap_session.specs.Servers.{Condition, NotAuthenticated, Authenticated, Selected, LoggedOut, Server, is_logged_in, is_before_login, selected, exists_of, news}
-use Rattle.imap_session.specs.Answering.{Answer, Gives, done, listed}
+use Rattle.imap_session.specs.Answering.{Answer, Gives, done, listed, note}
 use Rattle.imap_session.specs.SessionCommands.{REV2, logs_in}
-use Rattle.imap_session.specs.MailboxCommands.{names_matched, makes, creates_at, closes, opening, selects_at, is_name_byte, is_name, next_validity}
+use Rattle.imap_session.specs.MailboxCommands.{names_matched, makes, creates_at, closes, all_names, opening, selects_at, is_name_byte, is_name, next_validity}
 use Rattle.imap_session.specs.AppendCommand.{grown, AppendsAt, AppendsIf}
 use Rattle.imap_session.specs.MessageCommands.{shown, fetched, removed, fetches_in, stores_in, expunges_in}
 use Rattle.imap_session.specs.Steps.{StepOf}
@@ -43,9 +49,9 @@ use Rattle.session_laws.specs.Short.{is_short_text, is_short, AreNamed}
 
 -- ---- short replies fit
 
-response_short : (text : ResponseText) → is_short_text text ≡ true → most_response text ≤ 2048
+response_short : (text : ResponseText) → is_short_text text ≡ true → most_response text ≤ 16384
 response_short (Plain text) h = let l = leb-true (length text) 1024 h in omega (arith, l)
-response_short (Coded code text) h = let l = leb-true _ 1024 h in omega (arith, l)
+response_short (Coded code text) h = let l = leb-true _ 8192 h in omega (arith, l)
 
 status_short : (status : Status) → length (status_word status) ≤ 16
 status_short statuses.Ok = omega arith
@@ -72,10 +78,10 @@ short_fits (Notice kind t) text w h = let f = reply_few (Notice kind t) text w i
 short_fits (Capability names) text w h = let f = reply_few (Capability names) text w in let l = leb-true _ 1024 h in omega (arith, f, l)
 short_fits (Enabled names) text w h = let f = reply_few (Enabled names) text w in let l = leb-true _ 1024 h in omega (arith, f, l)
 short_fits (Listed attributes delimiter name) text w h = let f = reply_few (Listed attributes delimiter name) text w in let l = leb-true _ 1024 h in omega (arith, f, l)
-short_fits (Flags flags) text w h = let f = reply_few (Flags flags) text w in omega (arith, f)
+short_fits (Flags flags) text w h = let f = reply_few (Flags flags) text w in let l = leb-true _ 8192 h in omega (arith, f, l)
 short_fits (Exists n) text w h = let f = reply_few (Exists n) text w in omega (arith, f)
 short_fits (Expunge n) text w h = let f = reply_few (Expunge n) text w in omega (arith, f)
-short_fits (Fetch n items) text w h = let f = reply_few (Fetch n items) text w in let l = leb-true _ 1024 h in omega (arith, f, l)
+short_fits (Fetch n items) text w h = let f = reply_few (Fetch n items) text w in let l = leb-true _ 8192 h in omega (arith, f, l)
 short_fits (Other word t) text w h = cc
 short_fits (OtherNumbered n event t) text w h = cc
 
@@ -101,16 +107,28 @@ removed_short named place (m ∷ ms) =
     elim (goes named m) as (λ b. Short (cond b (Expunge place ∷ removed named place ms) (removed named (place + 1) ms)))
     [ true ↦ removed_short named place ms | false ↦ removed_short named (place + 1) ms ]
 
-shown_short : (place : ℕ) (what : FetchItems) (m : Message) → is_short (Fetch place (shown what m)) ≡ true
-shown_short place wanted.Listing m = refl
-shown_short place wanted.Body m = refl
-shown_short place wanted.Head m = refl
+-- names of a set are few
+flags_short : (names : List (List ℕ)) → most_names names ≤ 6722 → is_short (Flags names) ≡ true
+flags_short names few = le-leb _ 8192 (omega (arith, few))
 
-fetched_short : (named : ℕ → Bool) (what : FetchItems) (place : ℕ) (ms : List Message) → Short (fetched named what place ms)
-fetched_short named what place [] = refl
-fetched_short named what place (m ∷ ms) =
-    elim (named m.uid) as (λ b. Short (cond b (Fetch place (shown what m) ∷ fetched named what (place + 1) ms) (fetched named what (place + 1) ms)))
-    [ true ↦ and_from _ _ (shown_short place what m) (fetched_short named what (place + 1) ms) | false ↦ fetched_short named what (place + 1) ms ]
+permanent_short : (names : List (List ℕ)) → most_names names ≤ 6722 → is_short (note (codes_of.PermanentFlags names) (codes "flags")) ≡ true
+permanent_short names few = le-leb _ 8192 (omega (arith, few))
+
+listing_short : (place uid size : ℕ) (names : List (List ℕ)) → most_names names ≤ 6722
+    → is_short (Fetch place (items.Uid uid ∷ items.Flags names ∷ items.Size size ∷ [])) ≡ true
+listing_short place uid size names few = le-leb _ 8192 (omega (arith, few))
+
+shown_short : (keywords : List Keyword) (place : ℕ) (what : FetchItems) (m : Message) → IsMap keywords → is_short (Fetch place (shown keywords what m)) ≡ true
+shown_short keywords place wanted.Listing m map = listing_short place m.uid (length m.bytes) (names_of keywords m.flags) (set_names_few keywords m.flags map)
+shown_short keywords place wanted.Body m map = refl
+shown_short keywords place wanted.Head m map = refl
+
+fetched_short : (keywords : List Keyword) (named : ℕ → Bool) (what : FetchItems) (place : ℕ) (ms : List Message) → IsMap keywords → Short (fetched keywords named what place ms)
+fetched_short keywords named what place [] map = refl
+fetched_short keywords named what place (m ∷ ms) map =
+    let rest = fetched_short keywords named what (place + 1) ms map in
+    elim (named m.uid) as (λ b. Short (cond b (Fetch place (shown keywords what m) ∷ fetched keywords named what (place + 1) ms) (fetched keywords named what (place + 1) ms)))
+    [ true ↦ and_from (is_short (Fetch place (shown keywords what m))) _ (shown_short keywords place what m map) rest | false ↦ rest ]
 
 grown_short : (c : Condition) (name : List ℕ) (n : ℕ) → Short (grown c name n)
 grown_short NotAuthenticated name n = refl
@@ -172,7 +190,7 @@ found_named name (x ∷ ms) m a e =
 
 -- ---- each command
 
-module _ (s : Server) (tag : List ℕ) (named : AreNamed s.mailboxes) where
+module _ (s : Server) (tag : List ℕ) (keywords : IsMap s.keywords) (named : AreNamed s.mailboxes) where
   lists_short : (pattern : List ℕ) → Short (map listed (names_matched pattern s.mailboxes) ++ done tag ∷ [])
   lists_short pattern = short_append (map listed (names_matched pattern s.mailboxes)) (done tag ∷ []) (ordered_short (filter (matches pattern) (map (λ (m : FarMailbox). m.name) s.mailboxes)) [] refl (matched_short pattern s.mailboxes named)) refl
 
@@ -183,17 +201,22 @@ module _ (s : Server) (tag : List ℕ) (named : AreNamed s.mailboxes) where
   selects_short : (m : Option FarMailbox) (name : List ℕ) → mailbox_at name s.mailboxes ≡ m → Short (selects_at m s tag name).replies
   selects_short None name e = short_append (closes s.condition) _ (closes_short s.condition) refl
   selects_short (Some m) name e =
-      short_append (closes s.condition) (opening m tag) (closes_short s.condition)
-      (and_from true _ refl (and_from true _ refl (and_from (is_short (listed m.name)) _ (name_short m.name (found_named name s.mailboxes m named e)) refl)))
+      let names : List (List ℕ) = all_names s.keywords in
+      let few = set_names_few s.keywords (known_set s.keywords) keywords in
+      short_append (closes s.condition) (opening s.keywords m tag) (closes_short s.condition)
+      (and_from (is_short (Flags names)) _ (flags_short names few)
+      (and_from true _ refl
+      (and_from (is_short (listed m.name)) _ (name_short m.name (found_named name s.mailboxes m named e))
+      (and_from (is_short (note (codes_of.PermanentFlags names) (codes "flags"))) _ (permanent_short names few) refl))))
 
   logs_in_short : (user password : List ℕ) → Short (logs_in s tag user password).replies
   logs_in_short user password = either (is_before_login s.condition) _ _ (either (pointwise nat_eq user s.user && pointwise nat_eq password s.password) _ _ refl refl) refl
 
   fetches_short : (m : Option FarMailbox) (set : List SetItem) (what : FetchItems) → Short (fetches_in m s tag set what).replies
   fetches_short None set what = refl
-  fetches_short (Some m) set what = short_append (fetched (named_in m.store set) what 1 m.store.messages) _ (fetched_short (named_in m.store set) what 1 m.store.messages) refl
+  fetches_short (Some m) set what = short_append (fetched s.keywords (named_in m.store set) what 1 m.store.messages) _ (fetched_short s.keywords (named_in m.store set) what 1 m.store.messages keywords) refl
 
-  stores_short : (m : Option FarMailbox) (set : List SetItem) (mode : StoreMode) (flags : ℕ) → Short (stores_in m s tag set mode flags).replies
+  stores_short : (m : Option FarMailbox) (set : List SetItem) (mode : StoreMode) (flags : List (List ℕ)) → Short (stores_in m s tag set mode flags).replies
   stores_short None set mode flags = refl
   stores_short (Some m) set mode flags = refl
 
@@ -201,7 +224,7 @@ module _ (s : Server) (tag : List ℕ) (named : AreNamed s.mailboxes) where
   expunges_short None set = refl
   expunges_short (Some m) set = short_append (removed (named_in m.store set) 1 m.store.messages) _ (removed_short (named_in m.store set) 1 m.store.messages) refl
 
-  appends_short : (b : Bool) (name : List ℕ) (flags : ℕ) (message : List ℕ) (rs : List Reply) (new : Server) → AppendsIf b s tag name flags message rs new → Short rs
+  appends_short : (b : Bool) (name : List ℕ) (flags : List (List ℕ)) (message : List ℕ) (rs : List Reply) (new : Server) → AppendsIf b s tag name flags message rs new → Short rs
   appends_short false name flags message rs new h = given _ s rs new h refl
   appends_short true name flags message rs new h = at_short (mailbox_at name s.mailboxes) h
     where
@@ -237,8 +260,8 @@ fault_short (Syntax None) = refl
 fault_short (Syntax (Some tag)) = refl
 fault_short (LiteralTooLong tag) = refl
 
-pub does_short : (old new : Server) (item : Item) (rs : List Reply) → AreNamed old.mailboxes → Does old item rs new → Short rs
-does_short old new (Asks command) rs named h = step_short old command.tag named command.request rs new h
-does_short old new (Faulty fault) rs named h = given _ old rs new h (and_from _ _ (fault_short fault) refl)
-does_short old new Ends rs named h = given _ old rs new h refl
-does_short old new Late rs named h = given _ old rs new h refl
+pub does_short : (old new : Server) (item : Item) (rs : List Reply) → IsMap old.keywords → AreNamed old.mailboxes → Does old item rs new → Short rs
+does_short old new (Asks command) rs keywords named h = step_short old command.tag keywords named command.request rs new h
+does_short old new (Faulty fault) rs keywords named h = given _ old rs new h (and_from _ _ (fault_short fault) refl)
+does_short old new Ends rs keywords named h = given _ old rs new h refl
+does_short old new Late rs keywords named h = given _ old rs new h refl

@@ -6,9 +6,11 @@ use Rattle.std.proofs.lemmas.List.Elements.{All-nil, All-cons, All-append}
 use Rattle.mailcore.specs.declared.mailbox.Message.{Message}
 use Rattle.mailcore.specs.Content.{mark_of}
 use Rattle.mailcore.specs.FlagSet.{FLAGS}
+use Rattle.mailcore.specs.KeywordNames.{kept}
 use Rattle.mailcore.specs.Operations.{added}
 use Rattle.mailcore.specs.Rise.{Rise}
 use Rattle.mailcore.specs.Stores.{Store}
+use Rattle.mailcore.proofs.KnownFlags.{kept-lt}
 use Rattle.wire_strings.specs.Literals.{IsLiteral}
 use Rattle.visitors.specs.Visitors.{Visitors, IsForeign}
 use Rattle.imap_session.specs.Mailboxes.{FarMailbox, same_name, mailbox_at, changed}
@@ -53,7 +55,7 @@ module _ (v : Visitors) where
 
   -- nobody was there
   pub nobody_visits : (s : Server) → Visits v s s
-  nobody_visits s = record { user = refl; password = refl; condition = refl; gains = all_none s.mailboxes; nobody = λ _. refl }
+  nobody_visits s = record { user = refl; password = refl; keywords = refl; condition = refl; gains = all_none s.mailboxes; nobody = λ _. refl }
 
   -- UIDs behind others
   rise_behind : (from : ℕ) (us : List ℕ) (mid : ℕ) (vs : List ℕ) (next : ℕ) → Rise from us mid → Rise mid vs next → Rise from (us ++ vs) next
@@ -89,6 +91,7 @@ module _ (v : Visitors) where
   visits_follow s t u h k = record {
     user = k.user ∙ h.user;
     password = k.password ∙ h.password;
+    keywords = k.keywords ∙ h.keywords;
     condition = k.condition ∙ h.condition;
     gains = all_more s.mailboxes t.mailboxes u.mailboxes h.gains k.gains;
     nobody = λ alone. k.nobody alone ∙ h.nobody alone;
@@ -96,7 +99,7 @@ module _ (v : Visitors) where
 
   -- and the server told of it
   pub visits_told : (s t : Server) → Visits v s t → Visits v s (told t)
-  visits_told s t h = record { user = h.user; password = h.password; condition = h.condition; gains = h.gains; nobody = h.nobody }
+  visits_told s t h = record { user = h.user; password = h.password; keywords = h.keywords; condition = h.condition; gains = h.gains; nobody = h.nobody }
 
   -- ---- an arrival is a visit
 
@@ -129,12 +132,13 @@ module _ (v : Visitors) where
     all_gain m (x ∷ xs) e is = by_head m x xs (same_name x.name name) e is (λ later. all_gain m xs later is)
 
   -- a message of others came
-  pub arrival_visits : (at : ℕ) (name : List ℕ) (flags : ℕ) (message : List ℕ) (s t : Server) → 0 < at → flags < 2 ^ FLAGS → IsForeign v.ours (mark_of message) → v.alone ≡ false → ArrivedUnder at name flags message s t → Visits v s t
-  arrival_visits at name flags message s t some set foreign others a =
+  pub arrival_visits : (at : ℕ) (name : List ℕ) (flags : ℕ) (message : List ℕ) (s t : Server) → 0 < at → IsForeign v.ours (mark_of message) → v.alone ≡ false → ArrivedUnder at name flags message s t → Visits v s t
+  arrival_visits at name flags message s t some foreign others a =
       subst (Visits v s) (sym a.after) (record {
         user = refl;
         password = refl;
+        keywords = refl;
         condition = refl;
-        gains = all_gain name at flags message a.literal some a.below set foreign a.mailbox s.mailboxes a.there a.uid_is;
+        gains = all_gain name at (kept s.keywords flags) message a.literal some a.below (kept-lt s.keywords flags) foreign a.mailbox s.mailboxes a.there a.uid_is;
         nobody = λ alone. absurd (true≢false (sym alone ∙ others));
       })

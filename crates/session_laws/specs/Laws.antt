@@ -86,7 +86,7 @@ says reply (r ∷ rs) = (r ≡ reply) ⊎ says reply rs
 
 abbrev pub AppendsGiveNewUids : Type 0
 AppendsGiveNewUids =
-    (old new : Server) (tag name message : List ℕ) (flags validity uid : ℕ) (replies : List Reply)
+    (old new : Server) (tag name message : List ℕ) (flags : List (List ℕ)) (validity uid : ℕ) (replies : List Reply)
     → StepOf old tag (requests.Append name flags message) replies new
     → says (done_with tag (codes_of.AppendUid validity uid)) replies
     → GivesUid name validity uid old new
@@ -153,5 +153,5 @@ bodies_of m = record {
 
 abbrev pub StoreKeepsBodies : Type 0
 StoreKeepsBodies =
-    (old new : Server) (tag : List ℕ) (set : List SetItem) (mode : StoreMode) (flags : ℕ) (replies : List Reply)
+    (old new : Server) (tag : List ℕ) (set : List SetItem) (mode : StoreMode) (flags : List (List ℕ)) (replies : List Reply)
     → StepOf old tag (requests.Store set mode flags) replies new → map bodies_of new.mailboxes ≡ map bodies_of old.mailboxes

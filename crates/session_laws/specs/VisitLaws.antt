@@ -1,7 +1,6 @@
 -- What holds of visits, in laws that a function of `src/laws.rt` shows.
-use Rattle.std.specs.Prelude.{◌≡◌, ◌<◌, ◌^◌, ℕ, false, List}
+use Rattle.std.specs.Prelude.{◌≡◌, ◌<◌, ℕ, false, List}
 use Rattle.mailcore.specs.Content.{mark_of}
-use Rattle.mailcore.specs.FlagSet.{FLAGS}
 use Rattle.visitors.specs.Visitors.{Visitors, IsForeign}
 use Rattle.imap_session.specs.Arrivals.{ArrivedUnder}
 use Rattle.imap_session.specs.Servers.{Server, told}
@@ -17,8 +16,8 @@ VisitsFollow = (v : Visitors) (s t u : Server) → Visits v s t → Visits v t u
 abbrev pub VisitsAreTold : Type 0
 VisitsAreTold = (v : Visitors) (s t : Server) → Visits v s t → Visits v s (told t)
 
--- a message that arrives, with flags that there are and no mark of the run, is a visit
+-- a message that arrives, with no mark of the run, is a visit
 abbrev pub ArrivalsVisit : Type 0
 ArrivalsVisit =
-    (v : Visitors) (at : ℕ) (name : List ℕ) (flags : ℕ) (message : List ℕ) (s t : Server) → 0 < at → flags < 2 ^ FLAGS
+    (v : Visitors) (at : ℕ) (name : List ℕ) (flags : ℕ) (message : List ℕ) (s t : Server) → 0 < at
     → IsForeign v.ours (mark_of message) → v.alone ≡ false → ArrivedUnder at name flags message s t → Visits v s t

@@ -39,8 +39,8 @@ pub fn bodies_stay()
     ensures store { law.StoreKeepsBodies }
 {}
 
-/// What a server says keeps to the limit of 65536 bytes outside the octets of literals, where its mailboxes have names
-/// within the limits.
+/// What a server says keeps to the limit of 65536 bytes outside the octets of literals, where its keywords are a map and its
+/// mailboxes have names within the limits.
 pub fn replies_fit()
     ensures short { RepliesAreShort }
     ensures fit { ShortRepliesFit }

@@ -11,3 +11,4 @@ pub mod Given
 pub mod Own
 pub mod OwnPlan
 pub mod Expunging
+pub mod Within

@@ -1,6 +1,7 @@
 //! Laws of what the steps of a plan come to, each shown by a function that does nothing.
 #![tactic(auto)]
 
+ghost use Rattle.step_laws.specs.Keywords as keyword;
 ghost use Rattle.step_laws.specs.Laws as law;
 ghost use Rattle.step_laws.specs.OwnLaws as own_law;
 
@@ -45,4 +46,9 @@ pub fn plan_among_others()
     ensures not_found { own_law.NotFoundBefore }
     ensures found { own_law.FoundAfter }
     ensures deleted { own_law.DeletedBeforeExpunge }
+{}
+
+/// The flags that a plan sets, clears, or gives its copies, have names in IMAP where those of both mailboxes have.
+pub fn plan_has_names()
+    ensures { keyword.PlanIsWithin }
 {}

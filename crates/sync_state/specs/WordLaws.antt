@@ -1,19 +1,17 @@
 -- Each word is known from its text, and has no space.
-use Rattle.std.specs.Prelude.{ℕ, zero, suc, ◌+◌, ◌<◌, ◌^◌, ◌%◌, ◌≡◌, ◌≢◌, Bool, true, false, cond, ◌==◌, List, [], ◌∷◌, Option, Some, None, filter, unwrap_or, codes, decimal, refl, get_or, not}
+use Rattle.std.specs.Prelude.{ℕ, zero, suc, ◌+◌, ◌<◌, ◌^◌, ◌%◌, ◌≡◌, ◌≢◌, nat_le, Bool, true, false, cond, ◌==◌, List, [], ◌∷◌, Option, Some, None, unwrap_or, codes, decimal, refl, get_or, not}
 use Rattle.std.specs.List.{list_all}
 use Rattle.std.proofs.Common.{sym, ap, ◌∙◌, subst, arith}
-use Rattle.std.proofs.lemmas.Bool.{false≢true, eqb-true}
+use Rattle.std.proofs.lemmas.Bool.{false≢true, eqb-true, leb-true}
 use Rattle.std.proofs.lemmas.Fmt.{decimal_by_steps, decimal_injective}
-use Rattle.std.proofs.lemmas.List.Elements.{All-cons, All-map, All-push, All-weaker}
+use Rattle.std.proofs.lemmas.List.Elements.{All-cons, All-head, All-push, All-tail, All-weaker}
 use Rattle.std.proofs.lemmas.List.Sums.{AllPass-from_list_all}
 use Rattle.mailcore.specs.declared.side.Direction.{Direction}
 use Rattle.mailcore.specs.declared.side.Direction.TheVariants.{Pull, Push}
 use Rattle.mailcore.specs.declared.side.Side.{Side}
 use Rattle.mailcore.specs.declared.side.Side.TheVariants.{Far, Near}
-use Rattle.mailcore.specs.declared.flags.Flag.{Flag}
-use Rattle.mailcore.specs.declared.flags.Flag.TheVariants.{Draft, Flagged, Forwarded, Answered, Seen, Deleted}
 use Rattle.mailcore.specs.FlagSet.{has, FLAGS}
-use Rattle.mailcore.specs.FlagNames.{place, letter, letters_of, all_flags}
+use Rattle.mailcore.specs.FlagNames.{LETTERS, letters_from, letters_of}
 use Rattle.mailcore.specs.Mark.{IsMark}
 use Rattle.mailcore.proofs.FlagLetters.{set_from_letters}
 use Rattle.sync_state.specs.Cuts.{Lacks}
@@ -33,18 +31,21 @@ decimal-lacks sep low n small = decimal_by_steps (λ n ds. Lacks sep ds)
 
 -- ---- flags
 
-letter_is : (sep : ℕ) → sep < 68 → (flag : Flag) → letter flag ≢ sep
-letter_is sep low Draft e = absurd (omega (arith, e))
-letter_is sep low Flagged e = absurd (omega (arith, e))
-letter_is sep low Forwarded e = absurd (omega (arith, e))
-letter_is sep low Answered e = absurd (omega (arith, e))
-letter_is sep low Seen e = absurd (omega (arith, e))
-letter_is sep low Deleted e = absurd (omega (arith, e))
+lacks_from : (sep from : ℕ) (letters : List ℕ) (flags : ℕ) → Lacks sep letters → Lacks sep (letters_from from letters flags)
+lacks_from sep from [] flags h = h
+lacks_from sep from (x ∷ letters) flags h =
+    let later = lacks_from sep (suc from) letters flags (All-tail (λ b. b ≢ sep) x letters h) in
+    elim (has flags from) as (λ b. Lacks sep (cond b (x ∷ letters_from (suc from) letters flags) (letters_from (suc from) letters flags)))
+    [ true ↦ All-cons (λ b. b ≢ sep) x (letters_from (suc from) letters flags) (All-head (λ b. b ≢ sep) x letters h) later | false ↦ later ]
+
+-- D is the first letter
+letters_lack : (sep : ℕ) → sep < 68 → Lacks sep LETTERS
+letters_lack sep low =
+    All-weaker (λ b. nat_le 68 b ≡ true) (λ b. b ≢ sep) (λ b t e. let h = leb-true 68 b t in absurd (omega (arith, h, low, e))) LETTERS (AllPass-from_list_all (nat_le 68) LETTERS refl)
 
 pub letters-lack : (sep : ℕ) → sep < 68 → (flags : ℕ) → Lacks sep (letters_of flags)
-letters-lack sep low flags =
-    let some : List Flag = filter (λ flag. has flags (place flag)) all_flags in
-    All-map (λ b. b ≢ sep) letter some (λ k d l. letter_is sep low _)
+unfolding letters_of
+letters-lack sep low flags = lacks_from sep 0 LETTERS flags (letters_lack sep low)
 
 pub flags-lack : (flags : ℕ) → Lacks 32 (flags_word flags)
 flags-lack flags = elim (flags == 0) as (λ b. Lacks 32 (cond b (codes "-") (letters_of flags))) [
@@ -52,10 +53,25 @@ flags-lack flags = elim (flags == 0) as (λ b. Lacks 32 (cond b (codes "-") (let
   | false ↦ letters-lack 32 (omega arith) flags
 ]
 
+-- no flag has no letter, and that alone
+pub no_letters : letters_of 0 ≡ []
+unfolding letters_of
+no_letters = refl
+
+pub letters_none : (flags : ℕ) → flags < 2 ^ FLAGS → letters_of flags ≡ [] → flags ≡ 0
+letters_none flags fits none = set_from_letters flags 0 fits (omega arith) (none ∙ sym no_letters)
+
 dash_is_no_letters : (flags : ℕ) → codes "-" ≢ letters_of flags
 dash_is_no_letters flags e =
     let lacks : Lacks 45 (codes "-") = subst (λ (x : List ℕ). Lacks 45 x) (sym e) (letters-lack 45 (omega arith) flags) in
     lacks 0 0 (omega arith) refl
+
+-- a word is not empty
+pub some_word : (flags : ℕ) → flags < 2 ^ FLAGS → flags_word flags ≢ []
+some_word flags fits e = by_test (flags == 0) refl e where
+  by_test : (b : Bool) → (flags == 0) ≡ b → cond b (codes "-") (letters_of flags) ≢ []
+  by_test true is none = cc
+  by_test false is none = let zero_is : flags ≡ 0 = letters_none flags fits none in let wrong : false ≡ true = sym is ∙ ap (λ n. n == 0) zero_is in false≢true wrong
 
 pub flags-injective : (a b : ℕ) → a < 2 ^ FLAGS → b < 2 ^ FLAGS → flags_word a ≡ flags_word b → a ≡ b
 flags-injective a b fa fb e = by_tests (a == 0) (b == 0) refl refl e where

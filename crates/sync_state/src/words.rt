@@ -191,6 +191,7 @@ impl Fields for Flags {
 
     ghost injective = { flags-injective };
 
+    #[tactic(auto, using(crate::specs::WordLaws::no_letters, crate::specs::WordLaws::letters_none))]
     fn read(text: &[u8]) -> Option<Flags> {
         if text == b"-".as_slice() {
             return Some(Flags::none());
@@ -366,6 +367,7 @@ impl Fields for Minus {
 }
 
 /// The flags with these letters, of which there is one at least, behind a sign.
+#[tactic(auto, using(crate::specs::WordLaws::no_letters, crate::specs::WordLaws::letters_none))]
 fn read_letters(text: &[u8], sign: u8) -> Option<Flags>
     ensures some { IfSome result (λ flags. (flags < 2 ^ FLAGS) × (flags ≢ 0) × (text.now ≡ sign ∷ letters_of flags)) }
     ensures none { IfNone result ((flags : ℕ) → flags < 2 ^ FLAGS → flags ≢ 0 → text.now ≢ sign ∷ letters_of flags) }

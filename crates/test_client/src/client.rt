@@ -6,6 +6,7 @@ use crate::session_calls::{ask_session, is_word};
 use imap_client::far_box::FarBox;
 use imap_client::session::Session;
 use imap_link::link::Link;
+use mailcore::keywords::Keywords;
 use std::alloc::Global;
 use std::mem;
 use test_scripts::failure::Failure;
@@ -130,7 +131,7 @@ impl<L: Link + Drop> Client<L> {
     fn select(&mut self, line: &mut Words<'_>, told: &mut Told) {
         match self.take() {
             Stand::Session(session) => {
-                let stand = selected(session, line, told);
+                let stand = selected(self.alloc, session, line, told);
                 self.keep(stand);
             }
             other => self.keep_other(other, line, told),
@@ -172,8 +173,9 @@ impl<L: Link + Drop> Client<L> {
     }
 }
 
-/// What the client has once it has selected the mailbox of this name.
+/// What the client has once it has selected the mailbox of this name. Only the six flags have a name.
 fn selected<L: Link + Drop>(
+    alloc: Global,
     session: Session<L>,
     line: &mut Words<'_>,
     told: &mut Told,
@@ -183,7 +185,7 @@ fn selected<L: Link + Drop>(
         line.refuse();
         return Stand::Session(session);
     }
-    match session.select(name) {
+    match session.select(name, Keywords::new(alloc)) {
         Ok(mailbox) => {
             told.text("done");
             Stand::Mailbox(mailbox)

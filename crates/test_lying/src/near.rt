@@ -2,6 +2,7 @@
 
 use book::mem_shelf::MemShelf;
 use book::shelf::File;
+use mailcore::keywords::Keywords;
 use mailcore::mailbox::Mailbox;
 use mailcore::mailbox_name::MailboxName;
 use maildir::mem_folder::MemFolder;
@@ -78,7 +79,8 @@ impl Near {
 
 /// A folder with this mailbox, and a shelf without state and journal.
 fn devices_with(alloc: Global, mailbox: Mailbox) -> Result<Devices, Failure> {
-    let folder = folder_with(alloc, mailbox, Vec::new(alloc), Vec::new(alloc))?;
+    let (waiting, schedule) = (Vec::new(alloc), Vec::new(alloc));
+    let folder = folder_with(alloc, mailbox, waiting, schedule, &Keywords::new(alloc))?;
     let state = SyncState::none(alloc);
     match shelf_with(alloc, &state, None, Vec::new(alloc)) {
         Ok(shelf) => Ok(Devices { folder, shelf }),

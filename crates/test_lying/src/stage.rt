@@ -4,6 +4,7 @@ use crate::near::{Devices, Near};
 use crate::whole_run::{account, settle};
 use book::shelf::File;
 use far_side::far_side::FarSide;
+use mailcore::keywords::Keywords;
 use std::alloc::Global;
 use std::cell::RefCell;
 use std::mem;
@@ -74,7 +75,8 @@ impl<'t> Stage<'t> {
     /// Makes a run over a new link.
     fn run_over(&self, devices: Devices, told: &mut Told) -> Result<Devices, Failure> {
         let account = account(self.alloc)?;
-        let far = FarSide::new(self.alloc, account, ScriptLink::new(self.tape));
+        let link = ScriptLink::new(self.tape);
+        let far = FarSide::new(self.alloc, account, link, Keywords::new(self.alloc));
         Ok(settle(self.alloc, far, devices, told))
     }
 

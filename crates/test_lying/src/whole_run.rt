@@ -1,10 +1,13 @@
 //! A whole run over a link, a folder and a shelf.
 
+ghost use Rattle.std.specs.Prelude.{◌≡◌, []};
+
 use crate::near::Devices;
 use both::sides::Sides;
 use far_side::account::Account;
 use far_side::far_side::FarSide;
 use imap_link::link::Link;
+use mailcore::keywords::Keywords;
 use mailcore::side::Side;
 use outside::outside::Outside;
 use reports::answer::answer_word;
@@ -38,17 +41,22 @@ const BOTH: Directions = Directions {
     push: true,
 };
 
-/// Makes one run, in one attempt and with the marks of a trial, and adds its answer. Gives the devices back.
+/// Makes one run, in one attempt and with the marks of a trial, and adds its answer. Only the six flags have a name. Gives the devices
+/// back.
 pub(crate) fn settle<L: Link + Drop>(
     alloc: Global,
     far: FarSide<L>,
     devices: Devices,
     told: &mut Told,
-) -> Devices {
+) -> Devices
+    requires { far.far.keywords ≡ [] }
+{
     let Devices { folder, shelf } = devices;
     let sides = Sides { far, folder, shelf };
     // The folder has a meta file, so that this is of no use.
-    let (outside, settled) = settle_over(alloc, sides.together(alloc, NonZeroU32::MIN));
+    let fresh = NonZeroU32::MIN;
+    let both = sides.together(alloc, fresh, Keywords::new(alloc));
+    let (outside, settled) = settle_over(alloc, both);
     tell_settled(told, settled);
     let Sides { folder, shelf, .. } = Sides::of(outside);
     Devices { folder, shelf }

@@ -2,6 +2,7 @@
 
 use crate::name::tell_parts;
 use crate::operation::{tell_fault, tell_numbers};
+use mailcore::keywords::Keywords;
 use mailcore::octets::Octets;
 use maildir::mem_folder::MemFolder;
 use maildir::name::{read_name, write_name};
@@ -145,7 +146,7 @@ fn tell_opened(
     if let Some(text) = meta {
         folder.put_meta(Octets::from_vec(Vec::from_slice(alloc, text)?));
     }
-    match NearBox::open(alloc, folder, fresh) {
+    match NearBox::open(alloc, folder, fresh, Keywords::new(alloc)) {
         Ok(near) => {
             let meta = near.meta();
             tell_numbers(told, meta.validity, meta.next);

@@ -4,6 +4,7 @@ use crate::files::{OpenFolder, gather, tell_files};
 use crate::noted_folder::NotedFolder;
 use crate::operation::{perform, tell_done, tell_numbers};
 use crate::stop::word_of;
+use mailcore::keywords::Keywords;
 use maildir::folder::Folder;
 use near_box::{NearBox, NearFault};
 use std::alloc::Global;
@@ -67,7 +68,7 @@ impl<F: OpenFolder> Seat<F> {
             return Err(NearFault::Absent);
         };
         folder.forget();
-        match NearBox::open(alloc, folder, fresh) {
+        match NearBox::open(alloc, folder, fresh, Keywords::new(alloc)) {
             Ok(near) => {
                 let meta = near.meta();
                 *self = Seat::Mailbox(near);

@@ -4,6 +4,7 @@ use crate::marks::tell_mark;
 use mailcore::content::{content, content_len, fit};
 use mailcore::copies::{copy_len, copy_text, mark_of};
 use mailcore::flags::{Flag, Flags};
+use mailcore::keywords::Keywords;
 use mailcore::side::{LineEnd, Side};
 use mailcore::tuid::Tuid;
 use std::alloc::Global;
@@ -23,10 +24,10 @@ pub fn tell_of_message(
         "mark" => tell_mark(told, Tuid::read(&bytes)),
         "mark_of" => tell_mark(told, mark_of(&bytes)),
         "content" => tell_quoted(told, &content(alloc, &bytes)?),
-        "flags" => tell_flags(told, Flags::from_letters(&bytes)),
+        "flags" => tell_flags(told, named_flags(alloc, &bytes)),
         "imap" => {
             told.begin();
-            told.flags(Flags::from_imap(&bytes));
+            told.flags(Flags::from_imap(&bytes, &Keywords::new(alloc)));
             told.end();
         }
         _ => return Err(Failure::Script),
@@ -68,6 +69,16 @@ fn tell_quoted(told: &mut Told, bytes: &[u8]) {
     told.begin();
     told.quoted(bytes);
     told.end();
+}
+
+/// The flags with these letters, if each of them has a name in IMAP. No keyword has one.
+fn named_flags(alloc: Global, letters: &[u8]) -> Option<Flags> {
+    let flags = Flags::from_letters(letters)?;
+    if flags.kept(&Keywords::new(alloc)) == flags {
+        Some(flags)
+    } else {
+        None
+    }
 }
 
 /// Tells the letters of flags and their names in IMAP.

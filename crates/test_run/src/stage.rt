@@ -1,10 +1,11 @@
 //! A world in memory, over which runs are made.
 
-ghost use Rattle.std.specs.Prelude.{◌≡◌, false};
+ghost use Rattle.std.specs.Prelude.{◌≡◌, false, [], IfOk};
 ghost use Rattle.pair.specs.Pairs.{seen_of};
 
 use crate::calls::{BoxSchedule, Schedule};
 use book::mem_shelf::MemShelf;
+use mailcore::keywords::Keywords;
 use mailcore::mailbox::{Mailbox, Message};
 use mailcore::octets::Octets;
 use mailcore::uid::Uid;
@@ -29,7 +30,7 @@ use written_worlds::write::{WrittenMailbox, WrittenWorld, write_parts};
 /// The outside of a run over two mailboxes and a shelf in memory.
 pub type MemOutside = Pair<MemMailbox<OfFar>, MemMailbox<OfNear>, MemShelf>;
 
-/// What an outside in memory is made of.
+/// What an outside in memory is made of. Both mailboxes go by one map of keywords.
 #[derive(Drop)]
 pub struct Parts {
     /// The far mailbox.
@@ -38,6 +39,7 @@ pub struct Parts {
     pub near: MemMailbox<OfNear>,
     /// The shelf.
     pub shelf: MemShelf,
+    pub ghost one_map: { far.keywords ≡ near.keywords },
 }
 
 impl Parts {
@@ -168,27 +170,42 @@ fn waiting_files(alloc: Global, files: &[Message]) -> Result<Vec<WaitingFile>, A
     Ok(waiting)
 }
 
-/// The far mailbox of a world.
+/// The far mailbox of a world. Only the six flags have a name.
 fn far_box(
     alloc: Global,
     mailbox: Mailbox,
     schedule: BoxSchedule,
-) -> Result<MemMailbox<OfFar>, Failure> {
+) -> Result<MemMailbox<OfFar>, Failure>
+    ensures { IfOk result (λ far. far.keywords ≡ []) }
+{
     match store_of(mailbox) {
-        Some(store) => Ok(MemMailbox::far(alloc, store, schedule.condition())),
+        Some(store) => Ok(MemMailbox::far(
+            alloc,
+            store,
+            schedule.condition(),
+            Keywords::new(alloc),
+        )),
         None => Err(Failure::Script),
     }
 }
 
-/// The near mailbox of a world.
+/// The near mailbox of a world. Only the six flags have a name.
 fn near_box(
     alloc: Global,
     mailbox: Mailbox,
     waiting: Vec<WaitingFile>,
     schedule: BoxSchedule,
-) -> Result<MemMailbox<OfNear>, Failure> {
+) -> Result<MemMailbox<OfNear>, Failure>
+    ensures { IfOk result (λ near. near.keywords ≡ []) }
+{
     match (store_of(mailbox), files_of(alloc, waiting)) {
-        (Some(store), Ok(files)) => Ok(MemMailbox::near(alloc, store, files, schedule.condition())),
+        (Some(store), Ok(files)) => Ok(MemMailbox::near(
+            alloc,
+            store,
+            files,
+            schedule.condition(),
+            Keywords::new(alloc),
+        )),
         (_, Err(AllocError)) => Err(Failure::NoMemory),
         (None, _) => Err(Failure::Script),
     }

@@ -1,6 +1,10 @@
 //! How the lines of a case are played.
 
+ghost use Rattle.std.specs.Prelude.{◌≡◌};
+
 use mem_link::mem_link::MemLink;
+use outside::outside::Outside;
+use rules::options::Options;
 use run_trial::devices::Devices;
 use run_trial::failure::Failure as TrialFailure;
 use run_trial::memory::run_in_memory;
@@ -81,9 +85,23 @@ fn settle(alloc: Global, text: &[u8], told: &mut Told) -> Result<(), TrialFailur
         return Ok(());
     }
     told.answer("again");
-    let mut outside = devices.again(alloc)?;
-    let settled = settle_trial(alloc, &mut outside, &options, tries);
+    let outside = devices.again(alloc)?;
+    let (outside, settled) = settle_over(alloc, outside, &options, tries);
     tell(alloc, &Devices::of(outside), settled, told)
+}
+
+/// Makes a run over an outside, and gives it back beside what the run came to.
+fn settle_over<O: Outside>(
+    alloc: Global,
+    outside: O,
+    options: &Options,
+    tries: u32,
+) -> (O, Result<Settled, RunFault>)
+    ensures map { O.keywords result.0 ≡ O.keywords outside }
+{
+    let mut outside = outside;
+    let settled = settle_trial(alloc, &mut outside, options, tries);
+    (outside, settled)
 }
 
 /// Tells what a run came to and what stands in the devices, as `mbtrial` prints it. Stops are counted from the first run on.

@@ -9,7 +9,7 @@ use test_scripts::failure::Failure;
 use test_scripts::told::Told;
 use test_scripts::words::Words;
 use wire_reader::stop::ReadError;
-use wire_tokens::flag_list::{Attributes, read_attributes};
+use wire_tokens::flag_list::{FlagNames, read_flags};
 use wire_tokens::names::read_names;
 use wire_tokens::uid_set::uid_set;
 
@@ -25,8 +25,8 @@ pub fn read_has(alloc: Global, line: &mut Words<'_>) -> Result<bool, Failure> {
 fn has(list: &str, name: &[u8], bytes: &[u8]) -> Option<bool> {
     match list {
         "names" => Some(read_names(bytes).ok()?.0.contains(name)),
-        "attributes" => Some(read_attributes(bytes).ok()?.0.contains(name)),
-        "no-attributes" => Some(Attributes::none().contains(name)),
+        "attributes" => Some(read_flags(bytes).ok()?.0.contains(name)),
+        "no-attributes" => Some(FlagNames::none().contains(name)),
         _ => None,
     }
 }

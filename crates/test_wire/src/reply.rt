@@ -2,11 +2,12 @@
 
 use crate::strings::{tell_astring, tell_nstring};
 use crate::telling::{tell_bytes, tell_flags, tell_number};
-use crate::token::tell_attributes;
+use crate::token::{tell_attributes, tell_permanent};
 use crate::tokens::Tokens;
 use imap_wire::{
     Code, FetchItem, LineText, Names, NoticeKind, Reply, ResponseText, Status, write_reply,
 };
+use mailcore::keywords::Keywords;
 use test_scripts::told::Told;
 
 /// Tells what a reply is and how it is written.
@@ -25,11 +26,11 @@ fn tell_parts(tokens: &mut Tokens, told: &mut Told, reply: &Reply<'_>) {
         Reply::Tagged(tag, status, text) => {
             tell_bytes(told, "tag ", tag.text());
             told.text(status_words(*status));
-            tell_response(told, text);
+            tell_response(tokens, told, text);
         }
         Reply::Notice(kind, text) => {
             told.text(notice_words(*kind));
-            tell_response(told, text);
+            tell_response(tokens, told, text);
         }
         Reply::Capability(names) => tell_names(told, "CAPABILITY of ", names),
         Reply::Enabled(names) => tell_names(told, "ENABLED of ", names),
@@ -41,7 +42,11 @@ fn tell_parts(tokens: &mut Tokens, told: &mut Told, reply: &Reply<'_>) {
                 None => told.text(", no delimiter"),
             }
         }
-        Reply::Flags(set) => tell_flags(told, "FLAGS ", set.flags()),
+        Reply::Flags(names) => tell_flags(
+            told,
+            "FLAGS ",
+            names.named(&Keywords::new(tokens.alloc)),
+        ),
         Reply::Exists(count) => {
             told.text("EXISTS ");
             told.number(u64::from(*count));
@@ -78,7 +83,9 @@ fn tell_items(tokens: &mut Tokens, told: &mut Told, items: &[FetchItem<'_>]) {
     for item in items {
         match item {
             FetchItem::Uid(uid) => tell_number(told, ", UID ", uid),
-            FetchItem::Flags(set) => tell_flags(told, ", flags ", set.flags()),
+            FetchItem::Flags(names) => {
+                tell_flags(told, ", flags ", names.named(&Keywords::new(tokens.alloc)));
+            }
             FetchItem::Size(size) => {
                 told.text(", size ");
                 told.number(u64::from(*size));
@@ -97,25 +104,22 @@ fn tell_rest(told: &mut Told, text: &Option<LineText<'_>>) {
 }
 
 /// Adds a text, and the code before it if one stands there.
-fn tell_response(told: &mut Told, text: &ResponseText<'_>) {
+fn tell_response(tokens: &Tokens, told: &mut Told, text: &ResponseText<'_>) {
     match text {
         ResponseText::Plain(text) => tell_bytes(told, "text ", text.bytes()),
         ResponseText::Coded(code, text) => {
             told.text("code ");
-            tell_code(told, code);
+            tell_code(tokens, told, code);
             tell_bytes(told, ", text ", text.bytes());
         }
     }
 }
 
-fn tell_code(told: &mut Told, code: &Code<'_>) {
+fn tell_code(tokens: &Tokens, told: &mut Told, code: &Code<'_>) {
     match code {
         Code::UidNext(uid) => tell_number(told, "UIDNEXT ", uid),
         Code::UidValidity(validity) => tell_number(told, "UIDVALIDITY ", validity),
-        Code::PermanentFlags(set, others) => {
-            tell_flags(told, "PERMANENTFLAGS ", set.flags());
-            told.text(if *others { ", and others" } else { "" });
-        }
+        Code::PermanentFlags(names) => tell_permanent(tokens, told, "PERMANENTFLAGS ", names),
         Code::AppendUid(validity, uid) => {
             tell_number(told, "APPENDUID ", validity);
             tell_number(told, " ", uid);

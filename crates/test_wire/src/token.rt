@@ -4,6 +4,9 @@ use crate::sets::tell_set;
 use crate::strings::tell_nstring;
 use crate::telling::{tell_bytes, tell_count, tell_flags, tell_line, tell_taken};
 use crate::tokens::Tokens;
+use mailcore::flags::Flags;
+use mailcore::keywords::Keywords;
+use std::alloc::AllocError;
 use test_scripts::told::Told;
 use test_scripts::words::Words;
 use wire_reader::side::Side;
@@ -16,8 +19,9 @@ use wire_strings::quoted::read_quoted;
 use wire_strings::string::{WireString, read_nstring, read_string};
 use wire_strings::text::read_text;
 use wire_tokens::atom::read_atom;
-use wire_tokens::flag_list::{Attributes, read_attributes, read_flags, read_permanent_flags};
-use wire_tokens::flag_writing::{write_flags, write_permanent_flags};
+use wire_tokens::flag_list::{
+    FlagList, FlagNames, PermanentFlags, read_flags, read_permanent_flags,
+};
 use wire_tokens::names::read_names;
 use wire_tokens::number::{number, nz, write_number};
 use wire_tokens::tag::read_tag;
@@ -84,20 +88,20 @@ fn tell_word(tokens: &mut Tokens, token: &str, bytes: &[u8], told: &mut Told) ->
 fn tell_list(tokens: &mut Tokens, token: &str, bytes: &[u8], told: &mut Told) -> Result<(), Stop> {
     let done = match token {
         "flags" => {
-            let (set, rest) = read_flags(bytes)?;
+            let (names, rest) = read_flags(bytes)?;
             tell_taken(told, bytes, rest);
-            tell_flags(told, "  is ", set.flags());
-            write_flags(set.flags(), &mut tokens.out)
+            let set = names.named(&Keywords::new(tokens.alloc));
+            tell_flags(told, "  is ", set);
+            write_set(tokens, set)
         }
         "permanent-flags" => {
-            let ((set, others), rest) = read_permanent_flags(bytes)?;
+            let (names, rest) = read_permanent_flags(bytes)?;
             tell_taken(told, bytes, rest);
-            tell_flags(told, "  is ", set.flags());
-            told.text(if others { ", and others" } else { "" });
-            write_permanent_flags(set.flags(), others, &mut tokens.out)
+            tell_permanent(tokens, told, "  is ", &names);
+            write_permanent(tokens, &names)
         }
         _ => {
-            let (attributes, rest) = read_attributes(bytes)?;
+            let (attributes, rest) = read_flags(bytes)?;
             tell_taken(told, bytes, rest);
             tell_attributes(tokens, told, "  is ", &attributes);
             attributes.write(&mut tokens.out)
@@ -113,11 +117,37 @@ pub fn tell_attributes(
     tokens: &mut Tokens,
     told: &mut Told,
     words: &str,
-    attributes: &Attributes<'_>,
+    attributes: &FlagNames<'_>,
 ) {
     let mut text = Vec::new(tokens.alloc);
     tokens.note(attributes.write(&mut text));
     tell_bytes(told, words, &text);
+}
+
+/// Adds words, and flags that may be changed, and whether others may be made.
+pub fn tell_permanent(tokens: &Tokens, told: &mut Told, words: &str, names: &PermanentFlags<'_>) {
+    tell_flags(told, words, names.named(&Keywords::new(tokens.alloc)));
+    told.text(if names.contains(b"\\*") {
+        ", and others"
+    } else {
+        ""
+    });
+}
+
+/// Writes a set of flags by their names.
+fn write_set(tokens: &mut Tokens, set: Flags) -> Result<(), AllocError> {
+    let names = FlagList::of(tokens.alloc, set, &Keywords::new(tokens.alloc))?;
+    names.write(&mut tokens.out)
+}
+
+/// The same of flags that may be changed; where others may be made, they are written as they were read.
+fn write_permanent(tokens: &mut Tokens, names: &PermanentFlags<'_>) -> Result<(), AllocError> {
+    if names.contains(b"\\*") {
+        return names.write(&mut tokens.out);
+    }
+    let keywords = Keywords::new(tokens.alloc);
+    let list = FlagList::of(tokens.alloc, names.named(&keywords), &keywords)?;
+    list.names().permanent().write(&mut tokens.out)
 }
 
 /// A delimiter, or a string of a reply; NIL has no writer of its own.

@@ -4,7 +4,7 @@ use Rattle.std.proofs.lemmas.List.Elements.{All-head, All-tail}
 use Rattle.mailcore.specs.declared.mailbox.Message.{Message}
 use Rattle.mailcore.specs.declared.side.Side.TheVariants.{Near}
 use Rattle.mailcore.specs.Listed.{AreRising}
-use Rattle.mailcore.specs.Ranges.{AreFlagSets, IsInRange}
+use Rattle.mailcore.specs.Ranges.{IsInRange}
 use Rattle.rules.specs.Opening.{IsOpening}
 use Rattle.rules.specs.World.{World}
 use Rattle.trial.specs.Worlds.{FitsWords}
@@ -19,9 +19,6 @@ near_in_range w opening fits = record {
     flags = opening.world.near_flags;
   };
 }
-
-pub waiting_in_sets : (w : World) → IsOpening w → AreFlagSets w.waiting
-waiting_in_sets w opening = λ k d within. (opening.waiting k d within).in_set
 
 -- as many messages as there are UIDs from this one up to the next one, at most
 count_up_to : (ms : List Message) (low next : ℕ) → low ≤ next → AreRising ms → All (λ m. low ≤ m.uid) ms → All (λ m. m.uid < next) ms → length ms + low ≤ next

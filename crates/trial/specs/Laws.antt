@@ -1,6 +1,7 @@
 -- The devices of a trial hold its world, in laws that the functions of `src/laws.rt` show.
 use Rattle.std.specs.Prelude.{◌≡◌, ◌+◌, ◌≤◌, ◌^◌, ℕ, List, length, None}
-use Rattle.mailcore.specs.Ranges.{AreFlagSets, IsInRange}
+use Rattle.mailcore.specs.declared.keywords.Keyword.{Keyword}
+use Rattle.mailcore.specs.Ranges.{IsInRange}
 use Rattle.mailcore.specs.Stores.{IsStore, Store, Waiting}
 use Rattle.rules.specs.Opening.{IsOpening}
 use Rattle.rules.specs.World.{World}
@@ -9,13 +10,13 @@ use Rattle.book.specs.Books.{Holds}
 use Rattle.near_box.specs.Mailboxes.{near_of}
 use Rattle.trial.specs.Folders.{folder_of}
 use Rattle.trial.specs.Shelves.{shelf_of}
-use Rattle.trial.specs.Worlds.{FitsWords}
+use Rattle.trial.specs.Worlds.{AreNamed, FitsWords}
 
 -- the folder holds its mailbox: up to 10 ^ 20 files have names of their own, in their order
 abbrev pub FolderHolds : Type 0
 FolderHolds =
-    (fresh : ℕ) (near : Store) (waiting : List Waiting) → IsStore near → IsInRange near → AreFlagSets waiting
-    → length near.messages + length waiting ≤ 10 ^ 20 → near_of fresh (folder_of near waiting) ≡ record { store = near; waiting = waiting }
+    (fresh : ℕ) (keywords : List Keyword) (near : Store) (waiting : List Waiting) → IsStore near → IsInRange near → AreNamed keywords near.messages waiting
+    → length near.messages + length waiting ≤ 10 ^ 20 → near_of fresh keywords (folder_of keywords near waiting) ≡ record { store = near; waiting = waiting }
 
 -- the shelf holds the state of a world that a run may begin with
 abbrev pub ShelfHolds : Type 0

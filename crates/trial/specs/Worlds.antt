@@ -1,6 +1,9 @@
 -- The world of a trial in the words of the rules, and the device that holds it.
-use Rattle.std.specs.Prelude.{◌<◌, ◌^◌, [], length, map, None}
+use Rattle.std.specs.Prelude.{◌<◌, ◌^◌, All, List, [], length, map, None}
 use Rattle.mailcore.specs.declared.mailbox.Mailbox.{Mailbox}
+use Rattle.mailcore.specs.declared.keywords.Keyword.{Keyword}
+use Rattle.mailcore.specs.declared.mailbox.Message.{Message}
+use Rattle.mailcore.specs.KeywordNames.{IsWithin}
 use Rattle.mailcore.specs.Stores.{Store, Waiting}
 use Rattle.rules.specs.World.{World}
 use Rattle.outside.specs.Devices.{Device}
@@ -29,3 +32,13 @@ pub record FitsWords (w : World) : Type 0 where
   pub near_next : w.near.next < 2 ^ 32
   pub run : w.state.run < 2 ^ 64
   pub waiting : length w.waiting < 2 ^ 64
+
+-- each flag of these messages and of these waiting files has a name in IMAP, by a map
+pub record AreNamed (keywords : List Keyword) (messages : List Message) (waiting : List Waiting) : Type 0 where
+  pub there : All (λ m. IsWithin keywords m.flags) messages
+  pub waits : All (λ f. IsWithin keywords f.flags) waiting
+
+-- so it is with each flag of a world
+pub record IsNamed (keywords : List Keyword) (w : World) : Type 0 where
+  pub far : AreNamed keywords w.far.messages []
+  pub near : AreNamed keywords w.near.messages w.waiting

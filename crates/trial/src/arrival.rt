@@ -10,6 +10,7 @@ use crate::folder::arrival_name;
 use crate::stop::{Command, command_of, folder_call_of};
 use mailcore::copies::mark_of;
 use mailcore::flags::Flags;
+use mailcore::keywords::Keywords;
 use mailcore::octets::Octets;
 use mailcore::side::Side;
 use maildir::visited_folder::Arrival;
@@ -17,7 +18,7 @@ use std::alloc::Global;
 use worlds::fault::WorldFault;
 use worlds::line::Line;
 use worlds::read_mailbox::{is_far, read_bytes};
-use worlds::words::{read_flags, split_word};
+use worlds::words::{read_named, split_word};
 
 /// A message that others add to the far mailbox.
 #[derive(Drop)]
@@ -88,13 +89,15 @@ impl Arrivals {
     pub fn add(&mut self, alloc: Global, text: &[u8], line: Line<'_>) -> Result<(), WorldFault>
         ensures { IfErr result (IsOf line.entry.number) }
     {
-        let Some(coming) = Coming::read(text) else {
+        // Only the six have a name.
+        let keywords = Keywords::new(alloc);
+        let Some(coming) = Coming::read(text, &keywords) else {
             return Err(line.fault());
         };
         let bytes = read_bytes(alloc, coming.text, line)?;
         match coming.side {
             Side::Far => self.add_far(coming, bytes, line),
-            Side::Near => self.add_near(alloc, coming, bytes, line),
+            Side::Near => self.add_near(alloc, coming, bytes, &keywords, line),
         }
     }
 
@@ -128,6 +131,7 @@ impl Arrivals {
         alloc: Global,
         coming: Coming<'_>,
         bytes: Vec<u8>,
+        keywords: &Keywords,
         line: Line<'_>,
     ) -> Result<(), WorldFault>
         ensures { IfErr result (IsOf line.entry.number) }
@@ -135,7 +139,8 @@ impl Arrivals {
         let Some(call) = folder_call_of(coming.call) else {
             return Err(line.fault());
         };
-        let name = arrival_name(alloc, self.near.len().saturating_add(1), coming.flags)?;
+        let number = self.near.len().saturating_add(1);
+        let name = arrival_name(alloc, number, coming.flags, keywords)?;
         Ok(
             self.near.push(Arrival {
                 call,
@@ -148,7 +153,7 @@ impl Arrivals {
 }
 
 impl<'a> Coming<'a> {
-    fn read(text: &'a [u8]) -> Option<Coming<'a>> {
+    fn read(text: &'a [u8], keywords: &Keywords) -> Option<Coming<'a>> {
         let (side, text) = split_word(text)?;
         let (moment, text) = split_word(text)?;
         let (call, text) = split_word(text)?;
@@ -166,7 +171,7 @@ impl<'a> Coming<'a> {
             side,
             call,
             number: read_ordinal(number)?,
-            flags: read_flags(flags)?,
+            flags: read_named(flags, keywords)?,
             text,
         })
     }

@@ -1,6 +1,6 @@
 //! The run of a trial, over any outside.
 
-ghost use Rattle.std.specs.Prelude.{◌≤◌, IfErr, IfOk};
+ghost use Rattle.std.specs.Prelude.{◌≡◌, ◌≤◌, IfErr, IfOk};
 ghost use Rattle.rand_core.specs.Stream.{Stream};
 ghost use Rattle.underway.specs.Openings.{Opening};
 ghost use Rattle.runner.specs.Attempts.{FromOpening, HasNoNext};
@@ -26,7 +26,9 @@ pub fn settle_trial<O: Outside>(
     tries: u32,
 ) -> Result<Settled, RunFault>
     ghost opening: { Opening }
+    requires map { opening.keywords ≡ O.keywords outside.old }
     ensures was_honest { O.honest outside.new → O.honest outside.old }
+    ensures keywords { O.keywords outside.new ≡ O.keywords outside.old }
 
     // From an opening: an answer leaves the run over, and tells what the last attempt answered; a fault leaves the run underway.
     ensures done { IfOk result (λ settled. FromOpening (O.honest outside.new) O.ours O.alone opening options.now trial_stream

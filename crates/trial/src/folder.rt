@@ -7,6 +7,7 @@ ghost use Rattle.trial.specs.Worlds.{store_of, waiting_of};
 
 use device::schedule::Stop;
 use mailcore::flags::Flags;
+use mailcore::keywords::Keywords;
 use mailcore::mailbox::{Mailbox, Message};
 use mailcore::octets::Octets;
 use maildir::file_list::FileList;
@@ -32,9 +33,10 @@ pub fn folder_with(
     near: Mailbox,
     waiting: Vec<WaitingFile>,
     schedule: Vec<Stop<FolderCall>>,
+    keywords: &Keywords,
 ) -> Result<MemFolder, AllocError>
     ensures { IfOk result (λ folder. seen_of folder ≡ record {
-      stored = folder_of (store_of near) (map waiting_of waiting.items);
+      stored = folder_of keywords.now (store_of near) (map waiting_of waiting.items);
       is_broken = false;
       stops = 0;
     }) }
@@ -45,8 +47,8 @@ pub fn folder_with(
     };
     let mut folder = MemFolder::new(alloc, schedule);
     folder.put_meta(Octets::from_vec(meta.text(alloc)?));
-    put_messages(alloc, &mut folder, near.messages.into_vec())?;
-    put_waiting(alloc, &mut folder, waiting)?;
+    put_messages(alloc, &mut folder, near.messages.into_vec(), keywords)?;
+    put_waiting(alloc, &mut folder, waiting, keywords)?;
     Ok(folder)
 }
 
@@ -54,11 +56,12 @@ fn put_messages(
     alloc: Global,
     folder: &mut MemFolder,
     messages: Vec<Message>,
+    keywords: &Keywords,
 ) -> Result<(), AllocError>
-    ensures { OnOk result (seen_of folder.new ≡ record (seen_of folder.old) { stored = fold put_message (stored_in folder.old) messages.items }) }
+    ensures { OnOk result (seen_of folder.new ≡ record (seen_of folder.old) { stored = fold (put_message keywords.now) (stored_in folder.old) messages.items }) }
 {
     for message in messages {
-        let name = message_name(alloc, &message)?;
+        let name = message_name(alloc, &message, keywords)?;
         put(folder, name, message.bytes)?;
     }
     Ok(())
@@ -68,12 +71,13 @@ fn put_waiting(
     alloc: Global,
     folder: &mut MemFolder,
     waiting: Vec<WaitingFile>,
+    keywords: &Keywords,
 ) -> Result<(), AllocError>
     ensures { OnOk result (seen_of folder.new
-        ≡ record (seen_of folder.old) { stored = fold (λ s f. put_waiting s (waiting_of f)) (stored_in folder.old) waiting.items }) }
+        ≡ record (seen_of folder.old) { stored = fold (λ s f. put_waiting keywords.now s (waiting_of f)) (stored_in folder.old) waiting.items }) }
 {
     for file in waiting {
-        let name = waiting_name(alloc, folder.files().len(), file.flags)?;
+        let name = waiting_name(alloc, folder.files().len(), file.flags, keywords)?;
         put(folder, name, file.bytes)?;
     }
     Ok(())
@@ -90,20 +94,29 @@ fn put(folder: &mut MemFolder, name: Vec<u8>, bytes: Octets) -> Result<(), Alloc
     })
 }
 
-fn message_name(alloc: Global, message: &Message) -> Result<Vec<u8>, AllocError>
-    ensures { IfOk result (λ name. name.items ≡ message_name message.now) }
+fn message_name(
+    alloc: Global,
+    message: &Message,
+    keywords: &Keywords,
+) -> Result<Vec<u8>, AllocError>
+    ensures { IfOk result (λ name. name.items ≡ message_name keywords.now message.now) }
 {
-    let letters = letters_with(alloc, b"", message.flags)?;
+    let letters = letters_with(alloc, b"", message.flags, keywords)?;
     spell(alloc, b"m", Some(message.uid), Some(&letters))
 }
 
 /// The name of the file that waits with so many others before it.
-fn waiting_name(alloc: Global, number: usize, flags: Flags) -> Result<Vec<u8>, AllocError>
-    ensures { IfOk result (λ name. name.items ≡ waiting_name number flags) }
+fn waiting_name(
+    alloc: Global,
+    number: usize,
+    flags: Flags,
+    keywords: &Keywords,
+) -> Result<Vec<u8>, AllocError>
+    ensures { IfOk result (λ name. name.items ≡ waiting_name keywords.now number flags) }
 {
     let mut base = Vec::from_slice(alloc, b"w")?;
     push_digits(&mut base, number, DIGITS)?;
-    let letters = letters_with(alloc, b"", flags)?;
+    let letters = letters_with(alloc, b"", flags, keywords)?;
     spell(alloc, &base, None, Some(&letters))
 }
 
@@ -112,10 +125,11 @@ pub(crate) fn arrival_name(
     alloc: Global,
     number: usize,
     flags: Flags,
+    keywords: &Keywords,
 ) -> Result<Vec<u8>, AllocError> {
     let mut base = Vec::from_slice(alloc, b"a")?;
     push_digits(&mut base, number, ARRIVAL_DIGITS)?;
-    let letters = letters_with(alloc, b"", flags)?;
+    let letters = letters_with(alloc, b"", flags, keywords)?;
     spell(alloc, &base, None, Some(&letters))
 }
 
@@ -141,16 +155,24 @@ pub struct Contents {
     pub waiting: Vec<WaitingFile>,
 }
 
-/// What stands in this folder, without a call of it.
-pub fn contents_of(alloc: Global, folder: &MemFolder) -> Result<Contents, AllocError> {
-    let messages = messages_among(alloc, folder.files())?;
-    match waiting_among(alloc, folder.files()) {
+/// What stands in this folder, without a call of it, seen by this map.
+pub fn contents_of(
+    alloc: Global,
+    folder: &MemFolder,
+    keywords: &Keywords,
+) -> Result<Contents, AllocError> {
+    let messages = messages_among(alloc, folder.files(), keywords)?;
+    match waiting_among(alloc, folder.files(), keywords) {
         Ok(waiting) => Ok(Contents { messages, waiting }),
         Err(fault) => Err(fault),
     }
 }
 
-fn messages_among(alloc: Global, files: FileList<'_>) -> Result<Vec<Message>, AllocError> {
+fn messages_among(
+    alloc: Global,
+    files: FileList<'_>,
+    keywords: &Keywords,
+) -> Result<Vec<Message>, AllocError> {
     let mut messages = Vec::new(alloc);
     for file in files {
         let name = read_name(file.name.as_slice());
@@ -164,7 +186,7 @@ fn messages_among(alloc: Global, files: FileList<'_>) -> Result<Vec<Message>, Al
         {
             messages.push(Message {
                 uid,
-                flags: flags_of(letters),
+                flags: flags_of(letters, keywords),
                 bytes: copy_of(alloc, &file.bytes)?,
             })?;
         }
@@ -173,7 +195,11 @@ fn messages_among(alloc: Global, files: FileList<'_>) -> Result<Vec<Message>, Al
     Ok(messages)
 }
 
-fn waiting_among(alloc: Global, files: FileList<'_>) -> Result<Vec<WaitingFile>, AllocError> {
+fn waiting_among(
+    alloc: Global,
+    files: FileList<'_>,
+    keywords: &Keywords,
+) -> Result<Vec<WaitingFile>, AllocError> {
     let mut waiting = Vec::new(alloc);
     for file in &waiting_files(alloc, files)? {
         let letters = match read_name(file.name.as_slice()) {
@@ -181,7 +207,7 @@ fn waiting_among(alloc: Global, files: FileList<'_>) -> Result<Vec<WaitingFile>,
             None => None,
         };
         waiting.push(WaitingFile {
-            flags: flags_of(letters),
+            flags: flags_of(letters, keywords),
             bytes: copy_of(alloc, &file.bytes)?,
         })?;
     }
@@ -207,9 +233,9 @@ fn by_name(a: &&File, b: &&File) -> Ordering {
     a.name.as_slice().cmp(b.name.as_slice())
 }
 
-fn flags_of(letters: Option<&[u8]>) -> Flags {
+fn flags_of(letters: Option<&[u8]>, keywords: &Keywords) -> Flags {
     match letters {
-        Some(letters) => flags_in(letters),
+        Some(letters) => flags_in(letters).kept(keywords),
         None => Flags::none(),
     }
 }

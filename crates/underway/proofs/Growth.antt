@@ -91,4 +91,4 @@ unplanned_filed alone opening pending d d' idle far near named holds u = record 
 
 -- what is so of some world since the opening is so with all that is known of the world
 pub since_map : (alone : Bool) (opening : Opening) (P Q : World → Type 0) → ((w : World) → Grows alone opening.world w → P w → Q w) → Since alone opening P → Since alone opening Q
-since_map alone opening P Q f s = record { world = s.world; grows = s.grows; admitted = s.admitted; below = s.below; holds = f s.world s.grows s.holds }
+since_map alone opening P Q f s = record { world = s.world; grows = s.grows; admitted = s.admitted; below = s.below; within = s.within; holds = f s.world s.grows s.holds }

@@ -1,5 +1,6 @@
 -- What a run begins with, and what becomes of it before there is a plan.
 use Rattle.std.specs.Prelude.{◌≡◌, ◌≤◌, ◌<◌, ℕ, Bool, true, List, [], ◌++◌, All, IsPermutation, length}
+use Rattle.mailcore.specs.declared.keywords.Keyword.{Keyword}
 use Rattle.mailcore.specs.declared.side.Side.{Side}
 use Rattle.mailcore.specs.declared.mailbox.Message.{Message}
 use Rattle.mailcore.specs.Rise.{Rise}
@@ -11,13 +12,15 @@ use Rattle.rules.specs.World.{World, IsInOrder, NamesBelow, store}
 use Rattle.book.specs.declared.book.Pending.{Pending}
 use Rattle.book.specs.declared.book.Pending.TheVariants.{Missing, Useless, Planned}
 use Rattle.book.specs.Books.{Holds}
+use Rattle.step_laws.specs.Keywords.{IsWithinWorld}
 use Rattle.outside.specs.Devices.{Device}
 
--- the world that a run is made on, the options of its plan, and those of the call
+-- the world that a run is made on, the options of its plan, those of the call, and the map that gives flags their names in IMAP
 pub record Opening : Type 0 where
   pub world : World
   pub options : Options
   pub called : Options
+  pub keywords : List Keyword
 
 -- both mailboxes of a device as a world, with this state
 abbrev pub world_at : Device → SyncState → World
@@ -61,11 +64,12 @@ pub record Unplanned (alone : Bool) (opening : Opening) (d : Device) : Type 0 wh
   pub grows : Grows alone opening.world (world_at d opening.world.state)
   pub spares : SparesLater opening.world d
 
--- so much is so of some world since the opening, that of both listings on which the plan was made; where nobody adds any files, all have
--- their UIDs by then
+-- So much is so of some world since the opening, that of both listings on which the plan was made: each flag that is listed has a name.
+-- Where nobody adds any files, all have their UIDs by then.
 pub record Since (alone : Bool) (opening : Opening) (P : World → Type 0) : Type 0 where
   pub world : World
   pub grows : Grows alone opening.world world
   pub admitted : alone ≡ true → world.waiting ≡ []
   pub below : NamesBelow world
+  pub within : IsWithinWorld opening.keywords world
   pub holds : P world

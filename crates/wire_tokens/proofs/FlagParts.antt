@@ -1,5 +1,5 @@
 -- Lists of flags in brackets, as parts of a grammar.
-use Rattle.std.proofs.Common.{◌≡◌, ℕ, Bool, true, false, List, [], ◌∷◌, ◌++◌, refl, sym, ap, subst, ◌∙◌, inl, inr, ◌⊎◌}
+use Rattle.std.proofs.Common.{◌≡◌, ℕ, true, false, List, [], ◌∷◌, ◌++◌, refl, sym, ap, subst, ◌∙◌, inl, inr, ◌⊎◌}
 use Rattle.std.proofs.lemmas.Bool.{eqb-true}
 use Rattle.wire_reader.specs.declared.side.Side.{Side}
 use Rattle.wire_reader.specs.Spelling.{◌⨾◌, Is}
@@ -10,7 +10,7 @@ use Rattle.wire_reader.proofs.Part.{Part, same_part, mapped_part, skip_part, kee
 use Rattle.wire_tokens.specs.declared.spaced.NameKind.{NameKind}
 use Rattle.wire_tokens.specs.declared.spaced.NameKind.TheVariants as kinds
 use Rattle.wire_tokens.specs.Names.{IsFlag, IsName, SpacedText}
-use Rattle.wire_tokens.specs.FlagLists.{ListedText, BracketedText, AttributesText, FlagsText, PermanentFlagsText, named_set, permanent_of, is_close, no_name_at, behind_bracket, bracketed_at, attributes_at, flags_at, permanent_flags_at}
+use Rattle.wire_tokens.specs.FlagLists.{ListedText, BracketedText, FlagsText, PermanentFlagsText, is_close, no_name_at, behind_bracket, bracketed_at, flags_at, permanent_flags_at}
 use Rattle.wire_tokens.proofs.NameParts.{atom_begins, spaced_part}
 
 abbrev Text : Type 0
@@ -35,7 +35,7 @@ longer : (front back : Text) → Open' front → Open' (front ++ back)
 longer [] back h = absurd h
 longer (b ∷ front) back h = h
 
-names_begin : (kind : NameKind) (names : List Text) (t : Text) → SpacedText kind names t → Open' t
+pub names_begin : (kind : NameKind) (names : List Text) (t : Text) → SpacedText kind names t → Open' t
 names_begin kind [] t h = absurd h
 names_begin kind (a ∷ []) t h = name_begins kind t h.1
 names_begin kind (a ∷ b ∷ names) t h = subst Open' (sym h.parts) (longer h.front h.back (name_begins kind h.front h.first.1))
@@ -74,16 +74,10 @@ bracketed_part {side} kind = same_part to from (skip_part (byte_part 40 refl) (b
         inside [] t h = inl (refl, h.parts ∙ ap (λ (x : Text). x ++ h.back) h.first ∙ h.second)
         inside (n ∷ names) t h = inr h
 
--- ---- what the names say
-
-pub attributes_part : {side : Side} → Part side true Closed AttributesText attributes_at
-attributes_part = bracketed_part kinds.Flag
+-- ---- lists of flags
 
 pub flags_part : {side : Side} → Part side true Closed FlagsText flags_at
-flags_part = mapped_part named_set (λ names t h. record { names = names; set_is = refl; spelled = h }) (λ set t h. (h.names, h.set_is, h.spelled)) (bracketed_part kinds.Flag)
+flags_part = bracketed_part kinds.Flag
 
 pub permanent_flags_part : {side : Side} → Part side true Closed PermanentFlagsText permanent_flags_at
-permanent_flags_part = mapped_part permanent_of
-    (λ names t h. record { names = names; set_is = refl; star_is = refl; spelled = h })
-    (λ p t h. (h.names, ap (λ (x : ℕ). (x, p.1)) h.set_is ∙ ap (λ (x : Bool). (named_set h.names, x)) h.star_is, h.spelled))
-    (bracketed_part kinds.PermanentFlag)
+permanent_flags_part = bracketed_part kinds.PermanentFlag

@@ -8,6 +8,6 @@ pub mod AtomParts
 pub mod FlagParts
 pub mod NameParts
 pub mod SpacedNames
-pub mod WrittenFlags
+pub mod FlagTexts
 pub mod AppendLemmas
 pub mod TokensFit

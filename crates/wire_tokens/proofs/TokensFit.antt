@@ -1,17 +1,16 @@
 -- How many bytes the texts of tokens have, at most.
-use Rattle.std.proofs.Common.{◌≡◌, ℕ, ◌+◌, ◌*◌, ◌≤◌, Bool, true, false, List, [], ◌∷◌, length, refl, ap, arith}
-use Rattle.std.specs.List.{list_all}
-use Rattle.std.proofs.lemmas.Bool.{false≢true}
+use Rattle.std.proofs.Common.{◌≡◌, ℕ, ◌+◌, ◌≤◌, true, List, [], ◌∷◌, length, refl, ap, arith}
 use Rattle.std.proofs.lemmas.List.{length-append}
 use Rattle.std.proofs.lemmas.List.Sums.{sum_by-cons}
 use Rattle.wire_reader.specs.declared.side.Side.TheVariants.{Commands}
 use Rattle.wire_reader.specs.declared.lexical.Phase.TheVariants.{Plain}
 use Rattle.wire_reader.specs.Spelling.{is_digit}
 use Rattle.wire_reader.specs.Lexical.{phase}
-use Rattle.wire_reader.proofs.Reader.{Closed, Open}
+use Rattle.wire_reader.proofs.Reader.{Open}
 use Rattle.wire_reader.proofs.Part.{Part}
 use Rattle.wire_reader.proofs.PartOpt.{goes_on}
-use Rattle.wire_reader.proofs.Fitting.{Fits, outside-le, number_few, items_fit}
+use Rattle.wire_reader.proofs.Fitting.{Fits, outside-le, number_few, items_fit, as_few, both_fit, is_fits}
+use Rattle.wire_tokens.specs.declared.spaced.NameKind.{NameKind}
 use Rattle.wire_tokens.specs.declared.spaced.NameKind.TheVariants as kinds
 use Rattle.wire_tokens.specs.declared.uid_set.SetEnd.{SetEnd}
 use Rattle.wire_tokens.specs.declared.uid_set.SetEnd.TheVariants.{Number, Greatest}
@@ -20,14 +19,12 @@ use Rattle.wire_tokens.specs.declared.uid_set.SetItem.TheVariants.{One, Range}
 use Rattle.wire_tokens.specs.Atoms.{is_atom_byte, is_tag_byte, TagText, AtomText, tag_at, atom_at}
 use Rattle.wire_tokens.specs.Numbers.{NumberText, NzText, number_at, nz_at}
 use Rattle.wire_tokens.specs.Names.{NameText, NamesText, name_at}
-use Rattle.wire_tokens.specs.FlagLists.{FlagsText, flags_at}
-use Rattle.wire_tokens.specs.FlagWriting.{WrittenFlags}
+use Rattle.wire_tokens.specs.FlagLists.{ListedText, BracketedText, FlagsText}
 use Rattle.wire_tokens.specs.Sets.{EndText, ItemText, SetText, item_at}
-use Rattle.wire_tokens.specs.Room.{most_item, most_set, most_names}
+use Rattle.wire_tokens.specs.Room.{most_item, most_set, most_names, most_flags}
 use Rattle.wire_tokens.proofs.AtomParts.{tag_part, atom_part}
 use Rattle.wire_tokens.proofs.NumberParts.{number_part, nz_part}
 use Rattle.wire_tokens.proofs.NameParts.{name_part}
-use Rattle.wire_tokens.proofs.FlagParts.{flags_part}
 use Rattle.wire_tokens.proofs.SetParts.{item_part}
 
 -- a text of so many bytes
@@ -74,5 +71,33 @@ name_fits name t h = let p : Part Commands true (Open is_atom_byte) (NameText ki
 pub names_fit : (names : List (List ℕ)) (t : List ℕ) → NamesText names t → Fits (most_names names) t
 names_fit names t h = items_fit 32 (NameText kinds.Atom) length refl name_fits names t h
 
-pub flags_fit : (set : ℕ) (t : List ℕ) → WrittenFlags set t → Fits 53 t
-flags_fit set t h = let p : Part Commands true Closed FlagsText flags_at = flags_part in by_length 53 t ((p.leads refl).after set t h.spelled) h.short
+flag_fits : (kind : NameKind) (name t : List ℕ) → NameText kind name t → Fits (length name) t
+flag_fits kind name t h =
+    let p : Part Commands true (Open is_atom_byte) (NameText kind) (name_at kind) = name_part kind in
+    by_length (length name) t ((p.leads refl).after name t h) (omega (arith, ap length h.0))
+
+listed_fits : (kind : NameKind) (names : List (List ℕ)) (t : List ℕ) → ListedText kind names t → Fits (most_names names) t
+listed_fits kind [] t h = is_fits [] refl t h
+listed_fits kind (name ∷ names) t h = items_fit 32 (NameText kind) length refl (flag_fits kind) (name ∷ names) t h
+
+pub bracketed_fits : (kind : NameKind) (names : List (List ℕ)) (t : List ℕ) → BracketedText kind names t → Fits (most_flags names) t
+bracketed_fits kind names t h =
+    let most = most_names names in
+    as_few (1 + (most + 1)) (most + 2) t (omega arith) (both_fit 1 (most + 1) (is_fits (40 ∷ []) refl) (both_fit most 1 (listed_fits kind names) (is_fits (41 ∷ []) refl)) t h)
+
+pub flags_fit : (names : List (List ℕ)) (t : List ℕ) → FlagsText names t → Fits (most_flags names) t
+flags_fit = bracketed_fits kinds.Flag
+
+-- a text without literals stands outside them whole
+listed_long : (kind : NameKind) (names : List (List ℕ)) (t : List ℕ) → ListedText kind names t → length t ≤ most_names names
+listed_long kind [] t h = omega (arith, ap length h)
+listed_long kind (a ∷ []) t h = omega (arith, ap length h.0, sum_by-cons (λ (n : List ℕ). length n + 1) a [])
+listed_long kind (a ∷ b ∷ names) t h =
+    let s = h.second in
+    let later = listed_long kind (b ∷ names) s.back s.second in
+    omega (arith, ap length h.parts, length-append h.front h.back, ap length h.first.0, ap length s.parts, length-append s.front s.back, ap length s.first, later, sum_by-cons (λ (n : List ℕ). length n + 1) a (b ∷ names))
+
+pub bracketed_long : (kind : NameKind) (names : List (List ℕ)) (t : List ℕ) → BracketedText kind names t → length t ≤ most_flags names
+bracketed_long kind names t h =
+    let s = h.second in
+    omega (arith, ap length h.parts, length-append h.front h.back, ap length h.first, ap length s.parts, length-append s.front s.back, ap length s.second, listed_long kind names s.front s.first)

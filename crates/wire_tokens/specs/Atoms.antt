@@ -1,16 +1,13 @@
 -- Atoms and tags (RFC 9051, section 9: atom, ATOM-CHAR, tag; in the profile a tag is of letters and digits alone).
-use Rattle.std.specs.Prelude.{◌≡◌, ℕ, ◌-◌, Bool, ◌&&◌, ◌||◌, not, List, [], ◌++◌, length, take, replicate, nat_le, ◌==◌, Result}
+use Rattle.std.specs.Prelude.{◌≡◌, ℕ, ◌-◌, Bool, ◌&&◌, ◌||◌, List, [], ◌++◌, length, take, replicate, nat_le, Result}
+use Rattle.mailcore.specs.AtomBytes as mail
 use Rattle.wire_reader.specs.declared.stop.Stop.{Stop}
 use Rattle.wire_reader.specs.Spelling.{IsRun, is_digit}
 use Rattle.wire_reader.specs.Machine.{run, text_go, text_out}
 
--- `"`, `%`, `(`, `)`, `*`, `\`, `]` and `{`
-abbrev pub is_atom_special : ℕ → Bool
-is_atom_special b = b == 34 || b == 37 || b == 40 || b == 41 || b == 42 || b == 92 || b == 93 || b == 123
-
--- a visible character of ASCII that is not special
+-- as names of keywords have them too
 abbrev pub is_atom_byte : ℕ → Bool
-is_atom_byte b = nat_le 33 b && nat_le b 126 && not (is_atom_special b)
+is_atom_byte b = mail.is_atom_byte b
 
 -- a letter of ASCII or a digit
 abbrev pub is_tag_byte : ℕ → Bool

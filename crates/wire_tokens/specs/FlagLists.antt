@@ -1,14 +1,17 @@
 -- Lists of flags in brackets (RFC 9051, section 9: flag-list, flag-perm, mbx-list-flags).
-use Rattle.std.specs.Prelude.{◌≡◌, ℕ, Bool, List, [], ◌∷◌, ◌==◌, Result}
+use Rattle.std.specs.Prelude.{◌≡◌, ℕ, Bool, List, [], ◌∷◌, ◌++◌, ◌==◌, if◌then◌else◌, Result}
 use Rattle.std.specs.List.{fold}
-use Rattle.mailcore.specs.FlagSet.{union}
-use Rattle.mailcore.specs.FlagNames.{flags_named}
+use Rattle.mailcore.specs.declared.flags.Flag.{Flag}
+use Rattle.mailcore.specs.declared.keywords.Keyword.{Keyword}
+use Rattle.mailcore.specs.FlagNames.{imap_name, place}
+use Rattle.mailcore.specs.FlagSet.{has}
+use Rattle.mailcore.specs.KeywordNames.{place_of}
 use Rattle.wire_reader.specs.declared.stop.Stop.{Stop}
 use Rattle.wire_reader.specs.Spelling.{◌⨾◌, Is}
 use Rattle.wire_reader.specs.Reading.{mapped, skip, keep, by_first, byte_at}
 use Rattle.wire_tokens.specs.declared.spaced.NameKind.{NameKind}
-use Rattle.wire_tokens.specs.declared.spaced.NameKind.TheVariants.{Flag, PermanentFlag}
-use Rattle.wire_tokens.specs.Names.{star, has_name, names_of, SpacedText, spaced_at}
+use Rattle.wire_tokens.specs.declared.spaced.NameKind.TheVariants as kinds
+use Rattle.wire_tokens.specs.Names.{names_of, SpacedText, spaced_at}
 
 -- no name, or names with a space between
 abbrev pub ListedText : NameKind → List (List ℕ) → List ℕ → Type 0
@@ -27,29 +30,13 @@ listed (b ∷ bs) = names_of (b ∷ bs)
 abbrev pub IsListed : NameKind → List ℕ → Type 0
 IsListed kind text = ListedText kind (listed text) text
 
--- the flags that have these names; a name that no flag has is passed over
-abbrev pub with_named : ℕ → List ℕ → ℕ
-with_named set name = union set (flags_named name)
+-- flags, by their names
+abbrev pub FlagsText : List (List ℕ) → List ℕ → Type 0
+FlagsText = BracketedText kinds.Flag
 
-abbrev pub named_set : List (List ℕ) → ℕ
-named_set names = fold with_named 0 names
-
--- the flags of a mailbox in a LIST reply, by their names
-abbrev pub AttributesText : List (List ℕ) → List ℕ → Type 0
-AttributesText = BracketedText Flag
-
--- a set of flags
-pub record FlagsText (set : ℕ) (text : List ℕ) : Type 0 where
-  pub names : List (List ℕ)
-  pub set_is : set ≡ named_set names
-  pub spelled : BracketedText Flag names text
-
--- a set of flags, and whether `\*` stands among them
-pub record PermanentFlagsText (p : ℕ × Bool) (text : List ℕ) : Type 0 where
-  pub names : List (List ℕ)
-  pub set_is : p.0 ≡ named_set names
-  pub star_is : p.1 ≡ has_name star names
-  pub spelled : BracketedText PermanentFlag names text
+-- and `\*` among them
+abbrev pub PermanentFlagsText : List (List ℕ) → List ℕ → Type 0
+PermanentFlagsText = BracketedText kinds.PermanentFlag
 
 -- ---- how they are read
 
@@ -65,14 +52,26 @@ behind_bracket kind = by_first is_close no_name_at (keep (spaced_at kind) (byte_
 abbrev pub bracketed_at : NameKind → List ℕ → Result (List (List ℕ) × List ℕ) Stop
 bracketed_at kind = skip (byte_at 40) (behind_bracket kind)
 
-abbrev pub attributes_at : List ℕ → Result (List (List ℕ) × List ℕ) Stop
-attributes_at = bracketed_at Flag
+abbrev pub flags_at : List ℕ → Result (List (List ℕ) × List ℕ) Stop
+flags_at = bracketed_at kinds.Flag
 
-abbrev pub flags_at : List ℕ → Result (ℕ × List ℕ) Stop
-flags_at = mapped named_set (bracketed_at Flag)
+abbrev pub permanent_flags_at : List ℕ → Result (List (List ℕ) × List ℕ) Stop
+permanent_flags_at = bracketed_at kinds.PermanentFlag
 
-abbrev pub permanent_of : List (List ℕ) → ℕ × Bool
-permanent_of names = (named_set names, has_name star names)
+-- ---- how they are written
 
-abbrev pub permanent_flags_at : List ℕ → Result ((ℕ × Bool) × List ℕ) Stop
-permanent_flags_at = mapped permanent_of (bracketed_at PermanentFlag)
+-- behind a text of names one more
+abbrev pub with_name : List ℕ → List ℕ → List ℕ
+with_name [] name = name
+with_name (b ∷ bs) name = (b ∷ bs) ++ 32 ∷ name
+
+-- names with a space between
+abbrev pub spaced_out : List (List ℕ) → List ℕ
+spaced_out names = fold with_name [] names
+
+-- the name of a flag that is in a set
+abbrev pub with_flag_name : (flags : ℕ) → List ℕ → Flag → List ℕ
+with_flag_name flags text flag = if has flags (place flag) then with_name text (imap_name flag) else text
+
+abbrev pub with_keyword_name : (flags : ℕ) → List ℕ → Keyword → List ℕ
+with_keyword_name flags text k = if has flags (place_of k.letter) then with_name text k.name else text

@@ -4,5 +4,4 @@ pub mod Sets
 pub mod Atoms
 pub mod FlagLists
 pub mod Names
-pub mod FlagWriting
 pub mod Room

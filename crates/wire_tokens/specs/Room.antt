@@ -15,3 +15,7 @@ most_set items = sum_by (λ item. most_item item + 1) items
 -- each name with a space
 abbrev pub most_names : List (List ℕ) → ℕ
 most_names names = sum_by (λ name. length name + 1) names
+
+-- in brackets
+abbrev pub most_flags : List (List ℕ) → ℕ
+most_flags names = most_names names + 2

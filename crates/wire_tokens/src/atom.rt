@@ -1,12 +1,13 @@
 //! Atoms (RFC 9051, section 9: atom).
 
-ghost use Rattle.std.specs.Prelude.{◌≡◌, ◌≤◌, length, OnOk, OnErr};
-ghost use Rattle.std.specs.List.{list_all};
+ghost use Rattle.std.specs.Prelude.{◌≡◌, ◌≤◌, OnOk, OnErr};
 ghost use Rattle.std.specs.Option.{SomeIff};
 ghost use Rattle.wire_reader.specs.Given.{Gives};
-ghost use Rattle.wire_tokens.specs.Atoms.{is_atom_byte, IsAtom, AtomText, atom_at};
+ghost use Rattle.wire_tokens.specs.Atoms.{IsAtom, AtomText, atom_at};
 ghost use Rattle.wire_tokens.specs.Writing.{Appended};
 
+use mailcore::atom::are_atom_bytes;
+pub use mailcore::atom::is_atom_byte;
 use std::alloc::AllocError;
 use std::marker::Model;
 use wire_reader::stop::{Kind, Stop};
@@ -36,7 +37,7 @@ impl<'a> Atom<'a> {
     pub fn read(bytes: &'a [u8]) -> Option<Atom<'a>>
         ensures { SomeIff result (IsAtom bytes.now) bytes.now }
     {
-        if !bytes.is_empty() && bytes.len() <= ATOM_MAX && all_atom_bytes(bytes) {
+        if !bytes.is_empty() && bytes.len() <= ATOM_MAX && are_atom_bytes(bytes) {
             Some(Atom { text: bytes })
         } else {
             None
@@ -79,17 +80,4 @@ pub fn read_atom(bytes: &[u8]) -> Result<(Atom<'_>, &[u8]), Stop>
         }
     }
     Err(Stop::Ends(None))
-}
-
-fn all_atom_bytes(bytes: &[u8]) -> bool
-    ensures { result ≡ list_all is_atom_byte bytes.now }
-{
-    bytes.iter().all(|&b| is_atom_byte(b))
-}
-
-/// Whether the byte may stand in an atom.
-pub fn is_atom_byte(b: u8) -> bool
-    ensures { result ≡ is_atom_byte b }
-{
-    33 <= b && b <= 126 && !matches!(b, b'"' | b'%' | b'(' | b')' | b'*' | b'\\' | b']' | b'{')
 }

@@ -5,7 +5,7 @@
 pub mod appending;
 pub mod atom;
 pub mod flag_list;
-pub mod flag_writing;
+mod flag_text;
 pub mod names;
 pub mod number;
 mod spaced;

@@ -1,7 +1,14 @@
 -- Which words are flags.
-use Rattle.std.proofs.Common.{◌≢◌, ℕ, ◌<◌, Bool, true, false, cond, List, Option, None, Some, sym}
-use Rattle.std.specs.Prelude.{IfNone, codes, ◌==◌}
+use Rattle.std.proofs.Common.{◌≡◌, ◌≢◌, ℕ, ◌<◌, ◌^◌, Bool, true, false, cond, eqb, List, [], ◌∷◌, length, Option, None, Some, refl, sym, ap, subst, ◌∙◌, arith}
+use Rattle.std.proofs.Math.Dec.{eqb-suc-zero}
+use Rattle.std.proofs.lemmas.Bool.{false≢true, eqb-true}
+use Rattle.std.specs.Prelude.{IfNone, IfSome, codes, ◌==◌}
 use Rattle.mailcore.specs.FlagNames.{letters_of}
+use Rattle.mailcore.specs.FlagSet.{FLAGS}
+use Rattle.mailcore.specs.declared.keywords.Keyword.{Keyword}
+use Rattle.mailcore.specs.KeywordNames.{IsWithin, kept}
+use Rattle.mailcore.proofs.FlagLetters.{set_from_letters}
+use Rattle.mailcore.proofs.KnownFlags.{kept-within}
 use Rattle.worlds.specs.Words.{flags_word}
 
 neither : (b : Bool) (flags : ℕ) (word : List ℕ) → word ≢ codes "-" → letters_of flags ≢ word → cond b (codes "-") (letters_of flags) ≢ word
@@ -9,7 +16,50 @@ neither true flags word dash letters e = dash (sym e)
 neither false flags word dash letters e = letters e
 
 -- a word that is no letters and no `-` is no flags
-pub no_flags : (r : Option ℕ) (word : List ℕ) → word ≢ codes "-" → IfNone r ((flags : ℕ) → flags < 64 → letters_of flags ≢ word)
-    → IfNone r ((flags : ℕ) → flags < 64 → flags_word flags ≢ word)
+pub no_flags : (r : Option ℕ) (word : List ℕ) → word ≢ codes "-" → IfNone r ((flags : ℕ) → flags < 2 ^ FLAGS → letters_of flags ≢ word)
+    → IfNone r ((flags : ℕ) → flags < 2 ^ FLAGS → flags_word flags ≢ word)
 no_flags None word dash letters = λ flags small. neither (flags == 0) flags word dash (letters flags small)
 no_flags (Some x) word dash letters = tt
+
+-- no flag has no letter, and that alone
+no_letters : letters_of 0 ≡ []
+unfolding letters_of
+no_letters = refl
+
+letters_none : (flags : ℕ) → flags < 2 ^ FLAGS → letters_of flags ≡ [] → flags ≡ 0
+letters_none flags fits none = set_from_letters flags 0 fits (omega arith) (none ∙ sym no_letters)
+
+no_text : (text : List ℕ) → true ≡ eqb (length text) 0 → text ≡ []
+no_text [] h = refl
+no_text (x ∷ text) h = cc (eqb-suc-zero (length text))
+
+some_text : (text : List ℕ) → false ≡ eqb (length text) 0 → text ≢ []
+some_text [] h e = false≢true h
+some_text (x ∷ text) h e = cc
+
+-- a word is not empty
+some_word : (flags : ℕ) → flags < 2 ^ FLAGS → flags_word flags ≢ []
+some_word flags fits e = by_test (flags == 0) refl e
+  where
+    by_test : (b : Bool) → (flags == 0) ≡ b → cond b (codes "-") (letters_of flags) ≢ []
+    by_test true is none = cc
+    by_test false is none = false≢true (sym is ∙ ap (λ n. n == 0) (letters_none flags fits none))
+
+pub no_word : (text : List ℕ) → true ≡ eqb (length text) 0 → (flags : ℕ) → flags < 2 ^ FLAGS → flags_word flags ≢ text
+no_word text none flags fits is = some_word flags fits (is ∙ no_text text none)
+
+-- letters of flags that are there
+letters_word : (text : List ℕ) → text ≢ [] → (flags : ℕ) → text ≡ letters_of flags → flags_word flags ≡ text
+letters_word text some flags is = by_test (flags == 0) refl
+  where
+    by_test : (b : Bool) → (flags == 0) ≡ b → cond b (codes "-") (letters_of flags) ≡ text
+    by_test true zero = absurd (some (is ∙ ap letters_of (eqb-true flags 0 zero) ∙ no_letters))
+    by_test false zero = sym is
+
+pub letters_words : (text : List ℕ) → false ≡ eqb (length text) 0 → (r : Option ℕ) → IfSome r (λ flags. text ≡ letters_of flags) → IfSome r (λ flags. flags_word flags ≡ text)
+letters_words text some None h = tt
+letters_words text some (Some flags) h = letters_word text (some_text text some) flags h
+
+-- flags that are all kept have names
+pub kept_within : (map : List Keyword) (flags : ℕ) → kept map flags ≡ flags → IsWithin map flags
+kept_within map flags same = subst (λ n. IsWithin map n) same (kept-within map flags)

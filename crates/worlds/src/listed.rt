@@ -16,6 +16,7 @@ use crate::read_state::read_state;
 use mailcore::content::fit;
 use mailcore::fault::PushFault;
 use mailcore::flags::Flags;
+use mailcore::keywords::Keywords;
 use mailcore::listing::{Item, Items, Listing};
 use mailcore::side::Side;
 use mailcore::uid::Uid;
@@ -60,9 +61,11 @@ fn read_listings(alloc: Global, lines: &mut Lines<'_>) -> Result<(Listing, Listi
     ensures fault { IfErr result (IsUpTo (line_count lines.old + 1)) }
 {
     let mut bytes = Vec::new(alloc);
-    let far = read_listing(alloc, Side::Far, &mut bytes, lines)?;
-    let mut near = read_listing(alloc, Side::Near, &mut bytes, lines)?;
-    admit_waiting(&mut near, &mut bytes, lines)?;
+    // Only the six have a name.
+    let keywords = Keywords::new(alloc);
+    let far = read_listing(alloc, Side::Far, &keywords, &mut bytes, lines)?;
+    let mut near = read_listing(alloc, Side::Near, &keywords, &mut bytes, lines)?;
+    admit_waiting(&mut near, &keywords, &mut bytes, lines)?;
     Ok((far, near))
 }
 
@@ -70,6 +73,7 @@ fn read_listings(alloc: Global, lines: &mut Lines<'_>) -> Result<(Listing, Listi
 fn read_listing(
     alloc: Global,
     side: Side,
+    keywords: &Keywords,
     bytes: &mut Vec<u8>,
     lines: &mut Lines<'_>,
 ) -> Result<Listing, WorldFault>
@@ -81,7 +85,7 @@ fn read_listing(
     let (validity, next) = read_numbers(line.text).ok_or(line.fault())?;
     let mut items = Items::new(alloc);
     while let Some(line) = lines.take_if(message_start) {
-        let item = read_item(side, bytes, line)?;
+        let item = read_item(side, keywords, bytes, line)?;
         if item.uid.get() >= next {
             return Err(line.fault());
         }
@@ -95,11 +99,16 @@ fn read_listing(
 }
 
 /// What a listing shows of the message of a line.
-fn read_item(side: Side, bytes: &mut Vec<u8>, line: Line<'_>) -> Result<Item, WorldFault>
+fn read_item(
+    side: Side,
+    keywords: &Keywords,
+    bytes: &mut Vec<u8>,
+    line: Line<'_>,
+) -> Result<Item, WorldFault>
     ensures item { IfOk result (λ item. item.fit ≡ fit side bytes.new.items) }
     ensures fault { IfErr result (IsOf line.entry.number) }
 {
-    let Some((uid, flags, text)) = split_message(line.text) else {
+    let Some((uid, flags, text)) = split_message(line.text, keywords) else {
         return Err(line.fault());
     };
     read_bytes_into(bytes, text, line)?;
@@ -116,6 +125,7 @@ fn read_item(side: Side, bytes: &mut Vec<u8>, line: Line<'_>) -> Result<Item, Wo
 /// Lists the near files of the next lines, which wait for a UID, under the next UIDs.
 fn admit_waiting(
     near: &mut Listing,
+    keywords: &Keywords,
     bytes: &mut Vec<u8>,
     lines: &mut Lines<'_>,
 ) -> Result<(), WorldFault>
@@ -123,7 +133,7 @@ fn admit_waiting(
     ensures fault { IfErr result (IsUpTo (line_count lines.old + 1)) }
 {
     while let Some(line) = lines.take_if(b"w ") {
-        let Some((flags, text)) = split_file(line.text) else {
+        let Some((flags, text)) = split_file(line.text, keywords) else {
             return Err(line.fault());
         };
         read_bytes_into(bytes, text, line)?;

@@ -1,7 +1,7 @@
 //! How a world is read from its text (docs/FORMATS.md, "World").
 
 ghost use Rattle.std.specs.Prelude.{◌≡◌, ◌≢◌, ◌+◌, ◌≤◌, [], IfErr, OnErr};
-ghost use Rattle.worlds.specs.Lines.{IsOf, IsUpTo, line_count, line_ends};
+ghost use Rattle.worlds.specs.Lines.{IsUpTo, line_count, line_ends};
 
 use crate::fault::WorldFault;
 use crate::line::Lines;
@@ -9,6 +9,7 @@ use crate::read_mailbox::{read_mailbox, read_waiting};
 use crate::read_options::read_options;
 use crate::read_state::read_state;
 use crate::world::{Waiting, WaitingFile, World};
+use mailcore::keywords::Keywords;
 use mailcore::mailbox::Mailbox;
 use mailcore::side::Side;
 use std::alloc::Global;
@@ -66,9 +67,11 @@ fn read_mailboxes(
     ensures count { line_count lines.new ≤ line_count lines.old }
     ensures fault { IfErr result (IsUpTo (line_count lines.old + 1)) }
 {
-    let far = read_mailbox(alloc, Side::Far, lines)?;
-    let mut near = read_mailbox(alloc, Side::Near, lines)?;
-    let waiting = read_waiting(alloc, waiting, &mut near, lines)?;
+    // Only the six have a name.
+    let keywords = Keywords::new(alloc);
+    let far = read_mailbox(alloc, Side::Far, &keywords, lines)?;
+    let mut near = read_mailbox(alloc, Side::Near, &keywords, lines)?;
+    let waiting = read_waiting(alloc, waiting, &mut near, &keywords, lines)?;
     Ok((far, near, waiting))
 }
 

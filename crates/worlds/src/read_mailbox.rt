@@ -1,15 +1,16 @@
 //! The lines of the mailboxes of a world: `far` and `near`, `f`, `n` and `w`.
 
 ghost use Rattle.std.specs.Prelude.{◌≡◌, ◌+◌, ◌<◌, ◌≤◌, ◌^◌, ◌++◌, [], ◌∷◌, IfErr, IsErrOf, OnOk};
-ghost use Rattle.worlds.specs.Lines.{IsOf, IsUpTo, line_count, line_ends};
+ghost use Rattle.worlds.specs.Lines.{IsOf, IsUpTo, line_count};
 ghost use Rattle.worlds.specs.Admission.{message_of};
 
 use crate::fault::WorldFault;
 use crate::line::{Line, Lines};
-use crate::words::{read_flags, read_positive, read_uid, split_word};
+use crate::words::{read_named, read_positive, read_uid, split_word};
 use crate::world::{Waiting, WaitingFile};
 use mailcore::fault::PushFault;
 use mailcore::flags::Flags;
+use mailcore::keywords::Keywords;
 use mailcore::mailbox::{Mailbox, Message};
 use mailcore::mailbox_name::MailboxName;
 use mailcore::octets::Octets;
@@ -24,7 +25,12 @@ use texts::fault::EscapeFault;
 pub const FAR_BYTES_MAX: usize = 16_777_238;
 
 /// The mailbox of a side with its messages, from the next lines. Its name is INBOX.
-pub fn read_mailbox(alloc: Global, side: Side, lines: &mut Lines<'_>) -> Result<Mailbox, WorldFault>
+pub fn read_mailbox(
+    alloc: Global,
+    side: Side,
+    keywords: &Keywords,
+    lines: &mut Lines<'_>,
+) -> Result<Mailbox, WorldFault>
     ensures count { line_count lines.new ≤ line_count lines.old }
     ensures fault { IfErr result (IsUpTo (line_count lines.old + 1)) }
 {
@@ -34,7 +40,7 @@ pub fn read_mailbox(alloc: Global, side: Side, lines: &mut Lines<'_>) -> Result<
     let name = MailboxName::inbox(alloc)?;
     let mut mailbox = Mailbox::new(alloc, name, validity, next);
     while let Some(line) = lines.take_if(message_start) {
-        let message = read_message(alloc, side, line)?;
+        let message = read_message(alloc, side, keywords, line)?;
         line.pushed(mailbox.push(message))?;
     }
     Ok(mailbox)
@@ -54,10 +60,15 @@ pub(crate) fn read_numbers(text: &[u8]) -> Option<(u32, u32)> {
     Some((read_positive(validity)?, read_positive(next)?))
 }
 
-fn read_message(alloc: Global, side: Side, line: Line<'_>) -> Result<Message, WorldFault>
+fn read_message(
+    alloc: Global,
+    side: Side,
+    keywords: &Keywords,
+    line: Line<'_>,
+) -> Result<Message, WorldFault>
     ensures { IfErr result (IsOf line.entry.number) }
 {
-    let Some((uid, flags, text)) = split_message(line.text) else {
+    let Some((uid, flags, text)) = split_message(line.text, keywords) else {
         return Err(line.fault());
     };
     let bytes = read_bytes(alloc, text, line)?;
@@ -72,10 +83,13 @@ fn read_message(alloc: Global, side: Side, line: Line<'_>) -> Result<Message, Wo
 }
 
 /// The UID and the flags of a message, and the quoted text of its bytes.
-pub(crate) fn split_message(text: &[u8]) -> Option<(Uid, Flags, &[u8])> {
+pub(crate) fn split_message<'a>(
+    text: &'a [u8],
+    keywords: &Keywords,
+) -> Option<(Uid, Flags, &'a [u8])> {
     let (uid, text) = split_word(text)?;
     let (flags, text) = split_word(text)?;
-    Some((read_uid(uid)?, read_flags(flags)?, text))
+    Some((read_uid(uid)?, read_named(flags, keywords)?, text))
 }
 
 /// Whether a far mailbox may store these bytes: not too many, and no NUL (RFC 9051, section 9, `CHAR8`).
@@ -115,6 +129,7 @@ pub fn read_waiting(
     alloc: Global,
     waiting: Waiting,
     near: &mut Mailbox,
+    keywords: &Keywords,
     lines: &mut Lines<'_>,
 ) -> Result<Vec<WaitingFile>, WorldFault>
     ensures count { line_count lines.new ≤ line_count lines.old }
@@ -122,7 +137,7 @@ pub fn read_waiting(
 {
     let mut kept = Vec::new(alloc);
     while let Some(line) = lines.take_if(b"w ") {
-        let file = read_waiting_file(alloc, line)?;
+        let file = read_waiting_file(alloc, keywords, line)?;
         match waiting {
             Waiting::Kept => kept.push(file)?,
             Waiting::Admitted => line.pushed(admit(near, file))?,
@@ -131,10 +146,14 @@ pub fn read_waiting(
     Ok(kept)
 }
 
-fn read_waiting_file(alloc: Global, line: Line<'_>) -> Result<WaitingFile, WorldFault>
+fn read_waiting_file(
+    alloc: Global,
+    keywords: &Keywords,
+    line: Line<'_>,
+) -> Result<WaitingFile, WorldFault>
     ensures { IfErr result (IsOf line.entry.number) }
 {
-    let Some((flags, text)) = split_file(line.text) else {
+    let Some((flags, text)) = split_file(line.text, keywords) else {
         return Err(line.fault());
     };
     let bytes = read_bytes(alloc, text, line)?;
@@ -145,9 +164,9 @@ fn read_waiting_file(alloc: Global, line: Line<'_>) -> Result<WaitingFile, World
 }
 
 /// The flags of a waiting file, and the quoted text of its bytes.
-pub(crate) fn split_file(text: &[u8]) -> Option<(Flags, &[u8])> {
+pub(crate) fn split_file<'a>(text: &'a [u8], keywords: &Keywords) -> Option<(Flags, &'a [u8])> {
     let (flags, text) = split_word(text)?;
-    Some((read_flags(flags)?, text))
+    Some((read_named(flags, keywords)?, text))
 }
 
 /// Makes a waiting file the message with the next UID. `OutOfOrder`: no UID is left.

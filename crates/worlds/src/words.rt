@@ -2,9 +2,11 @@
 
 ghost use Rattle.std.specs.Prelude.{◌≡◌, ◌≢◌, ◌+◌, ◌<◌, ◌^◌, ◌++◌, ◌∷◌, ℕ, All, IfSome, IfNone, IsSome, MatchOption, Some, decimal, unwrap_or};
 ghost use Rattle.mailcore.specs.FlagSet.{FLAGS};
+ghost use Rattle.mailcore.specs.KeywordNames.{IsWithin};
 ghost use Rattle.worlds.specs.Words.{flags_word};
 
 use mailcore::flags::Flags;
+use mailcore::keywords::Keywords;
 use mailcore::uid::Uid;
 use texts::number::read_u32;
 
@@ -61,4 +63,17 @@ pub fn read_flags(word: &[u8]) -> Option<Flags>
         return None;
     }
     Flags::from_letters(word)
+}
+
+/// The flags of a message: such a word, in which each letter has a name in IMAP by this map.
+pub fn read_named(word: &[u8], keywords: &Keywords) -> Option<Flags>
+    ensures spelled { IfSome result (λ flags. flags_word flags ≡ word.now) }
+    ensures within { IfSome result (IsWithin keywords.now) }
+{
+    let flags = read_flags(word)?;
+    if flags.kept(keywords) == flags {
+        Some(flags)
+    } else {
+        None
+    }
 }

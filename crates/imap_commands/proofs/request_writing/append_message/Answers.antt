@@ -5,4 +5,4 @@ pub returns-clause-ok : goal.returns-clause-ok
 returns-clause-ok c =
     then_written c.in_ok-write.ensures.ok
     (then_written c.in_ok-append.ensures.ok
-    (then_written c.in_ok-write_flags.ensures.ok (then_written c.in_ok-append-2.ensures.ok (then_written c.in_ok-write-2.ensures.ok c.in_ok-append-3.ensures.ok))))
+    (then_written c.in_ok-write-2.ensures.ok (then_written c.in_ok-append-2.ensures.ok (then_written c.in_ok-write-3.ensures.ok c.in_ok-append-3.ensures.ok))))

@@ -4,4 +4,4 @@ use Rattle.imap_commands.proofs.request_writing.store.Goals as goal
 pub returns-clause-ok : goal.returns-clause-ok
 returns-clause-ok c =
     then_written c.in_ok-write.ensures.ok
-    (then_written c.in_ok-append.ensures.ok (then_written c.in_ok-append_mode.ensures.ok (then_written c.in_ok-write_flags.ensures.ok c.in_ok-append-2.ensures.ok)))
+    (then_written c.in_ok-append.ensures.ok (then_written c.in_ok-append_mode.ensures.ok (then_written c.in_ok-write-2.ensures.ok c.in_ok-append-2.ensures.ok)))

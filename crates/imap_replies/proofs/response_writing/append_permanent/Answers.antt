@@ -4,4 +4,4 @@ use Rattle.imap_replies.proofs.response_writing.append_permanent.Goals as goal
 pub returns-clause-ok : goal.returns-clause-ok
 returns-clause-ok c =
     then_written c.in_ok-append.ensures.ok (then_written c.in_ok-append-2.ensures.ok
-    (then_written (rw c.flags.ensures at c.in_ok-write_permanent_flags.ensures.ok) c.in_ok-append-3.ensures.ok))
+    (then_written c.in_ok-write.ensures.ok c.in_ok-append-3.ensures.ok))

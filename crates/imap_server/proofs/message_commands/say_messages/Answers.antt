@@ -23,7 +23,7 @@ loop-index-init c =
     let within = c.reach-start.ensures.within in
     let reach : IsReach named ms start end =
     subst (λ (l : List Message). IsReach (names (greatest l) c.args.set.now) ms start end) c.as_slice-messages.ensures.all (c.reach-start.ensures.named (greatest ms) c.greatest-top.ensures) in
-    wrote_before named c.args.items ms start end c.args.out.now.items reach (omega arith)
+    wrote_before c.args.keywords.now named c.args.items ms start end c.args.out.now.items reach (omega arith)
 
 pub overflow_cast-index : goal.overflow_cast-index
 overflow_cast-index c =
@@ -59,10 +59,10 @@ loop-index-preserved c =
     c.is_named.ensures (greatest ms) c.greatest-top.ensures ∙ ap (λ (l : List Message). names (greatest l) c.args.set.now item.uid) c.as_slice-messages.ensures.all in
     elim c.if-is_named.branch [
       | then-is_named+in_ok-say_message w ↦
-          rw w.out-is (wrote_named named c.args.items (take i ms) (take (i + 1) ms) item (i + 1) c.is_named.result
+          rw w.out-is (wrote_named c.args.keywords.now named c.args.items (take i ms) (take (i + 1) ms) item (i + 1) c.is_named.result
           c.args.out.now.items c.loop-index.out.items w.say_message.new.out.items more place test w.if-is_named.true c.loop-index.invariant w.in_ok-say_message.ensures)
       | else-is_named w ↦
-          rw w.out-is (wrote_unnamed named c.args.items (take i ms) (take (i + 1) ms) item c.is_named.result
+          rw w.out-is (wrote_unnamed c.args.keywords.now named c.args.items (take i ms) (take (i + 1) ms) item c.is_named.result
           c.args.out.now.items c.loop-index.out.items more test w.if-is_named.false c.loop-index.invariant)
     ]
 
@@ -75,5 +75,5 @@ returns c =
     let past = c.loop-index-test.false in
     let reach : IsReach named ms start end =
     subst (λ (l : List Message). IsReach (names (greatest l) c.args.set.now) ms start end) c.as_slice-messages.ensures.all (c.reach-start.ensures.named (greatest ms) c.greatest-top.ensures) in
-    subst (λ (l : List Message). Wrote (fetched named c.args.items 1 l) c.args.out.now.items c.loop-index.out.items) c.as_slice-messages.ensures.all
-    (wrote_within named c.args.items ms start end c.loop-index.index c.args.out.now.items c.loop-index.out.items reach (omega arith) c.loop-index.invariant)
+    subst (λ (l : List Message). Wrote (fetched c.args.keywords.now named c.args.items 1 l) c.args.out.now.items c.loop-index.out.items) c.as_slice-messages.ensures.all
+    (wrote_within c.args.keywords.now named c.args.items ms start end c.loop-index.index c.args.out.now.items c.loop-index.out.items reach (omega arith) c.loop-index.invariant)

@@ -7,4 +7,4 @@ use Rattle.imap_server.proofs.message_commands.say_messages.Given as goal
 
 -- those before the place were told
 abbrev pub invariant-loop-index : goal.invariant-loop-index
-invariant-loop-index l = Wrote (fetched (named_in (store_of l.mailbox) l.set) l.items 1 (take l.index l.messages)) l.initial.out.items l.out.items
+invariant-loop-index l = Wrote (fetched l.keywords (named_in (store_of l.mailbox) l.set) l.items 1 (take l.index l.messages)) l.initial.out.items l.out.items

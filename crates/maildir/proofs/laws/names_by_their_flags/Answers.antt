@@ -9,4 +9,4 @@ pub returns-clause-parts : goal.returns-clause-parts
 returns-clause-parts c = name_of-flagged
 
 pub returns-clause-uid : goal.returns-clause-uid
-returns-clause-uid c text name flags read = uid_in-flagged text name flags read ∙ (rw read refl)
+returns-clause-uid c keywords text name flags read = uid_in-flagged keywords text name flags read ∙ (rw read refl)

@@ -1,4 +1,4 @@
-use Rattle.std.proofs.Common.{◌≡◌, ◌==◌, not, ◌&&◌, rules, ◌∙◌, ℕ, Bool, true, false, refl, [], ◌∷◌, List, filter}
+use Rattle.std.proofs.Common.{◌==◌, not, ◌&&◌, rules}
 use Rattle.std.proofs.lemmas.Fn.{filter_same}
 use Rattle.mailcore.specs.declared.mailbox.Message.{Message}
 use Rattle.mailbox.specs.Operations.{may_go}

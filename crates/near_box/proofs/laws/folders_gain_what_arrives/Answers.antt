@@ -1,3 +1,4 @@
+use Rattle.std.proofs.Common.{[]}
 use Rattle.near_box.proofs.ArrivedLemmas.{added_arrives, gained_arrives}
 use Rattle.near_box.proofs.GainedLemmas.{mailbox_gained, store_gained}
 use Rattle.near_box.proofs.laws.folders_gain_what_arrives.Goals as goal
@@ -9,7 +10,7 @@ pub returns-clause-store : goal.returns-clause-store
 returns-clause-store c = store_gained
 
 pub returns-clause-mailbox : goal.returns-clause-mailbox
-returns-clause-mailbox c = mailbox_gained
+returns-clause-mailbox c v fresh s s' is gains = mailbox_gained v fresh [] s s' is gains
 
 pub returns-clause-behind : goal.returns-clause-behind
 returns-clause-behind c = added_arrives

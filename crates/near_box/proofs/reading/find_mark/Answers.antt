@@ -11,13 +11,13 @@ loop-entry-init g c = record {
   stops = search rules;
   whole = search rules;
   within = search rules;
-  at = λ honest there next rising within are.
+  at = λ honest there next keywords rising within are.
       let s = (g.F.Folder.seen c.args.folder.now).stored in
       let es = c.args.entries.now in
       let first = c.partition_point-first.result in
       let below = c.begin.new.self.below in
-      search_begins s es c.args.mark c.args.from next first (first + 0) c.args.known.now c.begin.new.self (omega arith) c.partition_point-first.ensures.bound rising are
-      (c.begin.ensures.passed next (map (message_at s) es) are.passed) c.begin.ensures.reaches.1 (c.begin.ensures.other next (map (message_at s) es) are.passed)
+      search_begins keywords s es c.args.mark c.args.from next first (first + 0) c.args.known.now c.begin.new.self (omega arith) c.partition_point-first.ensures.bound rising are
+      (c.begin.ensures.passed next (map (message_at keywords s) es) are.passed) c.begin.ensures.reaches.1 (c.begin.ensures.other next (map (message_at keywords s) es) are.passed)
       (λ order. IsPartitionPoint-from_clause (λ (e : Entry). ltb e.uid below) _ _ c.partition_point-first.ensures.partitioned (IsPartitionedBy-ltb (λ (e : Entry). e.uid) _ below order) (λ a r q k. search rules));
 }
 
@@ -27,44 +27,44 @@ loop-entry-preserved g c = record {
   stops = search rules;
   whole = search rules;
   within = search rules;
-  at = λ honest there next rising within are.
+  at = λ honest there next keywords rising within are.
       let s = (g.F.Folder.seen c.args.folder.now).stored in
       let t = (g.F.Folder.seen c.loop-entry.folder).stored in
       let es = c.args.entries.now in
       let first = c.partition_point-first.result in
       let i = c.loop-entry.entry-index in
       let entry = c.entry-item.result in
-      let at = c.loop-entry.invariant.at honest there next rising within are in
+      let at = c.loop-entry.invariant.at honest there next keywords rising within are in
       let here = place_of_rest es first i c.loop-entry-test.true in
       let is = entry_of_rest es first i entry c.entry-item.is in
-      let known = next_known s t es c.args.mark c.args.from next (first + i) c.loop-entry.known (record { by_uid = c.known_mark.new.known; passed = c.pass.new.self }) entry c.in_ok-found.found at here is rising there within
+      let known = next_known keywords s t es c.args.mark c.args.from next (first + i) c.loop-entry.known (record { by_uid = c.known_mark.new.known; passed = c.pass.new.self }) entry c.in_ok-found.found at here is rising there within
       (c.loop-entry.invariant.keeps honest) (c.in_ok-found.ensures.mark honest) (c.in_ok-found.ensures.known honest) c.in_ok-pass.ensures.passed in
-      search_goes_on s es c.args.mark c.args.from next (first + i) _ c.loop-entry.known _ entry c.in_ok-found.found at (omega arith) here is rising known.0 (search rules) known.1 c.in_ok-pass.ensures.range.1;
+      search_goes_on keywords s es c.args.mark c.args.from next (first + i) _ c.loop-entry.known _ entry c.in_ok-found.found at (omega arith) here is rising known.0 (search rules) known.1 c.in_ok-pass.ensures.range.1;
 }
 
 pub returns-then-eq-clause-found : goal.returns-then-eq-clause-found
-returns-then-eq-clause-found g c = λ honest there next rising within are.
+returns-then-eq-clause-found g c = λ honest there next keywords rising within are.
     let s = (g.F.Folder.seen c.args.folder.now).stored in
     let t = (g.F.Folder.seen c.loop-entry.folder).stored in
     let es = c.args.entries.now in
     let first = c.partition_point-first.result in
     let i = c.loop-entry.entry-index in
     let entry = c.entry-item.result in
-    let at = c.loop-entry.invariant.at honest there next rising within are in
+    let at = c.loop-entry.invariant.at honest there next keywords rising within are in
     let here = place_of_rest es first i c.loop-entry-test.true in
     let is = entry_of_rest es first i entry c.entry-item.is in
-    let known = next_known s t es c.args.mark c.args.from next (first + i) c.loop-entry.known (record { by_uid = c.known_mark.new.known; passed = c.pass.new.self }) entry c.in_ok-found.found at here is rising there within
+    let known = next_known keywords s t es c.args.mark c.args.from next (first + i) c.loop-entry.known (record { by_uid = c.known_mark.new.known; passed = c.pass.new.self }) entry c.in_ok-found.found at here is rising there within
     (c.loop-entry.invariant.keeps honest) (c.in_ok-found.ensures.mark honest) (c.in_ok-found.ensures.known honest) c.in_ok-pass.ensures.passed in (
-      search_finds s es c.args.mark c.args.from next (first + i) c.loop-entry.known entry c.in_ok-found.found at here is known.0 (search rules),
+      search_finds keywords s es c.args.mark c.args.from next (first + i) c.loop-entry.known entry c.in_ok-found.found at here is known.0 (search rules),
       known.1,
     )
 
 pub returns-clause-found : goal.returns-clause-found
-returns-clause-found g c = λ honest there next rising within are.
+returns-clause-found g c = λ honest there next keywords rising within are.
     let s = (g.F.Folder.seen c.args.folder.now).stored in
     let es = c.args.entries.now in
     let first = c.partition_point-first.result in
-    let at = c.loop-entry.invariant.at honest there next rising within are in (
-      search_ends s es c.args.mark c.args.from next (first + c.loop-entry.entry-index) c.loop-entry.known at (end_of_rest es first c.loop-entry.entry-index c.loop-entry-test.false),
+    let at = c.loop-entry.invariant.at honest there next keywords rising within are in (
+      search_ends keywords s es c.args.mark c.args.from next (first + c.loop-entry.entry-index) c.loop-entry.known at (end_of_rest es first c.loop-entry.entry-index c.loop-entry-test.false),
       at.are_known,
     )

@@ -1,4 +1,5 @@
-use Rattle.std.proofs.Common.{◌≡◌, ◌<◌, ℕ, ◌+◌, ◌≤◌, length, All, true, false, map}
+use Rattle.std.proofs.Common.{◌≡◌, ◌<◌, ℕ, ◌+◌, ◌≤◌, length, All, true, false, List, map}
+use Rattle.mailcore.specs.declared.keywords.Keyword.{Keyword}
 use Rattle.near_box.specs.Entries.{AreRising, AreThere, message_at}
 use Rattle.near_box.specs.KnownMarks.{AreKnown}
 use Rattle.near_box.proofs.SearchLemmas.{IsAt}
@@ -10,7 +11,7 @@ invariant-loop-entry g l = record {
   stops : (g.F.Folder.seen l.folder).stops ≡ (g.F.Folder.seen l.initial.folder).stops;
   whole : (g.F.Folder.seen l.initial.folder).is_broken ≡ false → (g.F.Folder.seen l.folder).is_broken ≡ false;
   within : l.first ≤ length l.entries;
-  at : g.F.Folder.is_honest ≡ true → AreThere l.entries (g.F.Folder.seen l.initial.folder).stored → (next : ℕ) → AreRising l.entries → All (λ e. e.uid < next) l.entries
-      → AreKnown next (map (message_at (g.F.Folder.seen l.initial.folder).stored) l.entries) l.fn.known
-      → IsAt (g.F.Folder.seen l.initial.folder).stored l.entries l.mark l.from next (l.first + l.entry-index) l.known;
+  at : g.F.Folder.is_honest ≡ true → AreThere l.entries (g.F.Folder.seen l.initial.folder).stored → (next : ℕ) (keywords : List Keyword) → AreRising l.entries → All (λ e. e.uid < next) l.entries
+      → AreKnown next (map (message_at keywords (g.F.Folder.seen l.initial.folder).stored) l.entries) l.fn.known
+      → IsAt keywords (g.F.Folder.seen l.initial.folder).stored l.entries l.mark l.from next (l.first + l.entry-index) l.known;
 }

@@ -20,10 +20,10 @@ loop-entry-preserved g c = record {
       let entry = c.entry-item.result in
       let same : t ≡ s = c.loop-entry.invariant.keeps honest in
       let here = entry_there_unless spared s t es i entry (omega arith) c.entry-item.is there same in
-      item_pushed spared s es i entry c.loop-entry.items c.push_item.new.items _ (omega arith) c.entry-item.is
+      item_pushed c.args.keywords.now spared s es i entry c.loop-entry.items c.push_item.new.items _ (omega arith) c.entry-item.is
       (c.loop-entry.invariant.shown honest rising there)
-      (item_read spared s entry c.flags_of.result c.in_ok-is_fit.field-0 c.flags_of.ensures
-      (c.in_ok-is_fit.ensures.fit honest here ∙ ap (λ (u : Stored). (item_at spared u entry).fit) same))
+      (item_read c.args.keywords.now spared s entry c.flags_of.result c.in_ok-is_fit.field-0 c.flags_of.ensures
+      (c.in_ok-is_fit.ensures.fit honest here c.args.keywords.now ∙ ap (λ (u : Stored). (item_at c.args.keywords.now spared u entry).fit) same))
       c.in_ok-push_item.ensures.pushed;
   counted = λ honest.
       c.in_ok-is_fit.ensures.counted honest ∙ ap (λ (n : ℕ). n + count_asked (spares c.args.spared.now) (c.entry-item.result ∷ [])) (c.loop-entry.invariant.counted honest)
@@ -39,5 +39,5 @@ returns-in_err-push_item-clause-there g c = λ honest rising there gone.
     let i = c.loop-entry.entry-index in
     let entry = c.entry-item.result in
     let p = err_from_is_err_and c.from_residual-in_err-push_item.result c.from_residual-in_err-push_item.ensures.1 in
-    not_gone c.in_err-push_item.field-0.0 _ (item_in_order (spares c.args.spared.now) s es i entry c.loop-entry.items entry.uid (omega arith) c.entry-item.is rising (c.loop-entry.invariant.shown honest rising there) refl)
+    not_gone c.in_err-push_item.field-0.0 _ (item_in_order c.args.keywords.now (spares c.args.spared.now) s es i entry c.loop-entry.items entry.uid (omega arith) c.entry-item.is rising (c.loop-entry.invariant.shown honest rising there) refl)
     c.in_err-push_item.ensures.fault (cc (p.1, p.2, gone))

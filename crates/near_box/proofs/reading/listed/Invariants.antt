@@ -9,7 +9,7 @@ invariant-loop-entry g l = record {
   stops : (g.F.Folder.seen l.folder).stops ≡ (g.F.Folder.seen l.initial.folder).stops;
   whole : (g.F.Folder.seen l.initial.folder).is_broken ≡ false → (g.F.Folder.seen l.folder).is_broken ≡ false;
   shown : g.F.Folder.is_honest ≡ true → AreRising l.entries → AreThereUnless (spares l.spared) l.entries (g.F.Folder.seen l.initial.folder).stored
-      → l.items ≡ map (item_at (spares l.spared) (g.F.Folder.seen l.initial.folder).stored) (take l.entry-index l.entries);
+      → l.items ≡ map (item_at l.keywords (spares l.spared) (g.F.Folder.seen l.initial.folder).stored) (take l.entry-index l.entries);
   counted : g.F.Folder.is_honest ≡ true → g.F.Folder.reads l.folder ≡ g.F.Folder.reads l.initial.folder + count_asked (spares l.spared) (take l.entry-index l.entries);
   untouched : AreSpared (spares l.spared) l.entries → l.folder ≡ l.initial.folder;
 }

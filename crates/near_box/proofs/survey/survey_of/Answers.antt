@@ -1,4 +1,4 @@
-use Rattle.std.proofs.Common.{subst, sym}
+use Rattle.std.proofs.Common.{rules, subst, sym}
 use Rattle.maildir.specs.Folders.{Stored}
 use Rattle.maildir.specs.Gains.{Adds}
 use Rattle.near_box.proofs.survey.survey_of.Goals as goal
@@ -24,3 +24,6 @@ returns-clause-adds g c = λ honest.
     let f = c.in_ok-names.ensures.effect honest in
     subst (λ (t : Stored). Adds g.F.Folder.visitors (g.F.Folder.seen c.args.folder.now).stored t) (sym (c.in_ok-text.ensures.call.effect honest).0)
     (subst (λ (t : Stored). Adds g.F.Folder.visitors (g.F.Folder.seen c.args.folder.now).stored t) (sym f.behind.0) f.before)
+
+pub returns-clause-tells : goal.returns-clause-tells
+returns-clause-tells g c = λ honest keywords. c.survey_from.ensures.tells _ keywords (search rules) (search rules)

@@ -18,29 +18,29 @@ run_visited-requires g c =
     let said =
     bear_none g.row.MARKS c.args.trial.course.arrivals.far.items c.in_ok-setting.setting.arrivals.far.items c.in_ok-among.among.arrivals.list.items
     (ap (λ (a : Arrivals). a.far.items) c.in_ok-setting.ensures.arrivals) c.in_ok-among.ensures.arrivals c.requires.said in
-    (omega arith, (omega arith, (omega arith, (c.in_ok-among.ensures.served, said))))
+    (omega arith, (omega arith, (omega arith, (c.in_ok-among.ensures.served, (c.in_ok-among.ensures.letters ∙ c.in_ok-setting.ensures.letters, said)))))
 
 pub returns-clause-over : goal.returns-clause-over
-returns-clause-over g c = λ zero none opening room.
+returns-clause-over g c = λ zero none opening named room.
     let start : World = world_of c.args.trial.world in
     let setting = c.in_ok-setting.setting in
     let among = c.in_ok-among.among in
     let fits : FitsWords start = c.in_ok-setting.ensures.fits in
     let there = device_kept setting among.far.server.server (stored_in among.near.folder.folder) (files_of among.near.shelf)
     (ap (λ (f : FarSetting). f.server.server) c.in_ok-among.ensures.far) c.in_ok-among.ensures.near.0 c.in_ok-among.ensures.kept.0 in
-    let same = there ∙ stands c.args.trial setting start refl c.in_ok-setting.ensures.holds none opening fits in
+    let same = there ∙ stands c.args.trial setting start refl c.in_ok-setting.ensures.holds none opening fits named in
     c.run_visited.ensures.over zero start (sym (c.in_ok-among.ensures.kept.1 ∙ c.in_ok-setting.ensures.holds.state))
     (record { held = holds_world start _ opening fits same; sound = opening; room = room })
 
 pub returns-clause-left : goal.returns-clause-left
-returns-clause-left g c = λ zero none opening room.
+returns-clause-left g c = λ zero none opening named room.
     let start : World = world_of c.args.trial.world in
     let setting = c.in_ok-setting.setting in
     let among = c.in_ok-among.among in
     let fits : FitsWords start = c.in_ok-setting.ensures.fits in
     let there = device_kept setting among.far.server.server (stored_in among.near.folder.folder) (files_of among.near.shelf)
     (ap (λ (f : FarSetting). f.server.server) c.in_ok-among.ensures.far) c.in_ok-among.ensures.near.0 c.in_ok-among.ensures.kept.0 in
-    let same = there ∙ stands c.args.trial setting start refl c.in_ok-setting.ensures.holds none opening fits in
+    let same = there ∙ stands c.args.trial setting start refl c.in_ok-setting.ensures.holds none opening fits named in
     subst (λ (d : Device). IfOk c.run_visited.result (λ run. IfErr run.1 (λ fault. LeavesAmong start c.args.trial.world.options d fault (seen_of run.0)))) same
     (c.run_visited.ensures.left zero start (sym (c.in_ok-among.ensures.kept.1 ∙ c.in_ok-setting.ensures.holds.state))
     (record { held = holds_world start _ opening fits same; sound = opening; room = room }))

@@ -10,29 +10,29 @@ use Rattle.run_trial.proofs.MemoryLemmas.{done_where, greatest_where, holds_worl
 use Rattle.run_trial.proofs.memory.run_in_memory.Goals as goal
 
 pub returns-clause-done : goal.returns-clause-done
-returns-clause-done c = λ none opening.
+returns-clause-done c = λ none opening named.
     let start : World = world_of c.args.trial.world in
     let setting = c.in_ok-setting.setting in
     let fits : FitsWords start = c.in_ok-setting.ensures.fits in
-    let same = stands c.args.trial setting start refl c.in_ok-setting.ensures.holds none opening fits in
+    let same = stands c.args.trial setting start refl c.in_ok-setting.ensures.holds none opening fits named in
     done_where (λ both. (seen_of both).device) start c.args.trial.world.options (device_in setting) c.run_over.result (c.run_over.ensures.done start (sym c.in_ok-setting.ensures.holds.state)) c.run_over.ensures.greatest
     (holds_world start (device_in setting) opening fits same) opening fits.run
 
 pub returns-clause-left : goal.returns-clause-left
-returns-clause-left c = λ none opening room.
+returns-clause-left c = λ none opening named room.
     let start : World = world_of c.args.trial.world in
     let setting = c.in_ok-setting.setting in
     let fits : FitsWords start = c.in_ok-setting.ensures.fits in
-    let same = stands c.args.trial setting start refl c.in_ok-setting.ensures.holds none opening fits in
+    let same = stands c.args.trial setting start refl c.in_ok-setting.ensures.holds none opening fits named in
     subst (λ (d : Device). IfOk c.run_over.result (λ run. IfErr run.1 (λ fault. LeavesWorld start c.args.trial.world.options d fault (seen_of run.0)))) same
     (c.run_over.ensures.left start (sym c.in_ok-setting.ensures.holds.state) (record { held = holds_world start (device_in setting) opening fits same; sound = opening; room = room }))
 
 pub returns-clause-greatest : goal.returns-clause-greatest
-returns-clause-greatest c = λ none opening last.
+returns-clause-greatest c = λ none opening named last.
     let start : World = world_of c.args.trial.world in
     let setting = c.in_ok-setting.setting in
     let fits : FitsWords start = c.in_ok-setting.ensures.fits in
-    let same = stands c.args.trial setting start refl c.in_ok-setting.ensures.holds none opening fits in
+    let same = stands c.args.trial setting start refl c.in_ok-setting.ensures.holds none opening fits named in
     greatest_where (λ both. (seen_of both).device) start c.args.trial.world.options (device_in setting) c.run_over.result c.run_over.ensures.greatest
     (holds_world start (device_in setting) opening fits same) last same
 

@@ -1,4 +1,5 @@
 use Rattle.std.proofs.Common.{refl, true}
+use Rattle.mailcore.specs.KeywordNames.{kept}
 use Rattle.mailcore.specs.Sides.{target}
 use Rattle.step_laws.specs.Steps.{changed_uid}
 use Rattle.rules.specs.declared.plan.Step.TheVariants as step
@@ -7,6 +8,7 @@ use Rattle.underway.specs.Conditions.{Underway}
 use Rattle.runner.proofs.PartCalls.{from_box, left_step, line_of_box, passed_call}
 use Rattle.runner.proofs.Stages.{done_underway, left_by, ready_arrives, ready_held, ready_named, ready_underway, whole_made}
 use Rattle.runner.proofs.Wholes.{marked}
+use Rattle.runner.proofs.Within.{deleted_whole}
 use Rattle.runner.proofs.changing.mark_deleted.Goals as goal
 
 pub add_flags-requires : goal.add_flags-requires
@@ -22,7 +24,7 @@ returns-in-Ok-clause-part g c =
     let near = c.args.near in
     let s1 = g.O.Outside.seen c.add_flags.new.self in
     passed_call _ _ _ _ _ _ _ _ _ _ _ c.in-Ok.ensures.call
-    (λ m at a own. whole_made ours alone g.opening opened (step.Gone d far near) c.requires.1.1 refl _ m s1.device a at (marked d far near c.only.result m s1.device c.only.ensures (rw (c.target-side.ensures, c.changed_uid-uid.ensures) at own)))
+    (λ m at a own. whole_made ours alone g.opening opened (step.Gone d far near) c.requires.1.1 refl _ m s1.device a at (marked d far near (kept (g.O.Outside.keywords c.args.outside.now) c.only.result) m s1.device (deleted_whole _ c.only.result c.only.ensures) (rw (c.target-side.ensures, c.changed_uid-uid.ensures) at own)))
 
 pub returns-in-Err-clause-part : goal.returns-in-Err-clause-part
 returns-in-Err-clause-part g c =
@@ -40,5 +42,5 @@ returns-in-Err-clause-part g c =
       left_by (Underway ours alone g.opening) _ _ c.in-Err.fault m s1.device own
           (ready_underway ours alone g.opening opened true m (ready_arrives ours alone g.opening opened true _ m a at))
           (λ part. ready_underway ours alone g.opening opened true s1.device (ready_named ours alone g.opening opened (step.Gone d far near) (target d) (changed_uid d far near) c.requires.1.1 refl _ m s1.device a at (rw (c.target-side.ensures, c.changed_uid-uid.ensures) at part)))
-          (λ x does. done_underway ours alone g.opening opened Done s1.device (whole_made ours alone g.opening opened (step.Gone d far near) c.requires.1.1 refl _ m s1.device a at (marked d far near c.only.result m s1.device c.only.ensures (rw (c.target-side.ensures, c.changed_uid-uid.ensures) at does)))),
+          (λ x does. done_underway ours alone g.opening opened Done s1.device (whole_made ours alone g.opening opened (step.Gone d far near) c.requires.1.1 refl _ m s1.device a at (marked d far near (kept (g.O.Outside.keywords c.args.outside.now) c.only.result) m s1.device (deleted_whole _ c.only.result c.only.ensures) (rw (c.target-side.ensures, c.changed_uid-uid.ensures) at does)))),
     )))

@@ -21,7 +21,7 @@ list_near-requires g c κs within = (
   search rules,
   (
     (λ s is. same_old c.state.result.now s _ (sym c.state.ensures.state ∙ is) c.in-Ok.ensures),
-    rw c.list_far.ensures.opened c.requires.1.1,
+    (rw c.list_far.ensures.opened c.requires.1.1.0, c.requires.1.1.1 ∙ sym c.list_far.ensures.keywords),
   ),
 )
 

@@ -1,17 +1,19 @@
-use Rattle.std.proofs.Common.{true}
+use Rattle.std.proofs.Common.{true, List, sym, subst}
+use Rattle.mailcore.specs.declared.keywords.Keyword.{Keyword}
+use Rattle.mailbox.specs.Operations.{ListsWithin}
 use Rattle.mailcore.specs.declared.side.Side.TheVariants.{Near}
-use Rattle.runner.proofs.PartCalls.{from_box, left_call, line_of_box, passed_call}
+use Rattle.runner.proofs.PartCalls.{from_box, left_call, line_of_box, passed_told}
 use Rattle.runner.proofs.Begun.{clear_arrives, clear_underway, near_listed}
 use Rattle.runner.proofs.Validities.{read_validities}
 use Rattle.runner.proofs.opening.list_near.Goals as goal
 
 pub list_near-requires : goal.list_near-requires
-list_near-requires g c = record { is_open = c.requires.1.1 Near }
+list_near-requires g c = record { is_open = c.requires.1.1.0 Near }
 
 pub returns-in-Ok-clause-part : goal.returns-in-Ok-clause-part
 returns-in-Ok-clause-part g c =
     let s1 = g.O.Outside.seen c.list_near.new.self in
-    passed_call _ _ _ _ _ _ _ _ _ _ _ c.in-Ok.ensures.call (λ m at a own. near_listed g.O.Outside.ours g.O.Outside.alone g.opening _ _ _ _ _ m s1.device (c.requires.1.0 g.opening.world.state at.clear.state) a at own.0 own.1)
+    passed_told _ _ _ _ _ _ _ _ _ _ _ c.in-Ok.ensures.call (λ h m at a own. near_listed g.O.Outside.ours g.O.Outside.alone g.opening _ _ _ _ _ m s1.device (subst (λ (ks : List Keyword). ListsWithin ks c.in-Ok.near) (sym c.requires.1.1.1) (c.in-Ok.ensures.within h)) (c.requires.1.0 g.opening.world.state at.clear.state) a at own.0 own.1)
 
 pub returns-in-Err-clause-part : goal.returns-in-Err-clause-part
 returns-in-Err-clause-part g c =

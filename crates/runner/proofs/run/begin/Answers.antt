@@ -1,4 +1,4 @@
-use Rattle.std.proofs.Common.{arith, rules}
+use Rattle.std.proofs.Common.{arith, rules, sym, ◌∙◌}
 use Rattle.std.proofs.lemmas.Result.{err_from_is_err_and}
 use Rattle.runner.specs.Answers.{IsChosen}
 use Rattle.runner.specs.Going.{made}
@@ -10,7 +10,7 @@ use Rattle.runner.proofs.Finding.{all_new, same_none}
 use Rattle.runner.proofs.run.begin.Goals as goal
 
 pub carry_out-requires : goal.carry_out-requires
-carry_out-requires g c κs within = (search rules, (search rules, (c.in_ok-unfit.ensures.going, (let p = c.in_ok-unfit.ensures.part in p.is_whole))))
+carry_out-requires g c κs within = (search rules, (search rules, (c.in_ok-unfit.ensures.going, ((let p = c.in_ok-unfit.ensures.part in p.is_whole), c.requires.1.1.1.1.1.1 ∙ sym c.propose.ensures.keywords))))
 
 pub conclude-requires : goal.conclude-requires
 conclude-requires g c κs within =

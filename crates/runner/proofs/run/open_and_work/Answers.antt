@@ -1,4 +1,4 @@
-use Rattle.std.proofs.Common.{◌≡◌, ◌≤◌, ◌+◌, refl, rules}
+use Rattle.std.proofs.Common.{◌≡◌, ◌≤◌, ◌+◌, refl, rules, sym, ◌∙◌}
 use Rattle.std.proofs.lemmas.Result.{err_from_is_err_and}
 use Rattle.runner.specs.Answers.{IsAsked, IsKnownEntry, run_of}
 use Rattle.runner.specs.Going.{plan_at}
@@ -18,7 +18,7 @@ open_boxes-requires g c κs within = (search rules, book_read (g.O.Outside.opene
 pub work-requires : goal.work-requires
 work-requires g c κs within =
     let old = g.O.Outside.opened c.args.outside.now in
-    (search rules, (search rules, (search rules, rw c.in_ok-open_boxes.ensures.opened (boxed_book old c.requires.1.1.1.0, (both_open old (book_read old c.requires.1.1.1.0), rw (boxed_run old) c.requires.1.1.1.1)))))
+    (search rules, (search rules, (search rules, rw c.in_ok-open_boxes.ensures.opened (boxed_book old c.requires.1.1.1.0, (both_open old (book_read old c.requires.1.1.1.0), (rw (boxed_run old) c.requires.1.1.1.1.0, c.requires.1.1.1.1.1 ∙ sym c.open_boxes.ensures.keywords))))))
 
 pub returns-in_err-open_boxes-clause-part : goal.returns-in_err-open_boxes-clause-part
 returns-in_err-open_boxes-clause-part g c =

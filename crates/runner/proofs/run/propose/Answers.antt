@@ -22,14 +22,14 @@ use Rattle.runner.proofs.run.propose.Goals as goal
 pub list_both-requires : goal.list_both-requires
 list_both-requires g c κs within =
     let old = g.O.Outside.opened c.args.outside.now in
-    (search rules, rw c.in_ok-clear.ensures.opened (turned_read (λ _. Missing) old (none_read old c.requires.1.1.0), turned_open (λ _. Missing) old c.requires.1.1.1.0))
+    (search rules, (rw c.in_ok-clear.ensures.opened (turned_read (λ _. Missing) old (none_read old c.requires.1.1.0)), (rw c.in_ok-clear.ensures.opened (turned_open (λ _. Missing) old c.requires.1.1.1.0), c.requires.1.1.1.1.1 ∙ sym c.clear.ensures.keywords)))
 
 pub make_plan-requires : goal.make_plan-requires
 make_plan-requires g c =
     let old = g.O.Outside.opened c.args.outside.now in
     record {
       journal = rw (c.list_both.ensures.opened, c.in_ok-clear.ensures.opened) (missing_here old c.requires.1.1.0);
-      room = rw (c.list_both.ensures.opened, c.in_ok-clear.ensures.opened, turned_run (λ _. Missing) old) c.requires.1.1.1.1;
+      room = rw (c.list_both.ensures.opened, c.in_ok-clear.ensures.opened, turned_run (λ _. Missing) old) c.requires.1.1.1.1.0;
       far_numbers = c.in_ok-both.ensures.far_numbers;
       near_numbers = c.in_ok-both.ensures.near_numbers;
     }

@@ -1,4 +1,4 @@
-use Rattle.std.proofs.Common.{◌≡◌, arith, rules, subst}
+use Rattle.std.proofs.Common.{◌≡◌, arith, rules, subst, sym, ◌∙◌}
 use Rattle.rules.specs.declared.plan.Plan.{Plan}
 use Rattle.runner.specs.Before.{IsTakenUp}
 use Rattle.runner.specs.Finding.{AreFoundSo}
@@ -14,7 +14,7 @@ use Rattle.runner.proofs.Finding.{mended_plan, same_then}
 use Rattle.runner.proofs.run.resume.Goals as goal
 
 pub carry_out-requires : goal.carry_out-requires
-carry_out-requires g c κs within = (search rules, (search rules, (rw c.in_ok-untear.ensures.opened (mended_going (g.O.Outside.opened c.args.outside.now) c.requires.1.1.1.0 c.requires.1.1.1.1), (let p = c.in_ok-untear.ensures.part in p.is_whole))))
+carry_out-requires g c κs within = (search rules, (search rules, (rw c.in_ok-untear.ensures.opened (mended_going (g.O.Outside.opened c.args.outside.now) c.requires.1.1.1.0 c.requires.1.1.1.1.0), ((let p = c.in_ok-untear.ensures.part in p.is_whole), c.requires.1.1.1.1.1 ∙ sym c.untear.ensures.keywords))))
 
 pub conclude-requires : goal.conclude-requires
 conclude-requires g c κs within =

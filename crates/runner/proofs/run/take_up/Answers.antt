@@ -13,7 +13,7 @@ pub state-requires : goal.state-requires
 state-requires g c = record { read = book_read (g.O.Outside.opened c.args.outside.now) c.requires.1.1.1.0 }
 
 pub skip-requires : goal.skip-requires
-skip-requires g c κs within = (search rules, (book_read (g.O.Outside.opened c.args.outside.now) c.requires.1.1.1.0, c.requires.1.1.1.1))
+skip-requires g c κs within = (search rules, (book_read (g.O.Outside.opened c.args.outside.now) c.requires.1.1.1.0, c.requires.1.1.1.1.0))
 
 pub returns-then-run-last-clause-part : goal.returns-then-run-last-clause-part
 returns-then-run-last-clause-part g c =
@@ -46,7 +46,7 @@ returns-then-run-last-gt1-clause-part g c =
     let s = g.O.Outside.seen c.args.outside.now in
     let same = run_of_state opened c.state.result.now c.state.ensures.state in
     let entry = IsKnownEntry ours alone g.opening opened c.args.run c.args.options.now (g.R.Rng.stream c.args.rng.now) in
-    left_here _ entry entry _ 0 _ s s (passed_none _ entry entry s c.requires.1.1.1.1 (λ k. k)) (inl (refl, inl (omega (arith, same, c.if-run-last.false, c.if-run-last-gt1.true)))) (λ k. let m = k.most in let l = known_least ours alone g.opening opened s.device k.known in omega (arith, same, m, l, c.if-run-last.false, c.if-run-last-gt1.true))
+    left_here _ entry entry _ 0 _ s s (passed_none _ entry entry s c.requires.1.1.1.1.0 (λ k. k)) (inl (refl, inl (omega (arith, same, c.if-run-last.false, c.if-run-last-gt1.true)))) (λ k. let m = k.most in let l = known_least ours alone g.opening opened s.device k.known in omega (arith, same, m, l, c.if-run-last.false, c.if-run-last-gt1.true))
 
 pub returns-then-run-last-clause-beyond : goal.returns-then-run-last-clause-beyond
 returns-then-run-last-clause-beyond g c = λ more.

@@ -1,4 +1,4 @@
-use Rattle.std.proofs.Common.{◌≡◌, ◌≤◌, Ok, Err, refl, ap, subst, sym, rules, arith}
+use Rattle.std.proofs.Common.{◌≡◌, ◌≤◌, ◌∙◌, Ok, Err, refl, ap, subst, sym, rules, arith}
 use Rattle.outside.specs.Calls.{Seen}
 use Rattle.outside.specs.Devices.{Device}
 use Rattle.underway.specs.Conditions.{Underway}
@@ -16,6 +16,7 @@ use Rattle.runner.proofs.settle.settle.Goals as goal
 pub loop-tried-init : goal.loop-tried-init
 loop-tried-init g c = record {
   was_honest = λ h. h;
+  keywords = refl;
   moved = moved_none _;
   stops = omega arith;
   told = more_none _ _ refl;
@@ -50,6 +51,7 @@ loop-tried-preserved g c =
     let appends = ap (λ (s : Seen). s.appends) e in
     record {
       was_honest = λ h. i.was_honest (c.again.ensures.was_honest (c.attempt.ensures.was_honest h));
+      keywords = c.attempt.ensures.keywords ∙ c.again.ensures.keywords ∙ i.keywords;
       moved = moved_twice _ _ _ i.moved c.attempt.ensures.moved;
       stops = stops_more _ _ _ tried s0 now s1 s2 _ i.stops i.first e c.attempt.ensures.stuck part;
       told = more_after s0 s1 s2 (more_found tried s0 now s1 i.told e) n.told;

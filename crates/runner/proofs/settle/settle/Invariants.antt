@@ -20,6 +20,7 @@ invariant-loop-tried g l =
     let alone = g.O.Outside.alone in
     record {
       was_honest : g.O.Outside.honest l.outside → g.O.Outside.honest l.fn.outside;
+      keywords : g.O.Outside.keywords l.outside ≡ g.O.Outside.keywords l.fn.outside;
       moved : Moves (g.R.Rng.stream l.fn.rng) (g.R.Rng.stream l.rng);
       stops : MetStops l.tried start now;
       told : TellsMore start now;

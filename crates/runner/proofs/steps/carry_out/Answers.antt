@@ -49,6 +49,7 @@ loop-number-preserved g c =
       steps = steps_on b _ ps p _ one.opened is i.steps;
       fits = All-push IsFitting ps p i.fits one.fits;
       was_honest = λ h. i.was_honest (one.was_honest h);
+      keywords = one.keywords ∙ i.keywords;
       part = rw (← made_more ps p) (passed_after _ _ _ _ _ _ _ _ s1 _ one.was_honest i.part went);
       first = λ e. absurd (not_none ps p e);
       later = λ e h k. let before = i.part in let after = one.part in after.reaches h (before.reaches (one.was_honest h) k);

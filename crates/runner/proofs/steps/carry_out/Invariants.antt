@@ -17,6 +17,7 @@ invariant-loop-number g l =
       steps : steps_of l.performed.items ++ drop (length (log_at now)) (plan_at now).steps ≡ drop (length (log_at start)) (plan_at start).steps;
       fits : All IsFitting l.performed.items;
       was_honest : g.O.Outside.honest l.outside → g.O.Outside.honest l.fn.outside;
+      keywords : g.O.Outside.keywords l.outside ≡ g.O.Outside.keywords l.fn.outside;
       part : Passed (g.O.Outside.honest l.outside) (AtReady g.O.Outside.ours g.O.Outside.alone g.opening start l.is_taken_up) (AtReady g.O.Outside.ours g.O.Outside.alone g.opening now l.is_taken_up) (made l.performed.items) (g.O.Outside.seen l.fn.outside) (g.O.Outside.seen l.outside);
       first : l.performed.items ≡ [] → g.O.Outside.seen l.outside ≡ g.O.Outside.seen l.fn.outside;
       later : (l.performed.items ≡ [] → ⊥) → g.O.Outside.honest l.outside → AtReady g.O.Outside.ours g.O.Outside.alone g.opening start l.is_taken_up (g.O.Outside.seen l.fn.outside).device → AtReady g.O.Outside.ours g.O.Outside.alone g.opening now false (g.O.Outside.seen l.outside).device;

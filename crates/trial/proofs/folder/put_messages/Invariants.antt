@@ -5,4 +5,4 @@ use Rattle.trial.specs.Folders.{put_message}
 use Rattle.trial.proofs.folder.put_messages.Given as goal
 
 abbrev pub invariant-loop-message : goal.invariant-loop-message
-invariant-loop-message l = seen_of l.folder ≡ record (seen_of l.initial.folder) { stored = fold put_message (stored_in l.initial.folder) l.yielded }
+invariant-loop-message l = seen_of l.folder ≡ record (seen_of l.initial.folder) { stored = fold (put_message l.keywords) (stored_in l.initial.folder) l.yielded }

@@ -6,4 +6,4 @@ use Rattle.trial.specs.Worlds.{waiting_of}
 use Rattle.trial.proofs.folder.put_waiting.Given as goal
 
 abbrev pub invariant-loop-file : goal.invariant-loop-file
-invariant-loop-file l = seen_of l.folder ≡ record (seen_of l.initial.folder) { stored = fold (λ s f. put_waiting s (waiting_of f)) (stored_in l.initial.folder) l.yielded }
+invariant-loop-file l = seen_of l.folder ≡ record (seen_of l.initial.folder) { stored = fold (λ s f. put_waiting l.keywords s (waiting_of f)) (stored_in l.initial.folder) l.yielded }

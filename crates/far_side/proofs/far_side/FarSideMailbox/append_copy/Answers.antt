@@ -1,7 +1,7 @@
 use Rattle.std.proofs.lemmas.Bool.{false≢true}
 use Rattle.mailcore.specs.CopyPieces.{text_left}
 use Rattle.far_side.proofs.CopyOctets.{sent_as}
-use Rattle.far_side.proofs.OpenCalls.{Called, appends, still_logged_in, still_named}
+use Rattle.far_side.proofs.OpenCalls.{Called, appends, still_logged_in, still_has_map, still_named}
 use Rattle.far_side.proofs.far_side.FarSideMailbox.append_copy.Goals as goal
 
 pub invariant_of-self : goal.invariant_of-self
@@ -14,6 +14,9 @@ invariant_of-self g c =
       whole = c.requires.whole;
       named = s.named;
       was_honest = said.was_honest;
+      had_letters = s.letters;
+      letters = said.letters;
+      keywords = said.keywords;
       still = said.same.2;
       counts = said.counts;
     } in
@@ -21,6 +24,7 @@ invariant_of-self g c =
       named = λ selected. still_named k said.same.0 selected;
       logged_in = λ reached ready h. still_logged_in k said.same.0 ready h;
       fresh = λ e. absurd (false≢true e);
+      letters = still_has_map k;
     }
 
 pub returns-clause-call : goal.returns-clause-call
@@ -33,6 +37,9 @@ returns-clause-call g c =
       whole = c.requires.whole;
       named = s.named;
       was_honest = said.was_honest;
+      had_letters = s.letters;
+      letters = said.letters;
+      keywords = said.keywords;
       still = said.same.2;
       counts = said.counts;
     } in

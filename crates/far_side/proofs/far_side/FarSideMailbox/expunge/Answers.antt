@@ -4,8 +4,9 @@ use Rattle.mailcore.specs.declared.side.Side.TheVariants.{Far}
 use Rattle.imap_session.specs.NamedMessages.{swept}
 use Rattle.imap_client.specs.Calls.{each_one}
 use Rattle.mailbox.specs.Operations.{removed}
-use Rattle.far_side.proofs.OpenCalls.{Called, still_logged_in, still_named, turns}
+use Rattle.far_side.proofs.OpenCalls.{Called, still_logged_in, still_has_map, still_named, turns}
 use Rattle.far_side.proofs.Operations.{swept_same}
+use Rattle.far_side.proofs.SeenThrough.{removed_seen}
 use Rattle.far_side.proofs.far_side.FarSideMailbox.expunge.Goals as goal
 
 pub invariant_of-self : goal.invariant_of-self
@@ -18,6 +19,9 @@ invariant_of-self g c =
       whole = c.requires.whole;
       named = s.named;
       was_honest = said.was_honest;
+      had_letters = s.letters;
+      letters = said.letters;
+      keywords = said.keywords;
       still = said.same.3;
       counts = said.counts;
     } in
@@ -25,6 +29,7 @@ invariant_of-self g c =
       named = λ selected. still_named k said.same.0 selected;
       logged_in = λ reached ready h. still_logged_in k said.same.0 ready h;
       fresh = λ e. absurd (false≢true e);
+      letters = still_has_map k;
     }
 
 pub returns-clause-call : goal.returns-clause-call
@@ -37,8 +42,11 @@ returns-clause-call g c =
       whole = c.requires.whole;
       named = s.named;
       was_honest = said.was_honest;
+      had_letters = s.letters;
+      letters = said.letters;
+      keywords = said.keywords;
       still = said.same.3;
       counts = said.counts;
     } in
     rw c.told_by.ensures (turns k g.met.L.Link.sound 1 (swept (each_one (c.args.uid ∷ []))) (removed Far c.args.uid) c.expunge.result said.ends
-    (λ x. swept_same s.account.mailbox.items x c.args.uid) said.outcome)
+    (λ x. swept_same s.account.mailbox.items x c.args.uid) (removed_seen s.far.keywords c.args.uid) said.outcome)

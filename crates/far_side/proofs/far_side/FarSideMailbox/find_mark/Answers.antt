@@ -1,7 +1,9 @@
+use Rattle.std.proofs.Common.{sym, ◌∙◌}
 use Rattle.std.proofs.lemmas.Bool.{false≢true}
 use Rattle.mailbox.specs.Operations.{Finds}
 use Rattle.far_side.specs.Chosen.{settled}
-use Rattle.far_side.proofs.OpenCalls.{Called, reads, still_logged_in, still_named}
+use Rattle.far_side.proofs.SeenThrough.{marked_seen}
+use Rattle.far_side.proofs.OpenCalls.{Called, reads, still_logged_in, still_has_map, still_named}
 use Rattle.far_side.proofs.far_side.FarSideMailbox.find_mark.Goals as goal
 
 pub invariant_of-self : goal.invariant_of-self
@@ -14,6 +16,9 @@ invariant_of-self g c =
       whole = c.requires.whole;
       named = s.named;
       was_honest = said.was_honest;
+      had_letters = s.letters;
+      letters = said.letters;
+      keywords = said.keywords;
       still = said.same.3;
       counts = said.counts;
     } in
@@ -21,6 +26,7 @@ invariant_of-self g c =
       named = λ selected. still_named k said.same.0 selected;
       logged_in = λ reached ready h. still_logged_in k said.same.0 ready h;
       fresh = λ e. absurd (false≢true e);
+      letters = still_has_map k;
     }
 
 pub returns-clause-call : goal.returns-clause-call
@@ -33,7 +39,10 @@ returns-clause-call g c =
       whole = c.requires.whole;
       named = s.named;
       was_honest = said.was_honest;
+      had_letters = s.letters;
+      letters = said.letters;
+      keywords = said.keywords;
       still = said.same.3;
       counts = said.counts;
     } in
-    rw c.told_by.ensures (reads k g.met.L.Link.sound (Finds c.args.mark c.args.from) (λ found s. Finds c.args.mark c.args.from found (settled s)) (λ found s is. is) c.find_mark.result said.ends said.outcome)
+    rw c.told_by.ensures (reads k g.met.L.Link.sound (Finds c.args.mark c.args.from) (λ found s. Finds c.args.mark c.args.from found (settled s)) (λ found x is. is ∙ sym (marked_seen s.far.keywords c.args.mark c.args.from x)) c.find_mark.result said.ends said.outcome)

@@ -4,7 +4,7 @@ use Rattle.std.specs.Prelude.{if◌then◌else◌}
 use Rattle.mailcore.specs.Operations.{bytes_of}
 use Rattle.mailbox.specs.Operations.{Loads}
 use Rattle.imap_client.specs.Fetches.{body_of}
-use Rattle.far_side.proofs.OpenCalls.{Called, loaded, reads, still_logged_in, still_named}
+use Rattle.far_side.proofs.OpenCalls.{Called, loaded, reads, still_logged_in, still_has_map, still_named}
 use Rattle.far_side.proofs.far_side.FarSideMailbox.load.Goals as goal
 
 pub invariant_of-self : goal.invariant_of-self
@@ -17,6 +17,9 @@ invariant_of-self g c =
       whole = c.requires.whole;
       named = s.named;
       was_honest = said.was_honest;
+      had_letters = s.letters;
+      letters = said.letters;
+      keywords = said.keywords;
       still = said.same.3;
       counts = said.counts;
     } in
@@ -24,6 +27,7 @@ invariant_of-self g c =
       named = λ selected. still_named k said.same.0 selected;
       logged_in = λ reached ready h. still_logged_in k said.same.0 ready h;
       fresh = λ e. absurd (false≢true e);
+      letters = still_has_map k;
     }
 
 pub returns-clause-call : goal.returns-clause-call
@@ -36,7 +40,10 @@ returns-clause-call g c =
       whole = c.requires.whole;
       named = s.named;
       was_honest = said.was_honest;
+      had_letters = s.letters;
+      letters = said.letters;
+      keywords = said.keywords;
       still = said.same.3;
       counts = said.counts;
     } in
-    rw c.told_by.ensures (reads k g.met.L.Link.sound (Loads c.args.uid (body_of new)) (λ is_there s. (if is_there then Some (body_of new) else None) ≡ bytes_of c.args.uid s) (loaded c.args.uid (body_of new)) c.load.result said.ends said.outcome)
+    rw c.told_by.ensures (reads k g.met.L.Link.sound (Loads c.args.uid (body_of new)) (λ is_there s. (if is_there then Some (body_of new) else None) ≡ bytes_of c.args.uid s) (loaded s.far.keywords c.args.uid (body_of new)) c.load.result said.ends said.outcome)

@@ -1,4 +1,5 @@
 use Rattle.std.proofs.Common.{◌≡◌, arith}
+use Rattle.mailcore.specs.KeywordNames.{kept}
 use Rattle.outside.specs.declared.outside.Carried.TheVariants.{Absent}
 use Rattle.std.proofs.lemmas.Result.{err_from_is_err_and}
 use Rattle.guarded.proofs.Again.{asked_again, not_listed, stops_again}
@@ -7,26 +8,26 @@ use Rattle.guarded.proofs.guarded_outside.GuardedOutsideOutside.carry.Goals as g
 pub returns-in_err-listing-clause-call : goal.returns-in_err-listing-clause-call
 returns-in_err-listing-clause-call g c =
     let p = err_from_is_err_and c.from_residual-in_err-listing.result c.from_residual-in_err-listing.ensures.1 in
-    rw (p.1, p.2) (not_listed _ _ g.O.Outside.ours g.O.Outside.alone c.args.direction c.args.uid c.args.flags c.args.mark _ _ _ _ _
+    rw (p.1, p.2) (not_listed _ _ g.O.Outside.ours g.O.Outside.alone c.args.direction c.args.uid (kept (g.O.Outside.keywords c.args.self.now.outside) c.args.flags) c.args.mark _ _ _ _ _
     c.in_ok-carried.ensures.call c.in-Absent-Pull.is-0 c.in_err-listing.ensures.was_honest c.in_err-listing.ensures.call)
 
 pub returns-in_err-carried-2-clause-call : goal.returns-in_err-carried-2-clause-call
 returns-in_err-carried-2-clause-call g c =
     let p = err_from_is_err_and c.from_residual-in_err-carried-2.result c.from_residual-in_err-carried-2.ensures.1 in
-    rw (p.1, p.2) (asked_again _ _ _ g.O.Outside.ours g.O.Outside.alone c.args.direction c.args.uid c.args.flags c.args.mark _ _ _ _ _ _ _
+    rw (p.1, p.2) (asked_again _ _ _ g.O.Outside.ours g.O.Outside.alone c.args.direction c.args.uid (kept (g.O.Outside.keywords c.args.self.now.outside) c.args.flags) c.args.mark _ _ _ _ _ _ _
     c.in_ok-carried.ensures.call c.in-Absent-Pull.is-0 c.in_ok-listing.ensures.was_honest c.in_ok-listing.ensures.call
-    c.in_err-carried-2.ensures.was_honest c.in_err-carried-2.ensures.call)
+    c.in_err-carried-2.ensures.was_honest (rw (c.in_ok-listing.ensures.keywords, c.in_ok-carried.ensures.keywords) at c.in_err-carried-2.ensures.call))
 
 pub returns-clause-call : goal.returns-clause-call
 returns-clause-call g c =
-    asked_again _ _ _ g.O.Outside.ours g.O.Outside.alone c.args.direction c.args.uid c.args.flags c.args.mark _ _ _ _ _ _ _
+    asked_again _ _ _ g.O.Outside.ours g.O.Outside.alone c.args.direction c.args.uid (kept (g.O.Outside.keywords c.args.self.now.outside) c.args.flags) c.args.mark _ _ _ _ _ _ _
     c.in_ok-carried.ensures.call c.in-Absent-Pull.is-0 c.in_ok-listing.ensures.was_honest c.in_ok-listing.ensures.call
-    c.in_ok-carried-2.ensures.was_honest c.in_ok-carried-2.ensures.call
+    c.in_ok-carried-2.ensures.was_honest (rw (c.in_ok-listing.ensures.keywords, c.in_ok-carried.ensures.keywords) at c.in_ok-carried-2.ensures.call)
 
 pub returns-then-is_listed-clause-call : goal.returns-then-is_listed-clause-call
 returns-then-is_listed-clause-call g c =
     let is_absent : c.in_ok-carried-2.carried ≡ Absent = grind (arith, c.eq.ensures, c.if-eq.true) in
-    stops_again _ _ _ _ g.O.Outside.ours g.O.Outside.alone c.args.direction c.args.uid c.args.flags c.args.mark _ _ _ _ _ _ _ _ _
+    stops_again _ _ _ _ g.O.Outside.ours g.O.Outside.alone c.args.direction c.args.uid (kept (g.O.Outside.keywords c.args.self.now.outside) c.args.flags) c.args.mark _ _ _ _ _ _ _ _ _
     c.in_ok-carried.ensures.call c.in-Absent-Pull.is-0 c.in_ok-listing.ensures.was_honest c.in_ok-listing.ensures.call
-    c.in_ok-carried-2.ensures.was_honest c.in_ok-carried-2.ensures.call is_absent
+    c.in_ok-carried-2.ensures.was_honest (rw (c.in_ok-listing.ensures.keywords, c.in_ok-carried.ensures.keywords) at c.in_ok-carried-2.ensures.call) is_absent
     c.stop.ensures.was_honest c.stop.ensures.fault c.stop.ensures.stopped

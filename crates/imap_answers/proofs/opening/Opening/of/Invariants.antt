@@ -4,4 +4,4 @@ use Rattle.imap_answers.specs.Openings.{opening_more, nothing_told, IsPositive}
 use Rattle.imap_answers.proofs.opening.Opening.of.Given as goal
 
 abbrev pub invariant-loop-reply : goal.invariant-loop-reply
-invariant-loop-reply l = (l.opening ≡ fold opening_more nothing_told (take l.reply-index l.replies)) × IsPositive l.opening
+invariant-loop-reply l = (l.opening ≡ fold (opening_more l.keywords) nothing_told (take l.reply-index l.replies)) × IsPositive l.opening

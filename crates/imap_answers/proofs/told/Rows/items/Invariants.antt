@@ -6,5 +6,5 @@ use Rattle.imap_answers.proofs.told.Rows.items.Given as goal
 
 abbrev pub invariant-loop-uid : goal.invariant-loop-uid
 invariant-loop-uid l =
-    (option_map (λ items. l.items.items ++ items) (items_told l.uid-iterator) ≡ items_told l.self)
-    × (map (λ i. i.uid) l.items.items ++ keys_of l.uid-iterator ≡ keys_of l.self)
+    (option_map (λ items. l.items.items ++ items) (items_told l.uid-iterator) ≡ items_told l.self.rows)
+    × (map (λ i. i.uid) l.items.items ++ keys_of l.uid-iterator ≡ keys_of l.self.rows)

@@ -55,6 +55,7 @@ invariant_of-self g c =
       selected = λ is_selected ready honest.
           goes_on change (sweep_keeps (each_one c.args.uids.now)) it.name.items it.validity it.next _ _ new (done is_selected ready honest);
       numbers = it.numbers;
+      map = it.map;
       are_passed = λ is_selected ready honest.
           let a = c.change.ensures.outcome honest in
           passes_on it.passed change (sweep_passes it.passed (each_one c.args.uids.now)) it.name.items it.validity it.next _ a.mid new (done is_selected ready honest)

@@ -19,9 +19,11 @@ returns-then-branch g c =
         λ _. tt,
         (
           e.was_honest,
+          e.letters,
           e.stuck,
           e.ends,
           e.same,
+          e.keywords,
           e.remains,
           λ honest.
               let a = e.outcome honest in
@@ -46,9 +48,11 @@ returns-else-branch g c =
         λ _. tt,
         (
           e.was_honest,
+          e.letters,
           e.stuck,
           e.ends,
           e.same,
+          e.keywords,
           e.remains,
           λ honest.
               let a = e.outcome honest in

@@ -1,8 +1,5 @@
-use Rattle.std.proofs.Common.{◌≡◌, ◌<◌, ◌≤◌, ◌∙◌, ℕ, true, max, subst, sym, Option, Some, arith, rules}
+use Rattle.std.proofs.Common.{◌≡◌, ℕ, true, max, Option, arith}
 use Rattle.mailcore.specs.Operations.{marked_from}
-use Rattle.mailcore.specs.Stores.{Store}
-use Rattle.passed_marks.specs.Passed.{ArePassed}
-use Rattle.imap_session.specs.Mailboxes.{FarMailbox}
 use Rattle.imap_session.specs.Servers.{selected}
 use Rattle.imap_session.specs.Lines.{told_server}
 use Rattle.imap_client.specs.Boxes.{IsSelected, Passes}
@@ -32,6 +29,7 @@ invariant_of-self g c =
           (λ was_ready. selected_then g.L.Link.visitors it.name.items it.validity it.next before a.mid a.visits (it.selected is_selected was_ready (c.mark.ensures.was_honest honest)))
           (λ m is. a.then m is) (Option ℕ) 1 c.mark.result c.mark.ensures.ends;
       numbers = it.numbers;
+      map = it.map;
       are_passed = λ is_selected ready honest.
           let a = c.mark.ensures.passed honest in
           let was_honest = c.mark.ensures.was_honest honest in
@@ -41,7 +39,7 @@ invariant_of-self g c =
           (λ was_ready. (known was_ready).0)
           (λ was_ready.
           search_passes c.begin.new.self c.mark.new.passed it.name.items it.validity it.next a.mid (known was_ready).0
-          (λ m at. c.begin.ensures.passed m.store.next m.store.messages (c.keep_if.ensures m.store.next m.store.messages (λ _. (known was_ready).1 m at)))
+          (λ m at. c.begin.ensures.passed m.store.next m.store.messages (c.keep_if.ensures.passed m.store.next m.store.messages (λ _. (known was_ready).1 m at)))
           (λ m at small passed. (a.then m at).1 small passed ready))
           (λ m is. (a.then m is).0) (Option ℕ) 1 c.mark.result c.mark.ensures.ends;
     }
@@ -67,7 +65,7 @@ returns-clause-outcome g c honest =
           marked_behind c.args.mark c.args.from below (omega (arith, low, first)) m.store.messages range.uids
           (λ k d within up under.
           c.begin.ensures.other m.store.next m.store.messages
-          (c.keep_if.ensures m.store.next m.store.messages
+          (c.keep_if.ensures.passed m.store.next m.store.messages
           (λ is_selected. passes_then it.passed g.L.Link.visitors before a.mid a.visits (it.are_passed is_selected was_ready (c.mark.ensures.was_honest honest)) m is))
           k d within (omega (arith, up, first)) under))
           c.mark.result c.mark.ensures.ends (a.then m is store range);

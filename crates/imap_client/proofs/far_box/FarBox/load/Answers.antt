@@ -32,6 +32,7 @@ invariant_of-self g c =
       named = it.named;
       selected = λ is_selected ready honest. (known is_selected ready honest).0;
       numbers = it.numbers;
+      map = it.map;
       are_passed = λ is_selected ready honest. (known is_selected ready honest).1;
     }
 
@@ -53,6 +54,7 @@ invariant_of-self-in-Some g c =
       named = it.named;
       selected = λ is_selected ready honest. (known is_selected ready honest).0;
       numbers = it.numbers;
+      map = it.map;
       are_passed = λ is_selected ready honest. (known is_selected ready honest).1;
     }
 
@@ -74,6 +76,7 @@ invariant_of-self-in-None g c =
       named = it.named;
       selected = λ is_selected ready honest. (known is_selected ready honest).0;
       numbers = it.numbers;
+      map = it.map;
       are_passed = λ is_selected ready honest. (known is_selected ready honest).1;
     }
 

@@ -8,8 +8,9 @@ use Rattle.imap_session.specs.Lines.{told_server}
 use Rattle.imap_link.specs.declared.fault.FarFault.{FarFault}
 use Rattle.imap_link.specs.Outcomes.{Outcome}
 use Rattle.imap_client.specs.Tags.{tag_text}
-use Rattle.imap_client.specs.Appending.{Adds, AddsSome, NoUidLeft}
+use Rattle.imap_client.specs.Appending.{Adds, AddsSome, NoUidLeft, names_to_add}
 use Rattle.imap_client.specs.Boxes.{IsSelected}
+use Rattle.imap_client.specs.Seen.{flags_sent}
 use Rattle.imap_client.specs.States.{EndsSo}
 use Rattle.imap_client.proofs.Adding.{AddedSo, add_exchanged, some_of, told_so, adds_so, never_protocol, told_fails}
 use Rattle.imap_client.proofs.Changed.{outcome_err, state_of_parts}
@@ -34,9 +35,9 @@ returns-in_err-ask_to_add-clause-outcome g c honest =
           let old = w.mid in
           let new = (told_server (g.L.Link.line c.ask_to_add.new.self.wire.link)) in
           let heard = c.ask_to_add.new.self.wire.heard.read in
-          subst (λ (r : Result (Option ℕ) FarFault). Outcome (Adds m a.flags (text_left a.octets)) (NoUidLeft m) (AddsSome m a.flags (text_left a.octets)) r old new) (sym (p.1 ∙ ap Err p.2))
-          (outcome_err (Unit {0}) (Option ℕ) (λ _. AddedSo n a.name.now m a.flags (text_left a.octets) heard) (Adds m a.flags (text_left a.octets)) (NoUidLeft m) (AddsSome m a.flags (text_left a.octets)) old new f
-          (add_exchanged n a.name.now a.flags (text_left a.octets) old m sel.0 is (Err f) heard new w.then));
+          subst (λ (r : Result (Option ℕ) FarFault). Outcome (Adds m (flags_sent a.keywords.now a.flags old) (text_left a.octets)) (NoUidLeft m) (AddsSome m (flags_sent a.keywords.now a.flags old) (text_left a.octets)) r old new) (sym (p.1 ∙ ap Err p.2))
+          (outcome_err (Unit {0}) (Option ℕ) (λ _. AddedSo n a.name.now m (flags_sent a.keywords.now a.flags old) (text_left a.octets) heard) (Adds m (flags_sent a.keywords.now a.flags old) (text_left a.octets)) (NoUidLeft m) (AddsSome m (flags_sent a.keywords.now a.flags old) (text_left a.octets)) old new f
+          (add_exchanged n a.name.now (names_to_add a) (text_left a.octets) old m sel.0 is (Err f) heard new w.then));
     }
 
 pub returns-in_err-given-clause-ends : goal.returns-in_err-given-clause-ends
@@ -61,9 +62,9 @@ returns-in_err-given-clause-outcome g c honest =
           let old = w.mid in
           let new = (told_server (g.L.Link.line c.ask_to_add.new.self.wire.link)) in
           let heard = c.ask_to_add.new.self.wire.heard.read in
-          let done_so = add_exchanged n a.name.now a.flags (text_left a.octets) old m sel.0 is (Ok tt) heard new w.then in
-          subst (λ (r : Result (Option ℕ) FarFault). Outcome (Adds m a.flags (text_left a.octets)) (NoUidLeft m) (AddsSome m a.flags (text_left a.octets)) r old new) (sym (p.1 ∙ ap Err (p.2 ∙ c.in_err-given.ensures.err)))
-          (inr (some_of n a.name.now a.flags (text_left a.octets) old m sel.0 is heard new done_so));
+          let done_so = add_exchanged n a.name.now (names_to_add a) (text_left a.octets) old m sel.0 is (Ok tt) heard new w.then in
+          subst (λ (r : Result (Option ℕ) FarFault). Outcome (Adds m (flags_sent a.keywords.now a.flags old) (text_left a.octets)) (NoUidLeft m) (AddsSome m (flags_sent a.keywords.now a.flags old) (text_left a.octets)) r old new) (sym (p.1 ∙ ap Err (p.2 ∙ c.in_err-given.ensures.err)))
+          (inr (some_of n a.name.now (names_to_add a) (text_left a.octets) old m sel.0 is heard new done_so));
     }
 
 pub returns-in_err-told-clause-ends : goal.returns-in_err-told-clause-ends
@@ -88,8 +89,8 @@ returns-in_err-told-clause-outcome g c honest =
           let old = w.mid in
           let new = (told_server (g.L.Link.line c.ask_to_add.new.self.wire.link)) in
           let heard = c.ask_to_add.new.self.wire.heard.read in
-          let done_so = add_exchanged n a.name.now a.flags (text_left a.octets) old m sel.0 is (Ok tt) heard new w.then in
-          let told = told_so n a.name.now m a.flags (text_left a.octets) heard old new c.args.validity c.args.next sel is done_so c.in_ok-given.given c.in_ok-given.ensures.told in
+          let done_so = add_exchanged n a.name.now (names_to_add a) (text_left a.octets) old m sel.0 is (Ok tt) heard new w.then in
+          let told = told_so n a.name.now m (flags_sent a.keywords.now a.flags w.mid) (text_left a.octets) heard old new c.args.validity c.args.next sel is done_so c.in_ok-given.given c.in_ok-given.ensures.told in
           absurd (never_protocol done_so.uid _ c.in_err-told.field-0.0 told (sym c.uid_told.ensures ∙ c.in_err-told.was));
     }
 
@@ -99,7 +100,7 @@ returns-clause-outcome g c =
     let n = c.args.self.now.tags + 1 in
     let old = (told_server (g.L.Link.line c.args.self.now.wire.link)) in
     let heard = c.ask_to_add.new.self.wire.heard.read in
-    subst (λ w. g.L.Link.honest w.link → Among g.L.Link.visitors (λ old new. IsSelected a.name.now c.args.validity c.args.next old → (m : FarMailbox) → selected old ≡ Some m → Adds m a.flags (text_left a.octets) c.in_ok-told.told old new) old (told_server (g.L.Link.line w.link))) (sym c.done.ensures.wire)
+    subst (λ w. g.L.Link.honest w.link → Among g.L.Link.visitors (λ old new. IsSelected a.name.now c.args.validity c.args.next old → (m : FarMailbox) → selected old ≡ Some m → Adds m (flags_sent a.keywords.now a.flags old) (text_left a.octets) c.in_ok-told.told old new) old (told_server (g.L.Link.line w.link))) (sym c.done.ensures.wire)
     (λ honest.
     let w = c.in_ok-ask_to_add.ensures.outcome honest in
     record {
@@ -107,7 +108,7 @@ returns-clause-outcome g c =
       visits = w.visits;
       then = λ sel m is.
           let new = (told_server (g.L.Link.line c.ask_to_add.new.self.wire.link)) in
-          let done_so = add_exchanged n a.name.now a.flags (text_left a.octets) w.mid m sel.0 is (Ok tt) heard new w.then in
-          let told = told_so n a.name.now m a.flags (text_left a.octets) heard w.mid new c.args.validity c.args.next sel is done_so c.in_ok-given.given c.in_ok-given.ensures.told in
-          adds_so n a.name.now m a.flags (text_left a.octets) heard w.mid new _ c.in_ok-told.told done_so told (sym c.uid_told.ensures ∙ c.in_ok-told.was);
+          let done_so = add_exchanged n a.name.now (names_to_add a) (text_left a.octets) w.mid m sel.0 is (Ok tt) heard new w.then in
+          let told = told_so n a.name.now m (flags_sent a.keywords.now a.flags w.mid) (text_left a.octets) heard w.mid new c.args.validity c.args.next sel is done_so c.in_ok-given.given c.in_ok-given.ensures.told in
+          adds_so n a.name.now m (flags_sent a.keywords.now a.flags w.mid) (text_left a.octets) heard w.mid new _ c.in_ok-told.told done_so told (sym c.uid_told.ensures ∙ c.in_ok-told.was);
     })

@@ -63,7 +63,7 @@ returns-in_err-ask-clause-outcome g c honest =
           let n = c.args.self.now.tags + 1 in
           let heard = c.ask.new.self.wire.heard.read in
           subst (λ (r : Result (Unit {0}) FarFault). Outcome (λ x. Remains) Never Remains r old new) (sym (p.1 ∙ ap Err p.2))
-          (outcome_err (Unit {0}) (Unit {0}) (λ _ s t. HeardOf abilities_read any_replies (abilities ++ done (tag_text n) ∷ []) heard × Remains s t) (λ x. Remains) Never Remains old new f
+          (outcome_err (Unit {0}) (Unit {0}) (λ _ s t. HeardOf old.keywords abilities_read any_replies (abilities ++ done (tag_text n) ∷ []) heard × Remains s t) (λ x. Remains) Never Remains old new f
           (ability_exchanged n old (Err f) heard new a.then));
     }
 
@@ -78,7 +78,7 @@ returns-then-not-speaks-clause-outcome g c honest =
           let new = (told_server (g.L.Link.line c.ask.new.self.wire.link)) in
           let n = c.args.self.now.tags + 1 in
           let done_so = ability_exchanged n old (Ok tt) c.ask.new.self.wire.heard.read new a.then in
-          let told = named_so (tag_text n) _ c.in_ok-speaks.speaks done_so.0 c.in_ok-speaks.ensures.told in
+          let told = named_so old.keywords (tag_text n) _ c.in_ok-speaks.speaks done_so.0 c.in_ok-speaks.ensures.told in
           let both : false ≡ true = sym c.if-not-speaks.true ∙ told in
           cc;
     }

@@ -1,5 +1,6 @@
 use Rattle.std.proofs.Common.{ℕ, ◌+◌, List, ◌∙◌, ap, subst}
 use Rattle.imap_session.specs.Lines.{told_server}
+use Rattle.imap_commands.specs.declared.command.Command.{Command}
 use Rattle.imap_client.specs.Appending.{request_to_add}
 use Rattle.imap_client.specs.Exchanged.{Exchanged}
 use Rattle.imap_client.specs.Tags.{tag_text}
@@ -9,6 +10,9 @@ use Rattle.std.proofs.Common.{inl, refl, sym, Err}
 use Rattle.std.proofs.lemmas.Result.{err_from_is_err_and}
 use Rattle.imap_link.specs.declared.fault.FarFault.TheVariants as faults
 use Rattle.imap_client.specs.Exchanged.{command_at}
+use Rattle.imap_client.specs.Seen.{KeepsMap}
+use Rattle.imap_client.proofs.Lasting.{exchanged_so}
+use Rattle.imap_client.proofs.Mapped.{among_keeps, map_lasts}
 use Rattle.imap_client.proofs.Visited.{stopped_or, unsent}
 use Rattle.imap_link.specs.Sinks.{any_replies}
 use Rattle.imap_client.proofs.session.Session.ask_to_add.Goals as goal
@@ -48,3 +52,11 @@ returns-in_err-front-clause-outcome g c honest =
     let p = err_from_is_err_and c.from_residual-in_err-front.result c.from_residual-in_err-front.ensures.1 in
     subst (λ w. Among g.L.Link.visitors (Exchanged (command_at (c.args.self.now.tags + 1) (request_to_add c.args.addition.now)) any_replies c.from_residual-in_err-front.result w.heard.read) (told_server (g.L.Link.line c.args.self.now.wire.link)) (told_server (g.L.Link.line w.link))) (sym (c.in_ok-tag.ensures.same.0 ∙ c.in_ok-begin.ensures.same.0))
     (unsent g.L.Link.visitors (λ r. Exchanged (command_at (c.args.self.now.tags + 1) (request_to_add c.args.addition.now)) any_replies r c.args.self.now.wire.heard.read) c.from_residual-in_err-front.result faults.NoMemory (told_server (g.L.Link.line c.args.self.now.wire.link)) (p.1 ∙ ap Err p.2) (inl refl))
+
+pub returns-clause-letters : goal.returns-clause-letters
+returns-clause-letters g c honest =
+    let new = told_server (g.L.Link.line c.deliver.new.self.wire.link) in
+    let command : Command = record { tag = c.in_ok-tag.tag; request = request_to_add c.args.addition.now } in
+    let parts = addition_in_two c.in_ok-tag.tag c.deref.result.now c.in_ok-front.front.items c.args.addition.now c.requires c.deref.ensures.value c.in_ok-front.ensures in
+    subst (λ w. KeepsMap (told_server (g.L.Link.line w.link)) new) (c.in_ok-tag.ensures.same.0 ∙ c.in_ok-begin.ensures.same.0)
+    (among_keeps g.L.Link.visitors _ _ new (λ mid h. exchanged_so (KeepsMap mid) command refl any_replies c.deliver.new.self.wire.heard.read mid new (map_lasts mid) c.deliver.result h) (c.deliver.ensures.outcome honest command parts))

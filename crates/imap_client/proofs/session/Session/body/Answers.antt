@@ -44,8 +44,8 @@ returns-in_err-ask-clause-outcome g c honest =
           let new = (told_server (g.L.Link.line c.ask.new.self.wire.link)) in
           let so = λ (found : Option FoundBody). found_at read found ≡ bytes_of c.args.uid m.store in
           subst (λ (r : Result (Option FoundBody) FarFault). Outcome (Tells so) Never Remains r old new) (sym (p.1 ∙ ap Err p.2))
-          (outcome_err (Unit {0}) (Option FoundBody) (λ x. Tells (λ _. FetchTells n m (one_uid c.args.uid) wanted.Body any_replies read) x) (Tells so) Never Remains old new f
-          (fetch_exchanged n old m is (one_uid c.args.uid) wanted.Body any_replies (Err f) read new a.then));
+          (outcome_err (Unit {0}) (Option FoundBody) (λ x. Tells (λ _. FetchTells n old.keywords m (one_uid c.args.uid) wanted.Body any_replies read) x) (Tells so) Never Remains old new f
+          (fetch_exchanged n old m is (one_uid c.args.uid) wanted.Body any_replies tt (Err f) read new a.then));
     }
 
 pub returns-in_err-body-clause-outcome : goal.returns-in_err-body-clause-outcome
@@ -62,12 +62,12 @@ returns-in_err-body-clause-outcome g c honest =
           let old = a.mid in
           let new = (told_server (g.L.Link.line c.ask.new.self.wire.link)) in
           let so = λ (found : Option FoundBody). found_at read found ≡ bytes_of c.args.uid m.store in
-          let rs = replies_for m (one_uid c.args.uid) wanted.Body (tag_text n) in
-          let told = fetch_exchanged n old m is (one_uid c.args.uid) wanted.Body any_replies (Ok tt) read new a.then in
-          let are = bodies_read n m (one_uid c.args.uid) any_replies read told.0 in
+          let rs = replies_for a.mid.keywords m (one_uid c.args.uid) wanted.Body (tag_text n) in
+          let told = fetch_exchanged n old m is (one_uid c.args.uid) wanted.Body any_replies tt (Ok tt) read new a.then in
+          let are = bodies_read n a.mid.keywords m (one_uid c.args.uid) any_replies read told.0 in
           let reads = c.in_err-body.ensures.told rs (subst (AreReplies rs) (sym c.read_part.ensures) are) in
           subst (λ (r : Result (Option FoundBody) FarFault). Outcome (Tells so) Never Remains r old new) (sym (p.1 ∙ ap Err p.2))
-          (reads_err (Option FoundBody) (Option (List ℕ)) (found_at read) (body_told c.args.uid rs) (bytes_of c.args.uid m.store) (tells_body c.args.uid m (tag_text n) store range) old new told.1 f
+          (reads_err (Option FoundBody) (Option (List ℕ)) (found_at read) (body_told c.args.uid rs) (bytes_of c.args.uid m.store) (tells_body a.mid.keywords c.args.uid m (tag_text n) store range) old new told.1 f
           (subst (λ (bytes : List ℕ). ReadsAs {T = Option FoundBody} (found_at bytes) (Err f) (body_told c.args.uid rs)) c.read_part.ensures reads));
     }
 
@@ -85,11 +85,11 @@ returns-clause-outcome g c =
       visits = a.visits;
       then = λ m is store range.
           let new = (told_server (g.L.Link.line c.ask.new.self.wire.link)) in
-          let rs = replies_for m (one_uid c.args.uid) wanted.Body (tag_text n) in
-          let told = fetch_exchanged n a.mid m is (one_uid c.args.uid) wanted.Body any_replies (Ok tt) read new a.then in
-          let are = bodies_read n m (one_uid c.args.uid) any_replies read told.0 in
+          let rs = replies_for a.mid.keywords m (one_uid c.args.uid) wanted.Body (tag_text n) in
+          let told = fetch_exchanged n a.mid m is (one_uid c.args.uid) wanted.Body any_replies tt (Ok tt) read new a.then in
+          let are = bodies_read n a.mid.keywords m (one_uid c.args.uid) any_replies read told.0 in
           let reads = c.in_ok-body.ensures.told rs (subst (AreReplies rs) (sym c.read_part.ensures) are) in
-          reads_so (Option FoundBody) (Option (List ℕ)) (found_at read) (body_told c.args.uid rs) (bytes_of c.args.uid m.store) (tells_body c.args.uid m (tag_text n) store range) a.mid new told.1 c.in_ok-body.body
+          reads_so (Option FoundBody) (Option (List ℕ)) (found_at read) (body_told c.args.uid rs) (bytes_of c.args.uid m.store) (tells_body a.mid.keywords c.args.uid m (tag_text n) store range) a.mid new told.1 c.in_ok-body.body
           (subst (λ (bytes : List ℕ). ReadsAs (found_at bytes) (Ok c.in_ok-body.body) (body_told c.args.uid rs)) c.read_part.ensures reads);
     })
 

@@ -30,7 +30,7 @@ returns-in_err-ask-clause-outcome g c honest =
 pub returns-clause-outcome : goal.returns-clause-outcome
 returns-clause-outcome g c =
     let old = (told_server (g.L.Link.line c.args.self.now.wire.link)) in
-    subst (λ w. g.L.Link.honest w.link → Among g.L.Link.visitors (λ old new. (m : FarMailbox) → selected old ≡ Some m → (change : Store → Store) → Changing c.args.call.now change → Becomes change old new) old (told_server (g.L.Link.line w.link))) (sym c.done.ensures.wire)
+    subst (λ w. g.L.Link.honest w.link → Among g.L.Link.visitors (λ old new. (m : FarMailbox) → selected old ≡ Some m → (change : Store → Store) → Changing old c.args.call.now change → Becomes change old new) old (told_server (g.L.Link.line w.link))) (sym c.done.ensures.wire)
     (λ honest.
     let a = c.in_ok-ask.ensures.outcome honest in
     record {

@@ -9,9 +9,11 @@ use Rattle.imap_client.specs.declared.far_box.Chosen.{Chosen}
 use Rattle.imap_answers.specs.declared.opening.Opening.{Opening}
 use Rattle.imap_client.specs.Tags.{tag_text}
 use Rattle.imap_client.specs.Boxes.{Selects, NoMailbox, Chooses}
+use Rattle.imap_client.specs.Seen.{HasMap}
 use Rattle.imap_client.specs.States.{EndsSo}
+use Rattle.imap_client.proofs.Mapped.{mapped_then}
 use Rattle.imap_client.proofs.Changed.{outcome_err, state_of_parts}
-use Rattle.imap_client.proofs.Selecting.{ChosenBy, select_exchanged, ok_chosen, told_so, effect_so, selects_so, speaks_of}
+use Rattle.imap_client.proofs.Selecting.{ChosenBy, effect_so, numbers_so, ok_chosen, select_exchanged, selects_so, speaks_of, told_so}
 use Rattle.imap_client.proofs.Transcribed.{command_ends, answers_ok, lacks_next, lacks_validity, is_read_only, is_opened}
 use Rattle.imap_client.specs.Transcripts.{EndsBy, Hears, Says, of_select, opened}
 use Rattle.imap_answers.specs.Openings.{opening_of}
@@ -29,8 +31,8 @@ returns-in_err-ask-clause-heard g c =
     let n = c.args.self.now.tags + 1 in
     let old = c.args.self.now.transcript in
     let new = c.ask.new.self.transcript in
-    subst (λ (r : Result Chosen FarFault). EndsBy (of_select n told) r old new) (sym (p.1 ∙ ap Err p.2))
-    (command_ends n c.ask.new.self.wire.heard.read Chosen (of_select n told) (λ b h. h) (λ b h. inl h) c.in_err-ask.field-0.0 old new c.in_err-ask.ensures.heard)
+    subst (λ (r : Result Chosen FarFault). EndsBy (of_select c.args.keywords.now n told) r old new) (sym (p.1 ∙ ap Err p.2))
+    (command_ends n c.ask.new.self.wire.heard.read Chosen (of_select c.args.keywords.now n told) (λ b h. h) (λ b h. inl h) c.in_err-ask.field-0.0 old new c.in_err-ask.ensures.heard)
 
 pub returns-in_err-opening-clause-heard : goal.returns-in_err-opening-clause-heard
 returns-in_err-opening-clause-heard g c =
@@ -38,40 +40,40 @@ returns-in_err-opening-clause-heard g c =
     let n = c.args.self.now.tags + 1 in
     let old = c.args.self.now.transcript in
     let new = c.ask.new.self.transcript in
-    subst (λ (r : Result Chosen FarFault). EndsBy (of_select n told) r old new) (sym (p.1 ∙ ap Err (p.2 ∙ c.in_err-opening.ensures.err)))
+    subst (λ (r : Result Chosen FarFault). EndsBy (of_select c.args.keywords.now n told) r old new) (sym (p.1 ∙ ap Err (p.2 ∙ c.in_err-opening.ensures.err)))
     (inr (answers_ok n c.ask.new.self.wire.heard.read old new c.in_ok-ask.ensures.heard))
 
 pub returns-in_default-clause-heard : goal.returns-in_default-clause-heard
 returns-in_default-clause-heard g c =
-    lacks_next Chosen told (c.args.self.now.tags + 1) c.ask.new.self.wire.heard.read c.args.self.now.transcript c.ask.new.self.transcript c.in_ok-ask.ensures.heard c.in_ok-opening.opening c.in_ok-opening.ensures.told
+    lacks_next c.args.keywords.now Chosen told (c.args.self.now.tags + 1) c.ask.new.self.wire.heard.read c.args.self.now.transcript c.ask.new.self.transcript c.in_ok-ask.ensures.heard c.in_ok-opening.opening c.in_ok-opening.ensures.told
     c.in_default.not-Some
 
 pub returns-in_default-validity-clause-heard : goal.returns-in_default-validity-clause-heard
 returns-in_default-validity-clause-heard g c =
-    lacks_validity Chosen told (c.args.self.now.tags + 1) c.ask.new.self.wire.heard.read c.args.self.now.transcript c.ask.new.self.transcript c.in_ok-ask.ensures.heard c.in_ok-opening.opening c.in_ok-opening.ensures.told
+    lacks_validity c.args.keywords.now Chosen told (c.args.self.now.tags + 1) c.ask.new.self.wire.heard.read c.args.self.now.transcript c.ask.new.self.transcript c.in_ok-ask.ensures.heard c.in_ok-opening.opening c.in_ok-opening.ensures.told
     c.in_default-validity.not-Some
 
 pub returns-then-opening-clause-heard : goal.returns-then-opening-clause-heard
 returns-then-opening-clause-heard g c =
     let n = c.args.self.now.tags + 1 in
     let old = c.args.self.now.transcript in
-    subst (λ (t : List (List ℕ)). EndsBy (of_select n told) (Err faults.ReadOnly) old t) (sym c.done.ensures.transcript)
-    (is_read_only Chosen told n c.ask.new.self.wire.heard.read old c.ask.new.self.transcript c.in_ok-ask.ensures.heard c.in_ok-opening.opening c.in_ok-opening.ensures.told
+    subst (λ (t : List (List ℕ)). EndsBy (of_select c.args.keywords.now n told) (Err faults.ReadOnly) old t) (sym c.done.ensures.transcript)
+    (is_read_only c.args.keywords.now Chosen told n c.ask.new.self.wire.heard.read old c.ask.new.self.transcript c.in_ok-ask.ensures.heard c.in_ok-opening.opening c.in_ok-opening.ensures.told
     c.in-Some-validity.validity c.in-Some.next c.in-Some.is c.in-Some-validity.is c.if-opening.true)
 
 pub returns-clause-heard : goal.returns-clause-heard
 returns-clause-heard g c =
     let n = c.args.self.now.tags + 1 in
     let old = c.args.self.now.transcript in
-    subst (λ (t : List (List ℕ)). Hears (Says n statuses.Ok (λ rs. opening_of rs ≡ opened c.in-Some-validity.validity c.in-Some.next)) old t) (sym c.done.ensures.transcript)
-    (is_opened Chosen told n c.ask.new.self.wire.heard.read old c.ask.new.self.transcript c.in_ok-ask.ensures.heard c.in_ok-opening.opening c.in_ok-opening.ensures.told
+    subst (λ (t : List (List ℕ)). Hears (Says n statuses.Ok (λ rs. opening_of c.args.keywords.now rs ≡ opened c.in-Some-validity.validity c.in-Some.next)) old t) (sym c.done.ensures.transcript)
+    (is_opened c.args.keywords.now Chosen told n c.ask.new.self.wire.heard.read old c.ask.new.self.transcript c.in_ok-ask.ensures.heard c.in_ok-opening.opening c.in_ok-opening.ensures.told
     c.in-Some-validity.validity c.in-Some.next c.in-Some.is c.in-Some-validity.is c.if-opening.false)
 
 pub opening-requires : goal.opening-requires
 opening-requires g c = speaks_of (tag_text c.ask.new.self.tags) statuses.Ok _ c.in_ok-ask.ensures.answer
 
 pub returns-in_err-ask-clause-outcome : goal.returns-in_err-ask-clause-outcome
-returns-in_err-ask-clause-outcome g c honest logged =
+returns-in_err-ask-clause-outcome g c honest has logged =
     let a = c.in_err-ask.ensures.outcome honest in
     let still = ap (λ (c : Condition). is_logged_in c) a.visits.condition ∙ logged in
     record {
@@ -98,7 +100,7 @@ returns-in_err-opening-clause-ends g c =
     (record { was_ready = c.in_ok-ask.ensures.asked.was_ready; is_ready = c.in_ok-ask.ensures.asked.begun })
 
 pub returns-in_err-opening-clause-outcome : goal.returns-in_err-opening-clause-outcome
-returns-in_err-opening-clause-outcome g c honest logged =
+returns-in_err-opening-clause-outcome g c honest has logged =
     let a = c.in_ok-ask.ensures.outcome honest in
     let still = ap (λ (c : Condition). is_logged_in c) a.visits.condition ∙ logged in
     record {
@@ -115,7 +117,7 @@ returns-in_err-opening-clause-outcome g c honest logged =
     }
 
 pub returns-in_default-clause-outcome : goal.returns-in_default-clause-outcome
-returns-in_default-clause-outcome g c honest logged =
+returns-in_default-clause-outcome g c honest has logged =
     let a = c.in_ok-ask.ensures.outcome honest in
     let still = ap (λ (c : Condition). is_logged_in c) a.visits.condition ∙ logged in
     record {
@@ -126,12 +128,12 @@ returns-in_default-clause-outcome g c honest logged =
           let old = a.mid in
           let new = (told_server (g.L.Link.line c.ask.new.self.wire.link)) in
           let chosen = select_exchanged (c.args.self.now.tags + 1) name old still (Ok tt) c.ask.new.self.wire.heard.read new a.then in
-          let told = told_so name _ _ old new chosen c.in_ok-opening.opening c.in_ok-opening.ensures.told in
-          c.in_default.not-Some _ (ap (λ (o : Opening). o.next) told);
+          let told = numbers_so name _ _ old new chosen c.args.keywords.now c.in_ok-opening.opening c.in_ok-opening.ensures.told in
+          c.in_default.not-Some _ told.0;
     }
 
 pub returns-in_default-validity-clause-outcome : goal.returns-in_default-validity-clause-outcome
-returns-in_default-validity-clause-outcome g c honest logged =
+returns-in_default-validity-clause-outcome g c honest has logged =
     let a = c.in_ok-ask.ensures.outcome honest in
     let still = ap (λ (c : Condition). is_logged_in c) a.visits.condition ∙ logged in
     record {
@@ -142,16 +144,16 @@ returns-in_default-validity-clause-outcome g c honest logged =
           let old = a.mid in
           let new = (told_server (g.L.Link.line c.ask.new.self.wire.link)) in
           let chosen = select_exchanged (c.args.self.now.tags + 1) name old still (Ok tt) c.ask.new.self.wire.heard.read new a.then in
-          let told = told_so name _ _ old new chosen c.in_ok-opening.opening c.in_ok-opening.ensures.told in
-          c.in_default-validity.not-Some _ (ap (λ (o : Opening). o.validity) told);
+          let told = numbers_so name _ _ old new chosen c.args.keywords.now c.in_ok-opening.opening c.in_ok-opening.ensures.told in
+          c.in_default-validity.not-Some _ told.1;
     }
 
 pub returns-then-opening-clause-outcome : goal.returns-then-opening-clause-outcome
 returns-then-opening-clause-outcome g c =
     let name = c.args.name.now in
     let old = (told_server (g.L.Link.line c.args.self.now.wire.link)) in
-    subst (λ w. g.L.Link.honest w.link → is_logged_in old.condition ≡ true → Among g.L.Link.visitors (λ old new. ⊥) old (told_server (g.L.Link.line w.link))) (sym c.done.ensures.wire)
-    (λ honest logged.
+    subst (λ w. g.L.Link.honest w.link → HasMap c.args.keywords.now old → is_logged_in old.condition ≡ true → Among g.L.Link.visitors (λ old new. ⊥) old (told_server (g.L.Link.line w.link))) (sym c.done.ensures.wire)
+    (λ honest has logged.
     let a = c.in_ok-ask.ensures.outcome honest in
     let still = ap (λ (c : Condition). is_logged_in c) a.visits.condition ∙ logged in
     record {
@@ -160,7 +162,7 @@ returns-then-opening-clause-outcome g c =
       then =
           let new = (told_server (g.L.Link.line c.ask.new.self.wire.link)) in
           let chosen = select_exchanged (c.args.self.now.tags + 1) name a.mid still (Ok tt) c.ask.new.self.wire.heard.read new a.then in
-          let told = told_so name _ _ a.mid new chosen c.in_ok-opening.opening c.in_ok-opening.ensures.told in
+          let told = told_so name _ _ a.mid new chosen c.args.keywords.now c.in_ok-opening.opening c.in_ok-opening.ensures.told c.is_map.ensures (mapped_then g.L.Link.visitors c.args.keywords.now old a.mid a.visits has) in
           let both : false ≡ true = sym (ap (λ (o : Opening). o.is_read_only) told) ∙ c.if-opening.true in
           cc;
     })
@@ -178,7 +180,7 @@ returns-clause-chosen g c =
       then =
           let new = (told_server (g.L.Link.line c.ask.new.self.wire.link)) in
           let chosen = ok_chosen (c.args.self.now.tags + 1) name a.mid tt c.ask.new.self.wire.heard.read new a.then in
-          let told = told_so name _ _ a.mid new chosen c.in_ok-opening.opening c.in_ok-opening.ensures.told in
+          let told = numbers_so name _ _ a.mid new chosen c.args.keywords.now c.in_ok-opening.opening c.in_ok-opening.ensures.told in
           selects_so name _ _ a.mid new chosen c.in-Some-validity.validity c.in-Some.next c.in_ok-opening.opening told c.in-Some-validity.is c.in-Some.is;
     })
 
@@ -186,8 +188,8 @@ pub returns-clause-outcome : goal.returns-clause-outcome
 returns-clause-outcome g c =
     let name = c.args.name.now in
     let old = (told_server (g.L.Link.line c.args.self.now.wire.link)) in
-    subst (λ w. g.L.Link.honest w.link → is_logged_in old.condition ≡ true → Among g.L.Link.visitors (Selects name c.in-Some-validity.validity c.in-Some.next) old (told_server (g.L.Link.line w.link))) (sym c.done.ensures.wire)
-    (λ honest logged.
+    subst (λ w. g.L.Link.honest w.link → HasMap c.args.keywords.now old → is_logged_in old.condition ≡ true → Among g.L.Link.visitors (Selects name c.in-Some-validity.validity c.in-Some.next) old (told_server (g.L.Link.line w.link))) (sym c.done.ensures.wire)
+    (λ honest has logged.
     let a = c.in_ok-ask.ensures.outcome honest in
     let still = ap (λ (c : Condition). is_logged_in c) a.visits.condition ∙ logged in
     record {
@@ -196,6 +198,6 @@ returns-clause-outcome g c =
       then =
           let new = (told_server (g.L.Link.line c.ask.new.self.wire.link)) in
           let chosen = select_exchanged (c.args.self.now.tags + 1) name a.mid still (Ok tt) c.ask.new.self.wire.heard.read new a.then in
-          let told = told_so name _ _ a.mid new chosen c.in_ok-opening.opening c.in_ok-opening.ensures.told in
+          let told = numbers_so name _ _ a.mid new chosen c.args.keywords.now c.in_ok-opening.opening c.in_ok-opening.ensures.told in
           selects_so name _ _ a.mid new chosen c.in-Some-validity.validity c.in-Some.next c.in_ok-opening.opening told c.in-Some-validity.is c.in-Some.is;
     })

@@ -17,15 +17,17 @@ use Rattle.imap_client.specs.Calls.{from_on}
 use Rattle.imap_answers.specs.Fetching.{TookRows}
 use Rattle.imap_answers.specs.Listings.{items_told}
 use Rattle.imap_client.specs.Logins.{Remains}
+use Rattle.imap_client.specs.Seen.{HasMap, seen_through}
 use Rattle.imap_answers.specs.Readings.{Tells}
 use Rattle.imap_client.specs.Tags.{tag_text}
 use Rattle.imap_client.proofs.Changed.{outcome_err}
-use Rattle.imap_client.proofs.Fetched.{FetchTells, fetch_exchanged, fetch_unchanged, reads_so, reads_err}
+use Rattle.imap_client.proofs.Fetched.{ListingTells, fetch_unchanged, listing_exchanged, reads_err, reads_so}
+use Rattle.imap_client.proofs.Mapped.{mapped_then}
 use Rattle.imap_client.proofs.Rows.{lists_told}
 use Rattle.imap_client.proofs.session.Session.items.Goals as goal
 
 pub returns-in_err-ask_telling-clause-outcome : goal.returns-in_err-ask_telling-clause-outcome
-returns-in_err-ask_telling-clause-outcome g c honest =
+returns-in_err-ask_telling-clause-outcome g c honest has =
     let a = c.in_err-ask_telling.ensures.outcome honest in
     record {
       mid = a.mid;
@@ -38,14 +40,14 @@ returns-in_err-ask_telling-clause-outcome g c honest =
           let old = a.mid in
           let new = (told_server (g.L.Link.line c.ask_telling.new.self.wire.link)) in
           let took : List Reply → Type 0 = λ told. TookRows c.new-rows.result told c.ask_telling.new.sink in
-          let so = λ (items : List Item). items ≡ map (item_of Far) m.store.messages in
+          let so = λ (items : List Item). items ≡ map (item_of Far) (seen_through c.args.keywords.now m.store).messages in
           subst (λ (r : Result (List Item) FarFault). Outcome (Tells so) Never Remains r old new) (sym (p.1 ∙ ap Err p.2))
-          (outcome_err (Unit {0}) (List Item) (λ x. Tells (λ _. FetchTells n m (from_on 1) wanted.Listing took read) x) (Tells so) Never Remains old new f
-          (fetch_exchanged n old m is (from_on 1) wanted.Listing took (Err f) read new a.then));
+          (outcome_err (Unit {0}) (List Item) (λ x. Tells (λ _. ListingTells n c.args.keywords.now m (from_on 1) took) x) (Tells so) Never Remains old new f
+          (listing_exchanged n old m is (from_on 1) c.args.keywords.now (mapped_then g.L.Link.visitors c.args.keywords.now _ old a.visits has) took (Err f) read new a.then));
     }
 
 pub returns-in_err-items-clause-outcome : goal.returns-in_err-items-clause-outcome
-returns-in_err-items-clause-outcome g c honest =
+returns-in_err-items-clause-outcome g c honest has =
     let a = c.in_ok-ask_telling.ensures.outcome honest in
     record {
       mid = a.mid;
@@ -56,10 +58,10 @@ returns-in_err-items-clause-outcome g c honest =
           let old = a.mid in
           let new = (told_server (g.L.Link.line c.ask_telling.new.self.wire.link)) in
           let rows = c.ask_telling.new.sink in
-          let so = λ (items : List Item). items ≡ map (item_of Far) m.store.messages in
-          let told = fetch_exchanged n old m is (from_on 1) wanted.Listing (λ told. TookRows c.new-rows.result told rows) (Ok tt) c.ask_telling.new.self.wire.heard.read new a.then in
+          let so = λ (items : List Item). items ≡ map (item_of Far) (seen_through c.args.keywords.now m.store).messages in
+          let told = listing_exchanged n old m is (from_on 1) c.args.keywords.now (mapped_then g.L.Link.visitors c.args.keywords.now _ old a.visits has) (λ told. TookRows c.new-rows.result told rows) (Ok tt) c.ask_telling.new.self.wire.heard.read new a.then in
           subst (λ (r : Result (List Item) FarFault). Outcome (Tells so) Never Remains r old new) (sym (p.1 ∙ ap Err p.2))
-          (reads_err (List Item) (List Item) (λ items. items) (items_told rows) (map (item_of Far) m.store.messages) (lists_told m (tag_text n) store range c.new-rows.result rows c.new-rows.ensures told.0.0) old new told.1
+          (reads_err (List Item) (List Item) (λ items. items) (items_told rows.rows) (map (item_of Far) (seen_through c.args.keywords.now m.store).messages) (lists_told c.args.keywords.now c.requires.map m (tag_text n) store range c.new-rows.result rows told.0.replies c.new-rows.ensures told.0.told told.0.heard_as) old new told.1
           c.in_err-items.field-0.0 c.in_err-items.ensures.told);
     }
 
@@ -68,16 +70,16 @@ returns-clause-outcome g c =
     let n = c.args.self.now.tags + 1 in
     let old = (told_server (g.L.Link.line c.args.self.now.wire.link)) in
     let rows = c.ask_telling.new.sink in
-    subst (λ w. g.L.Link.honest w.link → Among g.L.Link.visitors (λ old new. (m : FarMailbox) → selected old ≡ Some m → IsStore m.store → AreInRange m.store.messages → Tells (λ (items : List Item). items ≡ map (item_of Far) m.store.messages) c.in_ok-items.items old new) old (told_server (g.L.Link.line w.link))) (sym c.done.ensures.wire)
-    (λ honest.
+    subst (λ w. g.L.Link.honest w.link → HasMap c.args.keywords.now old → Among g.L.Link.visitors (λ old new. (m : FarMailbox) → selected old ≡ Some m → IsStore m.store → AreInRange m.store.messages → Tells (λ (items : List Item). items ≡ map (item_of Far) (seen_through c.args.keywords.now m.store).messages) c.in_ok-items.items old new) old (told_server (g.L.Link.line w.link))) (sym c.done.ensures.wire)
+    (λ honest has.
     let a = c.in_ok-ask_telling.ensures.outcome honest in
     record {
       mid = a.mid;
       visits = a.visits;
       then = λ m is store range.
           let new = (told_server (g.L.Link.line c.ask_telling.new.self.wire.link)) in
-          let told = fetch_exchanged n a.mid m is (from_on 1) wanted.Listing (λ told. TookRows c.new-rows.result told rows) (Ok tt) c.ask_telling.new.self.wire.heard.read new a.then in
-          reads_so (List Item) (List Item) (λ items. items) (items_told rows) (map (item_of Far) m.store.messages) (lists_told m (tag_text n) store range c.new-rows.result rows c.new-rows.ensures told.0.0) a.mid new told.1
+          let told = listing_exchanged n a.mid m is (from_on 1) c.args.keywords.now (mapped_then g.L.Link.visitors c.args.keywords.now old a.mid a.visits has) (λ told. TookRows c.new-rows.result told rows) (Ok tt) c.ask_telling.new.self.wire.heard.read new a.then in
+          reads_so (List Item) (List Item) (λ items. items) (items_told rows.rows) (map (item_of Far) (seen_through c.args.keywords.now m.store).messages) (lists_told c.args.keywords.now c.requires.map m (tag_text n) store range c.new-rows.result rows told.0.replies c.new-rows.ensures told.0.told told.0.heard_as) a.mid new told.1
           c.in_ok-items.items c.in_ok-items.ensures.told;
     })
 

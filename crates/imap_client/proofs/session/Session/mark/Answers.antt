@@ -41,8 +41,8 @@ returns-in_err-ask_telling-clause-outcome g c honest =
           let took : List Reply → Type 0 = λ told. TookHeads c.new-search.result told c.ask_telling.new.sink in
           let so = λ (found : Option ℕ). found ≡ marked_from c.args.mark c.args.passed.now.below m.store in
           subst (λ (r : Result (Option ℕ) FarFault). Outcome (Tells so) Never Remains r old new) (sym (p.1 ∙ ap Err p.2))
-          (outcome_err (Unit {0}) (Option ℕ) (λ x. Tells (λ _. FetchTells n m (from_on c.args.passed.now.below) wanted.Head took read) x) (Tells so) Never Remains old new f
-          (fetch_exchanged n old m is (from_on c.args.passed.now.below) wanted.Head took (Err f) read new a.then));
+          (outcome_err (Unit {0}) (Option ℕ) (λ x. Tells (λ _. FetchTells n old.keywords m (from_on c.args.passed.now.below) wanted.Head took read) x) (Tells so) Never Remains old new f
+          (fetch_exchanged n old m is (from_on c.args.passed.now.below) wanted.Head took tt (Err f) read new a.then));
     }
 
 pub returns-in_err-found-clause-outcome : goal.returns-in_err-found-clause-outcome
@@ -60,10 +60,10 @@ returns-in_err-found-clause-outcome g c honest =
           let mark = c.args.mark in
           let from = c.args.passed.now.below in
           let so = λ (found : Option ℕ). found ≡ marked_from c.args.mark c.args.passed.now.below m.store in
-          let rs = replies_for m (from_on c.args.passed.now.below) wanted.Head (tag_text n) in
-          let told = fetch_exchanged n old m is (from_on c.args.passed.now.below) wanted.Head (λ told. TookHeads c.new-search.result told search) (Ok tt) c.ask_telling.new.self.wire.heard.read new a.then in
+          let rs = replies_for a.mid.keywords m (from_on c.args.passed.now.below) wanted.Head (tag_text n) in
+          let told = fetch_exchanged n old m is (from_on c.args.passed.now.below) wanted.Head (λ told. TookHeads c.new-search.result told search) tt (Ok tt) c.ask_telling.new.self.wire.heard.read new a.then in
           subst (λ (r : Result (Option ℕ) FarFault). Outcome (Tells so) Never Remains r old new) (sym (p.1 ∙ ap Err p.2))
-          (reads_err (Option ℕ) (Option ℕ) (λ uid. uid) (mark_found mark from rs) (marked_from mark from m.store) (finds_mark mark from m (tag_text n) store range) old new told.1
+          (reads_err (Option ℕ) (Option ℕ) (λ uid. uid) (mark_found mark from rs) (marked_from mark from m.store) (finds_mark a.mid.keywords mark from m (tag_text n) store range) old new told.1
           c.in_err-found.field-0.0 (c.in_err-found.ensures.told mark from rs (subst (λ (first : MarkSearch). TookHeads first rs search) c.new-search.ensures told.0.0)));
     }
 
@@ -82,9 +82,9 @@ returns-clause-outcome g c =
       visits = a.visits;
       then = λ m is store range.
           let new = (told_server (g.L.Link.line c.ask_telling.new.self.wire.link)) in
-          let rs = replies_for m (from_on c.args.passed.now.below) wanted.Head (tag_text n) in
-          let told = fetch_exchanged n a.mid m is (from_on c.args.passed.now.below) wanted.Head (λ told. TookHeads c.new-search.result told search) (Ok tt) c.ask_telling.new.self.wire.heard.read new a.then in
-          reads_so (Option ℕ) (Option ℕ) (λ uid. uid) (mark_found mark from rs) (marked_from mark from m.store) (finds_mark mark from m (tag_text n) store range) a.mid new told.1
+          let rs = replies_for a.mid.keywords m (from_on c.args.passed.now.below) wanted.Head (tag_text n) in
+          let told = fetch_exchanged n a.mid m is (from_on c.args.passed.now.below) wanted.Head (λ told. TookHeads c.new-search.result told search) tt (Ok tt) c.ask_telling.new.self.wire.heard.read new a.then in
+          reads_so (Option ℕ) (Option ℕ) (λ uid. uid) (mark_found mark from rs) (marked_from mark from m.store) (finds_mark a.mid.keywords mark from m (tag_text n) store range) a.mid new told.1
           c.in_ok-found.found (c.in_ok-found.ensures.told mark from rs (subst (λ (first : MarkSearch). TookHeads first rs search) c.new-search.ensures told.0.0));
     })
 
@@ -170,11 +170,11 @@ returns-clause-passed g c =
       mid = a.mid;
       visits = a.visits;
       then = λ m is.
-          let told = fetch_exchanged n a.mid m is (from_on from) wanted.Head took (Ok tt) read new a.then in (
+          let told = fetch_exchanged n a.mid m is (from_on from) wanted.Head took tt (Ok tt) read new a.then in (
             told.1,
             λ small passed ready.
                 c.in_ok-found.ensures.passed m.store.next m.store.messages small passed
-                (shows_passed from c.args.next m (tag_text n) c.requires c.args.mark search
-                (subst (λ (first : MarkSearch). TookHeads first (replies_for m (from_on from) wanted.Head (tag_text n)) search) c.new-search.ensures told.0.0)),
+                (shows_passed a.mid.keywords from c.args.next m (tag_text n) c.requires c.args.mark search
+                (subst (λ (first : MarkSearch). TookHeads first (replies_for a.mid.keywords m (from_on from) wanted.Head (tag_text n)) search) c.new-search.ensures told.0.0)),
           );
     })

@@ -14,5 +14,6 @@ invariant_of-result g c = record {
       subst (λ (name : List ℕ). IsSelected name c.in-Ok.chosen.validity c.in-Ok.chosen.next new) (sym c.in-Ok.ensures.name)
       (selected_so c.args.name.now c.in-Ok.chosen.validity c.in-Ok.chosen.next a.mid new a.then);
   numbers = c.in-Ok.chosen.numbers;
+  map = c.choose.ensures.map;
   are_passed = λ is_selected ready honest m at. c.new-passed.ensures m.store.next m.store.messages;
 }

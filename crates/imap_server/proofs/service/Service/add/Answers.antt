@@ -46,5 +46,5 @@ returns-clause-ok c =
     let here = c.requires.within in
     let within : c.args.place < length c.self.inside.mailboxes.items = omega arith in
     view_after c.add.result c.args.self.now _ c.self.inside.mailboxes.items c.args.place c.add.new.mailbox c.index_mut.result.now (added c.args.uid c.args.flags c.args.message.items)
-    (ap (λ (v : Server). v.mailboxes) c.self.view_is) (ap (λ (v : Server). v.user) c.self.view_is) (ap (λ (v : Server). v.password) c.self.view_is) (ap (λ (v : Server). v.condition) c.self.view_is) (ap (λ (v : Server). v.has_news) c.self.view_is)
+    (ap (λ (v : Server). v.mailboxes) c.self.view_is) (ap (λ (v : Server). v.user) c.self.view_is) (ap (λ (v : Server). v.password) c.self.view_is) (ap (λ (v : Server). v.keywords) c.self.view_is) (ap (λ (v : Server). v.condition) c.self.view_is) (ap (λ (v : Server). v.has_news) c.self.view_is)
     refl within c.index_mut.ensures.value c.add.ensures.ok

@@ -18,7 +18,7 @@ returns-clause-ok c =
         gives_them = (
           record { own = a.replies; does = a.gives_them; replies_are = refl },
           short_append (news c.args.self.now) a.replies (news_short c.args.self.now)
-              (does_short (told c.args.self.now) c.answer_told.new.self (Asks c.args.command) a.replies named a.gives_them),
+              (does_short (told c.args.self.now) c.answer_told.new.self (Asks c.args.command) a.replies c.has_map.ensures named a.gives_them),
         );
       },
     )

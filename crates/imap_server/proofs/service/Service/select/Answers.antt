@@ -14,7 +14,7 @@ returns-in_ok-say_opening-in-Some-clause-ok c =
     let named : mailbox_at c.args.name c.args.self.now.mailboxes ≡ mailbox_at c.as_slice.result.now c.args.self.now.mailboxes
     = ap (λ (n : List ℕ). mailbox_at n c.args.self.now.mailboxes) (sym c.as_slice.ensures.same) in
     select_there c.args.self.now c.enter.new.self c.args.tag c.args.name c.args.out.now.items c.say_closed.new.out.items c.say_opening.new.out.items on closed
-    (far_of c.mailbox.result.now) (named ∙ c.in-Some.ensures.found ∙ c.mailbox.ensures.there) c.in_ok-say_opening-in-Some.ensures c.enter.ensures
+    c.self.inside.keywords (far_of c.mailbox.result.now) (ap (λ (v : Server). v.keywords) c.self.view_is) (named ∙ c.in-Some.ensures.found ∙ c.mailbox.ensures.there) c.in_ok-say_opening-in-Some.ensures c.enter.ensures
 
 pub returns-in_ok-say_no_with-in-None-clause-ok : goal.returns-in_ok-say_no_with-in-None-clause-ok
 returns-in_ok-say_no_with-in-None-clause-ok c =

@@ -25,5 +25,5 @@ returns c =
     let here = c.requires in
     let within : c.args.place < length c.self.inside.mailboxes.items = omega arith in
     view_set c.args.self.now _ c.self.inside.mailboxes.items c.args.place c.store.new.mailbox c.index_mut.result.now (stored c.args.mode c.args.flags c.args.set.now)
-    (ap (λ (v : Server). v.mailboxes) c.self.view_is) (ap (λ (v : Server). v.user) c.self.view_is) (ap (λ (v : Server). v.password) c.self.view_is) (ap (λ (v : Server). v.condition) c.self.view_is) (ap (λ (v : Server). v.has_news) c.self.view_is)
+    (ap (λ (v : Server). v.mailboxes) c.self.view_is) (ap (λ (v : Server). v.user) c.self.view_is) (ap (λ (v : Server). v.password) c.self.view_is) (ap (λ (v : Server). v.keywords) c.self.view_is) (ap (λ (v : Server). v.condition) c.self.view_is) (ap (λ (v : Server). v.has_news) c.self.view_is)
     refl within c.index_mut.ensures.value c.store.ensures.store

@@ -1,23 +1,28 @@
-use Rattle.std.proofs.Common.{rules, ◌≡◌, ◌∙◌, ◌^◌, sym, ap, ℕ, List, Bor, option_map, Option, None}
-use Rattle.std.specs.Option.{option_map_or}
-use Rattle.std.specs.Prelude.{find}
-use Rattle.std.proofs.lemmas.Iterator.{YieldsList-from_slice}
-use Rattle.std.proofs.lemmas.Iterator.Search.{find_from_yields_List}
-use borrow.Author.Tests.{tests}
+use Rattle.std.proofs.Common.{◌≡◌, ◌∙◌, sym, ap, ℕ, List, Option, None}
 use Rattle.mailcore.specs.declared.flags.Flag.{Flag}
-use Rattle.mailcore.specs.FlagNames.{place, all_flags, is_named, flags_named}
+use Rattle.mailcore.specs.declared.keywords.Keyword.{Keyword}
+use Rattle.mailcore.specs.FlagNames.{flag_named}
+use Rattle.mailcore.specs.KeywordNames.{flags_named, letter_of, named_by, set_of}
 use Rattle.mailcore.proofs.flags.Flags.from_imap.Goals as goal
 
-set_of : Option Flag → ℕ
-set_of found = option_map_or (λ flag. 2 ^ place flag) found 0
+-- a set by the flag that the name has
+by_flag : (keywords : List Keyword) (name : List ℕ) (found : Option Flag) → found ≡ flag_named name → named_by keywords found name ≡ flags_named keywords name
+unfolding flags_named
+by_flag keywords name found is = ap (λ (o : Option Flag). named_by keywords o name) is
 
--- the set of what the search found
-set_found : (name : List ℕ) (r s : Option (Bor Flag)) → option_map (λ x. x.now) r ≡ find (is_named name) all_flags → r ≡ s → set_of (option_map (λ x. x.now) s) ≡ flags_named name
-unfolding set_of
-set_found name r s found is = ap (λ o. set_of (option_map (λ x. x.now) o)) (sym is) ∙ ap set_of found
+-- and by the letter of the keyword, where it has none of the six
+by_letter : (keywords : List Keyword) (name : List ℕ) (found : Option ℕ) → None ≡ flag_named name → found ≡ letter_of keywords name → set_of found ≡ flags_named keywords name
+by_letter keywords name found none is = ap set_of is ∙ by_flag keywords name None none
+
+pub returns-in-Some : goal.returns-in-Some
+returns-in-Some c = c.only.ensures ∙ by_flag c.args.keywords.now c.args.name.now _ (sym c.in-Some.is ∙ c.named.ensures)
+
+pub returns-in-Some-letter_of : goal.returns-in-Some-letter_of
+returns-in-Some-letter_of c =
+    c.of_keyword.ensures
+    ∙ by_letter c.args.keywords.now c.args.name.now _ (sym c.in_default.is ∙ c.named.ensures) (sym c.in-Some-letter_of.is ∙ c.letter_of.ensures.letter)
 
 pub returns-in-None : goal.returns-in-None
-unfolding set_of
 returns-in-None c =
     c.none.ensures
-    ∙ set_found c.args.name.now c.find.result None (find_from_yields_List (is_named c.args.name.now) _ _ _ c.find.ensures.ran (YieldsList-from_slice all_flags c.iter.ensures.rest) (λ x b q k. search (rules, tests))) c.in-None.is
+    ∙ by_letter c.args.keywords.now c.args.name.now _ (sym c.in_default.is ∙ c.named.ensures) (sym c.in-None.is ∙ c.letter_of.ensures.letter)

@@ -1,6 +1,5 @@
-use Rattle.std.proofs.Common.{◌∙◌, ◌<◌, ◌^◌, ℕ, Option, Err, ap, subst, sym}
+use Rattle.std.proofs.Common.{◌∙◌, ◌<◌, ℕ, Option, Err, ap, subst, sym}
 use Rattle.std.specs.Prelude.{IfSome}
-use Rattle.mailcore.specs.FlagSet.{FLAGS}
 use Rattle.imap_server.specs.Taking.{Host}
 use Rattle.mem_link.proofs.Visiting.{comes, none_comes}
 use Rattle.mem_link.proofs.mem_link.MemLink.arrive.Goals as goal
@@ -8,14 +7,12 @@ use Rattle.mem_link.proofs.mem_link.MemLink.arrive.Goals as goal
 pub returns-in-Ok-None-clause-visits : goal.returns-in-Ok-None-clause-visits
 returns-in-Ok-None-clause-visits c = λ marks none.
     comes c.in-Ok-None.field-0 c.args.mailbox.now c.args.flags c.args.message.now c.args.self.now.server.server c.arrive.new.self.server
-    (subst (λ (n : ℕ). n < 2 ^ FLAGS) c.bits-bits.ensures.bits c.bits-bits.ensures.set)
     (subst (λ (uid : Option ℕ). IfSome uid (λ u. 0 < u)) (sym c.in-Ok-None.field-0-is) tt)
     c.in-Ok-None.ensures.ok.1 marks none
 
 pub returns-in-Ok-Some-clause-visits : goal.returns-in-Ok-Some-clause-visits
 returns-in-Ok-Some-clause-visits c = λ marks none.
     comes c.in-Ok-Some.field-0 c.args.mailbox.now c.args.flags c.args.message.now c.args.self.now.server.server c.arrive.new.self.server
-    (subst (λ (n : ℕ). n < 2 ^ FLAGS) c.bits-bits.ensures.bits c.bits-bits.ensures.set)
     (subst (λ (uid : Option ℕ). IfSome uid (λ u. 0 < u)) (sym c.in-Ok-Some.field-0-is) (subst (λ (n : ℕ). 0 < n) c.get-number.ensures.number c.get-number.ensures.positive))
     c.in-Ok-Some.ensures.ok.1 marks none
 

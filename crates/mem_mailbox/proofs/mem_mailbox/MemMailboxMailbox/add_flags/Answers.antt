@@ -1,8 +1,10 @@
 use Rattle.std.proofs.lemmas.Result.{err_from_is_err_and}
+use Rattle.mailcore.specs.KeywordNames.{kept}
 use Rattle.mailcore.specs.Operations.{flags_added}
 use Rattle.mailbox.specs.Calls.{Never}
-use Rattle.mem_mailbox.specs.Views.{near_of}
+use Rattle.mem_mailbox.specs.Views.{near_of, store_of}
 use Rattle.mem_mailbox.proofs.MemCalls.{ends, fails, turned}
+use Rattle.mem_mailbox.proofs.Within.{same_within, added_within}
 use Rattle.mem_mailbox.proofs.mem_mailbox.MemMailboxMailbox.add_flags.Goals as goal
 
 pub returns-in_err-stops-clause-call : goal.returns-in_err-stops-clause-call
@@ -16,4 +18,9 @@ returns-clause-call g c =
     let m = c.args.self.now in
     let new = c.add_flags.new.self in
     ends _ Never _ _ (near_of m.store m.waiting.items) m.condition tt (near_of new m.waiting.items) c.begin.new.self c.end.new.self c.end.result
-    c.requires.whole c.in_ok-stops.ensures.same (turned m.store new m.waiting.items (flags_added c.args.uid c.args.flags) c.add_flags.ensures.now) c.end.ensures.ends
+    c.requires.whole c.in_ok-stops.ensures.same (turned m.store new m.waiting.items (flags_added c.args.uid (kept m.keywords c.args.flags)) (rw c.kept.ensures at c.add_flags.ensures.now)) c.end.ensures.ends
+
+pub invariant_of-self-2-clause-within : goal.invariant_of-self-2-clause-within
+invariant_of-self-2-clause-within g c =
+    let m = c.args.self.now in
+    same_within m.keywords _ (store_of c.add_flags.new.self) (rw c.kept.ensures at c.add_flags.ensures.now) (added_within m.keywords c.args.uid c.args.flags (store_of m.store) m.within)

@@ -6,6 +6,7 @@ use Rattle.mailbox.specs.Operations.{NoRoom, is_full}
 use Rattle.mailbox.proofs.Admitted.{admits_all}
 use Rattle.mem_mailbox.specs.Views.{near_of, waiting_of}
 use Rattle.mem_mailbox.proofs.MemCalls.{ends, fails, full, lacks}
+use Rattle.mem_mailbox.proofs.Within.{admitted_within, stays_within}
 use Rattle.mem_mailbox.proofs.mem_mailbox.MemMailboxMailbox.admit.Goals as goal
 
 pub returns-in_err-stops-clause-call : goal.returns-in_err-stops-clause-call
@@ -33,3 +34,15 @@ returns-clause-call g c =
     let b = near_of m.store m.waiting.items in
     ends _ (NoRoom g.K.Kind.of (λ n. length n.waiting)) _ _ b m.condition tt (near_of c.admit.new.store c.admit.new.waiting.items) c.begin.new.self c.end.new.self c.end.result
     c.requires.whole c.in_ok-stops.ensures.same (admits_all true b _ c.in-Ok.ensures.ok) c.end.ensures.ends
+
+pub invariant_of-self-in_default-admit : goal.invariant_of-self-in_default-admit
+invariant_of-self-in_default-admit g c =
+    let m = c.args.self.now in
+    let both = stays_within m.keywords m.store c.admit.new.store m.waiting.items c.admit.new.waiting.items c.in_default-admit.ensures.err m.within m.waiting_within in
+    record { within = both.0; waiting_within = both.1 }
+
+pub invariant_of-self-2 : goal.invariant_of-self-2
+invariant_of-self-2 g c =
+    let m = c.args.self.now in
+    let both = admitted_within m.keywords m.store c.admit.new.store m.waiting.items c.admit.new.waiting.items c.in-Ok.ensures.ok m.within m.waiting_within in
+    record { within = both.0; waiting_within = both.1 }

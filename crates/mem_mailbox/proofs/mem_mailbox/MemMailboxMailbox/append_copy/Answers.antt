@@ -1,9 +1,11 @@
 use Rattle.std.proofs.Common.{◌∙◌, ap, Some}
 use Rattle.std.proofs.lemmas.Result.{err_from_is_err_and}
 use Rattle.mailcore.specs.CopyPieces.{text_left}
+use Rattle.mailcore.specs.KeywordNames.{kept}
 use Rattle.mailbox.specs.Operations.{NoRoom, is_full}
-use Rattle.mem_mailbox.specs.Views.{near_of}
+use Rattle.mem_mailbox.specs.Views.{near_of, store_of}
 use Rattle.mem_mailbox.proofs.MemCalls.{added_next, ends, fails, full, lacks, stays}
+use Rattle.mem_mailbox.proofs.Within.{copy_within, same_within}
 use Rattle.mem_mailbox.proofs.mem_mailbox.MemMailboxMailbox.append_copy.Goals as goal
 
 pub returns-in_err-stops-clause-call : goal.returns-in_err-stops-clause-call
@@ -29,4 +31,9 @@ returns-clause-call g c =
     let m = c.args.self.now in
     let b = near_of m.store m.waiting.items in
     ends _ (NoRoom g.K.Kind.of (λ _. 1)) _ _ b m.condition (Some c.in-Some.uid) (near_of c.add.new.self m.waiting.items) c.begin.new.self c.end.new.self c.end.result
-    c.requires.whole c.in_ok-stops.ensures.same (added_next g.K.Kind.of m.store c.add.new.self m.waiting.items c.in-Some.uid c.args.flags (text_left c.args.copy) c.in-Some.ensures c.in-Ok.ensures.ok) c.end.ensures.ends
+    c.requires.whole c.in_ok-stops.ensures.same (added_next g.K.Kind.of m.store c.add.new.self m.waiting.items c.in-Some.uid (kept m.keywords c.args.flags) (text_left c.args.copy) c.in-Some.ensures (rw c.kept-flags.ensures at c.in-Ok.ensures.ok)) c.end.ensures.ends
+
+pub invariant_of-self-2-clause-within : goal.invariant_of-self-2-clause-within
+invariant_of-self-2-clause-within g c =
+    let m = c.args.self.now in
+    same_within m.keywords _ (store_of c.add.new.self) (rw c.kept-flags.ensures at c.in-Ok.ensures.ok) (copy_within m.keywords c.in-Some.uid c.args.flags (text_left c.args.copy) (store_of m.store) m.within)

@@ -1,8 +1,9 @@
 use Rattle.std.proofs.lemmas.Result.{err_from_is_err_and}
 use Rattle.mailbox.specs.Operations.{removed}
 use Rattle.mailbox.specs.Calls.{Never}
-use Rattle.mem_mailbox.specs.Views.{near_of}
+use Rattle.mem_mailbox.specs.Views.{near_of, store_of}
 use Rattle.mem_mailbox.proofs.MemCalls.{ends, fails, turned}
+use Rattle.mem_mailbox.proofs.Within.{left_within, same_within}
 use Rattle.mem_mailbox.proofs.mem_mailbox.MemMailboxMailbox.expunge.Goals as goal
 
 pub returns-in_err-stops-clause-call : goal.returns-in_err-stops-clause-call
@@ -17,3 +18,8 @@ returns-clause-call g c =
     let new = c.expunge.new.self in
     ends _ Never _ _ (near_of m.store m.waiting.items) m.condition tt (near_of new m.waiting.items) c.begin.new.self c.end.new.self c.end.result
     c.requires.whole c.in_ok-stops.ensures.same (turned m.store new m.waiting.items (removed g.K.Kind.of c.args.uid) (rw c.side.ensures at c.expunge.ensures.now)) c.end.ensures.ends
+
+pub invariant_of-self-2-clause-within : goal.invariant_of-self-2-clause-within
+invariant_of-self-2-clause-within g c =
+    let m = c.args.self.now in
+    same_within m.keywords _ (store_of c.expunge.new.self) c.expunge.ensures.now (left_within m.keywords c.side.result c.args.uid (store_of m.store) m.within)

@@ -2,8 +2,9 @@ use Rattle.std.proofs.Common.{refl}
 use Rattle.std.proofs.lemmas.Result.{err_from_is_err_and}
 use Rattle.mailcore.specs.Spared.{spares}
 use Rattle.mailbox.specs.Calls.{Never}
-use Rattle.mem_mailbox.specs.Views.{near_of}
+use Rattle.mem_mailbox.specs.Views.{near_of, store_of}
 use Rattle.mem_mailbox.proofs.MemCalls.{ends, fails, lacks, lists}
+use Rattle.mem_mailbox.proofs.Within.{ends_within, listed_within}
 use Rattle.mem_mailbox.proofs.mem_mailbox.MemMailboxMailbox.list.Goals as goal
 
 pub returns-in_err-stops-clause-call : goal.returns-in_err-stops-clause-call
@@ -24,3 +25,8 @@ returns-clause-call g c =
     let b = near_of m.store m.waiting.items in
     ends _ Never _ _ b m.condition c.in-Ok.listing b c.begin.new.self c.end.new.self c.end.result
     c.requires.whole c.in_ok-stops.ensures.same (refl, lists g.K.Kind.of b.store.next (spares c.args.spared.now) b c.in-Ok.listing (rw c.side.ensures at c.in-Ok.ensures.shows)) c.end.ensures.ends
+
+pub returns-clause-within : goal.returns-clause-within
+returns-clause-within g c = λ honest.
+    let m = c.args.self.now in
+    ends_within m.keywords c.in-Ok.listing c.end.result _ _ c.end.ensures.ends (listed_within m.keywords c.side.result (spares c.args.spared.now) (store_of m.store) c.in-Ok.listing m.within c.in-Ok.ensures.shows)

@@ -13,6 +13,7 @@ pub loop-uid-init : goal.loop-uid-init
 loop-uid-init g c = record {
   begun = c.begin.ensures.begun;
   fresh = refl;
+  keywords = refl;
   missed = refl;
   stops = refl;
   whole = λ e. e;
@@ -25,6 +26,7 @@ pub loop-uid-preserved : goal.loop-uid-preserved
 loop-uid-preserved g c = record {
   begun = c.expunge_one.ensures.failed.0 ∙ c.loop-uid.invariant.begun;
   fresh = c.expunge_one.ensures.failed.1 ∙ c.loop-uid.invariant.fresh;
+  keywords = c.expunge_one.ensures.keywords ∙ c.loop-uid.invariant.keywords;
   missed = c.expunge_one.ensures.failed.2 ∙ c.loop-uid.invariant.missed;
   stops = c.in_ok-expunge_one.ensures.part.0 ∙ c.loop-uid.invariant.stops;
   whole = λ e. c.in_ok-expunge_one.ensures.part.1 (c.loop-uid.invariant.whole e);
@@ -37,7 +39,7 @@ loop-uid-preserved g c = record {
       let so_far = c.loop-uid.invariant.untouched honest same in
       let before : Stored = (g.F.Folder.seen c.loop-uid.self.folder).stored in
       let kept : without_uids c.args.uids.now before ≡ before = subst (λ (t : Stored). without_uids c.args.uids.now t ≡ t) (sym (ap (λ (f : Seen Stored). f.stored) so_far)) same in
-      c.expunge_one.ensures.untouched (none_named c.loop-uid.self.survey c.loop-uid.self.fresh before (c.loop-uid.invariant.surveys honest) c.args.uids.now c.loop-uid.uid-index c.uid-item.result (omega arith) c.uid-item.is kept)
+      c.expunge_one.ensures.untouched (none_named c.loop-uid.self.survey c.loop-uid.self.fresh c.loop-uid.self.keywords before (c.loop-uid.invariant.surveys honest) c.args.uids.now c.loop-uid.uid-index c.uid-item.result (omega arith) c.uid-item.is kept)
       ∙ so_far;
 }
 
@@ -53,7 +55,7 @@ returns-in_err-expunge_one-clause-files g c = λ honest.
 
 pub returns-in_err-expunge_one-clause-effect : goal.returns-in_err-expunge_one-clause-effect
 returns-in_err-expunge_one-clause-effect g c = λ honest.
-    changes_messages c.args.uids.now c.args.self.now.fresh (g.F.Folder.seen c.args.self.now.folder).stored (g.F.Folder.seen c.expunge_one.new.self.folder).stored
+    changes_messages c.args.uids.now c.args.self.now.fresh c.args.self.now.keywords (g.F.Folder.seen c.args.self.now.folder).stored (g.F.Folder.seen c.expunge_one.new.self.folder).stored
     c.from_residual-in_err-expunge_one.result (returns-in_err-expunge_one-clause-files g c honest)
 
 pub returns-clause-effect : goal.returns-clause-effect
@@ -64,7 +66,7 @@ returns-clause-effect g c = λ honest.
     c.loop-uid.invariant.removed honest
     ∙ without_all c.args.uids.now c.loop-uid.uid-index (g.F.Folder.seen c.begin.new.self.folder).stored (omega arith)
     ∙ ap (λ f. without_uids c.args.uids.now (g.F.Folder.seen f).stored) c.in_ok-begin.ensures.folder in
-    ap (near_of c.args.self.now.fresh) done ∙ near-expunged c.args.uids.now c.args.self.now.fresh s
+    ap (near_of c.args.self.now.fresh c.args.self.now.keywords) done ∙ near-expunged c.args.uids.now c.args.self.now.fresh c.args.self.now.keywords s
 
 pub returns-in_err-expunge_one-clause-mailbox : goal.returns-in_err-expunge_one-clause-mailbox
 returns-in_err-expunge_one-clause-mailbox g c = λ honest is.
@@ -78,7 +80,7 @@ returns-in_err-expunge_one-clause-untouched g c = λ honest unchanged.
     let so_far = c.loop-uid.invariant.untouched honest same in
     let before : Stored = (g.F.Folder.seen c.loop-uid.self.folder).stored in
     let kept : without_uids c.args.uids.now before ≡ before = subst (λ (t : Stored). without_uids c.args.uids.now t ≡ t) (sym (ap (λ (f : Seen Stored). f.stored) so_far)) same in
-    c.expunge_one.ensures.untouched (none_named c.loop-uid.self.survey c.loop-uid.self.fresh before (c.loop-uid.invariant.surveys honest) c.args.uids.now c.loop-uid.uid-index c.uid-item.result (omega arith) c.uid-item.is kept)
+    c.expunge_one.ensures.untouched (none_named c.loop-uid.self.survey c.loop-uid.self.fresh c.loop-uid.self.keywords before (c.loop-uid.invariant.surveys honest) c.args.uids.now c.loop-uid.uid-index c.uid-item.result (omega arith) c.uid-item.is kept)
     ∙ so_far ∙ ap g.F.Folder.seen folder
 
 pub returns-clause-mailbox : goal.returns-clause-mailbox

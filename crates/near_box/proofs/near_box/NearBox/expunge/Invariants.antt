@@ -7,10 +7,11 @@ abbrev pub invariant-loop-uid : goal.invariant-loop-uid
 invariant-loop-uid g l = record {
   begun : l.self.is_ready ≡ false;
   fresh : l.self.fresh ≡ l.initial.self.fresh;
+  keywords : l.self.keywords ≡ l.initial.self.keywords;
   missed : l.self.missed ≡ l.initial.self.missed;
   stops : (g.F.Folder.seen l.self.folder).stops ≡ (g.F.Folder.seen l.initial.self.folder).stops;
   whole : (g.F.Folder.seen l.initial.self.folder).is_broken ≡ false → (g.F.Folder.seen l.self.folder).is_broken ≡ false;
-  surveys : g.F.Folder.is_honest ≡ true → Surveys l.self.survey l.self.fresh (g.F.Folder.seen l.self.folder).stored;
+  surveys : g.F.Folder.is_honest ≡ true → Surveys l.self.survey l.self.fresh l.self.keywords (g.F.Folder.seen l.self.folder).stored;
   removed : g.F.Folder.is_honest ≡ true → (g.F.Folder.seen l.self.folder).stored
       ≡ without_uids (take l.uid-index l.uids) (g.F.Folder.seen l.initial.self.folder).stored;
   untouched : g.F.Folder.is_honest ≡ true → without_uids l.uids (g.F.Folder.seen l.initial.self.folder).stored ≡ (g.F.Folder.seen l.initial.self.folder).stored

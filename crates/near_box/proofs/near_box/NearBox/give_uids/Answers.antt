@@ -25,6 +25,7 @@ loop-file-preserved g c =
       items = so_far.items;
       begun = c.give_uid.ensures.failed.0 ∙ so_far.begun;
       fresh = c.give_uid.ensures.failed.1 ∙ so_far.fresh;
+      keywords = c.give_uid.ensures.keywords ∙ so_far.keywords;
       missed = c.give_uid.ensures.failed.2 ∙ so_far.missed;
       count = so_far.count;
       number = omega (arith, so_far.number);

@@ -8,6 +8,7 @@ invariant-loop-file g l = record {
   items : l.file-items ≡ l.fn.self.survey.waiting.items;
   begun : l.self.is_ready ≡ false;
   fresh : l.self.fresh ≡ l.fn.self.fresh;
+  keywords : l.self.keywords ≡ l.fn.self.keywords;
   missed : l.self.missed ≡ l.fn.self.missed;
   count : l.count ≡ length l.file-items;
   number : l.number ≡ l.fn.self.survey.meta.next + l.file-index;

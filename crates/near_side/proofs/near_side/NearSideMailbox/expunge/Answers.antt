@@ -13,4 +13,4 @@ returns-clause-call g c =
     let new = c.expunge.new.self in
     rw c.told_by.ensures (turns s new c.requires.open c.requires.whole
     (on_store (removed side.Near c.args.uid)) c.expunge.result c.expunge.ensures.ends
-    (λ h. removes_one c.args.uid (mailbox_of s.near) (near_of s.near.fresh (stored_in new)) c.expunge.result (c.expunge.ensures.effect h)))
+    (λ h. removes_one c.args.uid (mailbox_of s.near) (near_of s.near.fresh s.near.keywords (stored_in new)) c.expunge.result (c.expunge.ensures.effect h)))

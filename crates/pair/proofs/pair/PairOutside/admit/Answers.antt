@@ -26,6 +26,7 @@ returns g c =
     let ends = near_ends p (admitting (device_of p) g.N.Mailbox.alone (g.F.Mailbox.alone && g.N.Mailbox.alone) (alone_right g.F.Mailbox.alone g.N.Mailbox.alone)) b.new.self e.new.self b.result e.result whole e.ensures.same e.ensures.now (rw p.near_is at b.ensures.call) in
     record {
       was_honest = λ h. (h.0, b.ensures.was_honest h.1, h.2);
+      keywords = refl;
       opened = near_stays (g.F.Mailbox.is_open p.far) _ _ (kept_of p.book) c.requires.is_open b.ensures.open;
       call = ends.call;
       why = ends.why;

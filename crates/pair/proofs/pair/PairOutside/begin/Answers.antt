@@ -28,6 +28,7 @@ returns g c =
     let ends = books.book_ends p (λ _. Turns Missing (begun c.args.plan)) (λ _. TurnsHalf Missing Useless) FromBook b.new.near b.new.book e.new.self b.result e.result (begins (kept_of p.book) c.args.plan (books.takes_plan (g.F.Mailbox.is_open p.far) (g.N.Mailbox.is_open p.near) (kept_of p.book) c.args.plan c.requires.takes)) whole e.ensures.same e.ensures.now b.ensures.told b.ensures.arrives b.ensures.part in
     record {
       was_honest = λ h. (h.0, b.ensures.was_honest h.1, h.2);
+      keywords = refl;
       opened = on_ok _ _ b.result e.result e.ensures.same (λ h. rw b.ensures.open (books.is_turned (g.F.Mailbox.is_open p.far) (g.N.Mailbox.is_open p.near) (λ _. begun c.args.plan) (kept_of p.book) (kept_of b.new.book) h)) b.ensures.kept;
       call = ends.call;
       why = λ is. inr (b.ensures.cause (sym e.ensures.same ∙ is));

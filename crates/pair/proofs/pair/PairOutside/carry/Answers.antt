@@ -1,4 +1,5 @@
 use Rattle.std.proofs.Common.{◌∙◌, sym, inl, refl}
+use Rattle.mailcore.specs.KeywordNames.{kept}
 use Rattle.pair.specs.BookParts.{kept_of}
 use Rattle.pair.specs.Pairs.{device_of}
 use Rattle.pair.proofs.CarryCalls.{pull_ends, push_ends}
@@ -28,11 +29,12 @@ returns-in-Pull g c =
     let b = c.copy-answer in
     let e = c.end_carry in
     let whole = sym c.is_broken.ensures ∙ c.if-is_broken.false in
-    let ends = pull_ends p c.args.uid c.args.flags c.args.mark b.new.from b.new.to e.new.self b.result e.result whole e.ensures.same e.ensures.now b.ensures.why b.ensures.effect in
+    let ends = pull_ends p c.args.uid (kept (g.N.Mailbox.keywords p.near) c.args.flags) c.args.mark b.new.from b.new.to e.new.self b.result e.result whole e.ensures.same e.ensures.now b.ensures.why b.ensures.effect in
     record {
       was_honest = λ h. (b.ensures.from_was h.0, b.ensures.to_was h.1, h.2);
+      keywords = b.ensures.from_keywords;
       opened = both_stay (g.F.Mailbox.is_open p.far) _ (g.N.Mailbox.is_open p.near) _ (kept_of p.book) c.requires.far_open c.requires.near_open b.ensures.from_open b.ensures.to_open;
-      call = rw c.in-Pull.is ends.call;
+      call = rw (c.in-Pull.is, p.one_map) ends.call;
       why = rw c.in-Pull.is ends.why;
       tallied = ends.tallied;
     }
@@ -56,9 +58,10 @@ returns-in-Push g c =
     let b = c.copy-answer-in-Push in
     let e = c.end_carry-in-Push in
     let whole = sym c.is_broken.ensures ∙ c.if-is_broken.false in
-    let ends = push_ends p c.args.uid c.args.flags c.args.mark b.new.to b.new.from e.new.self b.result e.result whole e.ensures.same e.ensures.now b.ensures.why b.ensures.effect in
+    let ends = push_ends p c.args.uid (kept (g.F.Mailbox.keywords p.far) c.args.flags) c.args.mark b.new.to b.new.from e.new.self b.result e.result whole e.ensures.same e.ensures.now b.ensures.why b.ensures.effect in
     record {
       was_honest = λ h. (b.ensures.to_was h.0, b.ensures.from_was h.1, h.2);
+      keywords = b.ensures.to_keywords;
       opened = both_stay (g.F.Mailbox.is_open p.far) _ (g.N.Mailbox.is_open p.near) _ (kept_of p.book) c.requires.far_open c.requires.near_open b.ensures.to_open b.ensures.from_open;
       call = rw c.in-Push.is ends.call;
       why = rw c.in-Push.is ends.why;

@@ -26,6 +26,7 @@ returns g c =
     let ends = books.book_ends p (CommitsTo) (CommitsHalf) FromBook b.new.near b.new.book e.new.self b.result e.result (commits (kept_of p.book)) whole e.ensures.same e.ensures.now b.ensures.told b.ensures.arrives b.ensures.part in
     record {
       was_honest = λ h. (h.0, b.ensures.was_honest h.1, h.2);
+      keywords = refl;
       opened = on_ok _ _ b.result e.result e.ensures.same (λ h. rw b.ensures.open (books.are_committed (g.F.Mailbox.is_open p.far) (g.N.Mailbox.is_open p.near) (kept_of p.book) (kept_of b.new.book) h)) b.ensures.kept;
       call = ends.call;
       why = λ is. inr (b.ensures.cause (sym e.ensures.same ∙ is));

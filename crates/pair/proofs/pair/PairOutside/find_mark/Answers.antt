@@ -25,6 +25,7 @@ returns-in-Far g c =
     let ends = far_ends p (finding (device_of p) side.Far c.args.mark c.args.from) b.new.self e.new.self b.result e.result whole e.ensures.same e.ensures.now (rw p.far_is at b.ensures.call) in
     record {
       was_honest = λ h. (b.ensures.was_honest h.0, h.1, h.2);
+      keywords = b.ensures.keywords;
       opened = far_stays _ _ (g.N.Mailbox.is_open p.near) (kept_of p.book) (rw c.in-Far.is at c.requires.is_open) b.ensures.open;
       call = rw c.in-Far.is ends.call;
       why = rw c.in-Far.is ends.why;
@@ -46,6 +47,7 @@ returns-in-Near g c =
     let ends = near_ends p (finding (device_of p) side.Near c.args.mark c.args.from) b.new.self e.new.self b.result e.result whole e.ensures.same e.ensures.now (rw p.near_is at b.ensures.call) in
     record {
       was_honest = λ h. (h.0, b.ensures.was_honest h.1, h.2);
+      keywords = refl;
       opened = near_stays (g.F.Mailbox.is_open p.far) _ _ (kept_of p.book) (rw c.in-Near.is at c.requires.is_open) b.ensures.open;
       call = rw c.in-Near.is ends.call;
       why = rw c.in-Near.is ends.why;

@@ -2,7 +2,7 @@ use Rattle.std.proofs.Common.{◌∙◌, sym, refl}
 use Rattle.std.specs.Prelude.{◌&&◌}
 use Rattle.mailcore.specs.declared.side.Side.TheVariants as side
 use Rattle.mailcore.specs.Spared.{spares}
-use Rattle.mailbox.specs.Operations.{HasNumbers}
+use Rattle.mailbox.specs.Operations.{HasNumbers, ListsWithin}
 use Rattle.pair.specs.BookParts.{kept_of}
 use Rattle.pair.specs.Pairs.{device_of}
 use Rattle.pair.proofs.Arriving.{alone_left}
@@ -29,9 +29,11 @@ returns g c =
     let ends = far_ends p (listing_far (device_of p) g.F.Mailbox.alone (g.F.Mailbox.alone && g.N.Mailbox.alone) (alone_left g.F.Mailbox.alone g.N.Mailbox.alone) (g.F.Mailbox.seen p.far).stored.store.next (spares c.none.result)) b.new.self e.new.self b.result e.result whole e.ensures.same e.ensures.now (rw p.far_is at b.ensures.call) in
     record {
       was_honest = λ h. (b.ensures.was_honest h.0, h.1, h.2);
+      keywords = b.ensures.keywords;
       opened = far_stays _ _ (g.N.Mailbox.is_open p.near) (kept_of p.book) c.requires.is_open b.ensures.open;
       call = ends.call;
       why = ends.why;
       tallied = ends.tallied;
       numbers = if_ok side.Far HasNumbers b.result e.result e.ensures.same b.ensures.numbers;
+      within = λ h. if_ok side.Far (ListsWithin (g.F.Mailbox.keywords p.far)) b.result e.result e.ensures.same (b.ensures.within h.0);
     }

@@ -1,7 +1,7 @@
 use Rattle.std.proofs.Common.{◌∙◌, sym, refl}
 use Rattle.mailcore.specs.declared.side.Side.TheVariants as side
 use Rattle.mailcore.specs.Spared.{spares}
-use Rattle.mailbox.specs.Operations.{HasNumbers}
+use Rattle.mailbox.specs.Operations.{HasNumbers, ListsWithin}
 use Rattle.pair.specs.BookParts.{kept_of}
 use Rattle.pair.specs.Pairs.{device_of}
 use Rattle.pair.proofs.BoxCalls.{if_ok, listing_near, near_ends}
@@ -27,9 +27,11 @@ returns g c =
     let ends = near_ends p (listing_near (device_of p) (spares c.args.spared.now)) b.new.self e.new.self b.result e.result whole e.ensures.same e.ensures.now (rw p.near_is at b.ensures.call) in
     record {
       was_honest = λ h. (h.0, b.ensures.was_honest h.1, h.2);
+      keywords = refl;
       opened = near_stays (g.F.Mailbox.is_open p.far) _ _ (kept_of p.book) c.requires.is_open b.ensures.open;
       call = ends.call;
       why = ends.why;
       tallied = ends.tallied;
       numbers = if_ok side.Near HasNumbers b.result e.result e.ensures.same b.ensures.numbers;
+      within = λ h. rw p.one_map (if_ok side.Near (ListsWithin (g.N.Mailbox.keywords p.near)) b.result e.result e.ensures.same (b.ensures.within h.1));
     }

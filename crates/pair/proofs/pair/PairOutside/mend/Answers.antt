@@ -25,6 +25,7 @@ returns g c =
     let ends = books.book_ends p (λ p. Turns p (mended p)) (λ p. TurnsHalf p p) FromBook p.near b.new.self e.new.self b.result e.result (mends (kept_of p.book)) whole e.ensures.same e.ensures.now b.ensures.told (books.near_stays p) (λ _. b.ensures.part) in
     record {
       was_honest = λ h. h;
+      keywords = refl;
       opened = on_ok _ _ b.result e.result e.ensures.same (books.is_turned (g.F.Mailbox.is_open p.far) (g.N.Mailbox.is_open p.near) (mended) (kept_of p.book) (kept_of b.new.self)) b.ensures.kept;
       call = ends.call;
       why = books.by_book p b.new.self b.result e.result whole e.ensures.same b.ensures.stops;

@@ -17,6 +17,7 @@ returns g c =
     let whole = sym c.is_broken.ensures ∙ c.if-is_broken.false in
     record {
       was_honest = λ h. h;
+      keywords = refl;
       book = on_ok _ _ b.result e.result e.ensures.same (books.is_book (g.F.Mailbox.is_open p.far) (g.N.Mailbox.is_open p.near) (kept_of b.new.self)) b.ensures.book;
       call = books.open_ends p b.new.self e.new.self b.result e.result whole e.ensures.same e.ensures.now b.ensures.told b.ensures.part;
       why = books.by_book p b.new.self b.result e.result whole e.ensures.same b.ensures.stops;

@@ -25,6 +25,7 @@ returns-in-Far g c =
     let ends = far_ends p (opening (device_of p) side.Far (CannotOpen side.Far p)) b.new.self e.new.self b.result e.result whole e.ensures.same e.ensures.now (rw p.far_is at b.ensures.call) in
     record {
       was_honest = λ h. (b.ensures.was_honest h.0, h.1, h.2);
+      keywords = b.ensures.keywords;
       opened = rw c.in-Far.is (on_ok side.Far _ _ b.result e.result e.ensures.same (far_opened _ _ (g.N.Mailbox.is_open p.near) (kept_of p.book)) b.ensures.open);
       call = rw c.in-Far.is ends.call;
       why = rw c.in-Far.is ends.why;
@@ -46,6 +47,7 @@ returns-in-Near g c =
     let ends = near_ends p (opening (device_of p) side.Near (CannotOpen side.Near p)) b.new.self e.new.self b.result e.result whole e.ensures.same e.ensures.now (rw p.near_is at b.ensures.call) in
     record {
       was_honest = λ h. (h.0, b.ensures.was_honest h.1, h.2);
+      keywords = refl;
       opened = rw c.in-Near.is (on_ok side.Near _ _ b.result e.result e.ensures.same (near_opened (g.F.Mailbox.is_open p.far) _ _ (kept_of p.book)) b.ensures.open);
       call = rw c.in-Near.is ends.call;
       why = rw c.in-Near.is ends.why;

@@ -1,5 +1,6 @@
 use Rattle.std.proofs.Common.{◌∙◌, sym, inl, refl}
 use Rattle.mailcore.specs.declared.side.Side.TheVariants as side
+use Rattle.mailcore.specs.KeywordNames.{kept}
 use Rattle.mailcore.specs.Operations.{flags_removed}
 use Rattle.mailcore.specs.FlagSet.{minus}
 use Rattle.outside.proofs.Sparing.{flags_change_one}
@@ -25,9 +26,10 @@ returns-in-Far g c =
     let b = c.remove_flags-answer in
     let e = c.end_naming in
     let whole = sym c.is_broken.ensures ∙ c.if-is_broken.false in
-    let ends = far_ends p (turning (device_of p) c.args.uid (flags_removed c.args.uid c.args.flags) (flags_change_one c.args.uid (λ f. minus f c.args.flags)) side.Far) b.new.self e.new.self b.result e.result whole e.ensures.same e.ensures.now (rw p.far_is at b.ensures.call) in
+    let ends = far_ends p (turning (device_of p) c.args.uid (flags_removed c.args.uid (kept (g.F.Mailbox.keywords p.far) c.args.flags)) (flags_change_one c.args.uid (λ f. minus f (kept (g.F.Mailbox.keywords p.far) c.args.flags))) side.Far) b.new.self e.new.self b.result e.result whole e.ensures.same e.ensures.now (rw p.far_is at b.ensures.call) in
     record {
       was_honest = λ h. (b.ensures.was_honest h.0, h.1, h.2);
+      keywords = b.ensures.keywords;
       opened = far_stays _ _ (g.N.Mailbox.is_open p.near) (kept_of p.book) (rw c.in-Far.is at c.requires.is_open) b.ensures.open;
       call = rw c.in-Far.is ends.call;
       why = rw c.in-Far.is ends.why;
@@ -46,11 +48,12 @@ returns-in-Near g c =
     let b = c.remove_flags-answer-in-Near in
     let e = c.end_naming-in-Near in
     let whole = sym c.is_broken.ensures ∙ c.if-is_broken.false in
-    let ends = near_ends p (turning (device_of p) c.args.uid (flags_removed c.args.uid c.args.flags) (flags_change_one c.args.uid (λ f. minus f c.args.flags)) side.Near) b.new.self e.new.self b.result e.result whole e.ensures.same e.ensures.now (rw p.near_is at b.ensures.call) in
+    let ends = near_ends p (turning (device_of p) c.args.uid (flags_removed c.args.uid (kept (g.N.Mailbox.keywords p.near) c.args.flags)) (flags_change_one c.args.uid (λ f. minus f (kept (g.N.Mailbox.keywords p.near) c.args.flags))) side.Near) b.new.self e.new.self b.result e.result whole e.ensures.same e.ensures.now (rw p.near_is at b.ensures.call) in
     record {
       was_honest = λ h. (h.0, b.ensures.was_honest h.1, h.2);
+      keywords = refl;
       opened = near_stays (g.F.Mailbox.is_open p.far) _ _ (kept_of p.book) (rw c.in-Near.is at c.requires.is_open) b.ensures.open;
-      call = rw c.in-Near.is ends.call;
+      call = rw (c.in-Near.is, p.one_map) ends.call;
       why = rw c.in-Near.is ends.why;
       tallied = rw c.in-Near.is ends.tallied;
     }

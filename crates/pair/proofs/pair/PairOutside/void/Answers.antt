@@ -27,6 +27,7 @@ returns g c =
     let ends = books.book_ends p (λ p. Turns p (logged_more p Void)) (λ p. TurnsHalf p (torn p)) FromBook p.near b.new.self e.new.self b.result e.result (logs (kept_of p.book) Void) whole e.ensures.same e.ensures.now b.ensures.told (books.near_stays p) (λ _. b.ensures.part) in
     record {
       was_honest = λ h. h;
+      keywords = refl;
       opened = on_ok _ _ b.result e.result e.ensures.same (books.is_turned (g.F.Mailbox.is_open p.far) (g.N.Mailbox.is_open p.near) (λ p. logged_more p Void) (kept_of p.book) (kept_of b.new.self)) b.ensures.kept;
       call = ends.call;
       why = books.by_book p b.new.self b.result e.result whole e.ensures.same b.ensures.stops;

@@ -1,5 +1,0 @@
-use Rattle.trial.specs.Openings.{no_opening}
-use Rattle.test_wanting.proofs.play.settle.Given as goal
-
-abbrev pub ghost-settle_trial : goal.ghost-settle_trial
-ghost-settle_trial a = no_opening a.options.now

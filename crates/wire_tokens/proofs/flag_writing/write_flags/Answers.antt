@@ -1,7 +1,0 @@
-use Rattle.std.proofs.Common.{◌<◌, ℕ, subst}
-use Rattle.std.proofs.lemmas.Result.{on_ok_weaker}
-use Rattle.wire_tokens.proofs.WrittenFlags.{flags_written_well}
-use Rattle.wire_tokens.proofs.flag_writing.write_flags.Goals as goal
-
-pub returns-clause-ok : goal.returns-clause-ok
-returns-clause-ok c = on_ok_weaker c.append_whole.result (λ e. record { text = _; parts = e; spelled = flags_written_well c.args.flags (subst (λ (n : ℕ). n < 64) c.bits.ensures.bits c.bits.ensures.set) }) c.append_whole.ensures.ok
