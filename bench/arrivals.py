@@ -22,7 +22,7 @@ import sys
 from collections import Counter
 
 from outcome_model import GREATEST_NEXT, fault, outcome
-from plan_model import LETTERS, escaped, text_of
+from plan_model import escaped, letters_of, text_of
 
 worlds = importlib.import_module("random-trials")
 
@@ -47,14 +47,14 @@ def numbered(world, rng):
     return world
 
 
-def random_arrivals(rng):
+def random_arrivals(rng, letters):
     """Side, call, number, letters and bytes of what comes, each behind numbers that no message of the world has."""
     arrivals = []
     for k in range(rng.randrange(1, 4)):
         side = rng.choice(["far", "near"])
         call = rng.choice(COMMANDS if side == "far" else FOLDER)
         data = b"N: %d\nSubject: came\n\n" % (1000 + k) + rng.choice([b"", b"body\n"])
-        arrivals.append((side, call, rng.choice([1, 1, 2, 3]), "".join(c for c in LETTERS if rng.random() < 0.25), data))
+        arrivals.append((side, call, rng.choice([1, 1, 2, 3]), "".join(c for c in letters if rng.random() < 0.25), data))
     return arrivals
 
 
@@ -195,7 +195,7 @@ class Runs:
         if fault(world) or any(world[side + "_next"] > GREATEST_NEXT - 100 for side in ("far", "near")):
             self.met["left out"] += 1
             return
-        arrivals = random_arrivals(rng)
+        arrivals = random_arrivals(rng, letters_of(world["keywords"]))
         stops = random_stops(rng, arrivals)
         text = text_of(world) + f"tries {len(stops) + 1}\n"
         lines = [line_of(arrival) for arrival in arrivals]

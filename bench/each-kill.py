@@ -14,7 +14,7 @@ import sys
 import tempfile
 
 from configuration import configured
-from imap_side import ImapSide
+from imap_side import KEYWORD_LINES, ImapSide
 from maildir_side import MaildirSide
 from measured import system_calls
 from trial_imapd import TOP, Server, build, world
@@ -26,7 +26,7 @@ Far :far:
 Near :near:
 Create Near
 Expunge Both
-"""
+""" + "".join(f"Keyword {line}\n" for line in KEYWORD_LINES)
 
 
 def message(subject):
@@ -47,7 +47,7 @@ class Place:
         self.file = os.path.join(folder, "four.world")
         self.program = program
         with open(self.file, "wb") as text:
-            text.write(world([message(subject) for subject in (b"one", b"two", b"three", b"four")]))
+            text.write(world([message(subject) for subject in (b"one", b"two", b"three", b"four")], KEYWORD_LINES))
         self.server = None
 
     def renew(self):
@@ -84,19 +84,19 @@ def before_second_run(place):
     subprocess.run(command, check=True, stdout=subprocess.DEVNULL)
     uids = {subject: uid for uid, _, data in place.near().messages() for subject, _ in subjects([(0, "", data)])}
     with ImapSide(place.server.port) as far:
-        far.set_flags(1, frozenset(), frozenset("F"))
+        far.set_flags(1, frozenset(), frozenset("Fa"))
         far.remove(2)
-        far.add(None, message(b"five"), frozenset("S"))
+        far.add(None, message(b"five"), frozenset("Sk"))
     near = place.near()
-    near.set_flags(uids["one"], None, frozenset("R"))
+    near.set_flags(uids["one"], None, frozenset("Rk"))
     near.remove(uids["three"])
     near.set_flags(uids["four"], None, frozenset("T"))
-    near.add("1700000000.six", message(b"six").replace(b"\r", b""), frozenset("F"))
+    near.add("1700000000.six", message(b"six").replace(b"\r", b""), frozenset("Fa"))
     return command
 
 
 FOUR = [("four", ""), ("one", ""), ("three", ""), ("two", "")]
-CHANGED = [("five", "S"), ("one", "FR"), ("six", "F")]
+CHANGED = [("five", "Sk"), ("one", "FRak"), ("six", "Fa")]
 
 
 def killed(place, prepare, name, number, wanted):

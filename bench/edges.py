@@ -23,14 +23,14 @@ from scripted_server import Box
 from trial_imapd import TOP, escaped
 
 PROGRAM = os.path.join(TOP, "crates", "mbsync_main", "out", "mbsync_main")
-LEFT_OUT = "  its name is no UTF-8, or too long to get a UID: give it another one, and run again"
+LEFT_OUT = "  its name is not UTF-8, or is too long to get a UID: rename it, and run again"
 REMOVED = '  it was there at the last run, and is not made anew: the manual page says what to do under "How to recover"'
-BAD_NAME = "the name is too long, or no UTF-8. Give it another one, and run again"
-NO_FILE = "this is no file. Take it out of there, and run again"
-STANDING = "is there, and was to count as removed: run again"
+BAD_NAME = "the name is too long, or is not UTF-8. Rename it, and run again"
+NO_FILE = "this is not a file. Move it elsewhere, and run again"
+STANDING = "is there, but its message was about to count as removed: run again"
 NO_PERMISSION = "no permission. Let yourself read and write it, and run again"
 FULL = "the disk is full. Make room, and run again"
-READ_ONLY = "the file system can be read only"
+READ_ONLY = "the file system is read-only"
 
 
 def make_socket(path):

@@ -2,7 +2,10 @@
 import re
 import socket
 
-IMAP_NAMES = {"D": rb"\Draft", "F": rb"\Flagged", "P": b"$Forwarded", "R": rb"\Answered", "S": rb"\Seen", "T": rb"\Deleted"}
+KEYWORDS = {"a": "$Label1", "k": "to-do"}
+KEYWORD_LINES = [f"{letter} {name}" for letter, name in sorted(KEYWORDS.items())]
+IMAP_NAMES = {"D": rb"\Draft", "F": rb"\Flagged", "P": b"$Forwarded", "R": rb"\Answered", "S": rb"\Seen", "T": rb"\Deleted",
+              **{letter: name.encode() for letter, name in KEYWORDS.items()}}
 LETTERS = {name.lower(): letter for letter, name in IMAP_NAMES.items()}
 LISTED = re.compile(rb"\* \d+ FETCH \(UID (\d+) FLAGS \(([^)]*)\) RFC822.SIZE \d+\)\r\n")
 BODY = re.compile(rb"\* \d+ FETCH \(UID (\d+) BODY\[\] \{(\d+)\}\r\n")

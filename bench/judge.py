@@ -65,7 +65,7 @@ class Judge:
 
     def pairs_of_state(self, text):
         """The pairs of a state text by name, or none if the text is none of ours."""
-        if text is None or not text.startswith("mbsync state 1\n"):
+        if text is None or not text.startswith("mbsync state 2\n"):
             return None
         pairs = {}
         for far, near, flags in re.findall(r"^e (\d+) (\d+) (\S+)$", text, re.MULTILINE):

@@ -31,7 +31,7 @@ import threading
 import time
 
 from configuration import configured
-from imap_side import ImapSide
+from imap_side import KEYWORD_LINES, ImapSide
 from maildir_side import MaildirSide
 from measured import STRACE_ROW
 from real_side import RealSide
@@ -49,7 +49,7 @@ Near :near:
 Sync %s
 Expunge %s
 SyncState *
-"""
+""" + "".join(f"Keyword {line}\n" for line in KEYWORD_LINES)
 
 
 class Seconds:
@@ -198,7 +198,7 @@ def try_program(program, seed, rounds, moments):
     with tempfile.TemporaryDirectory() as folder:
         file = os.path.join(folder, "empty.world")
         with open(file, "wb") as text:
-            text.write(world([]))
+            text.write(world([], KEYWORD_LINES))
         server = Server(file, 65535)
         try:
             server.connect().logout()

@@ -1,9 +1,10 @@
 """Random changes of both sides between runs, as mail programs make them, told to a judge and to the model."""
 import random
 
+from imap_side import IMAP_NAMES
 from run_model import CELLS, Options
 
-LETTERS = "DFPRST"
+LETTERS = "".join(sorted(IMAP_NAMES))
 SYNC_WORDS = {
     "Full": CELLS,
     "Pull": frozenset(cell for cell in CELLS if cell.startswith("Pull")),

@@ -29,7 +29,7 @@ def first_pull(tally):
         tally.same("its files", scene.texts(), [".mbsyncstate", ".mbsyncstate.lock", ".uidvalidity"])
         validity, highest = scene.near().text(".uidvalidity").split()
         entries = "e 1 1 -\ne 2 2 FS\nend\n"
-        state = f"mbsync state 1\nrun 1\nfar 1 2\nnear {validity} 0\n" + entries
+        state = f"mbsync state 2\nrun 1\nfar 1 2\nnear {validity} 0\n" + entries
         tally.same("its state", scene.near().text(".mbsyncstate"), state)
         tally.same("its highest UID", highest, "2")
         tally.same("its validity is that of the clock", abs(int(validity) - 1 - time.time()) < 60, True)
@@ -37,7 +37,7 @@ def first_pull(tally):
         tally.same("who may read them", modes, ["0o700", "0o700", "0o600", "0o600", "0o600"])
         tally.same("nothing to do", scene.run("c"), [0, "c:INBOX", "ran"])
         # The copies are below the greatest UID that was listed now.
-        state = f"mbsync state 1\nrun 2\nfar 1 2\nnear {validity} 2\n" + entries
+        state = f"mbsync state 2\nrun 2\nfar 1 2\nnear {validity} 2\n" + entries
         tally.same("the run is counted", scene.near().text(".mbsyncstate"), state)
 
 
@@ -183,7 +183,7 @@ def what_does_not_open(tally):
     with Scene(password='"not so"') as scene:
         got = scene.run("c")
         tally.same("a wrong password", got[:2], [1, "mbsync: cannot open far"])
-        advice = "  the server refused the user and the password: mend User or Pass of IMAPStore far, and run again"
+        advice = "  the server rejected the login: correct User or Pass of IMAPStore far, and run again"
         tally.same("what to do about it, and what the server said", got[2:], [advice, "  the server said: [AUTHENTICATIONFAILED] login"])
         tally.same("it is not told", any("not so" in str(line) for line in got), False)
     with Scene(ONE) as scene:

@@ -1,14 +1,30 @@
 """The plan of a world by docs/RULES.md, read here once more and in another language, and how a world is written.
 
-A world is a table: `cells` and `expunge` (what the run may do); of `far` and `near` the messages (UID, letters, bytes), `_validity`
+A world is a table: `cells` and `expunge` (what the run may do); `keywords` (a name for some letters from a to z); of `far` and `near` the messages (UID, letters, bytes), `_validity`
 and `_next`; `waiting` files (letters, bytes); and the state: `run`, `far_recorded` and `near_recorded` (validities), `max_pulled`,
 `max_pushed`, and `entries` (far UID, near UID, letters)."""
 import re
+from string import ascii_lowercase
 
-LETTERS = "DFPRST"
+SIX = "DFPRST"
+LETTERS = SIX + ascii_lowercase
+NAMES = ("$Label1", "$Label2", "Junk", "NonJunk", "$MDNSent", "to-do", "~")
 MOST = 16777216
 CELLS = [(way, kind) for way in ("Pull", "Push") for kind in ("New", "Gone", "Flags")]
 EXPUNGE = {(): "None", ("far",): "Far", ("near",): "Near", ("far", "near"): "Both"}
+
+
+# ---- keywords
+
+def random_keywords(rng):
+    """A name for none to three letters."""
+    letters = sorted(rng.sample(ascii_lowercase, rng.choice((0, 0, 1, 2, 3))))
+    return dict(zip(letters, rng.sample(NAMES, len(letters))))
+
+
+def letters_of(keywords):
+    """The letters that a message of a world with these keywords may have."""
+    return SIX + "".join(sorted(keywords))
 
 
 # ---- messages
@@ -156,4 +172,5 @@ def world_after_options(world):
 def text_of(world):
     """The world, its Sync words being the `words` that it has, or else one for each cell."""
     words = world.get("words") or [way + kind for way, kind in CELLS if (way, kind) in world["cells"]] or ["None"]
-    return "sync %s\nexpunge %s\n" % (" ".join(words), EXPUNGE[world["expunge"]]) + world_after_options(world)
+    keywords = "".join("keyword %s %s\n" % keyword for keyword in sorted(world["keywords"].items()))
+    return "sync %s\nexpunge %s\n%s" % (" ".join(words), EXPUNGE[world["expunge"]], keywords) + world_after_options(world)

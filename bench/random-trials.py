@@ -20,7 +20,7 @@ from collections import Counter
 from unittest.mock import patch
 
 from outcome_model import GREATEST_NEXT, GREATEST_RUN, cells_of, told
-from plan_model import CELLS, LETTERS, MOST, plan, text_of
+from plan_model import CELLS, LETTERS, MOST, SIX, letters_of, plan, random_keywords, text_of
 from wrong_readings import WRONG
 
 TOP = os.path.dirname(os.path.dirname(os.path.abspath(__file__)))
@@ -35,8 +35,8 @@ KINDS = ("settled", "fault 2", "fault 3", "fault 4", "fault 6", "no step", "next
 
 # ---- random worlds
 
-def random_letters(rng):
-    return "".join(c for c in LETTERS if rng.random() < 0.27)
+def random_letters(rng, letters):
+    return "".join(c for c in letters if rng.random() < 0.27)
 
 
 def random_data(rng, side):
@@ -49,8 +49,8 @@ def big_world(rng):
     """A new message about the greatest length that is fit, and a short one, on one side."""
     side, length = rng.choice(["far", "near"]), MOST + rng.randrange(-1, 3)
     head = b"Subject: big\r\n\r\n" if side == "far" else b"Subject: big\n\n" + b"\n" * rng.randrange(2)
-    messages = {"far": [], "near": [], side: [(3, random_letters(rng), head + b"x" * (length - 16)), (4, "", b"short")]}
-    return {"cells": set(CELLS), "words": ["Full"], "expunge": (), "run": 0, **messages, "waiting": [], "entries": [],
+    messages = {"far": [], "near": [], side: [(3, random_letters(rng, SIX), head + b"x" * (length - 16)), (4, "", b"short")]}
+    return {"cells": set(CELLS), "keywords": {}, "words": ["Full"], "expunge": (), "run": 0, **messages, "waiting": [], "entries": [],
             "max_pulled": 0, "max_pushed": 0, **{f"{side}_{what}": number for side in ("far", "near")
                                                  for what, number in (("recorded", 0), ("validity", 1), ("next", 5))}}
 
@@ -62,20 +62,20 @@ def random_side(rng):
     return uids, GREATEST_NEXT - most - rng.randrange(2) if rng.random() < 0.06 else 0
 
 
-def random_entries(rng, far, near):
-    """Entries over the first UIDs of both sides: some have lost a side."""
+def random_entries(rng, letters, far, near):
+    """Entries over the first UIDs of both sides: some have lost a side, and some have letters that no keyword has any more."""
     entries = []
     for f, n in zip(far, near):
         if rng.random() < 0.75:
             lost = rng.random()
-            entries.append((0 if lost < 0.12 else f, 0 if lost > 0.88 else n, random_letters(rng)))
+            entries.append((0 if lost < 0.12 else f, 0 if lost > 0.88 else n, random_letters(rng, rng.choice((letters, letters, LETTERS)))))
     return sorted(entries)
 
 
-def random_messages(rng, side, uids, entries):
+def random_messages(rng, letters, side, uids, entries):
     """What is listed: most of the UIDs; those in entries may be gone."""
     named = {entry[0 if side == "far" else 1] for entry in entries}
-    return [(uid, random_letters(rng), random_data(rng, side)) for uid in sorted(uids) if uid not in named or rng.random() < 0.75]
+    return [(uid, random_letters(rng, letters), random_data(rng, side)) for uid in sorted(uids) if uid not in named or rng.random() < 0.75]
 
 
 def random_options(rng, number):
@@ -97,20 +97,21 @@ def random_world(seed):
         return big_world(rng)
     cells, words, expunge = random_options(rng, seed)
     world = {"cells": cells, "words": words, "expunge": expunge, "far_recorded": 0, "near_recorded": 0, "entries": [],
-             "run": rng.choice([0, 1, 1, 5] if rng.random() < 0.96 else [GREATEST_RUN - 1, GREATEST_RUN])}
+             "run": rng.choice([0, 1, 1, 5] if rng.random() < 0.96 else [GREATEST_RUN - 1, GREATEST_RUN]), "keywords": random_keywords(rng)}
+    letters = letters_of(world["keywords"])
     (far, far_up), (near, near_up) = random_side(rng), random_side(rng)
     far, near = [uid + far_up for uid in far], [uid + near_up for uid in near]
     if world["run"]:
-        world["entries"] = random_entries(rng, far, near)
+        world["entries"] = random_entries(rng, letters, far, near)
     for side, uids, column, highest in (("far", far, 0, "max_pulled"), ("near", near, 1, "max_pushed")):
-        world[side] = random_messages(rng, side, uids, world["entries"])
+        world[side] = random_messages(rng, letters, side, uids, world["entries"])
         named = [entry[column] for entry in world["entries"]]
         world[highest] = rng.choice([0, max([*named, 0]), max([*uids, 0]), rng.choice([*uids, 1])]) if world["run"] else 0
         world[side + "_next"] = min(max([*uids, *named, world[highest], 0]) + 1 + rng.choice([0, 0, 1, 5]), GREATEST_NEXT)
         world[side + "_validity"] = rng.choice([1, 7, GREATEST_NEXT])
         if world["run"]:
             world[side + "_recorded"] = world[side + "_validity"] if rng.random() < 0.97 else 12
-    world["waiting"] = [(random_letters(rng), random_data(rng, "near")) for _ in range(rng.choice([0, 0, 1, 2, 3]))]
+    world["waiting"] = [(random_letters(rng, letters), random_data(rng, "near")) for _ in range(rng.choice([0, 0, 1, 2, 3]))]
     return world
 
 
@@ -120,7 +121,7 @@ def told_by_planner(world):
     """Status and output of mbplan, and what it tells on standard error. It refuses a waiting file for which no UID is left."""
     left = GREATEST_NEXT - world["near_next"]
     if left < len(world["waiting"]):
-        line = len(world["far"]) + len(world["near"]) + left + 5
+        line = len(world["keywords"]) + len(world["far"]) + len(world["near"]) + left + 5
         return 2, "", f"mbplan: world line {line}\n"
     status, lines, fault = plan(world)
     return status, "".join(line + "\n" for line in lines), f"mbplan: {fault}\n" if fault else ""

@@ -11,13 +11,13 @@ import random
 import subprocess
 import sys
 
-from plan_model import CELLS, LETTERS, plan, text_of
+from plan_model import CELLS, LETTERS, letters_of, plan, random_keywords, text_of
 
 TOP = os.path.dirname(os.path.dirname(os.path.abspath(__file__)))
 
 
-def random_letters(rng):
-    return "".join(c for c in LETTERS if rng.random() < 0.3)
+def random_letters(rng, letters):
+    return "".join(c for c in letters if rng.random() < 0.3)
 
 
 def random_data(rng, bytes_):
@@ -25,27 +25,31 @@ def random_data(rng, bytes_):
     return start + bytes(rng.choice(bytes_) for _ in range(rng.randrange(8)))
 
 
-def random_messages(rng, bytes_):
+def random_messages(rng, letters, bytes_):
     uids = sorted(rng.sample(range(1, 12), rng.randrange(7)))
-    return [(uid, random_letters(rng), random_data(rng, bytes_)) for uid in uids]
+    return [(uid, random_letters(rng, letters), random_data(rng, bytes_)) for uid in uids]
 
 
-def random_entries(rng):
+def random_entries(rng, letters):
+    """Entries, some of which have letters that no keyword has any more."""
     count = rng.randrange(8)
     entries = []
     for far, near in zip(rng.sample(range(1, 14), count), rng.sample(range(1, 14), count)):
         vanished = rng.random()
-        entries.append((0 if vanished < 0.15 else far, 0 if vanished > 0.85 else near, random_letters(rng)))
+        entries.append((0 if vanished < 0.15 else far, 0 if vanished > 0.85 else near, random_letters(rng, rng.choice((letters, letters, LETTERS)))))
     return sorted(entries)
 
 
 def random_world(rng):
     plain = b"\n\r\raa:x"
+    keywords = random_keywords(rng)
+    letters = letters_of(keywords)
     world = {
+        "keywords": keywords,
         "cells": {cell for cell in CELLS if rng.random() < 0.75},
         "expunge": tuple(side for side in ("far", "near") if rng.random() < 0.4),
-        "far": random_messages(rng, plain), "near": random_messages(rng, plain + b"\0"),
-        "waiting": [(random_letters(rng), random_data(rng, plain + b"\0")) for _ in range(rng.choice([0, 0, 1, 2]))],
+        "far": random_messages(rng, letters, plain), "near": random_messages(rng, letters, plain + b"\0"),
+        "waiting": [(random_letters(rng, letters), random_data(rng, plain + b"\0")) for _ in range(rng.choice([0, 0, 1, 2]))],
         "far_validity": 1, "near_validity": 2, "run": rng.choice([0, 1, 5]),
         "far_recorded": 0, "near_recorded": 0, "max_pulled": 0, "max_pushed": 0, "entries": [],
     }
@@ -53,7 +57,7 @@ def random_world(rng):
         world[side + "_next"] = max([m[0] for m in world[side]], default=0) + 1 + rng.randrange(3)
     if world["run"]:
         world.update(far_recorded=rng.choice([1] * 20 + [3]), near_recorded=rng.choice([2] * 20 + [3]),
-                     max_pulled=rng.randrange(12), max_pushed=rng.randrange(12), entries=random_entries(rng))
+                     max_pulled=rng.randrange(12), max_pushed=rng.randrange(12), entries=random_entries(rng, letters))
     return world
 
 

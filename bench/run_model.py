@@ -84,7 +84,7 @@ def news(world, side, options):
 def flags_after(options, far, near, recorded):
     """The flags of a pair after a run: on the far side, on the near one, and recorded."""
     after = {"far": set(), "near": set(), "recorded": set()}
-    for letter in "DFPRST":
+    for letter in {*far, *near, *recorded}:
         there = {"far": letter in far, "near": letter in near, "recorded": letter in recorded}
         changed = {side: there[side] != there["recorded"] for side in ("far", "near")}
         new = dict(there)

@@ -10,16 +10,16 @@ from measured import peak_so_far
 from scene import ONE, TWO, near_text
 from scripted_server import BODY, HEAD, LISTING, body_told
 
-UNREACHED = "the server of IMAPStore far cannot be reached (connection refused): see to its Host and Port, and run again"
+UNREACHED = "the server of IMAPStore far cannot be reached (connection refused): check its Host and Port, and run again"
 ENDED = "the connection to the server of IMAPStore far ended: run again"
 DISMISSED = "the server of IMAPStore far ended the session: run again"
 # What is told of a message that the server lists and does not give.
-NOT_GIVEN = "the server of IMAPStore far lists the message of UID 2, and does not give it: run again"
+NOT_GIVEN = "the server of IMAPStore far lists the message with UID 2, but does not send it: run again"
 GIVEN_AGAIN = ("the state is sound, but UID %d was given a second time. Keep .mbsyncstate: "
                'the manual page says what to do under "How to recover"')
 # What is told where more of a message is shown than was asked for.
 LONG_HEADS = "store fault far 3"
-NO_ANSWER = "the server's answer is none that mbsync knows"
+NO_ANSWER = "mbsync does not understand the server's answer"
 # Notices without an end: how many bytes of them come, how many seconds a run over them may take, and how many MB of memory.
 NOTICE, NOTICES, NOTICE_SECONDS, NOTICE_MEMORY = b"* OK still at work\r\n", 100 * 2 ** 20, 120, 64
 

@@ -132,11 +132,11 @@ def unopened(tally):
         ("says BYE", b"* BYE [UNAVAILABLE] too many connections", None,
          [at + "ended the session: run again", "  the server said: [UNAVAILABLE] too many connections"]),
         ("is none", b"HTTP/1.1 400 Bad Request", None,
-         [at + "sent what is no answer: is an IMAP server at its Host and Port?", "  the server said: HTTP/1.1 400 Bad Request"]),
+         [at + "sent something that is not IMAP: is an IMAP server at its Host and Port?", "  the server said: HTTP/1.1 400 Bad Request"]),
         ("is an older one", b"* OK ready", lambda talk, command: command.verb == b"CAPABILITY" and (
             talk.send(b"* CAPABILITY IMAP4rev1"), talk.done(command), True), [at + "does not offer IMAP4rev2, which mbsync needs"]),
         ("does not list", b"* OK ready", lambda talk, command: command.verb == b"LIST" and (talk.done(command, b"NO not now"), True),
-         [at + "says no to what mbsync asked after the login", "  the server said: not now"]),
+         [at + "refused a command after the login", "  the server said: not now"]),
         ("breaks off", b"* OK ready", lambda talk, command: command.verb == b"CAPABILITY" and (talk.hang_up(), True),
          ["  the connection to the server of IMAPStore far ended: run again"]),
     ]
@@ -147,7 +147,7 @@ def unopened(tally):
     with Edge(ONE, password="verysecret") as scene:
         scene.server.script = lambda talk, command: command.verb == b"LOGIN" and (
             talk.done(command, b"NO user u with verysecret is unknown"), True)
-        line = "  the server refused the user and the password: mend User or Pass of IMAPStore far, and run again"
+        line = "  the server rejected the login: correct User or Pass of IMAPStore far, and run again"
         tally.same("a server that tells the password is not repeated", scene.run("c"), [1, "mbsync: cannot open far", line])
 
 

@@ -103,4 +103,4 @@ class Soak:
 def run_number(state):
     """The number of the last run by a state text of ours; none where there is no such text."""
     lines = (state or "").split("\n")
-    return int(lines[1].split()[1]) if lines[0] == "mbsync state 1" else None
+    return int(lines[1].split()[1]) if lines[0] == "mbsync state 2" else None

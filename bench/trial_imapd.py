@@ -14,9 +14,9 @@ def build():
     subprocess.run([os.path.join(TOP, "bin", "trial-imapd"), "-h"], stdout=subprocess.DEVNULL, check=True)
 
 
-def world(messages):
-    """The text of a world whose far mailbox has these messages, with the UIDs from 1 on."""
-    lines = [b"sync Full", b"expunge None", b"far 1 %d" % (len(messages) + 1)]
+def world(messages, keywords=()):
+    """The text of a world whose far mailbox has these messages, with the UIDs from 1 on, and with these lines of keywords."""
+    lines = [b"sync Full", b"expunge None", *(b"keyword " + line.encode() for line in keywords), b"far 1 %d" % (len(messages) + 1)]
     for uid, message in enumerate(messages, 1):
         lines.append(b'f %d - "%s"' % (uid, escaped(message)))
     return b"\n".join(lines + [b"near 1 1", b"state 0 0 0 0 0", b"end", b""])

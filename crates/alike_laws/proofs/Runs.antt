@@ -13,6 +13,7 @@ use Rattle.rules.specs.Admission.{admitted_under}
 use Rattle.rules.specs.AlikeBy.{AlikeBy}
 use Rattle.rules.specs.Entries.{ArePairs}
 use Rattle.rules.specs.World.{IsInOrder, World, store}
+use Rattle.sync_state.specs.declared.version.Version.{Version}
 use Rattle.sync_state.specs.declared.journal.Logged.{Logged}
 use Rattle.sync_state.specs.declared.journal.WrittenJournal.{WrittenJournal}
 use Rattle.sync_state.proofs.StateLemmas.{no_pairs}
@@ -33,21 +34,21 @@ use Rattle.alike_laws.specs.Runs.{DoneIsOpening, DoneIsUnplanned, OnePlan, OneSt
 
 -- ---- what the files hold
 
-stands_files : (ours : List ℕ → Bool) (alone : Bool) (w : World) (options : Options) (plan : Plan) (log : List Logged) (torn : Bool) (d : Device) → Stands ours alone w options plan log torn d → Holds d.files w.state (with_log plan log torn)
-stands_files ours alone w options plan log torn d (inl k) = let at = k.1 in at.files
-stands_files ours alone w options plan log torn d (inr k) = let at = k.1 in at.files
+stands_files : (ours : List ℕ → Bool) (alone : Bool) (w : World) (options : Options) (version : Version) (plan : Plan) (log : List Logged) (torn : Bool) (d : Device) → Stands ours alone w options version plan log torn d → Holds d.files w.state (with_log version plan log torn)
+stands_files ours alone w options version plan log torn d (inl k) = let at = k.1 in at.files
+stands_files ours alone w options version plan log torn d (inr k) = let at = k.1 in at.files
 
-plan_files : (ours : List ℕ → Bool) (alone : Bool) (w : World) (options : Options) (d : Device) (p : PlannedAt ours alone w options d) → Holds d.files w.state (with_log p.plan p.log p.is_torn)
-plan_files ours alone w options d p = stands_files ours alone w options p.plan p.log p.is_torn d p.stands
+plan_files : (ours : List ℕ → Bool) (alone : Bool) (w : World) (options : Options) (d : Device) (p : PlannedAt ours alone w options d) → Holds d.files w.state (with_log p.version p.plan p.log p.is_torn)
+plan_files ours alone w options d p = stands_files ours alone w options p.version p.plan p.log p.is_torn d p.stands
 
 pub one_plan : OnePlan
 one_plan ours others alone quiet opening other d a b =
     let p = a.holds in
     let q = b.holds in
-    let known = book_known d.files a.world.state b.world.state (with_log p.plan p.log p.is_torn) (with_log q.plan q.log q.is_torn)
+    let known = book_known d.files a.world.state b.world.state (with_log p.version p.plan p.log p.is_torn) (with_log q.version q.plan q.log q.is_torn)
     (plan_files ours alone a.world opening.options d p) (plan_files others quiet b.world other.options d q) in
-    let one : WrittenJournal = record { journal = record { plan = p.plan; log = p.log }; is_torn = p.is_torn } in
-    let two : WrittenJournal = record { journal = record { plan = q.plan; log = q.log }; is_torn = q.is_torn } in
+    let one : WrittenJournal = record { version = p.version; journal = record { plan = p.plan; log = p.log }; is_torn = p.is_torn } in
+    let two : WrittenJournal = record { version = q.version; journal = record { plan = q.plan; log = q.log }; is_torn = q.is_torn } in
     let same : one ≡ two = (let x = known.1 in cc) in
     (ap (λ (w : WrittenJournal). w.journal.plan) same, ap (λ (w : WrittenJournal). w.journal.log) same)
 
@@ -55,14 +56,14 @@ pub one_state : OneState
 one_state ours others alone quiet opening other d a b =
     let p = a.holds in
     let q = b.holds in
-    let known = book_known d.files a.world.state b.world.state (with_log p.plan p.log p.is_torn) (with_log q.plan q.log q.is_torn)
+    let known = book_known d.files a.world.state b.world.state (with_log p.version p.plan p.log p.is_torn) (with_log q.version q.plan q.log q.is_torn)
     (plan_files ours alone a.world opening.options d p) (plan_files others quiet b.world other.options d q) in
     sym a.grows.state ∙ known.0 ∙ b.grows.state
 
 pub planned_or_not : PlannedOrNot
 planned_or_not ours alone quiet opening other d a u =
     let p = a.holds in
-    let known = book_known d.files a.world.state other.world.state (with_log p.plan p.log p.is_torn) u.pending (plan_files ours alone a.world opening.options d p) u.files in
+    let known = book_known d.files a.world.state other.world.state (with_log p.version p.plan p.log p.is_torn) u.pending (plan_files ours alone a.world opening.options d p) u.files in
     subst IsIdle (sym known.1) u.idle
 
 -- ---- the next run
@@ -90,7 +91,7 @@ no_less : (w : World) (options : Options) (d : Device) (marks : List (List ℕ))
 no_less w options d marks s side k = rise-ends (store w side).next (k.uids side) (store (own_world w marks (world_at d s)) side).next (k.rise side)
 
 pub done_is_unplanned : DoneIsUnplanned
-done_is_unplanned ours alone opening keywords d options over order =
+done_is_unplanned ours alone opening d options over order =
     let x = over.holds in
     let k = x.alike in
     let b = names_below over.world opening.options (own_world over.world x.marks (world_at d x.state)) over.grows.in_order over.below k.alike in
@@ -107,7 +108,7 @@ done_is_unplanned ours alone opening keywords d options over order =
 -- the entries of a state that the files hold are pairs
 file_pairs : (file : Option (List ℕ)) (s : SyncState) → HoldsState file s → ArePairs s.entries
 file_pairs None s h = subst (λ (es : List Entry). ArePairs es) (sym h.entries) no_pairs
-file_pairs (Some text) s h = let f = h.fits in f.pairs
+file_pairs (Some text) s h = let f = h.is_text.fits in f.pairs
 
 held_pairs : (d : Device) (s : SyncState) (p : Pending) → Holds d.files s p → ArePairs s.entries
 held_pairs d s p h =

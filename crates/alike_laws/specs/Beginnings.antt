@@ -1,6 +1,5 @@
 -- A run that begins with the world that a device holds, in a law that a function of `src/lib.rt` shows.
 use Rattle.std.specs.Prelude.{◌≡◌, ◌<◌, ◌+◌, ◌^◌, Bool, List}
-use Rattle.mailcore.specs.declared.keywords.Keyword.{Keyword}
 use Rattle.rules.specs.declared.options.Options.{Options}
 use Rattle.rules.specs.Opening.{IsOpening}
 use Rattle.rules.specs.World.{World}
@@ -21,12 +20,12 @@ pub record Begins (w : World) (d : Device) : Type 0 where
   pub sound : IsOpening w
   pub room : w.state.run + 1 < 2 ^ 64
 
--- the opening of a run that begins with this world, by this map: the options of the call are those of its plan
-abbrev pub opening_of : List Keyword → World → Options → Opening
-opening_of keywords w options = record { world = w; options = options; called = options; keywords = keywords }
+-- the opening of a run that begins with this world: the options of the call are those of its plan
+abbrev pub opening_of : World → Options → Opening
+opening_of w options = record { world = w; options = options; called = options }
 
 -- such a run has no plan yet
 abbrev pub WorldIsUnplanned : Type 0
 WorldIsUnplanned =
-    (alone : Bool) (keywords : List Keyword) (w : World) (options : Options) (d : Device) →
-    HoldsWorld w d → IsOpening w → Unplanned alone (opening_of keywords w options) d
+    (alone : Bool) (w : World) (options : Options) (d : Device) →
+    HoldsWorld w d → IsOpening w → Unplanned alone (opening_of w options) d

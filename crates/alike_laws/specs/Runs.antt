@@ -1,6 +1,5 @@
 -- What being underway says of a device, in laws that the functions of `src/lib.rt` show.
 use Rattle.std.specs.Prelude.{◌≡◌, ℕ, Bool, true, List}
-use Rattle.mailcore.specs.declared.keywords.Keyword.{Keyword}
 use Rattle.rules.specs.declared.options.Options.{Options}
 use Rattle.rules.specs.declared.state.SyncState.{SyncState}
 use Rattle.rules.specs.Opening.{IsOpening}
@@ -31,16 +30,16 @@ PlannedOrNot =
 
 -- ---- the next run
 
--- the world that a device holds with this state, as the opening of a run under these options and by this map
-abbrev pub next_opening : List Keyword → Device → SyncState → Options → Opening
-next_opening keywords d state options = record { world = world_at d state; options = options; called = options; keywords = keywords }
+-- the world that a device holds with this state, as the opening of a run under these options
+abbrev pub next_opening : Device → SyncState → Options → Opening
+next_opening d state options = record { world = world_at d state; options = options; called = options }
 
 -- Where a run is done, the next one has no plan yet: it begins with the world that the device holds. The messages that others may have
 -- added stand in order, as those of each mailbox.
 abbrev pub DoneIsUnplanned : Type 0
 DoneIsUnplanned =
-    (ours : List ℕ → Bool) (alone : Bool) (opening : Opening) (keywords : List Keyword) (d : Device) (options : Options) (over : IsOver ours alone opening d) →
-    IsInOrder (world_at d over.holds.state) → Unplanned alone (next_opening keywords d over.holds.state options) d
+    (ours : List ℕ → Bool) (alone : Bool) (opening : Opening) (d : Device) (options : Options) (over : IsOver ours alone opening d) →
+    IsInOrder (world_at d over.holds.state) → Unplanned alone (next_opening d over.holds.state options) d
 
 -- where nobody adds any, a run may begin with it
 abbrev pub DoneIsOpening : Type 0

@@ -17,7 +17,7 @@ use Rattle.sync_state.specs.declared.journal.Logged.{Logged}
 use Rattle.sync_state.specs.declared.journal.Logged.TheVariants.{Copied, Done, Void}
 use Rattle.rules.specs.declared.plan.Step.TheVariants as step
 use Rattle.sync_state.specs.declared.journal.Journal.{Journal}
-use Rattle.book.specs.Agreement.{Agrees, disagreement, Copy, IsAgreed, copy_of, copies_of, is_named, is_side, is_source_of, is_taken, lines_agree, log_agrees, note_agrees, step_agrees}
+use Rattle.book.specs.Agreement.{first_line, Agrees, disagreement, Copy, IsAgreed, copy_of, copies_of, is_named, is_side, is_source_of, is_taken, lines_agree, log_agrees, note_agrees, step_agrees}
 use Rattle.book.proofs.AgreementLemmas.{place_from_zero}
 
 -- ---- tests that all pass
@@ -132,7 +132,7 @@ agreed entries j is =
     let A = map (step_agrees entries) j.plan.steps in
     let B = map (note_agrees entries) j.plan.notes in
     let C = true ∷ log_agrees entries j.plan.steps [] j.plan.steps j.log in
-    let all = all_true 0 (lines_agree entries j) (sym (place_from_zero not (lines_agree entries j)) ∙ none_mapped 5 (position not (lines_agree entries j)) is) in
+    let all = all_true 0 (lines_agree entries j) (sym (place_from_zero not (lines_agree entries j)) ∙ none_mapped (first_line j) (position not (lines_agree entries j)) is) in
     let behind = last_true A (B ++ C) all in
     let log = (last_true B C behind).1 in
     record {

@@ -9,7 +9,7 @@ use Rattle.rules.specs.declared.entry.Entry.{Entry}
 use Rattle.rules.specs.declared.plan.Step.{Step}
 use Rattle.sync_state.specs.declared.journal.Logged.{Logged}
 use Rattle.sync_state.specs.declared.journal.Journal.{Journal}
-use Rattle.book.specs.Agreement.{Copy, copy_of, copies_of, is_taken, log_agrees, step_agrees, note_agrees, lines_agree, disagreement}
+use Rattle.book.specs.Agreement.{Copy, copy_of, copies_of, is_taken, log_agrees, step_agrees, note_agrees, lines_agree, first_line, disagreement}
 
 pub any_flat : {X A : Type 0} (p : A → Bool) (f : X → List A) (xs : List X) → list_any p (flat_map f xs) ≡ list_any (λ x. list_any p (f x)) xs
 any_flat p f [] = refl
@@ -72,7 +72,7 @@ bad_note entries j = position (λ note. not (note_agrees entries note)) j.plan.n
 abbrev pub bad_copy : List Entry → Journal → Option ℕ
 bad_copy entries j = position not (log_agrees entries j.plan.steps [] j.plan.steps j.log)
 
-pub disagreement_is : (entries : List Entry) (j : Journal) → disagreement entries j ≡ option_map (λ i. i + 5) (or_later (bad_step entries j)
+pub disagreement_is : (entries : List Entry) (j : Journal) → disagreement entries j ≡ option_map (λ i. i + first_line j) (or_later (bad_step entries j)
     (or_later (option_map (λ i. i + length j.plan.steps) (bad_note entries j)) (option_map (λ i. i + (length j.plan.steps + length j.plan.notes + 1)) (bad_copy entries j))))
 disagreement_is entries j =
     let steps = j.plan.steps in
@@ -88,27 +88,29 @@ disagreement_is entries j =
     let in_log : position_from not (0 + length A + length B + 1) C ≡ option_map (λ i. i + (length steps + length notes + 1)) (bad_copy entries j) =
     ap (λ (m : ℕ). position_from not m C) number ∙ place_behind not (length steps + length notes + 1) C in
     let whole = place_append not 0 A (B ++ true ∷ C) ∙ ap (λ (r : Option ℕ). or_later (position_from not 0 A) r) (place_append not (0 + length A) B (true ∷ C)) in
-    ap (λ (r : Option ℕ). option_map (λ i. i + 5) r) (place_from_zero not (lines_agree entries j) ∙ whole
+    ap (λ (r : Option ℕ). option_map (λ i. i + first_line j) r) (place_from_zero not (lines_agree entries j) ∙ whole
     ∙ rw (in_steps, in_notes, in_log) refl)
 
 -- the parts of the answer
 abbrev places : List Entry → Journal → (a b c : Option ℕ) → Option ℕ
 places entries j a b c =
-    option_map (λ i. i + 5) (or_later a (or_later (option_map (λ i. i + length j.plan.steps) b) (option_map (λ i. i + (length j.plan.steps + length j.plan.notes + 1)) c)))
+    option_map (λ i. i + first_line j) (or_later a (or_later (option_map (λ i. i + length j.plan.steps) b) (option_map (λ i. i + (length j.plan.steps + length j.plan.notes + 1)) c)))
 
-pub in_step : (entries : List Entry) (j : Journal) (i : ℕ) → bad_step entries j ≡ Some i → Some (i + 5) ≡ disagreement entries j
-in_step entries j i a = sym (disagreement_is entries j ∙ ap (λ (z : Option ℕ). places entries j z (bad_note entries j) (bad_copy entries j)) a)
+pub in_step : (entries : List Entry) (j : Journal) (i : ℕ) → bad_step entries j ≡ Some i → Some (first_line j + i) ≡ disagreement entries j
+in_step entries j i a =
+    let number : i + first_line j ≡ first_line j + i = omega arith in
+    sym (disagreement_is entries j ∙ ap (λ (z : Option ℕ). places entries j z (bad_note entries j) (bad_copy entries j)) a ∙ ap (λ (n : ℕ). Some n) number)
 
-pub in_note : (entries : List Entry) (j : Journal) (i : ℕ) → bad_step entries j ≡ None → bad_note entries j ≡ Some i → Some (length j.plan.steps + i + 5) ≡ disagreement entries j
+pub in_note : (entries : List Entry) (j : Journal) (i : ℕ) → bad_step entries j ≡ None → bad_note entries j ≡ Some i → Some (first_line j + length j.plan.steps + i) ≡ disagreement entries j
 in_note entries j i a b =
-    let number : i + length j.plan.steps + 5 ≡ length j.plan.steps + i + 5 = omega arith in
+    let number : i + length j.plan.steps + first_line j ≡ first_line j + length j.plan.steps + i = omega arith in
     sym (disagreement_is entries j ∙ ap (λ (z : Option ℕ). places entries j z (bad_note entries j) (bad_copy entries j)) a
     ∙ ap (λ (z : Option ℕ). places entries j None z (bad_copy entries j)) b ∙ ap (λ (n : ℕ). Some n) number)
 
 pub in_copy : (entries : List Entry) (j : Journal) (i : ℕ) → bad_step entries j ≡ None → bad_note entries j ≡ None → bad_copy entries j ≡ Some i
-    → Some (length j.plan.steps + length j.plan.notes + i + 6) ≡ disagreement entries j
+    → Some (first_line j + length j.plan.steps + length j.plan.notes + 1 + i) ≡ disagreement entries j
 in_copy entries j i a b c =
-    let number : i + (length j.plan.steps + length j.plan.notes + 1) + 5 ≡ length j.plan.steps + length j.plan.notes + i + 6 = omega arith in
+    let number : i + (length j.plan.steps + length j.plan.notes + 1) + first_line j ≡ first_line j + length j.plan.steps + length j.plan.notes + 1 + i = omega arith in
     sym (disagreement_is entries j ∙ ap (λ (z : Option ℕ). places entries j z (bad_note entries j) (bad_copy entries j)) a
     ∙ ap (λ (z : Option ℕ). places entries j None z (bad_copy entries j)) b ∙ ap (λ (z : Option ℕ). places entries j None None z) c ∙ ap (λ (n : ℕ). Some n) number)
 

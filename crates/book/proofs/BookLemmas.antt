@@ -33,23 +33,24 @@ journal_put_or_not bytes old new state p q r (inr (inr none)) turns h = absurd n
 
 -- ---- the torn line is taken off
 
-whole_is_written : (w : WrittenJournal) (text : List ℕ) → IsWritten w text → IsWritten (record w { is_torn = false }) (lines_text (journal_lines w.journal))
+whole_is_written : (w : WrittenJournal) (text : List ℕ) → IsWritten w text → IsWritten (record w { is_torn = false }) (lines_text (journal_lines w.version w.journal))
 whole_is_written w text is = record {
   torn = [];
   spelled = record {
     fits = is.spelled.fits;
-    lines = record { parts = sym (append-nil (lines_text (journal_lines w.journal))); whole = is.spelled.lines.whole };
+    words = is.spelled.words;
+    lines = record { parts = sym (append-nil (lines_text (journal_lines w.version w.journal))); whole = is.spelled.lines.whole };
     no_line = All-nil _;
   };
   is_torn = refl;
 }
 
 planned_mended : (state : SyncState) (file : Option (List ℕ)) (w : WrittenJournal) → HoldsJournal state file (Planned w)
-    → HoldsJournal state (Some (lines_text (journal_lines w.journal))) (mended (Planned w))
+    → HoldsJournal state (Some (lines_text (journal_lines w.version w.journal))) (mended (Planned w))
 planned_mended state None w h = absurd h
 planned_mended state (Some text) w h = record { is_next = record { written_is = whole_is_written w text h.is_next.written_is; next = h.is_next.next }; agrees = h.agrees }
 
-pub pending_mended : (state : SyncState) (file : Option (List ℕ)) (p : Pending) (w : WrittenJournal) (text : List ℕ) → p ≡ Planned w → text ≡ lines_text (journal_lines w.journal)
+pub pending_mended : (state : SyncState) (file : Option (List ℕ)) (p : Pending) (w : WrittenJournal) (text : List ℕ) → p ≡ Planned w → text ≡ lines_text (journal_lines w.version w.journal)
     → HoldsJournal state file p → HoldsJournal state (Some text) (mended p)
 pending_mended state file p w text is spelled h =
     let Q : Pending → Type 0 = λ q. HoldsJournal state file q in

@@ -23,10 +23,11 @@ use Rattle.sync_state.specs.declared.journal.Logged.{Logged}
 use Rattle.sync_state.specs.declared.journal.Logged.TheVariants.{Copied, Done, Void}
 use Rattle.sync_state.specs.declared.journal.Journal.{Journal}
 use Rattle.sync_state.specs.Words.{IsUidOrNone}
+use Rattle.sync_state.specs.declared.version.Version.TheVariants.{Two}
 use Rattle.sync_state.specs.StateText.{IsEntry}
 use Rattle.book.specs.EntryOrders.{IsNotAfter}
 use Rattle.sync_state.specs.JournalText.{HasJournal, IsStep, IsNote, FitsStep, IsLog, bottom}
-use Rattle.book.specs.Agreement.{Agrees, is_pair, is_named, is_source_of, step_agrees, note_agrees, log_agrees, lines_agree}
+use Rattle.book.specs.Agreement.{Agrees, first_line, is_pair, is_named, is_source_of, step_agrees, note_agrees, log_agrees, lines_agree}
 use Rattle.book.specs.Committed.{drops, recorded, is_gone, entry_after, kept_entries, entry_of_copy, entries_of_copies}
 use Rattle.book.proofs.EntryPairLemmas.{Apart, apart_moved, AllPairs-map, AllPairs-append, apart_from_pairs, ArePairs-from}
 use Rattle.book.proofs.CopiedUids.{Fresh, copies_are, not_taken}
@@ -38,9 +39,9 @@ all_agree [] h = refl
 all_agree (true ∷ lines) h = all_agree lines (omega (arith, h))
 all_agree (false ∷ lines) h = absurd (omega (arith, h))
 
-none_found : (b : Bool) (n : ℕ) → option_map (λ i. i + 5) (cond b (Some n) None) ≡ None → b ≡ false
-none_found false n h = refl
-none_found true n h = absurd (true≢false (ap is_some h))
+none_found : (first : ℕ) (b : Bool) (n : ℕ) → option_map (λ i. i + first) (cond b (Some n) None) ≡ None → b ≡ false
+none_found first false n h = refl
+none_found first true n h = absurd (true≢false (ap is_some h))
 
 record LinesAgree (entries : List Entry) (j : Journal) : Type 0 where
   steps : list_all (λ b. b) (map (step_agrees entries) j.plan.steps) ≡ true
@@ -52,7 +53,7 @@ lines_of_agreed entries j h =
     let steps = map (step_agrees entries) j.plan.steps in
     let notes = map (note_agrees entries) j.plan.notes in
     let log = log_agrees entries j.plan.steps [] j.plan.steps j.log in
-    let all = all_agree lines (ltb-false (position_or_len not lines) (length lines) (none_found (ltb (position_or_len not lines) (length lines)) (position_or_len not lines) h)) in
+    let all = all_agree lines (ltb-false (position_or_len not lines) (length lines) (none_found (first_line j) (ltb (position_or_len not lines) (length lines)) (position_or_len not lines) h)) in
     let first = and_parts (list_all (λ b. b) steps) (list_all (λ b. b) (notes ++ true ∷ log)) (sym (list_all-append (λ (b : Bool). b) steps (notes ++ true ∷ log)) ∙ all) in
     let second = and_parts (list_all (λ b. b) notes) (list_all (λ b. b) (true ∷ log)) (sym (list_all-append (λ (b : Bool). b) notes (true ∷ log)) ∙ first.1) in
     record { steps = first.0; log = second.1 }
@@ -146,7 +147,7 @@ recorded_fits e (note.Record far near flags ∷ notes) h own =
     (λ _. (All-head IsNote (note.Record far near flags) notes h).2) (λ _. recorded_fits e notes (All-tail IsNote (note.Record far near flags) notes h) own)
 recorded_fits e (note.Drop far near ∷ notes) h own = recorded_fits e notes (All-tail IsNote (note.Drop far near) notes h) own
 
-after_fits : (j : Journal) (e : Entry) → All IsNote j.plan.notes → IsEntry e → IsEntry (entry_after j e)
+after_fits : (j : Journal) (e : Entry) → All IsNote j.plan.notes → IsEntry Two e → IsEntry Two (entry_after j e)
 after_fits j e notes fits = record {
   far = side_fits (is_gone j.plan.steps Pull e) e.far fits.far;
   near = side_fits (is_gone j.plan.steps Push e) e.near fits.near;
@@ -154,7 +155,7 @@ after_fits j e notes fits = record {
 }
 
 record IsWhole (e : Entry) : Type 0 where
-  fits : IsEntry e
+  fits : IsEntry Two e
   some : has_a_side e ≡ true
 
 copy_whole : (s : Step) (logged : Logged) → IsStep s → FitsStep s logged → All IsWhole (entry_of_copy s logged)
@@ -177,10 +178,10 @@ copies_whole (s ∷ steps) (logged ∷ log) h f =
     All-append IsWhole (entry_of_copy s logged) (entries_of_copies steps log) (copy_whole s logged (All-head IsStep s steps h) f.0)
     (copies_whole steps log (All-tail IsStep s steps h) f.1)
 
-kept_whole : (j : Journal) (es : List Entry) → All IsNote j.plan.notes → All IsEntry es → All IsWhole (kept_entries j es)
+kept_whole : (j : Journal) (es : List Entry) → All IsNote j.plan.notes → All (IsEntry Two) es → All IsWhole (kept_entries j es)
 kept_whole j es notes fits =
     let kept = kept_entries j es in
-    let ranges : All IsEntry kept = kept_all IsEntry j es (All-weaker IsEntry (λ e. IsEntry (entry_after j e)) (λ e f. after_fits j e notes f) es fits) in
+    let ranges : All (IsEntry Two) kept = kept_all (IsEntry Two) j es (All-weaker (IsEntry Two) (λ e. IsEntry Two (entry_after j e)) (λ e f. after_fits j e notes f) es fits) in
     let stay : Entry → Bool = λ e. not (list_any (drops e) j.plan.notes) in
     let sides : All (λ e. has_a_side e ≡ true) kept = filter_passes has_a_side (map (entry_after j) (filter stay es)) in
     λ i d within. let w : IsWhole (get_or kept i d) = record { fits = ranges i d within; some = sides i d within } in w
@@ -189,10 +190,10 @@ kept_whole j es notes fits =
 
 -- they have a text
 pub record AreCommitted (es : List Entry) : Type 0 where
-  pub fits : All IsEntry es
+  pub fits : All (IsEntry Two) es
   pub pairs : ArePairs es
 
-pub committed_pairs : (j : Journal) (old new : List Entry) → HasJournal j → ArePairs old → All IsEntry old → Agrees old j
+pub committed_pairs : (j : Journal) (old new : List Entry) → HasJournal j → ArePairs old → All (IsEntry Two) old → Agrees old j
     → IsPermutation (kept_entries j old ++ entries_of_copies j.plan.steps j.log) new → AllPairs IsNotAfter new → AreCommitted new
 committed_pairs j old new journal pairs fits agrees moves order =
     let lines = lines_of_agreed old j agrees in
@@ -204,6 +205,6 @@ committed_pairs j old new journal pairs fits agrees moves order =
     (kept_and_copies j side old copies (All-weaker (Fresh old j.plan.steps [] j.plan.steps) (IsUnnamed old side) (λ x f. fresh_unnamed old j.plan.steps x lines.steps f side) copies are.fresh))) in
     let whole : All IsWhole new = All-permutation IsWhole (kept ++ copies) new moves
     (All-append IsWhole kept copies (kept_whole j old journal.plan.notes fits) (copies_whole j.plan.steps j.log journal.plan.steps journal.log)) in
-    let ranges : All IsEntry new = All-weaker IsWhole IsEntry (λ e w. w.fits) new whole in
+    let ranges : All (IsEntry Two) new = All-weaker IsWhole (IsEntry Two) (λ e w. w.fits) new whole in
     let sides : All (λ e. has_a_side e ≡ true) new = All-weaker IsWhole (λ e. has_a_side e ≡ true) (λ e w. w.some) new whole in
     record { fits = ranges; pairs = ArePairs-from new ranges sides apart order }

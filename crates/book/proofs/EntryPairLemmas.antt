@@ -14,6 +14,7 @@ use Rattle.mailcore.specs.declared.side.Side.TheVariants.{Far, Near}
 use Rattle.rules.specs.declared.entry.Entry.{Entry}
 use Rattle.rules.specs.Entries.{ArePairs, EntryBefore, uid_of, has_a_side}
 use Rattle.sync_state.specs.Words.{IsUidOrNone}
+use Rattle.sync_state.specs.declared.version.Version.TheVariants.{Two}
 use Rattle.sync_state.specs.StateText.{IsEntry}
 use Rattle.book.specs.EntryOrders.{IsNotAfter}
 
@@ -88,7 +89,7 @@ none_at_zero (Some u) fits e = absurd (omega (arith, fits.positive, e))
 no_side : (a : Entry) → a.far ≡ None → a.near ≡ None → has_a_side a ≡ true → ⊥
 no_side a far near some = false≢true (rw (far, near) at some)
 
-before_from : (a b : Entry) → IsEntry a → has_a_side a ≡ true → Apart Far a b → Apart Near a b → IsNotAfter a b → EntryBefore a b
+before_from : (a b : Entry) → IsEntry Two a → has_a_side a ≡ true → Apart Far a b → Apart Near a b → IsNotAfter a b → EntryBefore a b
 before_from a b fits some far near order = (
   order.0,
   λ same. elim (cases_lt (uid_of Near a) (uid_of Near b)) [
@@ -99,7 +100,7 @@ before_from a b fits some far near order = (
   ],
 )
 
-pub ArePairs-from : (es : List Entry) → All IsEntry es → All (λ e. has_a_side e ≡ true) es → ((side : Side) → AllPairs (Apart side) es) → AllPairs IsNotAfter es → ArePairs es
+pub ArePairs-from : (es : List Entry) → All (IsEntry Two) es → All (λ e. has_a_side e ≡ true) es → ((side : Side) → AllPairs (Apart side) es) → AllPairs IsNotAfter es → ArePairs es
 ArePairs-from es fits some apart order = record {
   ordered = λ i j d before within. before_from (get_or es i d) (get_or es j d) (fits i d (omega arith)) (some i d (omega arith))
       (apart Far i j d before within) (apart Near i j d before within) (order i j d before within);

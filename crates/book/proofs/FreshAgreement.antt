@@ -1,5 +1,5 @@
 -- A plan of which nothing is logged agrees with the entries where its steps and its notes do.
-use Rattle.std.proofs.Common.{◌≡◌, ◌∙◌, ℕ, ◌+◌, Bool, true, false, List, [], Option, Some, None, refl, sym, ap}
+use Rattle.std.proofs.Common.{◌≡◌, ◌∙◌, ℕ, Bool, true, false, List, [], Option, Some, None, refl, sym, ap}
 use Rattle.std.specs.Prelude.{not, position}
 use Rattle.std.specs.Option.{is_some}
 use Rattle.std.proofs.lemmas.Bool.{false≢true}
@@ -14,7 +14,7 @@ no_line o i e n = let none : Some i ≡ None = e ∙ n in absurd (cc)
 
 pub step_disagrees : (entries : List Entry) (plan : Plan) (r : Option ℕ) → r ≡ bad_step entries (fresh plan) → is_some r ≡ true → Agrees entries (fresh plan) → ⊥
 step_disagrees entries plan None e h a = cc
-step_disagrees entries plan (Some i) e h a = no_line (disagreement entries (fresh plan)) (i + 5) (in_step entries (fresh plan) i (sym e)) a
+step_disagrees entries plan (Some i) e h a = no_line (disagreement entries (fresh plan)) _ (in_step entries (fresh plan) i (sym e)) a
 
 note_disagrees : (entries : List Entry) (plan : Plan) (r s : Option ℕ) → r ≡ bad_step entries (fresh plan) → is_some r ≡ false → s ≡ bad_note entries (fresh plan) → is_some s ≡ true
     → Agrees entries (fresh plan) → ⊥

@@ -13,7 +13,8 @@ use Rattle.book.specs.declared.book.Pending.{Pending}
 use Rattle.book.specs.declared.book.Pending.TheVariants.{Missing, Useless, Planned}
 use Rattle.sync_state.specs.Cuts.{same_cut, no_cut}
 use Rattle.sync_state.specs.Lines.{lines_text, OneLine, IsBadLine}
-use Rattle.sync_state.specs.StateText.{StateText, StateLines, state_lines}
+use Rattle.sync_state.specs.declared.version.Version.{Version}
+use Rattle.sync_state.specs.StateText.{IsStateText, StateText, StateLines, state_lines}
 use Rattle.sync_state.specs.JournalText.{journal_lines, IsBadJournal, HasGo}
 use Rattle.sync_state.specs.JournalReading.{IsWritten}
 use Rattle.book.specs.Agreement.{disagreement}
@@ -71,15 +72,17 @@ first_lines (l ∷ ls) (m ∷ ms) end rest wl wm one e =
 -- ---- a state's text
 
 good_state : (s : SyncState) (text : List ℕ) (line : ℕ) → StateText s text → IsBadLine StateLines text line → ⊥
-good_state s text line is bad =
-    by_lines (first_lines (state_lines s) bad.before [] bad.rest (state_is_lines s is.fits) bad.lines.whole (All-nil _)
-    (append-nil (lines_text (state_lines s)) ∙ (sym is.spelled ∙ bad.lines.parts))) where
-      by_lines : GoesOn (state_lines s) bad.before [] bad.rest ⊎ AreAll (state_lines s) bad.before [] bad.rest → ⊥
-      by_lines (inl g) = bad.stops g.line (lines_text g.more ++ []) g.one g.rest_is (record {
-        more = g.more;
-        spelled = record { state = s; fits = is.fits; same = append_assoc bad.before (g.line ∷ []) g.more ∙ sym g.lines_are };
-      })
-      by_lines (inr a) = bad.ends_early a.rest_is (record { state = s; fits = is.fits; same = sym a.lines_are })
+good_state s text line has bad = in_version has.version has.is_text where
+  in_version : (v : Version) → IsStateText v s text → ⊥
+  in_version v is =
+      by_lines (first_lines (state_lines v s) bad.before [] bad.rest (state_is_lines v s is.fits) bad.lines.whole (All-nil _)
+      (append-nil (lines_text (state_lines v s)) ∙ (sym is.spelled ∙ bad.lines.parts))) where
+        by_lines : GoesOn (state_lines v s) bad.before [] bad.rest ⊎ AreAll (state_lines v s) bad.before [] bad.rest → ⊥
+        by_lines (inl g) = bad.stops g.line (lines_text g.more ++ []) g.one g.rest_is (record {
+          more = g.more;
+          spelled = record { version = v; state = s; fits = is.fits; same = append_assoc bad.before (g.line ∷ []) g.more ∙ sym g.lines_are };
+        })
+        by_lines (inr a) = bad.ends_early a.rest_is (record { version = v; state = s; fits = is.fits; same = sym a.lines_are })
 
 good_state_file : (file : Option (List ℕ)) (s : SyncState) (line : ℕ) → HoldsState file s → TellsStateFile file (BadState line) → ⊥
 good_state_file None s line held told = told
@@ -89,15 +92,15 @@ good_state_file (Some text) s line held told = good_state s text line held told
 
 good_journal : (w : WrittenJournal) (text : List ℕ) (line : ℕ) → IsWritten w text → IsBadJournal text line → ⊥
 good_journal w text line is bad =
-    by_lines (first_lines (journal_lines w.journal) bad.before is.torn bad.rest is.spelled.lines.whole bad.lines.whole is.spelled.no_line
+    by_lines (first_lines (journal_lines w.version w.journal) bad.before is.torn bad.rest is.spelled.lines.whole bad.lines.whole is.spelled.no_line
     (sym is.spelled.lines.parts ∙ bad.lines.parts)) where
-      by_lines : GoesOn (journal_lines w.journal) bad.before is.torn bad.rest ⊎ AreAll (journal_lines w.journal) bad.before is.torn bad.rest → ⊥
+      by_lines : GoesOn (journal_lines w.version w.journal) bad.before is.torn bad.rest ⊎ AreAll (journal_lines w.version w.journal) bad.before is.torn bad.rest → ⊥
       by_lines (inl g) = bad.stops g.line (lines_text g.more ++ is.torn) g.one g.rest_is (record {
         more = g.more;
-        spelled = record { journal = w.journal; fits = is.spelled.fits; same = append_assoc bad.before (g.line ∷ []) g.more ∙ sym g.lines_are };
+        spelled = record { version = w.version; journal = w.journal; fits = is.spelled.fits; words = is.spelled.words; same = append_assoc bad.before (g.line ∷ []) g.more ∙ sym g.lines_are };
       })
       by_lines (inr a) = bad.unfinished (subst (λ (x : List ℕ). OneLine x) (sym a.rest_is) is.spelled.no_line)
-          (record { journal = w.journal; fits = is.spelled.fits; same = sym a.lines_are })
+          (record { version = w.version; journal = w.journal; fits = is.spelled.fits; words = is.spelled.words; same = sym a.lines_are })
 
 -- a journal that is known is not refused unless it is ahead or disagrees
 not_of_text : (s : SyncState) (w : WrittenJournal) (text : List ℕ) (line : ℕ) → IsWritten w text

@@ -3,6 +3,7 @@ use Rattle.std.proofs.Common.{◌≡◌, ℕ, List, [], ◌∷◌, ◌++◌, Opt
 use Rattle.std.proofs.Math.Logic.{∥∥₁_elim}
 use Rattle.std.proofs.Props.{props}
 use Rattle.rules.specs.declared.state.SyncState.{SyncState}
+use Rattle.sync_state.specs.declared.version.Version.{Version}
 use Rattle.sync_state.specs.declared.journal.Journal.{Journal}
 use Rattle.sync_state.specs.declared.journal.WrittenJournal.{WrittenJournal}
 use Rattle.book.specs.declared.book.Pending.{Pending}
@@ -28,23 +29,24 @@ state_of_file None s t a b = first_known s t a b
 state_of_file (Some text) s t a b = state_known s t text a b
 
 -- a journal's lines are those before `go`, `go`, and those that log steps
-go_is_there : (j : Journal) → journal_lines j ≡ before_go j.plan ++ (go_line ∷ log_lines 1 j.log)
-go_is_there j = ap (λ (x : List (List ℕ)). x ++ log_lines 1 j.log) (last_is_go j.plan) ∙ append_assoc (before_go j.plan) (go_line ∷ []) (log_lines 1 j.log)
+go_is_there : (v : Version) (j : Journal) → journal_lines v j ≡ before_go v j.plan ++ (go_line ∷ log_lines 1 j.log)
+go_is_there v j = ap (λ (x : List (List ℕ)). x ++ log_lines 1 j.log) (last_is_go v j.plan) ∙ append_assoc (before_go v j.plan) (go_line ∷ []) (log_lines 1 j.log)
 
 pub written_has_go : (w : WrittenJournal) (text : List ℕ) → IsWritten w text → HasGo text
 written_has_go w text is =
     let p = w.journal.plan in
+    let front : List (List ℕ) = before_go w.version p in
     let more : List (List ℕ) = log_lines 1 w.journal.log in
     let parts = is.spelled.lines.parts in
     record {
-      before = before_go p;
+      before = front;
       behind = lines_text more ++ is.torn;
       lines = record {
-        parts = parts ∙ ap (λ (x : List (List ℕ)). lines_text x ++ is.torn) (go_is_there w.journal)
-            ∙ ap (λ (x : List ℕ). x ++ is.torn) (lines_text-append (before_go p) (go_line ∷ more))
-            ∙ append_assoc (lines_text (before_go p)) (lines_text (go_line ∷ more)) is.torn
-            ∙ ap (λ (x : List ℕ). lines_text (before_go p) ++ x) (append_assoc go_line (10 ∷ lines_text more) is.torn);
-        whole = before_go_is_lines p is.spelled.fits.plan;
+        parts = parts ∙ ap (λ (x : List (List ℕ)). lines_text x ++ is.torn) (go_is_there w.version w.journal)
+            ∙ ap (λ (x : List ℕ). x ++ is.torn) (lines_text-append front (go_line ∷ more))
+            ∙ append_assoc (lines_text front) (lines_text (go_line ∷ more)) is.torn
+            ∙ ap (λ (x : List ℕ). lines_text front ++ x) (append_assoc go_line (10 ∷ lines_text more) is.torn);
+        whole = before_go_is_lines w.version p is.spelled.fits.plan;
       };
     }
 

@@ -9,7 +9,7 @@ use Rattle.rules.specs.declared.entry.Entry.{Entry}
 use Rattle.rules.specs.declared.plan.Step.{Step}
 use Rattle.sync_state.specs.declared.journal.Logged.{Logged}
 use Rattle.sync_state.specs.declared.journal.Journal.{Journal}
-use Rattle.book.specs.Agreement.{Copy, copy_of, copies_of, is_taken, log_agrees, lines_agree, step_agrees, note_agrees, Agrees}
+use Rattle.book.specs.Agreement.{Copy, copy_of, copies_of, is_taken, log_agrees, lines_agree, first_line, step_agrees, note_agrees, Agrees}
 use Rattle.sync_state.specs.JournalReading.{FitsAt}
 use Rattle.book.specs.BookLogs.{with_logged, at_step, is_free}
 
@@ -23,9 +23,9 @@ none_more_from i (false ∷ xs) h = cc
 none_more : (xs : List Bool) → position not xs ≡ None → position not (xs ++ true ∷ []) ≡ None
 none_more xs h = position_from-zero not (xs ++ true ∷ []) ∙ none_more_from 0 xs (sym (position_from-zero not xs) ∙ h)
 
-none_mapped : (o : Option ℕ) → option_map (λ i. i + 5) o ≡ None → o ≡ None
-none_mapped None h = refl
-none_mapped (Some i) h = cc
+none_mapped : (first : ℕ) (o : Option ℕ) → option_map (λ i. i + first) o ≡ None → o ≡ None
+none_mapped first None h = refl
+none_mapped first (Some i) h = cc
 
 -- ---- one step more
 
@@ -56,8 +56,8 @@ agrees_more entries j l f free agrees =
     ap (λ (bs : List Bool). steps ++ (notes ++ true ∷ bs)) pushed
     ∙ ap (λ (bs : List Bool). steps ++ bs) (sym (append_assoc notes (true ∷ log) (true ∷ [])))
     ∙ sym (append_assoc steps (notes ++ true ∷ log) (true ∷ [])) in
-    ap (λ (bs : List Bool). option_map (λ i. i + 5) (position not bs)) lines
-    ∙ ap (λ (o : Option ℕ). option_map (λ i. i + 5) o) (none_more (lines_agree entries j) (none_mapped (position not (lines_agree entries j)) agrees))
+    ap (λ (bs : List Bool). option_map (λ i. i + first_line j) (position not bs)) lines
+    ∙ ap (λ (o : Option ℕ). option_map (λ i. i + first_line j) o) (none_more (lines_agree entries j) (none_mapped (first_line j) (position not (lines_agree entries j)) agrees))
 
 -- ---- the step of a place
 

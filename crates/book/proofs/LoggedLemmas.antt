@@ -8,6 +8,7 @@ use Rattle.rules.specs.declared.entry.Entry.{Entry}
 use Rattle.rules.specs.declared.plan.Step.{Step}
 use Rattle.rules.specs.declared.plan.Step.TheVariants as step
 use Rattle.rules.specs.declared.state.SyncState.{SyncState}
+use Rattle.sync_state.specs.declared.version.Version.{Version}
 use Rattle.sync_state.specs.declared.journal.Logged.{Logged}
 use Rattle.sync_state.specs.declared.journal.Logged.TheVariants.{Void}
 use Rattle.sync_state.specs.declared.journal.Journal.{Journal as Planned_journal}
@@ -39,30 +40,31 @@ is_one_line (s ∷ steps) zero l number small f = log_line_is_one_line s l numbe
 is_one_line (s ∷ steps) (suc k) l number small f = is_one_line steps k l number small f
 
 -- the whole text of a journal without a torn line
-whole_text : (w : WrittenJournal) (text : List ℕ) → w.is_torn ≡ false → IsWritten w text → text ≡ lines_text (journal_lines w.journal)
+whole_text : (w : WrittenJournal) (text : List ℕ) → w.is_torn ≡ false → IsWritten w text → text ≡ lines_text (journal_lines w.version w.journal)
 whole_text w text whole is =
-    is.spelled.lines.parts ∙ ap (λ (x : List ℕ). lines_text (journal_lines w.journal) ++ x) (not_torn is.torn (sym whole ∙ is.is_torn))
-    ∙ append-nil (lines_text (journal_lines w.journal))
+    is.spelled.lines.parts ∙ ap (λ (x : List ℕ). lines_text (journal_lines w.version w.journal) ++ x) (not_torn is.torn (sym whole ∙ is.is_torn))
+    ∙ append-nil (lines_text (journal_lines w.version w.journal))
 
-more_lines : (j : Planned_journal) (step : ℕ) (l : Logged) → step ≡ length j.log + 1 → journal_lines (with_logged j l) ≡ journal_lines j ++ log_line step l ∷ []
-more_lines j step l is =
+more_lines : (v : Version) (j : Planned_journal) (step : ℕ) (l : Logged) → step ≡ length j.log + 1 → journal_lines v (with_logged j l) ≡ journal_lines v j ++ log_line step l ∷ []
+more_lines v j step l is =
     let number : 1 + length j.log ≡ step = omega (arith, is) in
-    ap (λ (ls : List (List ℕ)). plan_lines j.plan ++ ls) (log_lines-push 1 j.log l ∙ ap (λ (n : ℕ). log_lines 1 j.log ++ log_line n l ∷ []) number)
-    ∙ sym (append_assoc (plan_lines j.plan) (log_lines 1 j.log) (log_line step l ∷ []))
+    ap (λ (ls : List (List ℕ)). plan_lines v j.plan ++ ls) (log_lines-push 1 j.log l ∙ ap (λ (n : ℕ). log_lines 1 j.log ++ log_line n l ∷ []) number)
+    ∙ sym (append_assoc (plan_lines v j.plan) (log_lines 1 j.log) (log_line step l ∷ []))
 
 more_is_written : (w : WrittenJournal) (step : ℕ) (l : Logged) (text line : List ℕ) → IsNextLog w step l → step < 2 ^ 64 → line ≡ log_line step l ++ 10 ∷ []
     → IsWritten w text → IsWritten (written_more w l) (text ++ line)
 more_is_written w step l text line next small e is =
-    let old : List (List ℕ) = journal_lines w.journal in
-    let same = more_lines w.journal step l next.number in
+    let old : List (List ℕ) = journal_lines w.version w.journal in
+    let same = more_lines w.version w.journal step l next.number in
     let added : text ++ line ≡ lines_text (old ++ log_line step l ∷ []) =
     line_added old (log_line step l) text (text ++ line) (whole_text w text next.whole is) (ap (λ (x : List ℕ). text ++ x) e) in
     record {
       torn = [];
       spelled = record {
         fits = record { plan = is.spelled.fits.plan; log = log-push w.journal.plan.steps w.journal.log l is.spelled.fits.log next.fits };
+        words = is.spelled.words;
         lines = record {
-          parts = added ∙ ap lines_text (sym same) ∙ sym (append-nil (lines_text (journal_lines (with_logged w.journal l))));
+          parts = added ∙ ap lines_text (sym same) ∙ sym (append-nil (lines_text (journal_lines w.version (with_logged w.journal l))));
           whole = subst (λ (ls : List (List ℕ)). All OneLine ls) (sym same)
               (All-push OneLine old (log_line step l) is.spelled.lines.whole (is_one_line w.journal.plan.steps (length w.journal.log) l step small next.fits));
         };
@@ -88,6 +90,7 @@ torn_is_written w step l text line count next small e some less is =
       torn = part;
       spelled = record {
         fits = is.spelled.fits;
+        words = is.spelled.words;
         lines = record { parts = ap (λ (x : List ℕ). x ++ part) (whole_text w text next.whole is); whole = is.spelled.lines.whole };
         no_line = one;
       };

@@ -6,6 +6,7 @@ use Rattle.std.proofs.lemmas.List.Elements.{All-nil}
 use Rattle.rules.specs.declared.entry.Entry.{Entry}
 use Rattle.rules.specs.declared.state.SyncState.{SyncState}
 use Rattle.book.specs.declared.book.Pending.{Pending}
+use Rattle.sync_state.specs.declared.version.Version.TheVariants.{Two}
 use Rattle.sync_state.specs.StateText.{IsEntry}
 use Rattle.book.specs.Shelves.{Files}
 use Rattle.book.specs.Books.{Holds, Turns, TurnsHalf, IsSound}
@@ -39,10 +40,10 @@ committed_half old new state p found left = λ s held. subst (λ (x : SyncState)
 
 -- ---- the entries of a state that a book has
 
-first_entries : (s : SyncState) → IsFirst s → All IsEntry s.entries
-first_entries s first = subst (λ (e : List Entry). All IsEntry e) (sym first.entries) (All-nil IsEntry)
+first_entries : (s : SyncState) → IsFirst s → All (IsEntry Two) s.entries
+first_entries s first = subst (λ (e : List Entry). All (IsEntry Two) e) (sym first.entries) (All-nil (IsEntry Two))
 
-pub sound_entries : (s : SyncState) → IsSound s → All IsEntry s.entries
+pub sound_entries : (s : SyncState) → IsSound s → All (IsEntry Two) s.entries
 sound_entries s sound = elim (cases_lt 0 s.run) [
   | inl made ↦ (sound.made made).entries
   | inr none ↦ first_entries s (sound.none (omega (arith, none)))

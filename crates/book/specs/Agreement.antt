@@ -1,5 +1,5 @@
 -- When a journal agrees with the state on which its plan was made: its plan does, and each copy has a UID of its own.
-use Rattle.std.specs.Prelude.{ℕ, ◌+◌, ◌≡◌, ◌≢◌, All, AllPairs, Bool, true, false, not, ◌&&◌, ◌||◌, ◌==◌, List, [], ◌∷◌, ◌++◌, map, position, Option, None}
+use Rattle.std.specs.Prelude.{ℕ, ◌+◌, ◌≡◌, ◌≢◌, All, AllPairs, Bool, true, false, not, ◌&&◌, ◌||◌, ◌==◌, List, [], ◌∷◌, ◌++◌, length, map, position, Option, None}
 use Rattle.std.specs.List.{list_any, list_all, flat_map, zip}
 use Rattle.std.specs.Option.{option_map}
 use Rattle.mailcore.specs.declared.side.Side.{Side}
@@ -53,16 +53,20 @@ log_agrees entries plan copies (s ∷ steps) (logged ∷ log) =
     list_all (λ c. not (is_taken entries plan copies c)) (copy_of s logged)
     ∷ log_agrees entries plan (copies ++ copy_of s logged) steps log
 
--- ---- the lines of a journal, from its fifth on: those of steps, those of notes, `go`, and those of the log
+-- ---- the lines of a journal behind those of its numbers and keywords: those of steps, those of notes, `go`, and those of the log
 
 abbrev pub lines_agree : List Entry → Journal → List Bool
 lines_agree entries j =
     map (step_agrees entries) j.plan.steps
     ++ (map (note_agrees entries) j.plan.notes ++ true ∷ log_agrees entries j.plan.steps [] j.plan.steps j.log)
 
+-- the number of the first step's line
+abbrev pub first_line : Journal → ℕ
+first_line j = 5 + length j.plan.keywords
+
 -- the first line that does not agree
 abbrev pub disagreement : List Entry → Journal → Option ℕ
-disagreement entries j = option_map (λ i. i + 5) (position not (lines_agree entries j))
+disagreement entries j = option_map (λ i. i + first_line j) (position not (lines_agree entries j))
 
 -- no line disagrees
 abbrev pub Agrees : List Entry → Journal → Type 0

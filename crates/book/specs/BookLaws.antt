@@ -1,5 +1,7 @@
 -- That a journal fits has one proof, and so has that a state is sound, so that a book can keep it.
 use Rattle.std.specs.Prelude.{List, [], ◌∷◌}
+use Rattle.mailcore.specs.declared.keywords.Keyword.{Keyword}
+use Rattle.mailcore.specs.KeywordNames.{IsMap}
 use Rattle.rules.specs.declared.entry.Entry.{Entry}
 use Rattle.sync_state.specs.StateText.{IsEntry, HasText}
 use Rattle.std.proofs.Props.{props}
@@ -8,6 +10,7 @@ use Rattle.rules.specs.declared.plan.Step.{Step}
 use Rattle.rules.specs.declared.plan.Step.TheVariants as step
 use Rattle.rules.specs.declared.plan.Note.{Note}
 use Rattle.rules.specs.declared.plan.Note.TheVariants as note
+use Rattle.sync_state.specs.declared.version.Version.{Version}
 use Rattle.sync_state.specs.declared.journal.Logged.{Logged}
 use Rattle.sync_state.specs.declared.journal.Logged.TheVariants.{Copied, Done, Void}
 use Rattle.sync_state.specs.declared.journal.Journal.{Journal}
@@ -35,8 +38,11 @@ IsNote-prop : (n : Note) → IsProp (IsNote n)
 IsNote-prop (note.Record far near flags) = Prim.hlevel props
 IsNote-prop (note.Drop far near) = Prim.hlevel (IsUidOrNone-prop, props)
 
+IsMap-prop : (keywords : List Keyword) → IsProp (IsMap keywords)
+IsMap-prop keywords = Prim.hlevel props
+
 IsPlan-prop : (p : Plan) → IsProp (IsPlan p)
-IsPlan-prop p = Prim.hlevel (IsStep-prop, IsNote-prop, props)
+IsPlan-prop p = Prim.hlevel (IsStep-prop, IsNote-prop, IsMap-prop, props)
 
 LogsNew-prop : (l : Logged) → IsProp (LogsNew l)
 LogsNew-prop (Copied copy) = Prim.hlevel props
@@ -71,11 +77,11 @@ Fits-prop state Missing = Prim.hlevel props
 Fits-prop state Useless = Prim.hlevel props
 Fits-prop state (Planned written) = Prim.hlevel (HasJournal-prop, props)
 
-IsEntry-prop : (e : Entry) → IsProp (IsEntry e)
-IsEntry-prop e = Prim.hlevel (IsUidOrNone-prop, props)
+IsEntry-prop : (v : Version) (e : Entry) → IsProp (IsEntry v e)
+IsEntry-prop v e = Prim.hlevel (IsUidOrNone-prop, props)
 
-HasText-prop : (state : SyncState) → IsProp (HasText state)
-HasText-prop state = Prim.hlevel (IsEntry-prop, props)
+HasText-prop : (v : Version) (state : SyncState) → IsProp (HasText v state)
+HasText-prop v state = Prim.hlevel (IsEntry-prop, props)
 
 pub IsSound-prop : (state : SyncState) → IsProp (IsSound state)
 IsSound-prop state = Prim.hlevel (HasText-prop, props)

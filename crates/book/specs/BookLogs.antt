@@ -5,6 +5,7 @@ use Rattle.rules.specs.declared.entry.Entry.{Entry}
 use Rattle.rules.specs.declared.state.SyncState.{SyncState}
 use Rattle.rules.specs.declared.plan.Step.{Step}
 use Rattle.rules.specs.declared.plan.Plan.{Plan}
+use Rattle.sync_state.specs.declared.version.Version.TheVariants.{Two}
 use Rattle.sync_state.specs.declared.journal.Logged.{Logged}
 use Rattle.sync_state.specs.declared.journal.Logged.TheVariants.{Copied, Done}
 use Rattle.sync_state.specs.declared.journal.Journal.{Journal}
@@ -19,8 +20,9 @@ use Rattle.sync_state.specs.JournalReading.{FitsAt}
 abbrev pub fresh : Plan → Journal
 fresh plan = record { plan = plan; log = [] }
 
+-- a journal of the second version
 abbrev pub begun : Plan → Pending
-begun plan = Planned (record { journal = fresh plan; is_torn = false })
+begun plan = Planned (record { version = Two; journal = fresh plan; is_torn = false })
 
 -- a plan that a book may begin: there is no journal, and the plan has a text, is of the next run and agrees with the state
 pub record MayBegin (state : SyncState) (pending : Pending) (plan : Plan) : Type 0 where

@@ -10,7 +10,9 @@ use Rattle.sync_state.specs.declared.journal.WrittenJournal.{WrittenJournal}
 use Rattle.book.specs.declared.book.Pending.{Pending}
 use Rattle.book.specs.declared.book.Pending.TheVariants.{Missing, Useless, Planned}
 use Rattle.sync_state.specs.Lines.{IsBadLine}
-use Rattle.sync_state.specs.StateText.{StateText, StateLines, HasText}
+use Rattle.sync_state.specs.declared.version.Version.{Version}
+use Rattle.sync_state.specs.declared.version.Version.TheVariants.{Two}
+use Rattle.sync_state.specs.StateText.{IsStateText, StateText, StateLines, HasText}
 use Rattle.sync_state.specs.JournalText.{HasGo, IsBadJournal, HasJournal}
 use Rattle.sync_state.specs.JournalReading.{IsWritten}
 use Rattle.book.specs.Agreement.{Agrees, disagreement}
@@ -24,13 +26,18 @@ IsPlanned (Planned written) = Unit {0}
 
 -- a state that a book may have: behind a run it has a text, and else it is the first one
 pub record IsSound (s : SyncState) : Type 0 where
-  pub made : 0 < s.run → HasText s
+  pub made : 0 < s.run → HasText Two s
   pub none : s.run ≡ 0 → IsFirst s
 
--- the state's file holds this state
+-- the state's file holds this state, in whatever version
 abbrev pub HoldsState : Option (List ℕ) → SyncState → Type 0
 HoldsState None s = IsFirst s
 HoldsState (Some text) s = StateText s text
+
+-- the state's file is there, and holds this state in this version
+abbrev pub HoldsStateIn : Version → Option (List ℕ) → SyncState → Type 0
+HoldsStateIn version None s = ⊥
+HoldsStateIn version (Some text) s = IsStateText version s text
 
 -- there is a journal without a plan, or with one of a run that was made
 pub record IsUseless (run : ℕ) (text : List ℕ) : Type 0 where
@@ -141,7 +148,7 @@ pub record JournalRefused (files : Files) (fault : BookFault) : Type 0 where
 abbrev pub TellsOpen : Files → BookFault → Type 0
 TellsOpen files fault = TellsStateFile files.state fault ⊎ JournalRefused files fault
 
--- without a torn line
+-- without a torn line, in the same version
 abbrev pub mended : Pending → Pending
 mended Missing = Missing
 mended Useless = Useless

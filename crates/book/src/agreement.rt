@@ -28,14 +28,15 @@ pub fn disagreement(
 {
     let steps = journal.plan.steps.as_slice();
     let notes = journal.plan.notes.as_slice();
+    let first = 5 + journal.plan.keywords.as_slice().len();
     if let Some(i) = bad_step(alloc, entries, steps)? {
-        return Ok(Some(i + 5));
+        return Ok(Some(first + i));
     }
     if let Some(i) = bad_note(entries, notes) {
-        return Ok(Some(steps.len() + i + 5));
+        return Ok(Some(first + steps.len() + i));
     }
     match bad_copy(alloc, entries.as_slice(), steps, journal.log.as_slice())? {
-        Some(i) => Ok(Some(steps.len() + notes.len() + i + 6)),
+        Some(i) => Ok(Some(first + steps.len() + notes.len() + 1 + i)),
         None => Ok(None),
     }
 }

@@ -14,7 +14,7 @@ use rules::state::SyncState;
 use std::alloc::Global;
 use sync_state::fault::BookFault;
 use sync_state::journal::{Journal, WrittenJournal};
-use sync_state::journal_text::{read_journal, write_journal};
+use sync_state::journal_text::{read_journal, write_journal_in};
 use sync_state::state_text::read_state_text;
 
 /// What stands in the journal's file.
@@ -266,6 +266,7 @@ impl<S: Shelf> Book<S> {
     }
 
     /// Takes a torn last line off a journal whose plan is pending, if there is one: one `replace`, or no call of the shelf.
+    /// The journal keeps its version.
     pub fn mend(&mut self) -> Result<(), BookFault>
         ensures state { self.new.state ≡ self.old.state }
         ensures mended { OnOk result (self.new.pending ≡ mended self.old.pending) }
@@ -285,7 +286,7 @@ impl<S: Shelf> Book<S> {
             return Ok(());
         }
         self.is_ready = false;
-        let text = write_journal(self.alloc, &written.journal)?;
+        let text = write_journal_in(self.alloc, written.version, &written.journal)?;
         self.shelf.replace(File::Journal, &text)?;
         mend_pending(&mut self.pending);
         self.is_ready = true;

@@ -19,11 +19,12 @@ use sync_state::fault::BookFault;
 use sync_state::journal::{Journal, Log, Logged, WrittenJournal};
 use sync_state::journal_lines::push_logged;
 use sync_state::journal_text::write_plan;
+use sync_state::version::Version;
 
 impl<S: Shelf> Book<S> {
     ghost use Rattle.book.specs.Standings.{LeavesJournal, standing};
 
-    /// Writes the plan of the next run, of which no step is logged: one `append`. A fault leaves no journal, one without
+    /// Writes the plan of the next run in the second version, with no step logged: one `append`. A fault leaves no journal, one without
     /// a plan, or this one.
     pub fn begin(&mut self, plan: Plan) -> Result<(), BookFault>
         requires missing { self.old.pending ≡ Pending.Missing }
@@ -46,6 +47,7 @@ impl<S: Shelf> Book<S> {
         self.shelf.append(File::Journal, &text)?;
         let log = Log::from_vec(Vec::new(self.alloc));
         self.pending = Pending::Planned(WrittenJournal {
+            version: Version::Two,
             journal: Journal { plan, log },
             is_torn: false,
         });

@@ -13,7 +13,7 @@ use sync_state::state_text::write_state_text;
 impl<S: Shelf> Book<S> {
     ghost use Rattle.book.specs.Standings.{files_in, standing};
 
-    /// Puts the state that the finished journal makes in place of the old one, and then removes the journal: one
+    /// Puts the state that the finished journal makes in place of the old one, in the second version, and then removes the journal: one
     /// `replace` and one `remove`. A fault leaves the old state and the journal, the new state and the journal, which is
     /// useless then, or the new state alone.
     pub fn commit(&mut self) -> Result<(), BookFault>

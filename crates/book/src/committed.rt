@@ -4,6 +4,7 @@ ghost use Rattle.std.specs.Prelude.{◌≡◌, ◌+◌, [], ◌∷◌, ◌++◌,
 ghost use Rattle.std.specs.List.{list_any};
 ghost use Rattle.std.specs.List.Sorted.{IsPermutation};
 ghost use Rattle.book.specs.EntryOrders.{IsNotAfter};
+ghost use Rattle.sync_state.specs.declared.version.Version.TheVariants.{Two};
 ghost use Rattle.sync_state.specs.StateText.{HasText, IsEntry};
 ghost use Rattle.rules.specs.Entries.{ArePairs, is_full};
 ghost use Rattle.sync_state.specs.JournalText.{HasJournal, bottom, note_place, rises};
@@ -211,11 +212,11 @@ fn sort(list: &mut Vec<Entry>)
 /// The state that a finished journal makes of the one before.
 pub fn committed(alloc: Global, old: &SyncState, journal: &Journal) -> Result<SyncState, AllocError>
     requires fits { HasJournal journal.now }
-    requires entries { All IsEntry old.now.entries }
+    requires entries { All (IsEntry Two) old.now.entries }
     requires agrees { Agrees old.now.entries journal.now }
     requires next { journal.now.plan.run ≡ old.now.run + 1 }
     ensures commits { IfOk result (λ state. Commits journal.now old.now state) }
-    ensures has_text { IfOk result (λ state. HasText state) }
+    ensures has_text { IfOk result (HasText Two) }
 {
     let plan = &journal.plan;
     let mut list = Vec::new(alloc);

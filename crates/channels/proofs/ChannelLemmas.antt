@@ -201,11 +201,7 @@ IsListAsked-possible of (Matching patterns) = record {
 
 IsAskedBy-possible : (lists : Bool) (options : Options) (of : Joined) → Possible (IsAskedBy lists options of)
 IsAskedBy-possible true options of = IsListAsked-possible of of.channel.boxes
-IsAskedBy-possible false options of = record {
-  verdict = Over;
-  asked = FarListed of.far_store None ∷ [];
-  is = IsListedAsked-unlisted of (λ fars nears. IsFoundAsked options of fars nears of.channel.boxes) (FarListed of.far_store None ∷ []) (inl refl);
-}
+IsAskedBy-possible false options of = record { verdict = Over; asked = []; is = inl (refl, refl) }
 
 IsPlaceAsked-by : (config : Config) (ways : Ways) (place : ℕ) → IsThere config place → Possible (IsPlaceAsked config ways place)
 IsPlaceAsked-by config ways place (inl u) = record { verdict = Over; asked = []; is = inl (u, (refl, refl)) }
@@ -238,9 +234,21 @@ pub SoFar-place_settled : {L E : Type 0} (noted : L → Asked → L) (config : C
     (result : Result Verdict E) → IsJoined config place of → ways.lists ≡ false → options ≡ options_of of.channel ways.cells ways.expunges
     → Goes noted old new (SoFar result (IsChannelAsked options of)) → Goes noted old new (SoFar result (IsPlaceAsked config ways place))
 SoFar-place_settled noted config ways place of options old new result joined e o h =
+    let asked : Options = options_of of.channel ways.cells ways.expunges in
     SoFar-joined noted config ways place of old new result joined
-    (subst (λ b. Goes noted old new (SoFar result (IsAskedBy b (options_of of.channel ways.cells ways.expunges) of))) (sym e)
-    (subst (λ x. Goes noted old new (SoFar result (IsChannelAsked x of))) o h))
+    (subst (λ b. Goes noted old new (SoFar result (IsAskedBy b asked of))) (sym e)
+    (SoFar-behind noted old old new [] (IsChannelAsked asked of) (IsAskedBy false asked of) result refl (λ verdict more k. inr k)
+    (subst (λ x. Goes noted old new (SoFar result (IsChannelAsked x of))) o h)))
+
+-- or there is no memory for the options of its runs
+pub SoFar-place_unsettled : {L E : Type 0} (noted : L → Asked → L) (config : Config) (ways : Ways) (place : ℕ) (of : Joined) (old new : L)
+    (result : Result Verdict E) → IsJoined config place of → ways.lists ≡ false → new ≡ old → IfOk result (λ verdict. verdict ≡ Over)
+    → Goes noted old new (SoFar result (IsPlaceAsked config ways place))
+SoFar-place_unsettled noted config ways place of old new result joined e same over =
+    let options : Options = options_of of.channel ways.cells ways.expunges in
+    SoFar-joined noted config ways place of old new result joined
+    (subst (λ b. Goes noted old new (SoFar result (IsAskedBy b options of))) (sym e)
+    (SoFar-all noted old new (IsAskedBy false options of) Over result [] (inl (refl, refl)) same over))
 
 -- or it is not there
 pub SoFar-unjoined : {L E : Type 0} (noted : L → Asked → L) (config : Config) (ways : Ways) (place : ℕ) (old new : L) (result : Result Verdict E)

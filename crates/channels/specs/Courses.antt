@@ -180,9 +180,10 @@ IsListAsked of (Matching patterns) verdict asked = IsListedAsked of IsListedAlon
 
 -- ---- of a command line
 
+-- its mailboxes are listed, or made and run; these only if there is memory for the options of their runs, and else nothing is asked
 abbrev pub IsAskedBy : (lists : Bool) → Options → Joined → Verdict → List Asked → Type 0
 IsAskedBy true options of verdict asked = IsListAsked of of.channel.boxes verdict asked
-IsAskedBy false options of verdict asked = IsChannelAsked options of verdict asked
+IsAskedBy false options of verdict asked = IsOver verdict asked ⊎ IsChannelAsked options of verdict asked
 
 -- the channel of this place is listed or run
 pub record IsJoinedAsked (config : Config) (ways : Ways) (place : ℕ) (verdict : Verdict) (asked : List Asked) : Type 0 where

@@ -1,6 +1,5 @@
 -- An opening of a run.
-use Rattle.std.specs.Prelude.{List, []}
-use Rattle.mailcore.specs.declared.keywords.Keyword.{Keyword}
+use Rattle.std.specs.Prelude.{[]}
 use Rattle.rules.specs.declared.options.Options.{Options}
 use Rattle.rules.specs.declared.state.SyncState.{SyncState}
 use Rattle.outside.specs.Devices.{Device}
@@ -9,6 +8,6 @@ use Rattle.underway.specs.Openings.{Opening, world_at}
 abbrev pub no_state : SyncState
 no_state = record { run = 0; far_validity = 0; near_validity = 0; max_pulled = 0; max_pushed = 0; entries = [] }
 
--- a first run on this device, by this map
-abbrev pub first_on : List Keyword → Device → Options → Opening
-first_on keywords d options = record { world = world_at d no_state; options = options; called = options; keywords = keywords }
+-- a first run on this device
+abbrev pub first_on : Device → Options → Opening
+first_on d options = record { world = world_at d no_state; options = options; called = options }

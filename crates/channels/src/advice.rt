@@ -27,7 +27,7 @@ pub(crate) fn advise<E: Write>(err: &mut E, fault: &BoxFault) -> io::Result<()> 
         BoxFault::Stopped(cause) => advise_stop(err, cause),
         BoxFault::LeftOut(_) => writeln!(
             err,
-            "  its name is no UTF-8, or too long to get a UID: give it another one, and run again"
+            "  its name is not UTF-8, or is too long to get a UID: rename it, and run again"
         ),
         BoxFault::GivenAgain(uid) => advise_given_again(err, *uid),
         BoxFault::Run(fault) => advise_run(err, *fault),
@@ -57,7 +57,7 @@ fn advise_stop<E: Write>(err: &mut E, cause: &StopCause) -> io::Result<()> {
         ),
         StopCause::Standing(path) => writeln!(
             err,
-            "  {path} is there, and was to count as removed: run again"
+            "  {path} is there, but its message was about to count as removed: run again"
         ),
         StopCause::Withheld(store, uid) => advise_withheld(err, store.as_str(), *uid),
         StopCause::GivenAgain(uid) => advise_given_again(err, *uid),
@@ -68,7 +68,7 @@ fn advise_stop<E: Write>(err: &mut E, cause: &StopCause) -> io::Result<()> {
 fn advise_withheld<E: Write>(err: &mut E, store: &str, uid: u32) -> io::Result<()> {
     writeln!(
         err,
-        "  the server of IMAPStore {store} lists the message of UID {uid}, and does not give it: run again"
+        "  the server of IMAPStore {store} lists the message with UID {uid}, but does not send it: run again"
     )
 }
 
@@ -85,11 +85,11 @@ fn advice_on(trouble: Trouble) -> &'static str {
     match trouble {
         Trouble::NoPermission => "no permission. Let yourself read and write it, and run again",
         Trouble::DiskFull => "the disk is full. Make room, and run again",
-        Trouble::ReadOnly => "the file system can be read only",
-        Trouble::BadName => "the name is too long, or no UTF-8. Give it another one, and run again",
-        Trouble::NoFile => "this is no file. Take it out of there, and run again",
+        Trouble::ReadOnly => "the file system is read-only",
+        Trouble::BadName => "the name is too long, or is not UTF-8. Rename it, and run again",
+        Trouble::NoFile => "this is not a file. Move it elsewhere, and run again",
         Trouble::Missing => "it is gone. Run again",
-        Trouble::Renamed => "another program renames files all the time. Run again when it rests",
-        Trouble::Other => "the system said no",
+        Trouble::Renamed => "another program keeps renaming files. Run again when it has finished",
+        Trouble::Other => "the system refused",
     }
 }

@@ -9,6 +9,7 @@ ghost use Rattle.channels.specs.Asks.{run_attempts};
 ghost use Rattle.channels.specs.Openings.{first_on};
 
 use crate::fault::BoxFault;
+use mailcore::keywords::Keywords;
 use outside::outside::Outside;
 use rand_core::Rng;
 use rules::options::Options;
@@ -46,11 +47,16 @@ impl<R: Rng> Work for RunOnce<'_, R> {
 
     type Answer = Result<Pass, BoxFault>;
 
+    fn keywords(&self) -> &Keywords {
+        &self.options.keywords
+    }
+
     fn over<O: Outside, P: Progress>(self, outside: &mut O, progress: &P) -> Result<Pass, BoxFault>
+        requires map { O.keywords outside.old ≡ self.options.now.keywords }
         ensures done { OnOk result (FromOpening (O.honest outside.new) O.ours O.alone
-            (first_on (O.keywords outside.old) (O.seen outside.old).device self.entry.options.now) self.entry.options.now (R.stream self.entry.rng.now)
+            (first_on (O.seen outside.old).device self.entry.options.now) self.entry.options.now (R.stream self.entry.rng.now)
             (O.seen outside.old).device
-            (IsOver O.ours O.alone (first_on (O.keywords outside.old) (O.seen outside.old).device self.entry.options.now) (O.seen outside.new).device)) }
+            (IsOver O.ours O.alone (first_on (O.seen outside.old).device self.entry.options.now) (O.seen outside.new).device)) }
         ensures stopped { result ≡ Err (BoxFault.Run RunFault.Stopped) → MetStops run_attempts (O.seen outside.old) (O.seen outside.new) }
     {
         settle_lent(self.alloc, outside, self.options, self.rng, progress)
@@ -67,7 +73,7 @@ fn settle_lent<O: Outside, R: Rng, P: Progress>(
     progress: &P,
 ) -> Result<Pass, BoxFault>
     ghost opening: { Opening }
-    requires map { opening.keywords ≡ O.keywords outside.old }
+    requires map { O.keywords outside.old ≡ options.now.keywords }
     ensures done { OnOk result (O.honest outside.new → IsAsked O.ours opening options.now (R.stream rng.old)
         → AtOpening O.ours O.alone opening (O.seen outside.old).device → IsOver O.ours O.alone opening (O.seen outside.new).device) }
     ensures stopped { result ≡ Err (BoxFault.Run RunFault.Stopped) → MetStops run_attempts (O.seen outside.old) (O.seen outside.new) }

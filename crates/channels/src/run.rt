@@ -18,10 +18,11 @@ use config::config::Config;
 use rand_core::Rng;
 use request::request::Request;
 use rules::options::Cells;
-use std::alloc::Global;
+use std::alloc::{AllocError, Global};
 use std::io;
 use std::io::Write;
 use stores::channel_box::ChannelStores;
+use stores::fault::ListFault;
 use stores::stores::Stores;
 
 /// A command line and its configuration.
@@ -128,7 +129,8 @@ fn run_course<S: Stores, R: Rng, O: Write, E: Write>(
     Ok(verdict)
 }
 
-/// Lists or synchronises the mailboxes of the channel of this place.
+/// Lists or synchronises the mailboxes of the channel of this place. Where memory for the options of its runs is wanting, that is told, and
+/// nothing is asked of its stores.
 fn run_place<S: Stores, R: Rng, O: Write, E: Write>(
     work: LineWork<'_>,
     cells: Option<Cells>,
@@ -155,11 +157,15 @@ fn run_place<S: Stores, R: Rng, O: Write, E: Write>(
     if work.request.lists {
         return list_channel(work.alloc, of, stores);
     }
-    let options = options_of(of.channel, cells, work.request.expunges);
-    let channel_work = ChannelWork {
-        alloc: work.alloc,
-        of,
-        options: &options,
-    };
-    settle_channel(channel_work, stores, rng)
+    match options_of(work.alloc, of.channel, cells, work.request.expunges) {
+        Ok(options) => {
+            let channel_work = ChannelWork {
+                alloc: work.alloc,
+                of,
+                options: &options,
+            };
+            settle_channel(channel_work, stores, rng)
+        }
+        Err(AllocError) => stores.tell_list(&ListFault::NoMemory),
+    }
 }

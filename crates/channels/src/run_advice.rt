@@ -28,6 +28,10 @@ pub(crate) fn advise_run<E: Write>(err: &mut E, fault: RunFault) -> io::Result<(
         RunFault::StoreFault(side, number) => writeln!(err, "  {}", store_fault(side, number)),
         RunFault::MarksRepeat => writeln!(err, "  the source of random numbers is broken"),
         RunFault::NoMemory => writeln!(err, "  run again: what was done is kept"),
+        RunFault::KeywordsChanged => writeln!(
+            err,
+            "  an unfinished run goes by other Keyword lines: put them back, run once, and change them then"
+        ),
     }
 }
 
@@ -44,7 +48,7 @@ pub(crate) fn advise_refused<E: Write>(
             StepLine(step),
             refusal_of(step)
         ),
-        None => writeln!(err, "  the server said no to step {number}"),
+        None => writeln!(err, "  the server refused step {number}"),
     }
 }
 
@@ -54,7 +58,7 @@ fn refusal_of(step: &Step) -> &'static str {
         Step::New {
             direction: Direction::Pull,
             ..
-        } => "does not give the message",
+        } => "does not send the message",
         Step::New {
             direction: Direction::Push,
             ..
@@ -74,11 +78,13 @@ fn changed_validity(side: Side) -> &'static str {
 /// What a fault of a side's mailbox means, by its number.
 fn store_fault(side: Side, number: u8) -> &'static str {
     match (side, number) {
-        (Side::Far, 2) => "the server says no where no message is at stake, as to SELECT or CREATE",
-        (Side::Far, 3) => "the server's answer is none that mbsync knows",
+        (Side::Far, 2) =>
+            "the server refused a command that is not about a message, such as SELECT or CREATE",
+        (Side::Far, 3) => "mbsync does not understand the server's answer",
         (Side::Far, 4) => "the server's answer is too long",
         (Side::Far, 5) => "the server does not offer IMAP4rev2, which mbsync needs",
-        (Side::Far, 6) => "the mailbox can be read only",
+        (Side::Far, 6) =>
+            "the mailbox is read-only, or the server does not store one of its flags or keywords",
         (Side::Near, 2) => "cur, new or tmp is missing",
         (Side::Near, 3) =>
             "two files have one UID: the manual page says how to find them under \"How to recover\"",
@@ -100,7 +106,7 @@ fn advise_state<E: Write>(err: &mut E, line: usize) -> io::Result<()> {
     } else {
         writeln!(
             err,
-            "  .mbsyncstate is no state of this program: without it the box starts over, and each message is new on both sides"
+            "  .mbsyncstate is damaged, or was not written by mbsync. If it is removed, the box starts over, and each message is new on both sides"
         )
     }
 }

@@ -22,7 +22,7 @@ pub(crate) fn advise_server<E: Write>(
         ),
         ServerFault::NoAnswer => writeln!(
             err,
-            "  the server of IMAPStore {store} sent what is no answer: is an IMAP server at its Host and Port?"
+            "  the server of IMAPStore {store} sent something that is not IMAP: is an IMAP server at its Host and Port?"
         ),
         ServerFault::NoRev2 => writeln!(
             err,
@@ -30,11 +30,11 @@ pub(crate) fn advise_server<E: Write>(
         ),
         ServerFault::LoginRefused => writeln!(
             err,
-            "  the server refused the user and the password: mend User or Pass of IMAPStore {store}, and run again"
+            "  the server rejected the login: correct User or Pass of IMAPStore {store}, and run again"
         ),
         ServerFault::Refused => writeln!(
             err,
-            "  the server of IMAPStore {store} says no to what mbsync asked after the login"
+            "  the server of IMAPStore {store} refused a command after the login"
         ),
         ServerFault::Unsendable => writeln!(
             err,
@@ -48,11 +48,11 @@ fn advise_unreached<E: Write>(err: &mut E, store: &str, kind: Option<ErrorKind>)
     match kind {
         Some(kind) => writeln!(
             err,
-            "  the server of IMAPStore {store} cannot be reached ({kind}): see to its Host and Port, and run again"
+            "  the server of IMAPStore {store} cannot be reached ({kind}): check its Host and Port, and run again"
         ),
         None => writeln!(
             err,
-            "  the server of IMAPStore {store} cannot be reached: see to its Host and Port, and run again"
+            "  the server of IMAPStore {store} cannot be reached: check its Host and Port, and run again"
         ),
     }
 }

@@ -10,9 +10,13 @@ use Rattle.config.specs.declared.config.Channel.{Channel}
 abbrev pub both : Sides
 both = record { far = true; near = true }
 
--- the cells of the command line stand in place of the channel's, and so does its Expunge
+-- the cells of the command line stand in place of the channel's, and so does its Expunge; the keywords are the channel's
 abbrev pub options_of : Channel → Option Cells → (expunges : Bool) → Options
-options_of channel cells expunges = record { cells = unwrap_or cells channel.cells; expunge = if expunges then both else channel.expunge }
+options_of channel cells expunges = record {
+  cells = unwrap_or cells channel.cells;
+  expunge = if expunges then both else channel.expunge;
+  keywords = channel.keywords;
+}
 
 -- the first side, far before near, on which a mailbox is absent and may not be made
 abbrev pub uncovered : (absent create : Sides) → Option Side

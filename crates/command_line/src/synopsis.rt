@@ -9,13 +9,13 @@ use crate::sync_flag::SyncFlag;
 use clap::{Arg, ArgAction, Command};
 use std::alloc::{AllocError, Global};
 
-const ABOUT: &str = "Keeps mailboxes of an IMAP server and Maildirs alike.";
+const ABOUT: &str = "Synchronises mailboxes of IMAP servers and Maildir folders.";
 
 const AFTER_HELP: &str = "\
-The flags --pull to --noop are the words of Sync in the configuration. Where one
-or more are given, they stand in place of the Sync of every channel.
+The options --pull to --noop are the words of Sync in the configuration. If one or
+more are given, they replace the Sync of every channel.
 
-Exit status: 0, 1 after a fault, 2 for a wrong command line or an unknown channel.";
+Exit status: 0, 1 after an error, 2 for a wrong command line or an unknown channel.";
 
 /// A flag of one letter.
 fn letter_flag<'a>(alloc: Global, id: &'a str, letter: char, help: &'a str) -> Arg<'a>
@@ -77,7 +77,7 @@ fn command_before_flags<'a>(alloc: Global) -> Result<Command<'a>, AllocError>
         .after_help(AFTER_HELP)
         .bin_name("mbsync")?
         .arg(file_option(alloc))?
-        .arg(letter_flag(alloc, "all", 'a', "Take all channels, and pass names over"))?
+        .arg(letter_flag(alloc, "all", 'a', "All channels; names are ignored"))?
         .arg(letter_flag(
             alloc,
             "list",

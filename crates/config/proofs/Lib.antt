@@ -1,4 +1,5 @@
 pub mod LineLemmas
+pub mod KeywordLemmas
 pub mod NameLemmas
 pub mod GroupLemmas
 pub mod OutlineLemmas

@@ -3,10 +3,11 @@ use Rattle.std.specs.Prelude.{◌≡◌, true, false, List, [], ◌∷◌, ◌++
 use Rattle.config.specs.declared.config.Boxes.TheVariants.{Pair, Matching}
 use Rattle.config_words.specs.declared.keyword.Keyword.TheVariants as keyword
 use Rattle.config_words.specs.declared.keyword.Place.TheVariants as place
-use Rattle.config_words.specs.Meanings.{SectionIs, GroupIs, HostIs, PortIs, UserIs, PassIs, PathIs, FarIs, NearIs, PatternsAre, CreateIs, ExpungeIs, ChannelsAre, said}
+use Rattle.config_words.specs.Meanings.{SectionIs, GroupIs, HostIs, PortIs, UserIs, PassIs, PathIs, FarIs, NearIs, PatternsAre, CreateIs, ExpungeIs, KeywordIs, ChannelsAre, said}
 use Rattle.config.specs.Configurations.{Meaning, Part, Parts, meaning_of, outside}
 use Rattle.config.specs.Sections.{ChannelMeaning, GroupMeaning, ImapMeaning, MaildirMeaning, everything, neither}
-use Rattle.config.specs.Standing.{lines_of}
+use Rattle.config_words.specs.declared.fault.FaultKind.TheVariants.{KeywordGiven}
+use Rattle.config.specs.Standing.{faults_again, lines_of}
 
 -- an empty BOX names no mailbox; STORE goes up to the next colon
 empty_box : said keyword.Near (codes ":n:" ∷ []) ≡ Some (NearIs (codes "n") None)
@@ -27,7 +28,29 @@ group_without_channels = refl
 cut_at_feeds : lines_of (codes "a" ++ (10 ∷ 10 ∷ []) ++ codes "b") ≡ codes "a" ∷ [] ∷ codes "b" ∷ []
 cut_at_feeds = refl
 
--- the channel's own Expunge, the Create of the lines before any section; the stores by their names, and INBOX where no
+-- a letter from a to z, and a name that is an atom and none of a flag with a letter of its own
+letter_and_name : said keyword.Keyword (codes "a" ∷ codes "$Label1" ∷ []) ≡ Some (KeywordIs (record { letter = 97; name = codes "$Label1" }))
+letter_and_name = refl
+
+capital : said keyword.Keyword (codes "A" ∷ codes "Junk" ∷ []) ≡ None
+capital = refl
+
+two_letters : said keyword.Keyword (codes "ab" ∷ codes "Junk" ∷ []) ≡ None
+two_letters = refl
+
+no_atom : said keyword.Keyword (codes "a" ∷ codes "a]" ∷ []) ≡ None
+no_atom = refl
+
+forwarded : said keyword.Keyword (codes "p" ∷ codes "$forwarded" ∷ []) ≡ None
+forwarded = refl
+
+-- lines that give a letter or a name again, before any section and in a channel; each channel has its own
+given_twice : faults_again (codes "Keyword a x" ++ 10 ∷ codes "Keyword b X" ++ 10 ∷ codes "Channel c" ++ 10 ∷ codes "keyword a x" ++ 10 ∷ codes "Keyword a y" ++ [])
+    ≡ record { line = 2; kind = KeywordGiven } ∷ record { line = 5; kind = KeywordGiven } ∷ []
+unfolding lib.Utf8.encode
+given_twice = refl
+
+-- the channel's own Expunge and keywords, the Create of the lines before any section; the stores by their names, and INBOX where no
 -- mailbox is named
 abbrev sections : List Part
 sections =
@@ -37,7 +60,8 @@ sections =
     ∷ record {
       kind = place.Channel;
       name = codes "c";
-      says = SectionIs (codes "c") ∷ FarIs (codes "f") (Some (codes "A")) ∷ NearIs (codes "n") None ∷ ExpungeIs (record { far = false; near = true }) ∷ [];
+      says = SectionIs (codes "c") ∷ FarIs (codes "f") (Some (codes "A")) ∷ NearIs (codes "n") None ∷ ExpungeIs (record { far = false; near = true })
+          ∷ KeywordIs (record { letter = 98; name = codes "Junk" }) ∷ KeywordIs (record { letter = 97; name = codes "$Label1" }) ∷ [];
     }
     ∷ record {
       kind = place.Channel;
@@ -47,7 +71,8 @@ sections =
     ∷ record { kind = place.Group; name = codes "g"; says = GroupIs (codes "g") (codes "c" ∷ []) ∷ ChannelsAre (codes "d" ∷ []) ∷ [] } ∷ []
 
 whole_text : meaning_of (record {
-  before = CreateIs (record { far = true; near = false }) ∷ ExpungeIs (record { far = true; near = true }) ∷ [];
+  before = CreateIs (record { far = true; near = false }) ∷ ExpungeIs (record { far = true; near = true })
+      ∷ KeywordIs (record { letter = 122; name = codes "Junk" }) ∷ [];
   ended = sections;
   current = outside place.Between;
 })
@@ -65,6 +90,7 @@ whole_text : meaning_of (record {
             cells = everything;
             create = record { far = true; near = false };
             expunge = record { far = false; near = true };
+            keywords = record { letter = 97; name = codes "$Label1" } ∷ record { letter = 98; name = codes "Junk" } ∷ [];
           }
           ∷ record {
             name = codes "d";
@@ -74,6 +100,7 @@ whole_text : meaning_of (record {
             cells = everything;
             create = record { far = true; near = false };
             expunge = record { far = true; near = true };
+            keywords = record { letter = 122; name = codes "Junk" } ∷ [];
           } ∷ [];
       groups = record { name = codes "g"; channels = codes "c" ∷ codes "d" ∷ [] } ∷ [];
     }

@@ -1,5 +1,5 @@
 -- The lines of a text, what is known behind some of them, and which fault is told of several.
-use Rattle.std.proofs.Common.{◌≡◌, ◌≢◌, ◌⊎◌, inr, ℕ, ◌+◌, ◌<◌, ◌≤◌, Bool, true, false, cond, List, [], ◌∷◌, ◌++◌, length, take, drop, get_or, refl, ap, subst, sym, ◌∙◌, arith, add-one, length-drop, suc}
+use Rattle.std.proofs.Common.{◌≡◌, ◌≢◌, ℕ, ◌+◌, ◌<◌, Bool, true, false, cond, List, [], ◌∷◌, ◌++◌, length, take, drop, get_or, refl, ap, subst, sym, ◌∙◌, arith, add-one, length-drop, suc}
 use Rattle.std.specs.Prelude.{All, Option, Some, None, fold, nat_lt, nat_le, ◌==◌, ◌||◌, ◌&&◌, if◌then◌else◌}
 use Rattle.std.proofs.lemmas.Bool.{ne_eqb}
 use Rattle.std.proofs.lemmas.Grind.{common_steps}
@@ -9,10 +9,10 @@ use Rattle.std.proofs.Math.Seq.{drop-cons}
 use Rattle.std.proofs.lemmas.Bool.Decides.{nat_tests}
 use Rattle.std.proofs.lemmas.List.Elements.{All-head, All-tail, All-push, All-nil, All-cons, Contains-append_left, Contains-push}
 use Rattle.config_words.specs.declared.fault.ConfigFault.{ConfigFault}
-use Rattle.config_words.specs.declared.fault.FaultKind.TheVariants.{DefinedTwice, NoMemory}
+use Rattle.config_words.specs.declared.fault.FaultKind.TheVariants.{NoMemory}
 use Rattle.config_words.specs.Faults.{number_of}
 use Rattle.config_words.specs.Faults.{precedes}
-use Rattle.config.specs.Outlines.{IsToldBy, IsToldOf, Tells, earlier}
+use Rattle.config.specs.Outlines.{IsToldOf, Tells, earlier, is_repeat}
 use Rattle.config.specs.Standing.{lines_of, no_lines, outlined, put_before}
 
 -- ---- lines
@@ -65,59 +65,58 @@ all_taken all k none =
 
 -- ---- faults
 
--- a fault that comes before another comes before all lines that the other comes before
-sooner : (f g line a b : ℕ) → (nat_lt f g || f == g && nat_le a b) ≡ false → (f < line) ⊎ ((f ≡ line) × (a ≤ 7)) → (g < line) ⊎ ((g ≡ line) × (b ≤ 7))
-sooner f g line a b after told = grind (arith, nat_tests, common_steps)
+-- a fault that comes before another comes before all that the other comes before
+sooner : (f g h a b c : ℕ) → (nat_lt f g || f == g && nat_le a b) ≡ false → (nat_lt f h || f == h && nat_le a c) ≡ true → (nat_lt g h || g == h && nat_le b c) ≡ true
+sooner f g h a b c after told = grind (arith, nat_tests, common_steps)
 
-all_sooner : (f g : ConfigFault) (again : List ℕ) → precedes f g ≡ false → All (λ line. IsToldBy f line) again → All (λ line. IsToldBy g line) again
-all_sooner f g [] after told = All-nil (λ (line : ℕ). IsToldBy g line)
-all_sooner f g (line ∷ again) after told =
-    All-cons (λ (x : ℕ). IsToldBy g x) line again
-    (sooner f.line g.line line (number_of f.kind) (number_of g.kind) after (All-head (λ (x : ℕ). IsToldBy f x) line again told))
-    (all_sooner f g again after (All-tail (λ (x : ℕ). IsToldBy f x) line again told))
+all_sooner : (f g : ConfigFault) (again : List ConfigFault) → precedes f g ≡ false → All (λ x. precedes f x ≡ true) again → All (λ x. precedes g x ≡ true) again
+all_sooner f g [] after told = All-nil (λ (x : ConfigFault). precedes g x ≡ true)
+all_sooner f g (h ∷ again) after told =
+    All-cons (λ (x : ConfigFault). precedes g x ≡ true) h again
+    (sooner f.line g.line h.line (number_of f.kind) (number_of g.kind) (number_of h.kind) after (All-head (λ (x : ConfigFault). precedes f x ≡ true) h again told))
+    (all_sooner f g again after (All-tail (λ (x : ConfigFault). precedes f x ≡ true) h again told))
 
-here_or_before : (f line a : ℕ) → (nat_lt f line || f == line && nat_le a 7) ≡ true → (f < line) ⊎ ((f ≡ line) × (a ≤ 7))
-here_or_before f line a before = grind (arith, nat_tests, common_steps)
+itself : (line a : ℕ) → (nat_lt line line || line == line && nat_le a a) ≡ true
+itself line a = grind (arith, nat_tests, common_steps)
 
--- another fault than a name that is defined twice
-pub tells_other : (again : List ℕ) (first : Option ConfigFault) (fault : ConfigFault) → Tells again first → fault.kind ≢ DefinedTwice → fault.kind ≢ NoMemory
+-- a fault of a line that says nothing again
+pub tells_other : (again : List ConfigFault) (first : Option ConfigFault) (fault : ConfigFault) → Tells again first → is_repeat fault.kind ≡ false → fault.kind ≢ NoMemory
     → Tells again (Some (earlier first fault))
 tells_other again None fault none other memory =
-    (subst (λ (l : List ℕ). IsToldOf l fault) (sym none) (record { known = λ is. absurd (other is); first = All-nil (λ (line : ℕ). IsToldBy fault line) }), memory)
+    (subst (λ (l : List ConfigFault). IsToldOf l fault) (sym none) (record { known = λ is. cc; first = All-nil (λ (x : ConfigFault). precedes fault x ≡ true) }), memory)
 tells_other again (Some f) fault told other memory = chosen (precedes f fault) refl
   where
     chosen : (b : Bool) → precedes f fault ≡ b → Tells again (Some (if b then f else fault))
     chosen true before = told
-    chosen false after = (record { known = λ is. absurd (other is); first = all_sooner f fault again after told.0.first }, memory)
+    chosen false after = (record { known = λ is. cc; first = all_sooner f fault again after told.0.first }, memory)
 
--- a name that is defined again at this line
-pub tells_again : (again : List ℕ) (first : Option ConfigFault) (line : ℕ) → Tells again first
-    → Tells (again ++ line ∷ []) (Some (earlier first (record { line = line; kind = DefinedTwice })))
-tells_again again None line none = (
+-- and of one that does
+pub tells_again : (again : List ConfigFault) (first : Option ConfigFault) (fault : ConfigFault) → Tells again first → fault.kind ≢ NoMemory
+    → Tells (again ++ fault ∷ []) (Some (earlier first fault))
+tells_again again None fault none memory = (
   record {
-    known = λ is. Contains-push again line;
-    first = subst (λ (l : List ℕ). All (λ x. IsToldBy (record { line = line; kind = DefinedTwice }) x) (l ++ line ∷ [])) (sym none)
-        (All-cons (λ (x : ℕ). IsToldBy (record { line = line; kind = DefinedTwice }) x) line [] (inr (refl, omega arith))
-        (All-nil (λ (x : ℕ). IsToldBy (record { line = line; kind = DefinedTwice }) x)));
+    known = λ is. Contains-push again fault;
+    first = subst (λ (l : List ConfigFault). All (λ x. precedes fault x ≡ true) (l ++ fault ∷ [])) (sym none)
+        (All-cons (λ (x : ConfigFault). precedes fault x ≡ true) fault [] (itself fault.line (number_of fault.kind))
+        (All-nil (λ (x : ConfigFault). precedes fault x ≡ true)));
   },
-  λ is. cc,
+  memory,
 )
-tells_again again (Some f) line told = chosen (precedes f (record { line = line; kind = DefinedTwice })) refl
+tells_again again (Some f) fault told memory = chosen (precedes f fault) refl
   where
-    chosen : (b : Bool) → precedes f (record { line = line; kind = DefinedTwice }) ≡ b
-        → Tells (again ++ line ∷ []) (Some (if b then f else record { line = line; kind = DefinedTwice }))
+    chosen : (b : Bool) → precedes f fault ≡ b → Tells (again ++ fault ∷ []) (Some (if b then f else fault))
     chosen true before = (
       record {
-        known = λ is. Contains-append_left again (line ∷ []) f.line (told.0.known is);
-        first = All-push (λ (x : ℕ). IsToldBy f x) again line told.0.first (here_or_before f.line line (number_of f.kind) before);
+        known = λ is. Contains-append_left again (fault ∷ []) f (told.0.known is);
+        first = All-push (λ (x : ConfigFault). precedes f x ≡ true) again fault told.0.first before;
       },
       told.1,
     )
     chosen false after = (
       record {
-        known = λ is. Contains-push again line;
-        first = All-push (λ (x : ℕ). IsToldBy (record { line = line; kind = DefinedTwice }) x) again line
-            (all_sooner f (record { line = line; kind = DefinedTwice }) again after told.0.first) (inr (refl, omega arith));
+        known = λ is. Contains-push again fault;
+        first = All-push (λ (x : ConfigFault). precedes fault x ≡ true) again fault (all_sooner f fault again after told.0.first)
+            (itself fault.line (number_of fault.kind));
       },
-      λ is. cc,
+      memory,
     )

@@ -1,69 +1,76 @@
 -- A reading and the outline of the lines that it has read.
-use Rattle.std.proofs.Common.{◌≡◌, ℕ, ◌+◌, Bool, true, false, List, [], ◌∷◌, ◌++◌, take, drop, refl, ap, subst, sym, ◌∙◌}
+use Rattle.std.proofs.Common.{◌≡◌, ℕ, ◌+◌, Bool, true, false, List, [], ◌∷◌, take, drop, refl, ap, subst, sym, ◌∙◌}
 use Rattle.std.specs.Prelude.{Option, Some, None, Result, Ok, Err, OnOk, MatchResult, fold, if◌then◌else◌}
 use Rattle.std.specs.declared.alloc.AllocError.{AllocError}
 use Rattle.config.specs.declared.config.Config.{Config}
 use Rattle.config_words.specs.declared.fault.ConfigFault.{ConfigFault}
 use Rattle.config_words.specs.declared.fault.FaultKind.{FaultKind}
-use Rattle.config_words.specs.declared.fault.FaultKind.TheVariants.{UnknownKeyword, WrongArguments, BadText, OutsideSection, KeywordTwice, UnknownName, DefinedTwice, KeywordMissing, CellTwice, NoMemory}
+use Rattle.config_words.specs.declared.fault.FaultKind.TheVariants.{UnknownKeyword, WrongArguments, BadText, OutsideSection, KeywordTwice, UnknownName, DefinedTwice, KeywordMissing, CellTwice, NoMemory, KeywordGiven}
 use Rattle.config.specs.declared.reading.Reading.{Reading}
 use Rattle.config.specs.Drafts.{IsTaken, standing_of}
-use Rattle.config.specs.Outlines.{IsBehindWords, IsOutlined, IsToldOf, Tells, earlier}
+use Rattle.config.specs.Outlines.{IsBehindWords, IsOutlined, IsToldOf, Tells, earlier, is_repeat}
 use Rattle.config_words.specs.Places.{closed}
-use Rattle.config.specs.Standing.{Outline, Standing, behind_line, behind_words, is_line_again, lines_again, lines_of, no_lines, outlined, standing_at, words_again}
+use Rattle.config.specs.Standing.{Outline, Standing, behind_line, behind_words, line_again, faults_again, lines_of, no_lines, outlined, standing_at, with_fault, words_again}
 use Rattle.config_words.specs.Words.{is_blank, words_of}
 use Rattle.config.proofs.OutlineLemmas.{all_taken, one_left, outlined_more, tells_again, tells_other}
 
 -- ---- what a line's words leave
 
 -- the standing is that behind the line
-pub stands : (kind : FaultKind) (flag : Bool) (behind found : Standing) → IsTaken flag behind found (Err kind) → (kind ≡ NoMemory → ⊥) → found ≡ behind
-stands UnknownKeyword flag behind found taken memory = taken.1
-stands WrongArguments flag behind found taken memory = taken.1
-stands BadText flag behind found taken memory = taken.1
-stands OutsideSection flag behind found taken memory = taken.1
-stands KeywordTwice flag behind found taken memory = taken.1
-stands UnknownName flag behind found taken memory = taken.1
-stands DefinedTwice flag behind found taken memory = taken.1
-stands KeywordMissing flag behind found taken memory = taken.1
-stands CellTwice flag behind found taken memory = taken.1
-stands NoMemory flag behind found taken memory = absurd (memory refl)
+pub stands : (kind : FaultKind) (again : Option FaultKind) (behind found : Standing) → IsTaken again behind found (Err kind) → (kind ≡ NoMemory → ⊥) → found ≡ behind
+stands UnknownKeyword again behind found taken memory = taken.1
+stands WrongArguments again behind found taken memory = taken.1
+stands BadText again behind found taken memory = taken.1
+stands OutsideSection again behind found taken memory = taken.1
+stands KeywordTwice again behind found taken memory = taken.1
+stands UnknownName again behind found taken memory = taken.1
+stands DefinedTwice again behind found taken memory = taken.1
+stands KeywordMissing again behind found taken memory = taken.1
+stands CellTwice again behind found taken memory = taken.1
+stands NoMemory again behind found taken memory = absurd (memory refl)
+stands KeywordGiven again behind found taken memory = taken.1
 
-unflagged : (kind : FaultKind) (flag : Bool) (again : List ℕ) (first : Option ConfigFault) (line : ℕ) → flag ≡ false → Tells again first
-    → (kind ≡ DefinedTwice → ⊥) → (kind ≡ NoMemory → ⊥)
-    → Tells (if flag then again ++ line ∷ [] else again) (Some (earlier first (record { line = line; kind = kind })))
-unflagged kind flag again first line none told other memory =
-    subst (λ (b : Bool). Tells (if b then again ++ line ∷ [] else again) (Some (earlier first (record { line = line; kind = kind })))) (sym none)
-    (tells_other again first (record { line = line; kind = kind }) told other memory)
+-- the line says nothing again, or its fault is that it does
+says_again : (kind : FaultKind) (again : Option FaultKind) (behind found : Standing) → IsTaken again behind found (Err kind) → (kind ≡ NoMemory → ⊥)
+    → again ≡ (if is_repeat kind then Some kind else None)
+says_again UnknownKeyword again behind found taken memory = taken.0
+says_again WrongArguments again behind found taken memory = taken.0
+says_again BadText again behind found taken memory = taken.0
+says_again OutsideSection again behind found taken memory = taken.0
+says_again KeywordTwice again behind found taken memory = taken.0
+says_again UnknownName again behind found taken memory = taken.0
+says_again DefinedTwice again behind found taken memory = taken.0
+says_again KeywordMissing again behind found taken memory = taken.0
+says_again CellTwice again behind found taken memory = taken.0
+says_again NoMemory again behind found taken memory = absurd (memory refl)
+says_again KeywordGiven again behind found taken memory = taken.0
 
--- and the first fault is told of the lines that define a name again, this one among them
-pub tells : (kind : FaultKind) (flag : Bool) (behind found : Standing) (again : List ℕ) (first : Option ConfigFault) (line : ℕ)
-    → IsTaken flag behind found (Err kind) → (kind ≡ NoMemory → ⊥) → Tells again first
-    → Tells (if flag then again ++ line ∷ [] else again) (Some (earlier first (record { line = line; kind = kind })))
-tells UnknownKeyword flag behind found again first line taken memory told = unflagged UnknownKeyword flag again first line taken.0 told (λ is. cc) memory
-tells WrongArguments flag behind found again first line taken memory told = unflagged WrongArguments flag again first line taken.0 told (λ is. cc) memory
-tells BadText flag behind found again first line taken memory told = unflagged BadText flag again first line taken.0 told (λ is. cc) memory
-tells OutsideSection flag behind found again first line taken memory told = unflagged OutsideSection flag again first line taken.0 told (λ is. cc) memory
-tells KeywordTwice flag behind found again first line taken memory told = unflagged KeywordTwice flag again first line taken.0 told (λ is. cc) memory
-tells UnknownName flag behind found again first line taken memory told = unflagged UnknownName flag again first line taken.0 told (λ is. cc) memory
-tells DefinedTwice flag behind found again first line taken memory told =
-    subst (λ (b : Bool). Tells (if b then again ++ line ∷ [] else again) (Some (earlier first (record { line = line; kind = DefinedTwice })))) (sym taken.0)
-    (tells_again again first line told)
-tells KeywordMissing flag behind found again first line taken memory told = unflagged KeywordMissing flag again first line taken.0 told (λ is. cc) memory
-tells CellTwice flag behind found again first line taken memory told = unflagged CellTwice flag again first line taken.0 told (λ is. cc) memory
-tells NoMemory flag behind found again first line taken memory told = absurd (memory refl)
+-- and the first fault is told of the lines that say something again, this one among them
+pub tells : (kind : FaultKind) (again : Option FaultKind) (behind found : Standing) (faults : List ConfigFault) (first : Option ConfigFault) (line : ℕ)
+    → IsTaken again behind found (Err kind) → (kind ≡ NoMemory → ⊥) → Tells faults first
+    → Tells (with_fault faults line again) (Some (earlier first (record { line = line; kind = kind })))
+tells kind again behind found faults first line taken memory told =
+    subst (λ (a : Option FaultKind). Tells (with_fault faults line a) (Some (earlier first fault))) (sym (says_again kind again behind found taken memory))
+    (by (is_repeat kind) refl)
+  where
+    fault : ConfigFault
+    fault = record { line = line; kind = kind }
+
+    by : (b : Bool) → is_repeat kind ≡ b → Tells (with_fault faults line (if b then Some kind else None)) (Some (earlier first fault))
+    by true is = tells_again faults first fault told memory
+    by false is = tells_other faults first fault told is memory
 
 -- ---- the three kinds of lines
 
-no_again : (o : Outline) (line : List ℕ) (first : Option ConfigFault) → is_line_again line o.standing ≡ false → Tells o.again first → Tells (outlined o line).again first
-no_again o line first none told = subst (λ (b : Bool). Tells (if b then o.again ++ (o.count + 1) ∷ [] else o.again) first) (sym none) told
+no_again : (o : Outline) (line : List ℕ) (first : Option ConfigFault) → line_again line o.standing ≡ None → Tells o.again first → Tells (outlined o line).again first
+no_again o line first none told = subst (λ (a : Option FaultKind). Tells (with_fault o.again (o.count + 1) a) first) (sym none) told
 
 pub blank_line : (o : Outline) (line : List ℕ) (old new : Reading) → is_blank line ≡ true → IsOutlined o old
     → standing_of new.draft ≡ standing_at (closed (standing_of old.draft).at) (standing_of old.draft) → Tells o.again new.first → IsOutlined (outlined o line) new
 blank_line o line old new blank is stands told = record {
   standing = stands ∙ ap (λ (s : Standing). standing_at (closed s.at) s) is.standing
       ∙ sym (ap (λ (b : Bool). if b then standing_at (closed o.standing.at) o.standing else behind_words (words_of line) o.standing) blank);
-  told = no_again o line new.first (ap (λ (b : Bool). if b then false else words_again (words_of line) o.standing) blank) told;
+  told = no_again o line new.first (ap (λ (b : Bool). if b then None else words_again (words_of line) o.standing) blank) told;
 }
 
 -- what a line with words comes to
@@ -74,9 +81,9 @@ words_behind o line words some are =
     ∙ ap (λ (w : Option (List ℕ × List ℕ)). behind_words w o.standing) are
 
 again_behind : (o : Outline) (line : List ℕ) (words : Option (List ℕ × List ℕ)) → is_blank line ≡ false → words_of line ≡ words
-    → is_line_again line o.standing ≡ words_again words o.standing
+    → line_again line o.standing ≡ words_again words o.standing
 again_behind o line words some are =
-    ap (λ (b : Bool). if b then false else words_again (words_of line) o.standing) some
+    ap (λ (b : Bool). if b then None else words_again (words_of line) o.standing) some
     ∙ ap (λ (w : Option (List ℕ × List ℕ)). words_again w o.standing) are
 
 pub comment_line : (o : Outline) (line : List ℕ) (reading : Reading) → is_blank line ≡ false → words_of line ≡ None → IsOutlined o reading
@@ -91,8 +98,8 @@ pub words_line : (o : Outline) (line : List ℕ) (words : List ℕ × List ℕ) 
 words_line o line words number reading some are counted is = record {
   standing = is.standing ∙ sym (words_behind o line (Some words) some are);
   told =
-      subst (λ (b : Bool). Tells (if b then o.again ++ (o.count + 1) ∷ [] else o.again) reading.first) (sym (again_behind o line (Some words) some are))
-      (subst (λ (n : ℕ). Tells (if words_again (Some words) o.standing then o.again ++ n ∷ [] else o.again) reading.first) counted is.told);
+      subst (λ (a : Option FaultKind). Tells (with_fault o.again (o.count + 1) a) reading.first) (sym (again_behind o line (Some words) some are))
+      (subst (λ (n : ℕ). Tells (with_fault o.again n (words_again (Some words) o.standing)) reading.first) counted is.told);
 }
 
 -- a fault of the line is noted
@@ -102,8 +109,8 @@ pub noted : (o : Outline) (words : List ℕ × List ℕ) (number : ℕ) (kind : 
 noted o words number kind old new found is taken memory same first = record {
   standing = same ∙ (stands kind (words_again (Some words) (standing_of old.draft)) (behind_words (Some words) (standing_of old.draft)) found taken memory ∙ ap (λ (s : Standing). behind_words (Some words) s) is.standing);
   told =
-      subst (λ (f : Option ConfigFault). Tells (if words_again (Some words) o.standing then o.again ++ number ∷ [] else o.again) f) (sym first)
-      (subst (λ (s : Standing). Tells (if words_again (Some words) s then o.again ++ number ∷ [] else o.again) (Some (earlier old.first (record { line = number; kind = kind }))))
+      subst (λ (f : Option ConfigFault). Tells (with_fault o.again number (words_again (Some words) o.standing)) f) (sym first)
+      (subst (λ (s : Standing). Tells (with_fault o.again number (words_again (Some words) s)) (Some (earlier old.first (record { line = number; kind = kind }))))
       is.standing (tells kind (words_again (Some words) (standing_of old.draft)) (behind_words (Some words) (standing_of old.draft)) found o.again old.first number taken memory is.told));
 }
 
@@ -144,12 +151,12 @@ more_so_far text taken grown number line rest behind old new so is_grown is_next
 
 -- all lines are read
 pub all_so_far : (text : List ℕ) (taken : ℕ) (rest : List ℕ) (reading : Reading) → IsSoFar text taken rest reading → lines_of rest ≡ []
-    → Tells (lines_again text) reading.first
+    → Tells (faults_again text) reading.first
 all_so_far text taken rest reading so none =
     let all = lines_of text in
     subst (λ (lines : List (List ℕ)). Tells (fold outlined no_lines lines).again reading.first) (all_taken all taken (so.left ∙ none)) so.known.told
 
-pub unless_memory : (again : List ℕ) (told : Result Config ConfigFault) → MatchResult told (λ config. again ≡ []) (IsToldOf again)
+pub unless_memory : (again : List ConfigFault) (told : Result Config ConfigFault) → MatchResult told (λ config. again ≡ []) (IsToldOf again)
     → MatchResult told (λ config. again ≡ []) (λ fault. (fault.kind ≡ NoMemory → ⊥) → IsToldOf again fault)
 unless_memory again (Ok config) known = known
 unless_memory again (Err fault) known = λ memory. known

@@ -21,8 +21,8 @@ use Rattle.config.specs.declared.section.Section.TheVariants as sections
 use Rattle.config.specs.Drafts.{IsMet, place_of}
 use Rattle.config.specs.Meant.{IsDrawn}
 use Rattle.config.specs.Standing.{Standing}
-use Rattle.config.specs.Configurations.{Meaning, Part, Parts, add_at, begin_at, ended, ended_if, channel_names, imap_names, line_said, maildir_names, meaning_of, no_meaning, parted_words, said_at, with_section}
-use Rattle.config.specs.Sections.{ChannelMeaning, ImapMeaning, IsTitled, channel_of, channels_in, far_in, near_in, host_in, imap_store_of, later, patterns_in, place_among, port_in, store_at, the, title_in, user_in, pass_in, path_in, inbox_in, cells_in, create_in, expunge_in}
+use Rattle.config.specs.Configurations.{Meaning, Part, Parts, add_at, begin_at, ended, ended_if, channel_names, imap_names, maildir_names, meaning_of, no_meaning, parted_words, said_at, with_section}
+use Rattle.config.specs.Sections.{ChannelMeaning, ImapMeaning, IsTitled, also_given, channel_of, channels_in, far_in, near_in, host_in, imap_store_of, keywords_of, later, line_said, patterns_in, place_among, port_in, store_at, the, title_in, user_in, pass_in, path_in, inbox_in, cells_in, create_in, expunge_in}
 use Rattle.config.specs.Views.{AtStart, AtImapStore, AtMaildirStore, AtChannel, AtGroup, AtBetween, ChannelView, MaildirView, MannerView, Sketch, View, sketch, view, begun_view, channel_said, ended_view, imap_with, open_names, maildir_said, maildir_with, manner_said, manner_with, part_sketch, view_from, view_of, view_said, view_with}
 
 -- ---- one line more
@@ -45,18 +45,21 @@ imap_more says s =
 maildir_more : (says : List Said) (s : Said) → maildir_said (says ++ s ∷ []) ≡ maildir_with s (maildir_said says)
 maildir_more says s = simp (the_more path_in says s, the_more inbox_in says s)
 
+keywords_more : (says : List Said) (s : Said) → keywords_of (says ++ s ∷ []) ≡ also_given (keywords_of says) s
+keywords_more says s = fold-append also_given [] says (s ∷ [])
+
 manner_more : (says : List Said) (s : Said) → manner_said (says ++ s ∷ []) ≡ manner_with s (manner_said says)
-manner_more says s = simp (the_more cells_in says s, the_more create_in says s, the_more expunge_in says s)
+manner_more says s = simp (the_more cells_in says s, the_more create_in says s, the_more expunge_in says s, keywords_more says s)
 
 -- ---- a line of words
 
 -- a keyword that may stand here begins what its word begins
-pub begins_so : (within : Bool) (section : Option Place) (misplaced : Option FaultKind) (old mid : Standing) → IsMet within section old mid misplaced
+pub begins_so : (within : Bool) (k : Keyword) (section : Option Place) (misplaced : Option FaultKind) (old mid : Standing) → IsMet within k section old mid misplaced
     → misplaced ≡ None → section ≡ (if within then None else section)
-begins_so false section misplaced old mid met none = refl
-begins_so true None misplaced old mid met none = refl
-begins_so true (Some p) None old mid met none = absurd met
-begins_so true (Some p) (Some fault) old mid met none = cc
+begins_so false k section misplaced old mid met none = refl
+begins_so true k None misplaced old mid met none = refl
+begins_so true k (Some p) None old mid met none = absurd met
+begins_so true k (Some p) (Some fault) old mid met none = cc
 
 pub line_at : (at : Place) (read meant : Keyword) (word text : List ℕ) → Some read ≡ keyword_named word → meant ≡ meant_at at read
     → said meant (arguments_of text).list ≡ line_said at (word, text)

@@ -5,7 +5,8 @@ use Rattle.config_words.specs.declared.keyword.Place.{Place}
 use Rattle.config_words.specs.Keywords.{fits_at, keyword_named, meant_at}
 use Rattle.config_words.specs.Meanings.{Said, SyncIs}
 use Rattle.config_words.specs.Words.{arguments_of, is_blank, is_plain, words_of}
-use Rattle.config.specs.Configurations.{Parts, line_said, no_parts, parted}
+use Rattle.config.specs.Configurations.{Parts, no_parts, parted}
+use Rattle.config.specs.Sections.{line_said}
 use Rattle.config.specs.Standing.{lines_of}
 
 -- whether a word is a keyword that may stand at a place

@@ -7,11 +7,10 @@ use Rattle.config.specs.declared.config.Channel.{Channel}
 use Rattle.config.specs.declared.config.Group.{Group}
 use Rattle.config_words.specs.declared.keyword.Place.{Place}
 use Rattle.config_words.specs.declared.keyword.Place.TheVariants as place
-use Rattle.config_words.specs.Keywords.{keyword_named, meant_at}
-use Rattle.config_words.specs.Meanings.{Said, said}
+use Rattle.config_words.specs.Meanings.{Said}
 use Rattle.config_words.specs.Places.{is_section, opened}
-use Rattle.config_words.specs.Words.{arguments_of, is_blank, words_of}
-use Rattle.config.specs.Sections.{ChannelMeaning, GroupMeaning, ImapMeaning, MaildirMeaning, channel_of, group_of, imap_store_of, maildir_store_of, place_among, title_in}
+use Rattle.config_words.specs.Words.{is_blank, words_of}
+use Rattle.config.specs.Sections.{ChannelMeaning, GroupMeaning, ImapMeaning, MaildirMeaning, channel_of, group_of, imap_store_of, line_said, maildir_store_of, place_among, title_in}
 use Rattle.config.specs.Standing.{lines_of}
 
 -- ---- the sections of a text
@@ -34,10 +33,6 @@ outside place = record { kind = place; name = []; says = [] }
 
 abbrev pub no_parts : Parts
 no_parts = record { before = []; ended = []; current = outside place.Start }
-
--- what a line of words says at a place
-abbrev pub line_said : Place → List ℕ × List ℕ → Option Said
-line_said at words = option_and_then (λ k. said (meant_at at k) (arguments_of words.1).list) (keyword_named words.0)
 
 -- a line of a section, or one before any
 abbrev pub add_at : Place → List Said → Parts → Parts
@@ -130,6 +125,7 @@ channel_value c = record {
   cells = c.cells;
   create = c.create;
   expunge = c.expunge;
+  keywords = c.keywords;
 }
 
 -- a group by the places of its channels among all channels, from 0; none for a name that no channel has

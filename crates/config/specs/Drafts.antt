@@ -1,14 +1,17 @@
 -- A configuration while it is read, as clauses see it.
-use Rattle.std.specs.Prelude.{ℕ, ◌≡◌, Bool, true, false, not, ◌&&◌, List, map, string_bytes, Option, Some, None, Result, Ok, Err, if◌then◌else◌}
+use Rattle.std.specs.Prelude.{ℕ, ◌≡◌, Bool, true, false, not, ◌&&◌, List, [], map, string_bytes, Option, Some, None, Result, Ok, Err, if◌then◌else◌}
+use Rattle.mailcore.specs.declared.keywords.Keyword as mail
 use Rattle.config.specs.declared.draft.Draft.{Draft}
+use Rattle.config_words.specs.declared.keyword.Keyword.{Keyword}
 use Rattle.config_words.specs.declared.keyword.Place.{Place}
 use Rattle.config_words.specs.declared.keyword.Place.TheVariants as place
 use Rattle.config_words.specs.declared.fault.FaultKind.{FaultKind}
-use Rattle.config_words.specs.declared.fault.FaultKind.TheVariants.{OutsideSection, KeywordTwice, DefinedTwice, NoMemory}
+use Rattle.config_words.specs.declared.fault.FaultKind.TheVariants.{OutsideSection, KeywordTwice, DefinedTwice, KeywordGiven, NoMemory}
 use Rattle.config.specs.declared.section.Section.{Section}
 use Rattle.config.specs.declared.section.Section.TheVariants.{Start, Between, ImapStore, MaildirStore, Channel, Group}
+use Rattle.config_words.specs.Keywords.{adds_up, fits_at}
 use Rattle.config_words.specs.Settings.{name_given}
-use Rattle.config.specs.Standing.{Standing, standing_at}
+use Rattle.config.specs.Standing.{Standing, keyword_again, with_keyword_at, name_again, named, standing_at}
 use Rattle.config_words.specs.Words.{arguments_of, is_plain}
 
 abbrev pub place_of : Section → Place
@@ -19,47 +22,70 @@ place_of (MaildirStore draft) = place.MaildirStore
 place_of (Channel draft) = place.Channel
 place_of (Group draft) = place.Group
 
+-- the keywords of the channel that is open
+abbrev pub own_of : Section → List mail.Keyword
+own_of (Channel draft) = draft.manner.keywords
+own_of _ = []
+
 abbrev pub standing_of : Draft → Standing
 standing_of d = record {
   at = place_of d.section;
   imap_stores = map string_bytes d.imap_names.items;
   maildir_stores = map string_bytes d.maildir_names.items;
   channels_and_groups = map string_bytes d.names.items;
+  before = d.defaults.keywords;
+  own = own_of d.section;
 }
 
--- a line is taken, or refused: as a name that is defined twice exactly where it is one, and always with this behind it;
--- where memory ran out nothing is said
-abbrev pub IsTaken : (again : Bool) (behind found : Standing) → Result (Unit {0}) FaultKind → Type 0
-IsTaken again behind found (Ok done) = (again ≡ false) × (found ≡ behind)
-IsTaken again behind found (Err DefinedTwice) = (again ≡ true) × (found ≡ behind)
+-- a line is taken, or refused: as one that says something again exactly where it does, and always with this behind it; where memory
+-- ran out nothing is said
+abbrev pub IsTaken : {A : Type 0} (again : Option FaultKind) (behind found : A) → Result (Unit {0}) FaultKind → Type 0
+IsTaken again behind found (Ok done) = (again ≡ None) × (found ≡ behind)
+IsTaken again behind found (Err DefinedTwice) = (again ≡ Some DefinedTwice) × (found ≡ behind)
+IsTaken again behind found (Err KeywordGiven) = (again ≡ Some KeywordGiven) × (found ≡ behind)
 IsTaken again behind found (Err NoMemory) = Unit {0}
-IsTaken again behind found (Err _) = (again ≡ false) × (found ≡ behind)
+IsTaken again behind found (Err _) = (again ≡ None) × (found ≡ behind)
 
-abbrev pub IsMisplaced : FaultKind → Type 0
-IsMisplaced OutsideSection = Unit {0}
-IsMisplaced KeywordTwice = Unit {0}
-IsMisplaced _ = ⊥
+-- a keyword may not stand at a place, or may not stand there twice
+abbrev pub IsMisplaced : Place → Keyword → FaultKind → Type 0
+IsMisplaced at k OutsideSection = fits_at at k ≡ false
+IsMisplaced at k KeywordTwice = adds_up k ≡ false
+IsMisplaced at k _ = ⊥
 
 -- a keyword is met where no section is open: one that it begins is open behind it
-abbrev pub IsMetOutside : Option Place → (old new : Standing) → Option FaultKind → Type 0
-IsMetOutside None old new None = new ≡ old
-IsMetOutside None old new (Some fault) = IsMisplaced fault × (new ≡ old)
-IsMetOutside (Some p) old new None = new ≡ standing_at p old
-IsMetOutside (Some p) old new (Some fault) = ⊥
+abbrev pub IsMetOutside : Keyword → Option Place → (old new : Standing) → Option FaultKind → Type 0
+IsMetOutside k None old new None = new ≡ old
+IsMetOutside k None old new (Some fault) = IsMisplaced old.at k fault × (new ≡ old)
+IsMetOutside k (Some p) old new None = new ≡ standing_at p old
+IsMetOutside k (Some p) old new (Some fault) = ⊥
 
 -- and within a section, where none begins
-abbrev pub IsMetWithin : Option Place → (old new : Standing) → Option FaultKind → Type 0
-IsMetWithin None old new None = new ≡ old
-IsMetWithin None old new (Some fault) = IsMisplaced fault × (new ≡ old)
-IsMetWithin (Some p) old new None = ⊥
-IsMetWithin (Some p) old new (Some fault) = IsMisplaced fault × (new ≡ old)
+abbrev pub IsMetWithin : Keyword → Option Place → (old new : Standing) → Option FaultKind → Type 0
+IsMetWithin k None old new None = new ≡ old
+IsMetWithin k None old new (Some fault) = IsMisplaced old.at k fault × (new ≡ old)
+IsMetWithin k (Some p) old new None = ⊥
+IsMetWithin k (Some p) old new (Some fault) = IsMisplaced old.at k fault × (new ≡ old)
 
-abbrev pub IsMet : (within : Bool) → Option Place → (old new : Standing) → Option FaultKind → Type 0
-IsMet false section old new fault = IsMetOutside section old new fault
-IsMet true section old new fault = IsMetWithin section old new fault
+abbrev pub IsMet : (within : Bool) → Keyword → Option Place → (old new : Standing) → Option FaultKind → Type 0
+IsMet false k section old new fault = IsMetOutside k section old new fault
+IsMet true k section old new fault = IsMetWithin k section old new fault
 
 -- the name that a section's first line gives, unless its keyword is misplaced
 abbrev pub given : Option FaultKind → Option Place → List ℕ → Option (List ℕ)
 given (Some fault) section text = None
 given None section text =
     if is_plain text && not (arguments_of text).quoted then name_given section (arguments_of text).list else None
+
+-- nor does a misplaced one give a keyword
+abbrev pub unless_misplaced : Option FaultKind → Option mail.Keyword → Option mail.Keyword
+unless_misplaced (Some fault) keyword = None
+unless_misplaced None keyword = keyword
+
+-- behind a line that names its section, or else gives a keyword
+abbrev pub entered : (name : Option (List ℕ)) → Option mail.Keyword → Standing → Standing
+entered (Some name) keyword s = named (Some name) s
+entered None keyword s = with_keyword_at s.at keyword s
+
+abbrev pub entered_again : (name : Option (List ℕ)) → Option mail.Keyword → Standing → Option FaultKind
+entered_again (Some name) keyword s = name_again (Some name) s
+entered_again None keyword s = keyword_again s.at keyword s

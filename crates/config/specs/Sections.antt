@@ -5,10 +5,18 @@ use Rattle.rules.specs.declared.options.Cells.{Cells}
 use Rattle.rules.specs.declared.options.Sides.{Sides}
 use Rattle.config.specs.declared.config.Boxes.{Boxes}
 use Rattle.config.specs.declared.config.Boxes.TheVariants.{Pair, Matching}
+use Rattle.mailcore.specs.declared.keywords.Keyword as mail
+use Rattle.mailcore.specs.KeywordNames.{with_keyword}
 use Rattle.config_words.specs.declared.keyword.Place.{Place}
-use Rattle.config_words.specs.Meanings.{Said, SectionIs, GroupIs, HostIs, PortIs, UserIs, PassIs, PathIs, InboxIs, FarIs, NearIs, PatternsAre, SyncIs, CreateIs, ExpungeIs, ChannelsAre}
+use Rattle.config_words.specs.Keywords.{keyword_named, meant_at}
+use Rattle.config_words.specs.Meanings.{Said, SectionIs, GroupIs, HostIs, PortIs, UserIs, PassIs, PathIs, InboxIs, FarIs, NearIs, PatternsAre, SyncIs, CreateIs, ExpungeIs, KeywordIs, ChannelsAre, said}
+use Rattle.config_words.specs.Words.{arguments_of}
 
 -- ---- what one line says of each thing
+
+-- what a line of words says at a place
+abbrev pub line_said : Place → List ℕ × List ℕ → Option Said
+line_said at words = option_and_then (λ k. said (meant_at at k) (arguments_of words.1).list) (keyword_named words.0)
 
 -- the name of the section that begins
 abbrev pub title_in : Said → Option (List ℕ)
@@ -71,13 +79,17 @@ abbrev pub expunge_in : Said → Option Sides
 expunge_in (ExpungeIs sides) = Some sides
 expunge_in _ = None
 
+abbrev pub keyword_in : Said → Option mail.Keyword
+keyword_in (KeywordIs keyword) = Some keyword
+keyword_in _ = None
+
 abbrev pub channels_in : Said → List (List ℕ)
 channels_in (GroupIs name channels) = channels
 channels_in (ChannelsAre channels) = channels
 channels_in _ = []
 
 -- ---- and what lines say: where a thing stands twice, the later one; no keyword stands twice in a section, but for
--- Patterns and Channels, which add up
+-- Patterns, Keyword and Channels, which add up
 
 abbrev pub later : {A : Type 0} → (Said → Option A) → Option A → Said → Option A
 later f before s = option_or (f s) before
@@ -122,6 +134,7 @@ pub record ChannelMeaning : Type 0 where
   pub cells : Cells
   pub create : Sides
   pub expunge : Sides
+  pub keywords : List mail.Keyword
 
 -- the place of a name among others, from 0
 abbrev pub place_among : List (List ℕ) → List ℕ → Option ℕ
@@ -154,6 +167,22 @@ neither = record { far = false; near = false }
 abbrev pub chosen : {A : Type 0} → (Said → Option A) → (own before : List Said) → A → A
 chosen f own before otherwise = unwrap_or (option_or (the f own) (the f before)) otherwise
 
+-- the keywords that lines give a letter, in the order of the letters
+abbrev pub with_given : List mail.Keyword → Option mail.Keyword → List mail.Keyword
+with_given keywords None = keywords
+with_given keywords (Some k) = with_keyword k keywords
+
+abbrev pub also_given : List mail.Keyword → Said → List mail.Keyword
+also_given keywords s = with_given keywords (keyword_in s)
+
+abbrev pub keywords_of : List Said → List mail.Keyword
+keywords_of says = fold also_given [] says
+
+-- what a channel says itself of keywords, and what was said before any section only where it says nothing
+abbrev pub own_or : (own before : List mail.Keyword) → List mail.Keyword
+own_or [] before = before
+own_or (k ∷ own) before = k ∷ own
+
 -- a channel below IMAP stores and Maildir stores of these names
 abbrev pub channel_of : (imap_stores maildir_stores : List (List ℕ)) (before : List Said) → List ℕ → List Said → ChannelMeaning
 channel_of imap_stores maildir_stores before name says = record {
@@ -164,6 +193,7 @@ channel_of imap_stores maildir_stores before name says = record {
   cells = chosen cells_in says before everything;
   create = chosen create_in says before neither;
   expunge = chosen expunge_in says before neither;
+  keywords = own_or (keywords_of says) (keywords_of before);
 }
 
 -- ---- groups

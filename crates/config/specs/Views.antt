@@ -1,6 +1,7 @@
 -- What a draft holds, as values: what each line changes of it, and what lines make of it.
 use Rattle.std.specs.Prelude.{ℕ, Bool, true, false, ◌≡◌, ◌⊎◌, List, [], ◌∷◌, ◌++◌, map, flat_map, string_bytes, Option, Some, None, option_map, option_and_then, unwrap_or, codes}
 use Rattle.std.specs.Option.{option_or}
+use Rattle.mailcore.specs.declared.keywords.Keyword as mail
 use Rattle.rules.specs.declared.options.Cells.{Cells}
 use Rattle.rules.specs.declared.options.Sides.{Sides}
 use Rattle.config.specs.declared.config.ImapStore as store
@@ -19,7 +20,7 @@ use Rattle.config_words.specs.declared.keyword.Place.TheVariants as place
 use Rattle.config_words.specs.Meanings.{Said, SectionIs, GroupIs, FarIs, NearIs, ChannelsAre}
 use Rattle.config.specs.Named.{group_named, member_name}
 use Rattle.config.specs.Configurations.{Meaning, Parts, channel_names, channel_value, group_value, imap_names, imap_value, maildir_names, maildir_value, meaning_of, placed}
-use Rattle.config.specs.Sections.{ChannelMeaning, GroupMeaning, ImapMeaning, MaildirMeaning, boxes_of, cells_in, channels_in, create_in, everything, expunge_in, far_in, host_in, imap_store_of, inbox_in, near_in, neither, pass_in, path_in, patterns_in, place_among, port_in, store_at, the, user_in}
+use Rattle.config.specs.Sections.{ChannelMeaning, GroupMeaning, ImapMeaning, MaildirMeaning, also_given, boxes_of, cells_in, channels_in, create_in, everything, expunge_in, far_in, host_in, imap_store_of, inbox_in, keywords_of, near_in, neither, own_or, pass_in, path_in, patterns_in, place_among, port_in, store_at, the, user_in}
 
 -- ---- IMAP stores, without their names
 
@@ -63,15 +64,22 @@ pub record MannerView : Type 0 where
   pub cells : Option Cells
   pub create : Option Sides
   pub expunge : Option Sides
+  pub keywords : List mail.Keyword
 
 abbrev pub manner_view : Manner → MannerView
-manner_view m = record { cells = m.cells; create = m.create; expunge = m.expunge }
+manner_view m = record { cells = m.cells; create = m.create; expunge = m.expunge; keywords = m.keywords }
 
 abbrev pub manner_with : Said → MannerView → MannerView
-manner_with s m = record { cells = option_or (cells_in s) m.cells; create = option_or (create_in s) m.create; expunge = option_or (expunge_in s) m.expunge }
+manner_with s m = record {
+  cells = option_or (cells_in s) m.cells;
+  create = option_or (create_in s) m.create;
+  expunge = option_or (expunge_in s) m.expunge;
+  keywords = also_given m.keywords s;
+}
 
 abbrev pub manner_said : List Said → MannerView
-manner_said says = record { cells = the cells_in says; create = the create_in says; expunge = the expunge_in says }
+manner_said says =
+    record { cells = the cells_in says; create = the create_in says; expunge = the expunge_in says; keywords = keywords_of says }
 
 -- ---- channels
 
@@ -117,6 +125,7 @@ channel_ended name before c = record {
   cells = unwrap_or (option_or c.manner.cells before.cells) everything;
   create = unwrap_or (option_or c.manner.create before.create) neither;
   expunge = unwrap_or (option_or c.manner.expunge before.expunge) neither;
+  keywords = own_or c.manner.keywords before.keywords;
 }
 
 -- ---- what a section comes to, unless it lacks what it has to have

@@ -3,6 +3,7 @@
 ghost use Rattle.std.specs.Prelude.{◌≡◌, []};
 
 use box_patterns::patterns::Patterns;
+use mailcore::keywords::Keywords;
 use mailcore::mailbox_name::MailboxName;
 use rules::options::{Cells, Sides};
 use std::alloc::Global;
@@ -81,6 +82,8 @@ pub struct Channel {
     pub create: Sides,
     /// The sides on which messages that are marked as deleted are expunged.
     pub expunge: Sides,
+    /// By this map keywords have a letter.
+    pub keywords: Keywords,
 }
 
 /// The mailboxes of a channel.

@@ -1,20 +1,19 @@
 //! A configuration while it is read: what its lines say, whatever their numbers.
 
-ghost use Rattle.std.specs.Prelude.{◌≡◌, ℕ, List, IfOk, IfSome, IsTrue, OnOk, None, false, true, map, string_bytes};
+ghost use Rattle.std.specs.Prelude.{◌≡◌, ℕ, List, IfOk, IfSome, IsTrue, OnOk, None, Some, false, true, map, string_bytes};
 ghost use Rattle.config.specs.Accepted.{IsAccepted, IsClear};
-ghost use Rattle.config.specs.Drafts.{IsMet, IsMisplaced, IsTaken, given, standing_of};
-ghost use Rattle.config.specs.Configurations.{line_said};
+ghost use Rattle.config.specs.Drafts.{IsMet, IsMisplaced, IsTaken, entered, entered_again, given, standing_of, unless_misplaced};
 ghost use Rattle.config.specs.Lines.{IsUpTo};
 ghost use Rattle.config.specs.Outlines.{Tells};
 ghost use Rattle.config.specs.Readings.{HasLines, IsLine, NamesLines, SectionLines};
-ghost use Rattle.config.specs.Sections.{IsTitled};
+ghost use Rattle.config.specs.Sections.{IsTitled, keyword_in, line_said};
 ghost use Rattle.config.specs.Views.{Shows, begun_view, ended_view, first_view, titled_view, imap_place, maildir_place, put_view, set_in_section, sketch, view, view_said, view_with};
 ghost use Rattle.config_words.specs.Keywords.{fits_at, section_of};
 ghost use Rattle.config_words.specs.Meanings.{ChannelsAre, FarIs, NearIs, said, said_of};
 ghost use Rattle.config_words.specs.Words.{Split, arguments_of, is_plain};
 ghost use Rattle.config_words.specs.Places.{closed, is_section, opened};
 ghost use Rattle.config_words.specs.Settings.{name_said};
-ghost use Rattle.config.specs.Standing.{before_all, begins_again, begun, is_again, named, standing_at};
+ghost use Rattle.config.specs.Standing.{before_all, behind_words, keyword_again, with_keyword_at, keyword_from, name_again, named, standing_at, words_again};
 
 use crate::config::Config;
 use crate::group::{NamedGroup, place_groups};
@@ -63,7 +62,7 @@ impl Draft {
             alloc,
             config: Config::new(alloc),
             groups: Vec::new(alloc),
-            defaults: Manner::new(),
+            defaults: Manner::new(alloc),
             section: Section::Start,
             name: String::new(alloc),
             seen: Vec::new(alloc),
@@ -78,7 +77,7 @@ impl Draft {
     /// faulty line of all.
     pub fn into_config(self, first: &mut Option<ConfigFault>) -> Result<Config, AllocError>
         ensures lines { (last : ℕ) → HasLines last self.groups.items → IfSome first.old (IsUpTo last) → OnOk result (IfSome first.new (IsUpTo last)) }
-        ensures again { (again : List ℕ) → Tells again first.old → OnOk result (Tells again first.new) }
+        ensures again { (again : List ConfigFault) → Tells again first.old → OnOk result (Tells again first.new) }
         ensures none { OnOk result (first.new ≡ None → first.old ≡ None) }
         ensures shows { IfOk result (λ config. first.new ≡ None → Shows (view self) config) }
     {
@@ -109,9 +108,8 @@ impl Draft {
     /// Reads the line of words of this number. The fault is the one with the lowest number, but for keywords that the
     /// section lacks.
     pub fn read(&mut self, line: usize, keyword: &[u8], arguments: &[u8]) -> Result<(), FaultKind>
-        ensures standing { let section = opened (standing_of self.old).at keyword.now in
-            IsTaken (begins_again section arguments.now (standing_of self.old)) (begun section arguments.now (standing_of self.old))
-            (standing_of self.new) result }
+        ensures standing { let words = Some (keyword.now, arguments.now) in
+            IsTaken (words_again words (standing_of self.old)) (behind_words words (standing_of self.old)) (standing_of self.new) result }
         ensures view { let at = (standing_of self.old).at in
             OnOk result (view self.new ≡ view_said (line_said at (keyword.now, arguments.now)) (begun_view (opened at keyword.now) (view self.old))) }
         ensures titled { let at = (standing_of self.old).at in
@@ -135,9 +133,10 @@ impl Draft {
         line: usize,
         arguments: &[u8],
     ) -> Result<(), FaultKind>
-        requires { IfSome misplaced IsMisplaced }
+        requires { IfSome misplaced (IsMisplaced (standing_of self.old).at keyword) }
         ensures standing { let name = given misplaced (section_of keyword) arguments.now in
-            IsTaken (is_again name (standing_of self.old)) (named name (standing_of self.old)) (standing_of self.new) result }
+            let keyword = unless_misplaced misplaced (keyword_from (said keyword (arguments_of arguments.now).list) arguments.now) in
+            IsTaken (entered_again name keyword (standing_of self.old)) (entered name keyword (standing_of self.old)) (standing_of self.new) result }
         ensures placed { OnOk result (misplaced ≡ None) }
         ensures view { OnOk result (view self.new ≡ view_said (said keyword (arguments_of arguments.now).list) (view self.old)) }
         ensures titled { OnOk result (IsTitled (section_of keyword) (said keyword (arguments_of arguments.now).list)) }
@@ -164,7 +163,7 @@ impl Draft {
     /// Notes that a keyword stands here, and opens the section that it begins. It tells whether the keyword may not.
     fn meet(&mut self, keyword: Keyword) -> Result<Option<FaultKind>, AllocError>
         ensures standing { IfOk result (λ misplaced.
-            IsMet (is_section (standing_of self.old).at) (section_of keyword) (standing_of self.old) (standing_of self.new) misplaced) }
+            IsMet (is_section (standing_of self.old).at) keyword (section_of keyword) (standing_of self.old) (standing_of self.new) misplaced) }
         ensures view { IfOk result (λ misplaced. misplaced ≡ None → view self.new ≡ begun_view (section_of keyword) (view self.old)) }
         ensures fits { IfOk result (λ misplaced. misplaced ≡ None → fits_at (standing_of self.old).at keyword ≡ true) }
         ensures lines { (last : ℕ) → NamesLines last self.old → NamesLines last self.new }
@@ -195,8 +194,9 @@ impl Draft {
 
     /// Takes what the line of this number says.
     fn set(&mut self, line: usize, setting: Setting) -> Result<(), FaultKind>
-        ensures standing { IsTaken (is_again (name_said setting) (standing_of self.old)) (named (name_said setting) (standing_of self.old))
-            (standing_of self.new) result }
+        ensures standing { let name = name_said setting in
+            let keyword = keyword_in (said_of setting) in
+            IsTaken (entered_again name keyword (standing_of self.old)) (entered name keyword (standing_of self.old)) (standing_of self.new) result }
         ensures view { OnOk result (view self.new ≡ view_with (said_of setting) (view self.old)) }
         ensures clear { OnOk result (IsClear (Some (said_of setting))) }
         ensures lines { (last : ℕ) → IsLine last line → NamesLines last self.old → NamesLines last self.new }
@@ -211,17 +211,20 @@ impl Draft {
             Setting::Far(place) => self.set_far(place),
             Setting::Near(place) => self.set_near(place),
             Setting::Sync(None) => Err(FaultKind::CellTwice),
-            setting => Ok(self.set_in_section(setting)?),
+            setting => self.set_in_section(setting),
         }
     }
 
-    fn set_in_section(&mut self, setting: Setting) -> Result<(), AllocError>
-        ensures standing { standing_of self.new ≡ standing_of self.old }
+    /// Takes what a line says of the section, or before any. `KeywordGiven`: a line before it gives the letter or the name.
+    fn set_in_section(&mut self, setting: Setting) -> Result<(), FaultKind>
+        ensures standing { let old = standing_of self.old in
+            let keyword = keyword_in (said_of setting) in
+            IsTaken (keyword_again old.at keyword old) (with_keyword_at old.at keyword old) (standing_of self.new) result }
         ensures view { OnOk result (view self.new ≡ set_in_section (said_of setting) (view self.old)) }
         ensures lines { (last : ℕ) → NamesLines last self.old → NamesLines last self.new }
     {
         match &mut self.section {
-            Section::Start => self.defaults.set(setting),
+            Section::Start => self.defaults.set(setting)?,
             Section::ImapStore(draft) => draft.set(setting),
             Section::MaildirStore(draft) => draft.set(setting),
             Section::Channel(draft) => draft.set(setting)?,
@@ -244,7 +247,7 @@ impl Draft {
 
     /// Names the section. `DefinedTwice`: the name is another's.
     fn set_name(&mut self, name: String) -> Result<(), FaultKind>
-        ensures standing { IsTaken (is_again (Some (string_bytes name)) (standing_of self.old))
+        ensures standing { IsTaken (name_again (Some (string_bytes name)) (standing_of self.old))
             (named (Some (string_bytes name)) (standing_of self.old)) (standing_of self.new) result }
         ensures view { OnOk result (view self.new ≡ titled_view (string_bytes name) (view self.old)) }
         ensures lines { (last : ℕ) → NamesLines last self.old → NamesLines last self.new }
@@ -283,7 +286,7 @@ impl Draft {
 
     /// Takes the far store and mailbox of a channel. `UnknownName`: no IMAP store above has this name.
     fn set_far(&mut self, place: BoxPlace) -> Result<(), FaultKind>
-        ensures standing { IsTaken false (standing_of self.old) (standing_of self.new) result }
+        ensures standing { IsTaken None (standing_of self.old) (standing_of self.new) result }
         ensures view { OnOk result (view self.new ≡ view_with (FarIs (string_bytes place.store) place.mailbox) (view self.old)) }
         ensures lines { (last : ℕ) → NamesLines last self.old → NamesLines last self.new }
     {
@@ -300,7 +303,7 @@ impl Draft {
 
     /// Takes the near store and mailbox of a channel. `UnknownName`: no Maildir store above has this name.
     fn set_near(&mut self, place: BoxPlace) -> Result<(), FaultKind>
-        ensures standing { IsTaken false (standing_of self.old) (standing_of self.new) result }
+        ensures standing { IsTaken None (standing_of self.old) (standing_of self.new) result }
         ensures view { OnOk result (view self.new ≡ view_with (NearIs (string_bytes place.store) place.mailbox) (view self.old)) }
         ensures lines { (last : ℕ) → NamesLines last self.old → NamesLines last self.new }
     {
@@ -346,7 +349,7 @@ impl Draft {
                 Some(store) => self.config.maildir_stores.push(store)?,
                 None => return Ok(false),
             },
-            Section::Channel(draft) => match draft.finish(self.alloc, name, self.defaults)? {
+            Section::Channel(draft) => match draft.finish(self.alloc, name, &self.defaults)? {
                 Some(channel) => self.config.channels.push(channel)?,
                 None => return Ok(false),
             },

@@ -21,7 +21,7 @@ pub(crate) fn first_of(first: Option<ConfigFault>, fault: ConfigFault) -> Config
 /// The first fault where a line names no channel.
 pub(crate) fn unknown_first(first: Option<ConfigFault>, line: usize) -> ConfigFault
     ensures lines { (last : ℕ) → IfSome first (IsUpTo last) → IsLine last line → IsUpTo last result }
-    ensures again { (again : List ℕ) → Tells again first → Tells again (Some result) }
+    ensures again { (again : List ConfigFault) → Tells again first → Tells again (Some result) }
 {
     let kind = FaultKind::UnknownName;
     first_of(first, ConfigFault { line, kind })

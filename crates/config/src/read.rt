@@ -5,7 +5,7 @@ ghost use Rattle.config.specs.Accepted.{IsWhole};
 ghost use Rattle.config.specs.Configurations.{Means, text_meaning};
 ghost use Rattle.config.specs.Lines.{IsUpTo, line_count};
 ghost use Rattle.config.specs.Outlines.{IsToldOf};
-ghost use Rattle.config.specs.Standing.{lines_again};
+ghost use Rattle.config.specs.Standing.{faults_again};
 
 use crate::config::Config;
 use crate::line::Lines;
@@ -16,13 +16,14 @@ use std::alloc::Global;
 /// The configuration that a text gives. The fault names the first faulty line and what is wrong with it, and of several
 /// faults of that line the one with the lowest number. `NoMemory` comes in place of any answer where memory ran out.
 ///
-/// A line that begins a section under a name that is taken is never passed over: it is told as `DefinedTwice`, unless a
-/// fault that comes before it is told. A configuration has just the stores, the channels and the groups that the lines say,
-/// and each group just its channels; and no line is passed over but empty ones and comments.
+/// A line that begins a section under a name that is taken is never passed over, nor is one that gives a letter or the name of
+/// a keyword that a line above gives in the same place: it is told as `DefinedTwice` or as `KeywordGiven`, unless a fault that
+/// comes before it is told. A configuration has just the stores, the channels and the groups that the lines say, and each
+/// group just its channels; and no line is passed over but empty ones and comments.
 pub fn read_config(alloc: Global, text: &[u8]) -> Result<Config, ConfigFault>
     ensures lines { IfErr result (IsUpTo (line_count text.now)) }
-    ensures again { MatchResult result (λ config. lines_again text.now ≡ [])
-        (λ fault. fault.kind ≢ FaultKind.NoMemory → IsToldOf (lines_again text.now) fault) }
+    ensures again { MatchResult result (λ config. faults_again text.now ≡ [])
+        (λ fault. fault.kind ≢ FaultKind.NoMemory → IsToldOf (faults_again text.now) fault) }
     ensures means { IfOk result (Means (text_meaning text.now)) }
     ensures whole { OnOk result (IsWhole text.now) }
 {

@@ -132,7 +132,7 @@ impl Reading {
     /// Ends the section that is open, if one is: at an empty line, and at the end of the text.
     fn end_section(&mut self) -> Result<(), AllocError>
         ensures read { (last : ℕ) → IsRead last self.old → OnOk result (IsRead last self.new) }
-        ensures told { (again : List ℕ) → Tells again self.old.first → Tells again self.new.first }
+        ensures told { (again : List ConfigFault) → Tells again self.old.first → Tells again self.new.first }
         ensures standing { standing_of self.new.draft ≡ standing_at (closed (standing_of self.old.draft).at) (standing_of self.old.draft) }
         ensures meant { (p : Parts) → Knows p self.old → OnOk result (Knows (ended p) self.new) }
         ensures none { self.new.first ≡ None → self.old.first ≡ None }
@@ -158,7 +158,7 @@ impl Reading {
     /// The configuration behind the last line, or the first faulty line.
     pub fn finish(mut self) -> Result<Result<Config, ConfigFault>, AllocError>
         ensures lines { (last : ℕ) → IsRead last self → IfOk result (λ told. IfErr told (IsUpTo last)) }
-        ensures again { (again : List ℕ) → Tells again self.first →
+        ensures again { (again : List ConfigFault) → Tells again self.first →
             IfOk result (λ told. MatchResult told (λ config. again ≡ []) (IsToldOf again)) }
         ensures means { (p : Parts) → Knows p self → IfOk result (λ told. IfOk told (Means (meaning_of (ended p)))) }
         ensures none { IfOk result (λ told. OnOk told (self.first ≡ None)) }

@@ -1,20 +1,23 @@
 //! Sections of a configuration while they are read.
 
-ghost use Rattle.std.specs.Prelude.{◌≡◌, ℕ, [], IsTrue, IfOk, MatchOption, OnOk, codes, option_map, string_bytes, unwrap_or};
+ghost use Rattle.std.specs.Prelude.{◌≡◌, ◌++◌, ℕ, [], IsTrue, IfOk, MatchOption, None, OnOk, codes, option_map, string_bytes, unwrap_or};
 ghost use Rattle.config.specs.Configurations.{channel_value, imap_value, maildir_value};
-ghost use Rattle.config.specs.Drafts.{place_of};
+ghost use Rattle.config.specs.Drafts.{IsTaken, own_of, place_of};
 ghost use Rattle.config.specs.Readings.{SectionLines};
-ghost use Rattle.config.specs.Sections.{boxes_of, imap_store_of};
+ghost use Rattle.config.specs.Sections.{boxes_of, imap_store_of, keyword_in, own_or};
 ghost use Rattle.config.specs.Views.{channel_ended, channel_said, channel_view, channel_with, imap_view, imap_with, maildir_ended, maildir_said, maildir_view};
 ghost use Rattle.config.specs.Views.{maildir_with, manner_said, manner_view, manner_with, sketch, sketch_at, IsStoreOf, IsMaildirOf, IsChannelOf};
+ghost use Rattle.config.specs.Standing.{joined, joined_again};
 ghost use Rattle.config_words.specs.Meanings.{said_of};
 ghost use Rattle.config_words.specs.Settings.{name_said};
 
 use crate::config::{Boxes, Channel, ImapStore, MaildirStore};
 use crate::group::GroupDraft;
-use box_patterns::patterns::Patterns;
+use box_patterns::patterns::{Pattern, Patterns};
+use config_words::fault::FaultKind;
 use config_words::keyword::Place;
 use config_words::setting::Setting;
+use mailcore::keywords::Keywords;
 use mailcore::mailbox_name::MailboxName;
 use rules::options::{Cells, Directions, Sides};
 use std::alloc::{AllocError, Global};
@@ -40,6 +43,7 @@ impl Section {
     pub fn new(alloc: Global, place: Place) -> Self
         ensures place { place_of result ≡ place }
         ensures sketch { sketch result ≡ sketch_at place }
+        ensures own { own_of result ≡ [] }
         ensures lines { (last : ℕ) → SectionLines last result }
     {
         match place {
@@ -68,7 +72,8 @@ impl Section {
 
     /// Whether a channel has both a mailbox and a pattern once this is set.
     pub fn contradicts(&self, setting: &Setting) -> bool
-        ensures { IsTrue result → name_said setting.now ≡ None }
+        ensures name { IsTrue result → name_said setting.now ≡ None }
+        ensures keyword { IsTrue result → keyword_in (said_of setting.now) ≡ None }
     {
         match self {
             Section::Channel(draft) => match setting {
@@ -173,35 +178,41 @@ impl MaildirDraft {
 }
 
 /// How mailboxes are synchronised, as far as lines say it.
-#[derive(Clone, Copy)]
+#[derive(Drop)]
 pub(crate) struct Manner {
     cells: Option<Cells>,
     create: Option<Sides>,
     expunge: Option<Sides>,
+    keywords: Keywords,
 }
 
 impl Manner {
     /// Nothing is said.
-    pub fn new() -> Self
+    pub fn new(alloc: Global) -> Self
         ensures { manner_view result ≡ manner_said [] }
     {
         Manner {
             cells: None,
             create: None,
             expunge: None,
+            keywords: Keywords::new(alloc),
         }
     }
 
-    /// Takes what a line says.
-    pub fn set(&mut self, setting: Setting)
-        ensures { manner_view self.new ≡ manner_with (said_of setting) (manner_view self.old) }
+    /// Takes what a line says. `KeywordGiven`: a line before it gives the letter or the name.
+    pub fn set(&mut self, setting: Setting) -> Result<(), FaultKind>
+        ensures view { OnOk result (manner_view self.new ≡ manner_with (said_of setting) (manner_view self.old)) }
+        ensures keyword { let keyword = keyword_in (said_of setting) in
+            IsTaken (joined_again keyword self.old.keywords) (joined keyword self.old.keywords) self.new.keywords result }
     {
         match setting {
             Setting::Sync(Some(cells)) => self.cells = Some(cells),
             Setting::Create(sides) => self.create = Some(sides),
             Setting::Expunge(sides) => self.expunge = Some(sides),
-            _ => {}
+            Setting::Keyword(letter, name) => self.keywords.add(letter, name.as_bytes())?,
+            _other => {}
         }
+        Ok(())
     }
 }
 
@@ -250,7 +261,7 @@ impl ChannelDraft {
             near: None,
             near_box: None,
             patterns: Patterns::new(alloc),
-            manner: Manner::new(),
+            manner: Manner::new(alloc),
         }
     }
 
@@ -262,17 +273,25 @@ impl ChannelDraft {
         !self.patterns.as_slice().is_empty()
     }
 
-    /// Takes what a line of the section says, but for its stores.
-    pub fn set(&mut self, setting: Setting) -> Result<(), AllocError>
-        ensures { OnOk result (channel_view self.new ≡ channel_with (said_of setting) (channel_view self.old)) }
+    /// Takes what a line of the section says, but for its stores. `KeywordGiven`: a line before it gives the letter or the name.
+    pub fn set(&mut self, setting: Setting) -> Result<(), FaultKind>
+        ensures view { OnOk result (channel_view self.new ≡ channel_with (said_of setting) (channel_view self.old)) }
+        ensures keyword { let keyword = keyword_in (said_of setting) in
+            IsTaken (joined_again keyword self.old.manner.keywords) (joined keyword self.old.manner.keywords) self.new.manner.keywords result }
     {
         match setting {
-            Setting::Patterns(patterns) => {
-                for pattern in patterns {
-                    self.patterns.push(pattern)?;
-                }
-            }
+            Setting::Patterns(patterns) => Ok(self.add_patterns(patterns)?),
             setting => self.manner.set(setting),
+        }
+    }
+
+    fn add_patterns(&mut self, patterns: Vec<Pattern>) -> Result<(), AllocError>
+        ensures view { let before = channel_view self.old in
+            OnOk result (channel_view self.new ≡ record before { patterns = before.patterns ++ patterns.items }) }
+        ensures manner { self.new.manner ≡ self.old.manner }
+    {
+        for pattern in patterns {
+            self.patterns.push(pattern)?;
         }
         Ok(())
     }
@@ -282,9 +301,9 @@ impl ChannelDraft {
         self,
         alloc: Global,
         name: String,
-        defaults: Manner,
+        defaults: &Manner,
     ) -> Result<Option<Channel>, AllocError>
-        ensures { IfOk result (IsChannelOf (channel_ended (string_bytes name) (manner_view defaults) (channel_view self))) }
+        ensures { IfOk result (IsChannelOf (channel_ended (string_bytes name) (manner_view defaults.now) (channel_view self))) }
     {
         let ChannelDraft {
             far,
@@ -305,6 +324,7 @@ impl ChannelDraft {
             cells: manner.cells.or(defaults.cells).unwrap_or(FULL),
             create: manner.create.or(defaults.create).unwrap_or(NEITHER),
             expunge: manner.expunge.or(defaults.expunge).unwrap_or(NEITHER),
+            keywords: own_or(alloc, manner.keywords, &defaults.keywords)?,
         }))
     }
 }
@@ -324,6 +344,17 @@ fn boxes(
     let far = box_or_inbox(alloc, far)?;
     let near = box_or_inbox(alloc, near)?;
     Ok(Boxes::Pair { far, near })
+}
+
+/// The keywords of a channel: its own, or those that were given before any section if it has none.
+fn own_or(alloc: Global, own: Keywords, before: &Keywords) -> Result<Keywords, AllocError>
+    ensures { IfOk result (λ keywords. keywords ≡ own_or own before.now) }
+{
+    if own.as_slice().is_empty() {
+        before.try_clone(alloc)
+    } else {
+        Ok(own)
+    }
 }
 
 fn box_or_inbox(alloc: Global, mailbox: Option<MailboxName>) -> Result<MailboxName, AllocError>

@@ -3,6 +3,7 @@ use Rattle.std.specs.Prelude.{ℕ, Bool, true, false, ◌||◌, List, Option, So
 use Rattle.std.specs.Str.{str_eq_ignore_ascii_case}
 use Rattle.config_words.specs.declared.keyword.Keyword.{Keyword}
 use Rattle.config_words.specs.declared.keyword.Keyword.TheVariants.{ImapStore, MaildirStore, Channel, Group, Host, Port, User, Pass, Path, Inbox, SubFolders, Far, Near, Patterns, Sync, Create, Expunge, SyncState, Channels}
+use Rattle.config_words.specs.declared.keyword.Keyword.TheVariants as keyword
 use Rattle.config_words.specs.declared.keyword.Place.{Place}
 use Rattle.config_words.specs.declared.keyword.Place.TheVariants as place
 use Rattle.config_words.specs.Places.{is_section}
@@ -27,6 +28,7 @@ section_of Sync = None
 section_of Create = None
 section_of Expunge = None
 section_of SyncState = None
+section_of keyword.Keyword = None
 section_of Channels = None
 
 -- the section that it begins at a place: none within another one
@@ -41,6 +43,7 @@ is_default Sync = true
 is_default Create = true
 is_default Expunge = true
 is_default SyncState = true
+is_default keyword.Keyword = true
 is_default _ = false
 
 abbrev pub fits_at : Place → Keyword → Bool
@@ -62,6 +65,13 @@ fits_at place.Channel k = is_default k
 fits_at place.Group Channels = true
 fits_at place.Group _ = false
 
+-- those that may stand in one place any number of times
+abbrev pub adds_up : Keyword → Bool
+adds_up Patterns = true
+adds_up keyword.Keyword = true
+adds_up Channels = true
+adds_up _ = false
+
 -- ---- words, which compare without case
 
 abbrev pub manner_keyword : List ℕ → Option Keyword
@@ -70,7 +80,8 @@ manner_keyword word =
     else (if str_eq_ignore_ascii_case word (codes "Create") then Some Create
     else (if str_eq_ignore_ascii_case word (codes "Expunge") then Some Expunge
     else (if str_eq_ignore_ascii_case word (codes "SyncState") then Some SyncState
-    else (if str_eq_ignore_ascii_case word (codes "Channels") then Some Channels else None))))
+    else (if str_eq_ignore_ascii_case word (codes "Keyword") then Some keyword.Keyword
+    else (if str_eq_ignore_ascii_case word (codes "Channels") then Some Channels else None)))))
 
 abbrev pub setting_keyword : List ℕ → Option Keyword
 setting_keyword word =

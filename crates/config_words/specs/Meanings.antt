@@ -1,8 +1,10 @@
 -- What a keyword says with its arguments, as values (docs/FORMATS.md, "Configuration").
-use Rattle.std.specs.Prelude.{ℕ, ◌≡◌, ◌+◌, ◌==◌, nat_eq, nat_lt, nat_le, Bool, true, false, ◌&&◌, List, [], ◌∷◌, map, length, take, drop, position, Option, Some, None, option_map, Result, Ok, Err, codes, bytes_eq, decimal, string_bytes, if◌then◌else◌}
+use Rattle.std.specs.Prelude.{ℕ, ◌≡◌, ◌+◌, ◌==◌, nat_eq, nat_lt, nat_le, Bool, true, false, ◌&&◌, List, [], ◌∷◌, map, length, take, drop, position, Option, Some, None, is_some, option_map, Result, Ok, Err, codes, bytes_eq, decimal, string_bytes, if◌then◌else◌}
 use Rattle.std.specs.List.{list_all, ends_with}
 use Rattle.std.specs.Str.Parse.{digits_value}
 use Rattle.box_patterns.specs.BoxNames.{is_box_name}
+use Rattle.mailcore.specs.declared.keywords.Keyword as mail
+use Rattle.mailcore.specs.KeywordNames.{is_keyword_letter, is_keyword_name}
 use Rattle.rules.specs.declared.options.Cells.{Cells}
 use Rattle.rules.specs.declared.options.Sides.{Sides}
 use Rattle.rules.specs.declared.sync_words.SyncFault.{SyncFault}
@@ -33,6 +35,7 @@ pub data Said : Type 0 where
   SyncIs : Option Cells → Said
   CreateIs : Sides → Said
   ExpungeIs : Sides → Said
+  KeywordIs : mail.Keyword → Said
   ChannelsAre : List (List ℕ) → Said
   SaysNothing : Said
 
@@ -94,6 +97,19 @@ cells_from (Err BadWord) = None
 abbrev pub cells_of : List (List ℕ) → Option (Option Cells)
 cells_of words = cells_from (sync_cells words)
 
+-- a letter from a to z, and the name of a keyword that it stands for
+abbrev pub letter_said : List ℕ → List ℕ → Option Said
+letter_said [] name = None
+letter_said (letter ∷ []) name =
+    if is_keyword_letter letter && is_keyword_name name then Some (KeywordIs (record { letter = letter; name = name })) else None
+letter_said (letter ∷ other ∷ others) name = None
+
+abbrev pub keyword_of : List (List ℕ) → Option Said
+keyword_of [] = None
+keyword_of (letter ∷ []) = None
+keyword_of (letter ∷ name ∷ []) = letter_said letter name
+keyword_of (letter ∷ name ∷ more ∷ others) = None
+
 -- the name of a group, and its channels
 abbrev pub group_of : List (List ℕ) → Option Said
 group_of [] = None
@@ -134,6 +150,7 @@ all_said keyword.Group arguments = group_of arguments
 all_said keyword.Channels arguments = option_map ChannelsAre (some_of arguments)
 all_said keyword.Patterns arguments = option_map PatternsAre (patterns_of arguments)
 all_said keyword.Sync arguments = option_map SyncIs (cells_of arguments)
+all_said keyword.Keyword arguments = keyword_of arguments
 all_said k arguments = only_said k arguments
 
 -- what a keyword says with these arguments; none where it does not take them
@@ -161,8 +178,15 @@ said_of (says.Patterns patterns) = PatternsAre patterns.items
 said_of (says.Sync cells) = SyncIs cells
 said_of (says.Create sides) = CreateIs sides
 said_of (says.Expunge sides) = ExpungeIs sides
+said_of (says.Keyword letter name) = KeywordIs (record { letter = letter; name = string_bytes name })
 said_of (says.Channels channels) = ChannelsAre (map string_bytes channels.items)
 said_of says.Nothing = SaysNothing
+
+-- whether it names a mailbox
+abbrev pub names_a_box : Setting → Bool
+names_a_box (says.Far place) = is_some place.mailbox
+names_a_box (says.Near place) = is_some place.mailbox
+names_a_box _ = false
 
 -- the wanted value is given, or there is none and the arguments are wrong, or memory ran out
 abbrev pub Gives : {A B : Type 0} (value : A → B) → Option B → Result A FaultKind → Type 0

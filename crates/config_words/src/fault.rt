@@ -3,6 +3,7 @@
 ghost use Rattle.std.specs.Prelude.{◌≡◌};
 ghost use Rattle.config_words.specs.Faults.{number_of, precedes};
 
+use mailcore::keywords::KeywordFault;
 use std::alloc::{AllocError, AllocFailed};
 use thiserror::Error;
 
@@ -39,6 +40,9 @@ pub enum FaultKind {
     /// Memory ran out.
     #[error("no memory")]
     NoMemory,
+    /// A line above gives this letter or this name, in the same section or, as this one, before any.
+    #[error("letter or name given twice")]
+    KeywordGiven,
 }
 
 impl FaultKind {
@@ -57,6 +61,7 @@ impl FaultKind {
             FaultKind::KeywordMissing => 8,
             FaultKind::CellTwice => 9,
             FaultKind::NoMemory => 10,
+            FaultKind::KeywordGiven => 11,
         }
     }
 }
@@ -80,6 +85,21 @@ impl<T: Drop> From<AllocFailed<T>> for FaultKind {
 
     fn from(_fault: AllocFailed<T>) -> FaultKind {
         FaultKind::NoMemory
+    }
+}
+
+impl From<KeywordFault> for FaultKind {
+    ghost use Rattle.std.specs.Prelude.{◌≡◌};
+    ghost use Rattle.config_words.specs.Faults.{kind_of};
+
+    ghost from_gives = { λ fault kind. kind ≡ kind_of fault };
+
+    fn from(fault: KeywordFault) -> FaultKind {
+        match fault {
+            KeywordFault::BadLetter | KeywordFault::BadName => FaultKind::WrongArguments,
+            KeywordFault::Repeated => FaultKind::KeywordGiven,
+            KeywordFault::NoMemory => FaultKind::NoMemory,
+        }
     }
 }
 

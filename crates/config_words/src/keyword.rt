@@ -1,7 +1,7 @@
 //! The keywords of a configuration, and where each may stand.
 
 ghost use Rattle.std.specs.Prelude.{◌≡◌, false, not, IfNone, IsSome, option_and_then};
-ghost use Rattle.config_words.specs.Keywords.{fits_at, is_default, keyword_named, manner_keyword, meant_at, opened_by, section_keyword, section_of, setting_keyword};
+ghost use Rattle.config_words.specs.Keywords.{adds_up, fits_at, is_default, keyword_named, manner_keyword, meant_at, opened_by, section_keyword, section_of, setting_keyword};
 ghost use Rattle.config_words.specs.Places.{is_section, section_named};
 
 /// What the first word of a line is.
@@ -25,6 +25,7 @@ pub enum Keyword {
     Create,
     Expunge,
     SyncState,
+    Keyword,
     Channels,
 }
 
@@ -115,6 +116,8 @@ impl Keyword {
             Some(Keyword::Expunge)
         } else if word.eq_ignore_ascii_case(b"SyncState") {
             Some(Keyword::SyncState)
+        } else if word.eq_ignore_ascii_case(b"Keyword") {
+            Some(Keyword::Keyword)
         } else if word.eq_ignore_ascii_case(b"Channels") {
             Some(Keyword::Channels)
         } else {
@@ -148,8 +151,13 @@ impl Keyword {
     }
 
     /// Whether it may stand in a section more than once.
-    pub fn adds_up(self) -> bool {
-        matches!(self, Keyword::Patterns | Keyword::Channels)
+    pub fn adds_up(self) -> bool
+        ensures { result ≡ adds_up self }
+    {
+        matches!(
+            self,
+            Keyword::Patterns | Keyword::Keyword | Keyword::Channels
+        )
     }
 
     /// Whether it may stand at this place.
@@ -181,7 +189,11 @@ impl Keyword {
     {
         matches!(
             self,
-            Keyword::Sync | Keyword::Create | Keyword::Expunge | Keyword::SyncState
+            Keyword::Sync
+                | Keyword::Create
+                | Keyword::Expunge
+                | Keyword::SyncState
+                | Keyword::Keyword
         )
     }
 }

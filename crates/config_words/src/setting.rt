@@ -1,17 +1,18 @@
 //! What the lines of a configuration say: a keyword with arguments that it takes.
 
-ghost use Rattle.std.specs.Prelude.{◌≡◌, ◌==◌, not, IfErr, IfOk, IsTrue, MatchOption, map, option_and_then, string_bytes};
+ghost use Rattle.std.specs.Prelude.{◌≡◌, ◌==◌, not, IfErr, IfOk, MatchOption, map, option_and_then, string_bytes};
 ghost use Rattle.std.specs.List.{list_all};
 ghost use Rattle.config_words.specs.Keywords.{section_of};
-ghost use Rattle.config_words.specs.Meanings.{Gives, all_said, box_of, cells_of, group_of, one_said, parts_of, path_of, patterns_of, place_of};
+ghost use Rattle.config_words.specs.Meanings.{Gives, all_said, box_of, cells_of, group_of, keyword_of, names_a_box, one_said, parts_of, path_of, patterns_of, place_of};
 ghost use Rattle.config_words.specs.Meanings.{place_value, port_of, said, said_of, sides_of, some_of, text_said, word_said};
-ghost use Rattle.config_words.specs.Settings.{IsRefusal, SaysName, SaysNoName, SaysOne, heading, is_argument, name_among, name_said};
+ghost use Rattle.config_words.specs.Settings.{IsRefusal, SaysName, SaysNoName, SaysOne, heading, is_argument, name_among};
 ghost use Rattle.config_words.specs.declared.keyword.Place.TheVariants.{Group as in_group};
 
 use crate::fault::FaultKind;
 use crate::keyword::Keyword;
 use box_patterns::box_name::is_box_name;
 use box_patterns::patterns::Pattern;
+use mailcore::keywords::is_keyword_name;
 use mailcore::mailbox_name::MailboxName;
 use rules::options::{Cells, Sides};
 use rules::sync_words::{SyncFault, sync_ops};
@@ -50,6 +51,8 @@ pub enum Setting {
     Sync(Option<Cells>),
     Create(Sides),
     Expunge(Sides),
+    /// A letter from `a` to `z`, and the name of a keyword that it stands for.
+    Keyword(u8, String),
     Channels(Vec<String>),
     /// What could not be said otherwise: `SyncState *`, `SubFolders Verbatim`.
     Nothing,
@@ -70,7 +73,7 @@ impl Setting {
 
     /// Whether it names a mailbox.
     pub fn names_a_box(&self) -> bool
-        ensures { IsTrue result → name_said self.now ≡ None }
+        ensures { result ≡ names_a_box self.now }
     {
         match self {
             Setting::Far(place) | Setting::Near(place) => place.mailbox.is_some(),
@@ -89,6 +92,7 @@ fn read_plainly(alloc: Global, keyword: Keyword, arguments: &[String]) -> Result
         Keyword::Channels => Ok(Setting::Channels(some_copies(alloc, arguments)?)),
         Keyword::Patterns => Ok(Setting::Patterns(read_patterns(alloc, arguments)?)),
         Keyword::Sync => Ok(Setting::Sync(read_cells(alloc, arguments)?)),
+        Keyword::Keyword => read_keyword(arguments),
         _ => match arguments {
             [argument] => read_one(alloc, keyword, argument),
             _ => Err(FaultKind::WrongArguments),
@@ -245,6 +249,22 @@ fn read_group(alloc: Global, arguments: &[String]) -> Result<Setting, FaultKind>
     let channels = copies(alloc, channels)?;
     let name = name.clone()?;
     Ok(Setting::Group(name, channels))
+}
+
+/// The letter and the name of a keyword.
+fn read_keyword(arguments: &[String]) -> Result<Setting, FaultKind>
+    ensures name { SaysNoName result }
+    ensures means { Gives said_of (keyword_of (map string_bytes arguments.now)) result }
+{
+    let [letter, name] = arguments else {
+        return Err(FaultKind::WrongArguments);
+    };
+    match letter.as_bytes() {
+        [letter] if letter.is_ascii_lowercase() && is_keyword_name(name.as_bytes()) => {
+            Ok(Setting::Keyword(*letter, name.clone()?))
+        }
+        _ => Err(FaultKind::WrongArguments),
+    }
 }
 
 /// One name or more.

@@ -103,13 +103,15 @@ impl<L: Link + Drop> FarSide<L> {
         }
     }
 
-    /// Gives the link back.
-    pub fn into_link(self) -> L
-        ensures link { result ≡ self.far.session.wire.link }
-        ensures letters { L.honest result → HasMap self.far.keywords (L.line result).end.server }
+    /// Gives the link back, and the map by which flags have names: where the link has kept its word, the server's.
+    pub fn into_parts(self) -> (L, Keywords)
+        ensures link { result.0 ≡ self.far.session.wire.link }
+        ensures keywords { result.1 ≡ self.far.keywords }
+        ensures letters { L.honest result.0 → HasMap result.1 (L.line result.0).end.server }
     {
         let FarSide { far, .. } = self;
-        far.into_session().into_link()
+        let (session, keywords) = far.into_parts();
+        (session.into_link(), keywords)
     }
 
     /// Gives the session back, if its user has logged in and it goes on.

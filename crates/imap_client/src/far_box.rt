@@ -337,6 +337,19 @@ impl<L: Link> FarBox<L> {
         session
     }
 
+    /// Gives the session and the map of keywords back, without taking memory.
+    pub fn into_parts(self) -> (Session<L>, Keywords)
+        ensures session { result.0 ≡ self.session }
+        ensures keywords { result.1 ≡ self.keywords }
+    {
+        let FarBox {
+            session,
+            keywords,
+            ..
+        } = self;
+        (session, keywords)
+    }
+
     /// Sets those of these flags of a message that have a name. A message that is not there is passed over.
     pub fn add_flags(&mut self, uid: Uid, flags: Flags) -> Result<(), FarFault>
         ensures was_honest { L.honest self.new.session.wire.link → L.honest self.old.session.wire.link }

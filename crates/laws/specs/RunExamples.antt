@@ -42,7 +42,7 @@ both = record { pull = true; push = true }
 
 -- Sync None, Sync Pull or Sync Full
 abbrev sync : Directions → Sides → Options
-sync on expunge = record { cells = record { new = on; gone = on; flags = on }; expunge = expunge }
+sync on expunge = record { cells = record { new = on; gone = on; flags = on }; expunge = expunge; keywords = [] }
 
 abbrev no_side : Sides
 no_side = record { far = false; near = false }

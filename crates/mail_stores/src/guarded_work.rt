@@ -37,6 +37,7 @@ impl<L: Link + Drop, F: Folder + Drop, S: Shelf + Drop, G: Guard + Drop> Guarded
         progress: &P,
     ) -> (Self, W::Answer)
         requires map { self.sides.far.far.keywords ≡ keywords }
+        requires asked { keywords ≡ (W.options work).keywords }
     {
         let GuardedSides { sides, guard } = self;
         let both = sides.together(alloc, fresh, keywords);

@@ -1,6 +1,6 @@
 //! The real stores: servers over TCP, and folders of a disk.
 
-ghost use Rattle.std.specs.Prelude.{◌≡◌, [], IfOk};
+ghost use Rattle.std.specs.Prelude.{◌≡◌, IfOk};
 
 use crate::asked::Asked;
 use crate::guarded_work::GuardedSides;
@@ -173,35 +173,44 @@ impl<R: Net + Files<File = File> + Clock + AllocGlobal + Clone + Drop, P: Progre
     ) -> Result<W::Answer, LockFault> {
         let folder = self.reach.folder_of(place)?;
         let lock = Lock::take(&self.reach.rt, folder.as_str())?;
-        let sides = self.open_sides(place, folder.as_str())?;
         let (alloc, fresh) = (self.reach.rt.alloc(), self.reach.fresh);
-        let keywords = Keywords::new(alloc);
+        let keywords = work.keywords().try_clone(alloc)?;
+        let sides = self.open_sides(place, folder.as_str(), &keywords)?;
         let (sides, answer) = sides.work(&lock, alloc, fresh, keywords, work, &self.progress);
         self.note_end(place, folder.as_str(), &sides);
         self.keep(place.of.far_store, sides);
         Ok(answer)
     }
 
-    /// Both sides of a mailbox. Nothing of them is open.
-    fn open_sides(&mut self, place: ChannelBox<'_>, folder: &str) -> Result<RealSides<R>, LockFault>
-        ensures map { IfOk result (λ sides. sides.sides.far.far.keywords ≡ []) }
+    /// Both sides of a mailbox, the far one by this map of keywords. Nothing of them is open.
+    fn open_sides(
+        &mut self,
+        place: ChannelBox<'_>,
+        folder: &str,
+        keywords: &Keywords,
+    ) -> Result<RealSides<R>, LockFault>
+        ensures map { IfOk result (λ sides. sides.sides.far.far.keywords ≡ keywords.now) }
     {
         let near = self.reach.near_parts(folder).map_err(LockFault::Refused)?;
-        match self.far_side(place) {
+        match self.far_side(place, keywords) {
             Ok(far) => Ok(sides_of(far, near)),
             Err(refusal) => Err(LockFault::Refused(refusal)),
         }
     }
 
-    /// The far side of a mailbox: over the session that stands, if one does, or else over a link that is not connected yet. Only the six
-    /// flags have a name.
-    fn far_side(&mut self, place: ChannelBox<'_>) -> Result<FarSide<RealLink<R>>, Refusal>
-        ensures map { IfOk result (λ far. far.far.keywords ≡ []) }
+    /// The far side of a mailbox, by this map of keywords: over the session that stands, if one does, or else over a link that is not
+    /// connected yet.
+    fn far_side(
+        &mut self,
+        place: ChannelBox<'_>,
+        keywords: &Keywords,
+    ) -> Result<FarSide<RealLink<R>>, Refusal>
+        ensures map { IfOk result (λ far. far.far.keywords ≡ keywords.now) }
     {
         let alloc = self.reach.rt.alloc();
         let store = place.of.far_store;
         let account = self.reach.account(place)?;
-        let keywords = Keywords::new(alloc);
+        let keywords = keywords.try_clone(alloc)?;
         match self.sessions.take_at(store.name.as_str()) {
             Some(session) => Ok(FarSide::over(account, session, keywords)),
             None => {

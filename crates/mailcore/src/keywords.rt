@@ -1,6 +1,6 @@
 //! Keywords: flags that have a letter here and a name in IMAP, by a map.
 
-ghost use Rattle.std.specs.Prelude.{◌≡◌, ◌⊎◌, ◌≤◌, true, [], length, None, Some, OnOk, IfErr, IfOk, IfSome, option_map};
+ghost use Rattle.std.specs.Prelude.{◌≡◌, ◌↔◌, ◌⊎◌, ◌≤◌, true, [], length, None, Some, OnOk, IfErr, IfOk, IfSome, option_map};
 ghost use Rattle.std.specs.List.{fold, insert, list_any};
 ghost use Rattle.mailcore.specs.KeywordNames.{IsMap, has_name, is_keyword_letter, is_keyword_name, is_like, keyword_refused, known_set, letter_of, name_of, with_flag, with_keyword, written_order};
 
@@ -158,6 +158,13 @@ impl Keywords {
         Ok(Keywords { alloc, list })
     }
 
+    /// Whether this is the same map: the same letters with the same names, byte for byte.
+    pub fn is_same(&self, other: &Keywords) -> bool
+        ensures { result ≡ true ↔ self.now ≡ other.now }
+    {
+        are_same(&self.list, &other.list)
+    }
+
     /// The letters with their names, in the order of the letters.
     pub fn as_slice(&self) -> &[Keyword]
         ensures list { result.now ≡ self.now }
@@ -178,6 +185,13 @@ impl Keyword {
         })
     }
 
+    /// Whether this is the same keyword, its name byte for byte.
+    fn is_same(&self, other: &Keyword) -> bool
+        ensures { result ≡ true ↔ self.now ≡ other.now }
+    {
+        self.letter == other.letter && self.name.as_slice() == other.name.as_slice()
+    }
+
     /// Whether this is its name, which compares without case.
     pub fn has_name(&self, name: &[u8]) -> bool
         ensures { result ≡ has_name name.now self.now }
@@ -186,8 +200,19 @@ impl Keyword {
     }
 }
 
-/// Whether this is an atom of at most 255 bytes that names none of the flags with letters of their own.
-fn is_keyword_name(name: &[u8]) -> bool
+/// Whether these are the same keywords.
+fn are_same(keywords: &[Keyword], others: &[Keyword]) -> bool
+    ensures { result ≡ true ↔ keywords.now ≡ others.now }
+{
+    match (keywords, others) {
+        ([], []) => true,
+        ([one, rest @ ..], [other, behind @ ..]) => one.is_same(other) && are_same(rest, behind),
+        _ => false,
+    }
+}
+
+/// Whether a letter can stand for this name: an atom of at most 255 bytes that names none of the flags with letters of their own.
+pub fn is_keyword_name(name: &[u8]) -> bool
     ensures { result ≡ is_keyword_name name.now }
 {
     is_atom(name) && Flag::named(name).is_none()

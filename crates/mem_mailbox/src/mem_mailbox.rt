@@ -129,6 +129,13 @@ impl<K> MemMailbox<K> {
         &self.waiting
     }
 
+    /// By this map keywords have a letter.
+    pub fn keywords(&self) -> &Keywords
+        ensures { result.now ≡ self.now.keywords }
+    {
+        &self.keywords
+    }
+
     /// How many calls have stopped, up to the top of its type.
     pub fn stop_count(&self) -> usize
         ensures { (seen_of self.now).stops < 2 ^ 64 → result ≡ (seen_of self.now).stops }

@@ -75,6 +75,13 @@ impl<F: Mailbox + Drop, N: Mailbox + Drop, S: Shelf + Drop> Pair<F, N, S> {
             tally: Tally::new(),
         }
     }
+
+    /// The far mailbox.
+    pub fn far(&self) -> &F
+        ensures { result.now ≡ self.now.far }
+    {
+        &self.far
+    }
 }
 
 impl<F: Mailbox + Drop, N: Mailbox + Drop, S: Shelf + Drop> Outside for Pair<F, N, S> {

@@ -24,7 +24,7 @@ pub struct Lists<'a> {
     standings: &'a [Standing],
     max_pulled: u32,
     max_pushed: u32,
-    options: Options,
+    options: &'a Options,
     ghost far_met: { All (IsMet Far standings.now) far.now },
     ghost near_met: { All (IsMet Near standings.now) near.now },
     ghost stands: { All (Stands (items_of far.now) (items_of near.now)) standings.now },
@@ -48,7 +48,7 @@ impl<'a> Lists<'a> {
         far: &Listing,
         near: &Listing,
         state: &SyncState,
-        options: &Options,
+        options: &'a Options,
     ) -> Self
         requires far_rising { IsRising far.now.items }
         requires near_rising { IsRising near.now.items }
@@ -62,7 +62,7 @@ impl<'a> Lists<'a> {
             standings: &merged.standings,
             max_pulled: state.max_pulled,
             max_pushed: state.max_pushed,
-            options: *options,
+            options,
         }
     }
 
@@ -75,8 +75,8 @@ impl<'a> Lists<'a> {
     }
 
     /// What the run may do.
-    pub fn options(&self) -> Options
-        ensures { result ≡ (seen self.now).options }
+    pub fn options(&self) -> &'a Options
+        ensures { result.now ≡ (seen self.now).options }
     {
         self.options
     }

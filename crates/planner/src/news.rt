@@ -48,7 +48,7 @@ fn count_new(
     let newcomers = Newcomers {
         direction,
         highest,
-        options: *options,
+        options,
         items: listing.items.as_slice(),
         entries: state.entries.as_slice(),
     };
@@ -62,7 +62,7 @@ impl Lists<'_> {
         ensures { result ≡ would_be_new (seen self.now) direction met.now.item }
     {
         let highest = self.highest(direction);
-        may_be_new(&self.options(), direction, highest, &met.item)
+        may_be_new(self.options(), direction, highest, &met.item)
             && !self.is_paired(direction.source(), met)
     }
 

@@ -2,7 +2,7 @@
 use Rattle.std.specs.Prelude.{ℕ, List, ◌++◌, codes}
 use Rattle.std.specs.Fmt.{decimal}
 use Rattle.runner.specs.declared.fault.RunFault.{RunFault}
-use Rattle.runner.specs.declared.fault.RunFault.TheVariants.{Stopped, Refused, ValidityChanged, BadState, BadJournal, StoreFault, MarksRepeat, NoMemory}
+use Rattle.runner.specs.declared.fault.RunFault.TheVariants.{Stopped, Refused, ValidityChanged, BadState, BadJournal, StoreFault, MarksRepeat, NoMemory, KeywordsChanged}
 use Rattle.worlds.specs.Words.{side_word}
 
 abbrev pub fault_text : RunFault → List ℕ
@@ -14,3 +14,4 @@ fault_text (BadJournal line) = codes "bad journal " ++ decimal line
 fault_text (StoreFault side number) = codes "store fault " ++ side_word side ++ codes " " ++ decimal number
 fault_text MarksRepeat = codes "marks repeat"
 fault_text NoMemory = codes "no memory"
+fault_text KeywordsChanged = codes "keywords changed"

@@ -26,6 +26,7 @@ impl fmt::Display for FaultText {
             }
             RunFault::MarksRepeat => f.write_str("marks repeat"),
             RunFault::NoMemory => f.write_str("no memory"),
+            RunFault::KeywordsChanged => f.write_str("keywords changed"),
         }
     }
 }

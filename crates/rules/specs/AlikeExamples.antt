@@ -30,7 +30,7 @@ both = record { pull = true; push = true }
 
 -- everything goes
 abbrev pub everything : (expunge_near : Bool) → Options
-everything expunge_near = record { cells = record { new = both; gone = both; flags = both }; expunge = record { far = false; near = expunge_near } }
+everything expunge_near = record { cells = record { new = both; gone = both; flags = both }; expunge = record { far = false; near = expunge_near }; keywords = [] }
 
 abbrev store : (next : ℕ) → List Message → Store
 store next messages = record { validity = 1; next = next; messages = messages }

@@ -2,6 +2,7 @@
 use Rattle.std.specs.Prelude.{ℕ, ◌+◌, ◌<◌, ◌^◌, ◌≡◌, Bool, true, ◌&&◌, ◌||◌, ◌==◌, nat_lt, List, [], ◌∷◌, All, map, Option, Some, None, unwrap_or}
 use Rattle.mailcore.specs.declared.listing.Listing.{Listing}
 use Rattle.mailcore.specs.FlagSet.{FLAGS}
+use Rattle.mailcore.specs.KeywordNames.{IsMap}
 use Rattle.mailcore.specs.Mark.{IsMark}
 use Rattle.rules.specs.declared.state.SyncState.{SyncState}
 use Rattle.rules.specs.declared.plan.Step.{Step}
@@ -79,6 +80,7 @@ pub record IsPlan (p : Plan) : Type 0 where
   pub notes : All IsNote p.notes
   pub steps_rise : rises bottom (map step_place p.steps) ≡ true
   pub notes_rise : rises bottom (map note_place p.notes) ≡ true
+  pub keywords : IsMap p.keywords
 
 -- what mailboxes list, and what a state has: UIDVALIDITYs and UIDNEXTs from 1 on, and highest UIDs that are UIDs, or 0
 pub record AreInRange (far near : Listing) (state : SyncState) : Type 0 where

@@ -1,9 +1,11 @@
 //! What a run may do.
 
-ghost use Rattle.std.specs.Prelude.{◌≡◌};
+ghost use Rattle.std.specs.Prelude.{◌≡◌, IfOk};
 ghost use Rattle.rules.specs.Options.{covers, goes};
 
+use mailcore::keywords::Keywords;
 use mailcore::side::{Direction, Side};
+use std::alloc::{AllocError, Global};
 
 /// A choice of directions.
 #[derive(Clone, Copy, PartialEq, Eq)]
@@ -59,10 +61,25 @@ pub struct Cells {
 }
 
 /// What a run may do.
-#[derive(Clone, Copy, PartialEq, Eq)]
+#[derive(Drop)]
 pub struct Options {
     /// What is propagated.
     pub cells: Cells,
     /// The sides on which messages that are marked as deleted are expunged.
     pub expunge: Sides,
+    /// By this map keywords have a letter. A flag without a name is no flag of a message.
+    pub keywords: Keywords,
+}
+
+impl Options {
+    /// The same options again. `AllocError`: a growth was refused.
+    pub fn try_clone(&self, alloc: Global) -> Result<Options, AllocError>
+        ensures { IfOk result (λ options. options ≡ self.now) }
+    {
+        Ok(Options {
+            cells: self.cells,
+            expunge: self.expunge,
+            keywords: self.keywords.try_clone(alloc)?,
+        })
+    }
 }

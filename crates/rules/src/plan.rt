@@ -3,6 +3,7 @@
 ghost use Rattle.std.specs.Prelude.{◌≡◌};
 
 use mailcore::flags::Flags;
+use mailcore::keywords::Keywords;
 use mailcore::side::{Direction, Side};
 use mailcore::tuid::Tuid;
 use mailcore::uid::Uid;
@@ -174,4 +175,6 @@ pub struct Plan {
     pub steps: Steps,
     /// What is done to the state.
     pub notes: Notes,
+    /// By this map keywords have a letter in the run.
+    pub keywords: Keywords,
 }

@@ -41,6 +41,7 @@ pub record IsPlanOf (w : World) (options : Options) (marks : List (List ℕ)) (p
   pub near_highest : plan.near.highest ≡ highest_after (scene_of w options) Push
   pub steps : plan.steps ≡ all_steps (scene_of w options) marks
   pub notes : plan.notes ≡ all_notes (scene_of w options)
+  pub keywords : plan.keywords ≡ options.keywords
 
 -- the entries that a journal of the plan keeps are those of the outcome
 abbrev pub KeptAreEntriesAfter : Type 0

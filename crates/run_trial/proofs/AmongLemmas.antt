@@ -1,5 +1,5 @@
 -- What is left where others write no mark, by how many marks theirs bear.
-use Rattle.std.proofs.Common.{◌≡◌, ◌∙◌, ℕ, Bool, List, [], map, true, false, None, refl, sym, ap, subst}
+use Rattle.std.proofs.Common.{◌≡◌, ◌∙◌, ℕ, Bool, List, map, true, false, None, refl, sym, ap, subst}
 use Rattle.std.specs.Prelude.{All, Result, IfErr, OnOk}
 use Rattle.std.proofs.lemmas.List.Elements.{All-map}
 use Rattle.mailcore.specs.Content.{mark_of}
@@ -34,18 +34,19 @@ module _ (marks : ℕ) (none : marks ≡ 0) where
   pub are_ours : AreOurs (ours marks)
   are_ours mark = subst (λ (n : ℕ). ours n mark ≡ true) (sym none) refl
 
-  pub over_among : {T : Type 0} (w : World) (options : Options) (d : Device) (r : Result T RunFault) → OnOk r (IsOver (ours marks) false (opening_of [] w options) d) → OnOk r (IsOverAmong w options d)
-  over_among w options d r = subst (λ (n : ℕ). OnOk r (IsOver (ours n) false (opening_of [] w options) d)) none
+  pub over_among : {T : Type 0} (w : World) (options : Options) (d : Device) (r : Result T RunFault) → OnOk r (IsOver (ours marks) false (opening_of w options) d) → OnOk r (IsOverAmong w options d)
+  over_among w options d r = subst (λ (n : ℕ). OnOk r (IsOver (ours n) false (opening_of w options) d)) none
 
-  pub left_among : {T : Type 0} (w : World) (options : Options) (old new : Seen) (r : Result T RunFault) → IfErr r (λ fault. LeavesRun (Underway (ours marks) false (opening_of [] w options)) fault old new)
-      → IfErr r (λ fault. LeavesRun (Underway anybody.ours anybody.alone (opening_of [] w options)) fault old new)
-  left_among w options old new r = subst (λ (n : ℕ). IfErr r (λ fault. LeavesRun (Underway (ours n) false (opening_of [] w options)) fault old new)) none
+  pub left_among : {T : Type 0} (w : World) (options : Options) (old new : Seen) (r : Result T RunFault) → IfErr r (λ fault. LeavesRun (Underway (ours marks) false (opening_of w options)) fault old new)
+      → IfErr r (λ fault. LeavesRun (Underway anybody.ours anybody.alone (opening_of w options)) fault old new)
+  left_among w options old new r = subst (λ (n : ℕ). IfErr r (λ fault. LeavesRun (Underway (ours n) false (opening_of w options)) fault old new)) none
 
 -- ---- what is taken over of a setting
 
-pub device_kept : (s : Setting) (server : Server) (folder : Stored) (shelf : Files) → server ≡ s.far.server.server → folder ≡ stored_in s.folder → shelf ≡ files_of s.shelf → device_at server folder shelf ≡ device_in s
-device_kept s server folder shelf there files kept =
-    ap (λ (x : Server). device_at x folder shelf) there ∙ ap (λ (x : Stored). device_at s.far.server.server x shelf) files ∙ ap (λ (x : Files). device_at s.far.server.server (stored_in s.folder) x) kept
+pub device_kept : (s : Setting) (options : Options) (server : Server) (folder : Stored) (shelf : Files) → options ≡ s.options → server ≡ s.far.server.server → folder ≡ stored_in s.folder → shelf ≡ files_of s.shelf → device_at options.keywords server folder shelf ≡ device_in s
+device_kept s options server folder shelf asked there files kept =
+    ap (λ (x : Options). device_at x.keywords server folder shelf) asked ∙ ap (λ (x : Server). device_at s.options.keywords x folder shelf) there
+    ∙ ap (λ (x : Stored). device_at s.options.keywords s.far.server.server x shelf) files ∙ ap (λ (x : Files). device_at s.options.keywords s.far.server.server (stored_in s.folder) x) kept
 
 pub bear_none : (marks : ℕ) (lines : List FarArrival) (there : List FarArrival) (list : List Arrival) → there ≡ lines → list ≡ map arrival_of there → (marks ≡ 0 → All (λ a. mark_of a.bytes ≡ None) lines) → BearAsSaid marks list
 bear_none marks lines there list same taken said = λ none.

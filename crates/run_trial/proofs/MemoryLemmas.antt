@@ -53,35 +53,37 @@ all_seen : (keywords : List Keyword) (s : Store) → All (λ m. IsWithin keyword
 all_seen keywords s h = ap (λ (ms : List Message). record s { messages = ms }) (each_seen keywords s.messages h)
 
 stands_so : (trial : Trial) (s : Setting) → IsSettingOf trial s → trial.course.journal ≡ None
-    → IsOpening (world_of trial.world) → FitsWords (world_of trial.world) → IsNamed [] (world_of trial.world) → device_in s ≡ device_of (world_of trial.world)
+    → IsOpening (world_of trial.world) → FitsWords (world_of trial.world) → IsNamed trial.world.options.keywords (world_of trial.world) → device_in s ≡ device_of (world_of trial.world)
 stands_so trial s holds none opening fits named =
     let w : World = world_of trial.world in
+    let k : List Keyword = trial.world.options.keywords in
     let near : Mailbox = record { store = w.near; waiting = w.waiting } in
-    ap (λ (ms : List FarMailbox). device_with (settled (seen_through [] (store_at (codes "INBOX") ms))) (near_of 1 [] (stored_in s.folder)) (files_of s.shelf) []) holds.far
-    ∙ ap (λ (far : Store). device_with (settled far) (near_of 1 [] (stored_in s.folder)) (files_of s.shelf) []) (all_seen [] w.far named.far.there)
-    ∙ ap (λ (f : Stored). device_with (settled w.far) (near_of 1 [] f) (files_of s.shelf) []) holds.folder
+    ap (λ (o : Options). device_at o.keywords s.far.server.server (stored_in s.folder) (files_of s.shelf)) holds.options
+    ∙ ap (λ (ms : List FarMailbox). device_with (settled (seen_through k (store_at (codes "INBOX") ms))) (near_of 1 k (stored_in s.folder)) (files_of s.shelf) []) holds.far
+    ∙ ap (λ (far : Store). device_with (settled far) (near_of 1 k (stored_in s.folder)) (files_of s.shelf) []) (all_seen k w.far named.far.there)
+    ∙ ap (λ (f : Stored). device_with (settled w.far) (near_of 1 k f) (files_of s.shelf) []) holds.folder
     ∙ ap (λ (n : Mailbox). device_with (settled w.far) n (files_of s.shelf) [])
-    (folder_holds [] 1 w.near w.waiting opening.world.in_order.near (near_in_range w opening fits) named.near (few_files w opening fits))
+    (folder_holds k 1 w.near w.waiting opening.world.in_order.near (near_in_range w opening fits) named.near (few_files w opening fits))
     ∙ ap (λ (f : Files). device_with (settled w.far) near f [])
     (holds.shelf ∙ ap (λ (j : Option (Vec ℕ Global)). shelf_of w.state (bytes_of j)) none)
 
 pub stands : (trial : Trial) (s : Setting) (w : World) → w ≡ world_of trial.world → IsSettingOf trial s → trial.course.journal ≡ None
-    → IsOpening w → FitsWords w → IsNamed [] w → device_in s ≡ device_of w
+    → IsOpening w → FitsWords w → IsNamed trial.world.options.keywords w → device_in s ≡ device_of w
 stands trial s w same holds none =
-    subst (λ (x : World). IsOpening x → FitsWords x → IsNamed [] x → device_in s ≡ device_of x) (sym same) (stands_so trial s holds none)
+    subst (λ (x : World). IsOpening x → FitsWords x → IsNamed trial.world.options.keywords x → device_in s ≡ device_of x) (sym same) (stands_so trial s holds none)
 
 pub holds_world : (w : World) (d : Device) → IsOpening w → FitsWords w → d ≡ device_of w → HoldsWorld w d
 holds_world w d opening fits same = subst (HoldsWorld w) (sym same) (record { world = refl; files = shelf_holds w opening fits; spares = All-nil _ })
 
 -- the outside of a run, by what was said of its parts
-pub parts_seen : (server there : Server) (folder : Stored) (shelf : Files) (seen : Seen) → server ≡ there
-    → seen ≡ seen_with (device_at server folder shelf) untouched → seen ≡ seen_with (device_at there folder shelf) untouched
-parts_seen server there folder shelf seen same is = is ∙ ap (λ (v : Server). seen_with (device_at v folder shelf) untouched) same
+pub parts_seen : (keywords : List Keyword) (server there : Server) (folder : Stored) (shelf : Files) (seen : Seen) → server ≡ there
+    → seen ≡ seen_with (device_at keywords server folder shelf) untouched → seen ≡ seen_with (device_at keywords there folder shelf) untouched
+parts_seen keywords server there folder shelf seen same is = is ∙ ap (λ (v : Server). seen_with (device_at keywords v folder shelf) untouched) same
 
 -- that over a setting
 pub setting_seen : (s : Setting) (server : Server) (seen : Seen) → server ≡ s.far.server.server
-    → seen ≡ seen_with (device_at server (stored_in s.folder) (files_of s.shelf)) untouched → seen ≡ seen_with (device_in s) untouched
-setting_seen s server seen same is = parts_seen server s.far.server.server (stored_in s.folder) (files_of s.shelf) seen same is
+    → seen ≡ seen_with (device_at s.options.keywords server (stored_in s.folder) (files_of s.shelf)) untouched → seen ≡ seen_with (device_in s) untouched
+setting_seen s server seen same is = parts_seen s.options.keywords server s.far.server.server (stored_in s.folder) (files_of s.shelf) seen same is
 
 -- ---- what is left of it
 

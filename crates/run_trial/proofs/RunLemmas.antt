@@ -1,7 +1,6 @@
 -- What a run leaves that began with a world, of what it leaves that began with an opening.
 use Rattle.std.proofs.Common.{◌≡◌, ℕ, Bool, true, List, inl, refl, sym, ap, subst, ◌∙◌}
 use Rattle.std.specs.Prelude.{Result, Ok, Err, OnOk, IfErr, IfOk, IsErrOf, get_or}
-use Rattle.mailcore.specs.declared.keywords.Keyword.{Keyword}
 use Rattle.rules.specs.declared.options.Options.{Options}
 use Rattle.rules.specs.declared.state.SyncState.{SyncState}
 use Rattle.rules.specs.World.{World}
@@ -21,28 +20,28 @@ use Rattle.runner.specs.Faults.{LeavesRun}
 use Rattle.runner.specs.Settled.{CountsAttempts, IsSettled, IsUnsettled}
 use Rattle.trial.specs.Openings.{AreOurs, trial_stream}
 
-module _ (ours : List ℕ → Bool) (alone : Bool) (keywords : List Keyword) (w : World) (options : Options) where
-  asked : AreOurs ours → IsAsked ours (opening_of keywords w options) options trial_stream
+module _ (ours : List ℕ → Bool) (alone : Bool) (w : World) (options : Options) where
+  asked : AreOurs ours → IsAsked ours (opening_of w options) options trial_stream
   asked are = record { called = refl; are_ours = λ pairs count marks draws k d within. are (get_or marks k d) }
 
-  at_opening : (d : Device) → Begins w d → AtOpening ours alone (opening_of keywords w options) d
-  at_opening d begins = record { room = begins.room; open_run = inl (world_is_unplanned alone keywords w options d begins.held begins.sound) }
+  at_opening : (d : Device) → Begins w d → AtOpening ours alone (opening_of w options) d
+  at_opening d begins = record { room = begins.room; open_run = inl (world_is_unplanned alone w options d begins.held begins.sound) }
 
   pub done_from : (honest : Type 0) (old new : Seen) (r : Result Settled RunFault)
-      → IfOk r (λ settled. FromOpening honest ours alone (opening_of keywords w options) options trial_stream old.device (IsSettled ours alone (opening_of keywords w options) options trial_stream settled old new))
+      → IfOk r (λ settled. FromOpening honest ours alone (opening_of w options) options trial_stream old.device (IsSettled ours alone (opening_of w options) options trial_stream settled old new))
       → honest → alone ≡ true → AreOurs ours → Begins w old.device → OnOk r (IsDone w options new.device)
   done_from honest old new (Ok settled) from kept nobody are begins = (from kept (asked are) (at_opening old.device begins)).alike nobody begins.sound
   done_from honest old new (Err fault) from kept nobody are begins = tt
 
   pub over_from : (honest : Type 0) (old new : Seen) (r : Result Settled RunFault)
-      → IfOk r (λ settled. FromOpening honest ours alone (opening_of keywords w options) options trial_stream old.device (IsSettled ours alone (opening_of keywords w options) options trial_stream settled old new))
-      → honest → AreOurs ours → Begins w old.device → OnOk r (IsOver ours alone (opening_of keywords w options) new.device)
+      → IfOk r (λ settled. FromOpening honest ours alone (opening_of w options) options trial_stream old.device (IsSettled ours alone (opening_of w options) options trial_stream settled old new))
+      → honest → AreOurs ours → Begins w old.device → OnOk r (IsOver ours alone (opening_of w options) new.device)
   over_from honest old new (Ok settled) from kept are begins = (from kept (asked are) (at_opening old.device begins)).over
   over_from honest old new (Err fault) from kept are begins = tt
 
   pub left_from : {T : Type 0} (honest : Type 0) (tries : ℕ) (old new : Seen) (r : Result T RunFault)
-      → IfErr r (λ fault. FromOpening honest ours alone (opening_of keywords w options) options trial_stream old.device (IsUnsettled ours alone (opening_of keywords w options) tries trial_stream fault old new))
-      → honest → AreOurs ours → Begins w old.device → IfErr r (λ fault. LeavesRun (Underway ours alone (opening_of keywords w options)) fault old new)
+      → IfErr r (λ fault. FromOpening honest ours alone (opening_of w options) options trial_stream old.device (IsUnsettled ours alone (opening_of w options) tries trial_stream fault old new))
+      → honest → AreOurs ours → Begins w old.device → IfErr r (λ fault. LeavesRun (Underway ours alone (opening_of w options)) fault old new)
   left_from honest tries old new (Ok settled) from kept are begins = tt
   left_from honest tries old new (Err fault) from kept are begins = (from kept (asked are) (at_opening old.device begins)).left
 
@@ -62,12 +61,12 @@ module _ (ours : List ℕ → Bool) (alone : Bool) (keywords : List Keyword) (w 
       subst (λ (x : World). Begins x old → OnOk r (IsDone x options new)) (named_so state old same begins) so begins
 
   pub over_of : {T : Type 0} (state : SyncState) (old new : Device) (r : Result T RunFault) → w.state ≡ state → Begins w old
-      → (Begins (world_at old state) old → OnOk r (IsOver ours alone (opening_of keywords (world_at old state) options) new)) → OnOk r (IsOver ours alone (opening_of keywords w options) new)
+      → (Begins (world_at old state) old → OnOk r (IsOver ours alone (opening_of (world_at old state) options) new)) → OnOk r (IsOver ours alone (opening_of w options) new)
   over_of state old new r same begins so =
-      subst (λ (x : World). Begins x old → OnOk r (IsOver ours alone (opening_of keywords x options) new)) (named_so state old same begins) so begins
+      subst (λ (x : World). Begins x old → OnOk r (IsOver ours alone (opening_of x options) new)) (named_so state old same begins) so begins
 
   pub left_of : {T : Type 0} (state : SyncState) (old new : Seen) (r : Result T RunFault) → w.state ≡ state → Begins w old.device
-      → (Begins (world_at old.device state) old.device → IfErr r (λ fault. LeavesRun (Underway ours alone (opening_of keywords (world_at old.device state) options)) fault old new))
-      → IfErr r (λ fault. LeavesRun (Underway ours alone (opening_of keywords w options)) fault old new)
+      → (Begins (world_at old.device state) old.device → IfErr r (λ fault. LeavesRun (Underway ours alone (opening_of (world_at old.device state) options)) fault old new))
+      → IfErr r (λ fault. LeavesRun (Underway ours alone (opening_of w options)) fault old new)
   left_of state old new r same begins so =
-      subst (λ (x : World). Begins x old.device → IfErr r (λ fault. LeavesRun (Underway ours alone (opening_of keywords x options)) fault old new)) (named_so state old.device same begins) so begins
+      subst (λ (x : World). Begins x old.device → IfErr r (λ fault. LeavesRun (Underway ours alone (opening_of x options)) fault old new)) (named_so state old.device same begins) so begins

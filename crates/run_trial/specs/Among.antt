@@ -1,5 +1,5 @@
 -- A run to which others add messages: what they add, and what it leaves of a world.
-use Rattle.std.specs.Prelude.{◌≡◌, []}
+use Rattle.std.specs.Prelude.{◌≡◌}
 use Rattle.mem_link.specs.declared.command.CommandName.{CommandName}
 use Rattle.mem_link.specs.declared.command.CommandName.TheVariants as link
 use Rattle.mem_link.specs.declared.arrivals.Arrival.{Arrival}
@@ -46,8 +46,8 @@ AreKept setting shelf state = (files_of shelf ≡ files_of setting.shelf) × (st
 
 -- the run that began with this world is over, whatever others added under no mark
 abbrev pub IsOverAmong : World → Options → Device → Type 0
-IsOverAmong w options d = IsOver anybody.ours anybody.alone (opening_of [] w options) d
+IsOverAmong w options d = IsOver anybody.ours anybody.alone (opening_of w options) d
 
 -- the run that began with this world, on this device, is underway still
 abbrev pub LeavesAmong : World → Options → Device → RunFault → Seen → Type 0
-LeavesAmong w options d fault new = LeavesRun (Underway anybody.ours anybody.alone (opening_of [] w options)) fault (seen_with d untouched) new
+LeavesAmong w options d fault new = LeavesRun (Underway anybody.ours anybody.alone (opening_of w options)) fault (seen_with d untouched) new

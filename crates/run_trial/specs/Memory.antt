@@ -1,5 +1,4 @@
 -- What a run of a trial leaves in memory, where every mark is its own and nobody else adds messages.
-use Rattle.std.specs.Prelude.{[]}
 use Rattle.maildir.specs.Gains.{nobody}
 use Rattle.rules.specs.declared.options.Options.{Options}
 use Rattle.rules.specs.World.{World}
@@ -13,4 +12,4 @@ use Rattle.runner.specs.Faults.{LeavesRun}
 
 -- the run that began with this world, on this device, is underway still
 abbrev pub LeavesWorld : World → Options → Device → RunFault → Seen → Type 0
-LeavesWorld w options d fault new = LeavesRun (Underway nobody.ours nobody.alone (opening_of [] w options)) fault (seen_with d untouched) new
+LeavesWorld w options d fault new = LeavesRun (Underway nobody.ours nobody.alone (opening_of w options)) fault (seen_with d untouched) new

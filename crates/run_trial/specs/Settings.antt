@@ -1,5 +1,6 @@
 -- What the run of a trial is made over, before there is a link to the server.
 use Rattle.std.specs.Prelude.{◌≡◌, List, [], ◌∷◌, map, codes}
+use Rattle.mailcore.specs.declared.keywords.Keyword.{Keyword}
 use Rattle.mailcore.specs.declared.mailbox.Mailbox.{Mailbox}
 use Rattle.imap_session.specs.Mailboxes.{FarMailbox}
 use Rattle.imap_session.specs.Servers.{Server}
@@ -21,16 +22,17 @@ use Rattle.run_trial.specs.declared.setting.Setting.{Setting}
 abbrev pub inbox_of : Mailbox → List FarMailbox
 inbox_of far = record { name = codes "INBOX"; store = store_of far } ∷ []
 
--- what a run over a server with this INBOX, a folder and a shelf finds, where the six flags alone have names
-abbrev pub device_at : Server → (folder : Stored) → (shelf : Files) → Device
-device_at server folder shelf = device_with (box_at [] (codes "INBOX") server) (near_of 1 [] folder) shelf []
+-- what a run by this map over a server with this INBOX, a folder and a shelf finds
+abbrev pub device_at : List Keyword → Server → (folder : Stored) → (shelf : Files) → Device
+device_at keywords server folder shelf = device_with (box_at keywords (codes "INBOX") server) (near_of 1 keywords folder) shelf []
 
 abbrev pub device_in : Setting → Device
-device_in s = device_at s.far.server.server (stored_in s.folder) (files_of s.shelf)
+device_in s = device_at s.options.keywords s.far.server.server (stored_in s.folder) (files_of s.shelf)
 
 -- they hold what the trial says
 pub record IsSettingOf (trial : Trial) (s : Setting) : Type 0 where
   pub far : s.far.server.server.mailboxes ≡ inbox_of trial.world.far
-  pub folder : stored_in s.folder ≡ folder_of [] (store_of trial.world.near) (map waiting_of trial.world.waiting.items)
+  pub folder : stored_in s.folder ≡ folder_of trial.world.options.keywords (store_of trial.world.near) (map waiting_of trial.world.waiting.items)
   pub state : s.state ≡ trial.world.state
+  pub options : s.options ≡ trial.world.options
   pub shelf : files_of s.shelf ≡ shelf_of trial.world.state (bytes_of trial.course.journal)

@@ -1,7 +1,7 @@
 //! A run over a server, a folder and a shelf in memory, to which others add messages: what it leaves of a world, with no word of a
 //! device to rely on.
 
-ghost use Rattle.std.specs.Prelude.{◌≡◌, ◌+◌, ◌<◌, ◌^◌, All, IfErr, IfOk, [], IsErrOf, None, OnOk};
+ghost use Rattle.std.specs.Prelude.{◌≡◌, ◌+◌, ◌<◌, ◌^◌, All, IfErr, IfOk, IsErrOf, None, OnOk};
 ghost use Rattle.mailcore.specs.Content.{mark_of};
 ghost use Rattle.rules.specs.Opening.{IsOpening};
 ghost use Rattle.rules.specs.World.{World};
@@ -23,60 +23,58 @@ use crate::visited::{NearSetting, VisitedSetting, visited};
 use maildir::visited_folder::VisitedFolder;
 use mem_link::mem_link::MemLink;
 use mem_link::visited_link::VisitedLink;
-use rules::options::Options;
 use runner::fault::RunFault;
 use std::alloc::Global;
 use trial::trial::Trial;
 
 /// Makes the run of a trial to which others add messages, and gives its outside beside what it came to.
 ///
-/// Where their messages bear 0 `MARKS`, the trial has no journal, and its world is one that a run may begin with, whose flags are of the
-/// six, behind whose number another one comes: an answer leaves the run over, and a fault leaves it underway (docs/GUARANTEES.md),
+/// Where their messages bear 0 `MARKS`, the trial has no journal, and its world is one that a run may begin with, whose flags have
+/// names, behind whose number another one comes: an answer leaves the run over, and a fault leaves it underway (docs/GUARANTEES.md),
 /// whatever the attempts, the stops and the arrivals. It is told as stopped only where as many calls stopped as there were attempts.
 pub(crate) fn run_among<const MARKS: u32>(
     alloc: Global,
     trial: Trial,
 ) -> Result<Run<VisitedLink<MARKS>, VisitedFolder<MARKS>>, Failure>
     requires said { MARKS ≡ 0 → All (λ a. mark_of a.bytes ≡ None) trial.course.arrivals.far.items }
-    ensures over { MARKS ≡ 0 → trial.course.journal ≡ None → IsOpening (world_of trial.world) → IsNamed [] (world_of trial.world) → trial.world.state.run + 1 < 2 ^ 64
+    ensures over { MARKS ≡ 0 → trial.course.journal ≡ None → IsOpening (world_of trial.world) → IsNamed trial.world.options.keywords (world_of trial.world) → trial.world.state.run + 1 < 2 ^ 64
         → IfOk result (λ run. OnOk run.1 (IsOverAmong (world_of trial.world) trial.world.options (seen_of run.0).device)) }
-    ensures left { MARKS ≡ 0 → trial.course.journal ≡ None → IsOpening (world_of trial.world) → IsNamed [] (world_of trial.world) → trial.world.state.run + 1 < 2 ^ 64
+    ensures left { MARKS ≡ 0 → trial.course.journal ≡ None → IsOpening (world_of trial.world) → IsNamed trial.world.options.keywords (world_of trial.world) → trial.world.state.run + 1 < 2 ^ 64
         → IfOk result (λ run. IfErr run.1 (λ fault.
         LeavesAmong (world_of trial.world) trial.world.options (device_of (world_of trial.world)) fault (seen_of run.0))) }
     ensures stopped { IfOk result (λ run. IsErrOf run.1 RunFault.Stopped → (seen_of run.0).stops ≡ trial.course.tries) }
-    ensures map { IfOk result (λ run. run.0.far.far.keywords ≡ []) }
+    ensures map { IfOk result (λ run. run.0.far.far.keywords ≡ trial.world.options.keywords) }
 {
-    let options = trial.world.options;
     let tries = trial.course.tries;
     let setting = setting_of(alloc, trial)?;
     let among = visited(alloc, setting)?;
-    run_visited(alloc, among, &options, tries)
+    run_visited(alloc, among, tries)
 }
 
 /// Makes one run over a setting to which others add messages, and gives its outside beside what it came to, as `run_among`.
 fn run_visited<const MARKS: u32>(
     alloc: Global,
     setting: VisitedSetting<MARKS>,
-    options: &Options,
     tries: u32,
 ) -> Result<Run<VisitedLink<MARKS>, VisitedFolder<MARKS>>, Failure>
     requires served { AreServed setting.far.server.server.mailboxes }
-    requires letters { HasMap [] setting.far.server.server }
+    requires letters { HasMap setting.options.keywords setting.far.server.server }
     requires said { BearAsSaid MARKS setting.arrivals.list.items }
     ensures over { MARKS ≡ 0 → (start : World) → start.state ≡ setting.entry.near.state
-        → Begins start (device_at setting.entry.far.server.server (stored_in setting.entry.near.folder.folder) (files_of setting.entry.near.shelf))
-        → IfOk result (λ run. OnOk run.1 (IsOverAmong start options.now (seen_of run.0).device)) }
+        → Begins start (device_at setting.entry.options.keywords setting.entry.far.server.server (stored_in setting.entry.near.folder.folder) (files_of setting.entry.near.shelf))
+        → IfOk result (λ run. OnOk run.1 (IsOverAmong start setting.entry.options (seen_of run.0).device)) }
     ensures left { MARKS ≡ 0 → (start : World) → start.state ≡ setting.entry.near.state
-        → Begins start (device_at setting.entry.far.server.server (stored_in setting.entry.near.folder.folder) (files_of setting.entry.near.shelf))
-        → IfOk result (λ run. IfErr run.1 (λ fault. LeavesAmong start options.now
-        (device_at setting.entry.far.server.server (stored_in setting.entry.near.folder.folder) (files_of setting.entry.near.shelf)) fault (seen_of run.0))) }
+        → Begins start (device_at setting.entry.options.keywords setting.entry.far.server.server (stored_in setting.entry.near.folder.folder) (files_of setting.entry.near.shelf))
+        → IfOk result (λ run. IfErr run.1 (λ fault. LeavesAmong start setting.entry.options
+        (device_at setting.entry.options.keywords setting.entry.far.server.server (stored_in setting.entry.near.folder.folder) (files_of setting.entry.near.shelf)) fault (seen_of run.0))) }
     ensures stopped { IfOk result (λ run. IsErrOf run.1 RunFault.Stopped → (seen_of run.0).stops ≡ tries) }
-    ensures map { IfOk result (λ run. run.0.far.far.keywords ≡ []) }
+    ensures map { IfOk result (λ run. run.0.far.far.keywords ≡ setting.entry.options.keywords) }
 {
     let VisitedSetting {
         far,
         arrivals,
         near,
+        options,
     } = setting;
     let NearSetting {
         folder,
@@ -84,6 +82,6 @@ fn run_visited<const MARKS: u32>(
         state,
     } = near;
     let link = VisitedLink::new(MemLink::new(alloc, far.server, far.schedule), arrivals);
-    let outside = together(alloc, link, folder, shelf)?;
-    Ok(settle_all(alloc, outside, options, tries, &state))
+    let outside = together(alloc, link, folder, shelf, &options.keywords)?;
+    Ok(settle_all(alloc, outside, &options, tries, &state))
 }

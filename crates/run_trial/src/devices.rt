@@ -1,6 +1,6 @@
 //! The devices of a trial, and a run over them.
 
-ghost use Rattle.std.specs.Prelude.{◌≡◌, [], IfErr, IfOk, IsErrOf, OnOk, true};
+ghost use Rattle.std.specs.Prelude.{◌≡◌, IfErr, IfOk, IsErrOf, OnOk, true};
 ghost use Rattle.std.proofs.Props.{props};
 ghost use Rattle.rules.specs.World.{World};
 ghost use Rattle.book.specs.MemShelves.{files_of};
@@ -39,7 +39,7 @@ use trial::folder::contents_of;
 use trial::shelf::state_in;
 use written_worlds::write::{WrittenMailbox, WrittenWorld, write_parts};
 
-/// Makes one run over an outside whose shelf holds this state, and gives it back beside what the run came to.
+/// Makes one run over an outside whose shelf holds this state, by the map of its options, and gives it back beside what the run came to.
 ///
 /// Where the outside has kept its word: from a world that a run may begin with, where nobody else adds messages, an answer leaves both
 /// mailboxes and the state alike to the outcome that the rules name for it. Where others add messages under no mark of the run, it is
@@ -52,12 +52,13 @@ pub fn settle_all<O: Outside>(
     tries: u32,
     state: &SyncState,
 ) -> (O, Result<Settled, RunFault>)
+    requires map { O.keywords outside ≡ options.now.keywords }
     ensures done { (start : World) → start.state ≡ state.now → O.honest result.0 → O.alone ≡ true → AreOurs O.ours
         → Begins start (O.seen outside).device → OnOk result.1 (IsDone start options.now (O.seen result.0).device) }
     ensures over { (start : World) → start.state ≡ state.now → O.honest result.0 → AreOurs O.ours → Begins start (O.seen outside).device
-        → OnOk result.1 (IsOver O.ours O.alone (opening_of (O.keywords outside) start options.now) (O.seen result.0).device) }
+        → OnOk result.1 (IsOver O.ours O.alone (opening_of start options.now) (O.seen result.0).device) }
     ensures left { (start : World) → start.state ≡ state.now → O.honest result.0 → AreOurs O.ours → Begins start (O.seen outside).device
-        → IfErr result.1 (λ fault. LeavesRun (Underway O.ours O.alone (opening_of (O.keywords outside) start options.now)) fault (O.seen outside) (O.seen result.0)) }
+        → IfErr result.1 (λ fault. LeavesRun (Underway O.ours O.alone (opening_of start options.now)) fault (O.seen outside) (O.seen result.0)) }
     ensures keywords { O.keywords result.0 ≡ O.keywords outside }
     ensures greatest { HasNoNext (O.honest result.0) O.alone (O.seen outside).device (O.seen result.0).device result.1 }
     ensures stopped { IsErrOf result.1 RunFault.Stopped → MetStops tries (O.seen outside) (O.seen result.0) }
@@ -74,12 +75,13 @@ fn settle_from<O: Outside>(
     _state: &SyncState,
 ) -> (O, Result<Settled, RunFault>)
     ghost start: { World }
+    requires map { O.keywords outside ≡ options.now.keywords }
     ensures done { O.honest result.0 → O.alone ≡ true → AreOurs O.ours → Begins start (O.seen outside).device
         → OnOk result.1 (IsDone start options.now (O.seen result.0).device) }
     ensures over { O.honest result.0 → AreOurs O.ours → Begins start (O.seen outside).device
-        → OnOk result.1 (IsOver O.ours O.alone (opening_of (O.keywords outside) start options.now) (O.seen result.0).device) }
+        → OnOk result.1 (IsOver O.ours O.alone (opening_of start options.now) (O.seen result.0).device) }
     ensures left { O.honest result.0 → AreOurs O.ours → Begins start (O.seen outside).device
-        → IfErr result.1 (λ fault. LeavesRun (Underway O.ours O.alone (opening_of (O.keywords outside) start options.now)) fault (O.seen outside) (O.seen result.0)) }
+        → IfErr result.1 (λ fault. LeavesRun (Underway O.ours O.alone (opening_of start options.now)) fault (O.seen outside) (O.seen result.0)) }
     ensures keywords { O.keywords result.0 ≡ O.keywords outside }
     ensures greatest { HasNoNext (O.honest result.0) O.alone (O.seen outside).device (O.seen result.0).device result.1 }
     ensures stopped { IsErrOf result.1 RunFault.Stopped → MetStops tries (O.seen outside) (O.seen result.0) }
@@ -92,25 +94,29 @@ fn settle_from<O: Outside>(
 /// The outside of a run, beside what the run came to.
 pub type Run<L, F> = (Both<L, F, MemShelf>, Result<Settled, RunFault>);
 
-/// The outside of a run over this link, this folder and this shelf. Nothing is open, and no call was made.
+/// The outside of a run over this link, this folder and this shelf, by this map of keywords. Nothing is open, and no call was made.
 pub fn together<L: TrialLink + Drop, F: Folder + Drop>(
     alloc: Global,
     link: L,
     folder: F,
     shelf: MemShelf,
+    keywords: &Keywords,
 ) -> Result<Both<L, F, MemShelf>, Failure>
-    requires letters { L.honest link → HasMap [] (L.line link).end.server }
+    requires letters { L.honest link → HasMap keywords.now (L.line link).end.server }
     ensures seen { IfOk result (λ both. seen_of both
-        ≡ seen_with (device_at (L.line link).end.server (F.seen folder).stored (files_of shelf)) untouched) }
-    ensures keywords { IfOk result (λ both. both.far.far.keywords ≡ []) }
+        ≡ seen_with (device_at keywords.now (L.line link).end.server (F.seen folder).stored (files_of shelf)) untouched) }
+    ensures keywords { IfOk result (λ both. both.far.far.keywords ≡ keywords.now) }
 {
+    let account = account_of(alloc)?;
+    let far_map = keywords.try_clone(alloc)?;
+    let near_map = keywords.try_clone(alloc)?;
     let sides = Sides {
-        far: FarSide::new(alloc, account_of(alloc)?, link, Keywords::new(alloc)),
+        far: FarSide::new(alloc, account, link, far_map),
         folder,
         shelf,
     };
     // The folder of a trial has a meta file, so that this is of no use.
-    Ok(sides.together(alloc, NonZeroU32::MIN, Keywords::new(alloc)))
+    Ok(sides.together(alloc, NonZeroU32::MIN, near_map))
 }
 
 /// The near mailbox's folder, the shelf, and the far mailbox's link.
@@ -122,8 +128,9 @@ pub struct Devices<L: TrialLink + Drop> {
     pub folder: MemFolder,
     /// The state, and the journal.
     pub shelf: MemShelf,
-    // Only the six flags have a name.
-    pub ghost letters: { L.honest link → HasMap [] (L.line link).end.server } by { Prim.hlevel props },
+    /// The map of keywords, which is the server's.
+    pub keywords: Keywords,
+    pub ghost letters: { L.honest link → HasMap keywords (L.line link).end.server } by { Prim.hlevel props },
 }
 
 impl<L: TrialLink + Drop> Devices<L> {
@@ -131,7 +138,7 @@ impl<L: TrialLink + Drop> Devices<L> {
 
     /// What the outside of a run stands on.
     pub fn of(outside: Both<L, MemFolder, MemShelf>) -> Self
-        requires map { outside.far.far.keywords ≡ [] }
+        ensures map { result.keywords ≡ outside.far.far.keywords }
     {
         let Sides { far, folder, shelf } = Sides::of(outside);
         Devices::over(far, folder, shelf)
@@ -140,9 +147,7 @@ impl<L: TrialLink + Drop> Devices<L> {
     /// The same where others add files to the folder: it has all that has come.
     pub(crate) fn among<const MARKS: u32>(
         outside: Both<L, VisitedFolder<MARKS>, MemShelf>,
-    ) -> Result<Self, Failure>
-        requires map { outside.far.far.keywords ≡ [] }
-    {
+    ) -> Result<Self, Failure> {
         let Sides { far, folder, shelf } = Sides::of(outside);
         let folder = folder.into_folder()?;
         Ok(Devices::over(far, folder, shelf))
@@ -150,29 +155,32 @@ impl<L: TrialLink + Drop> Devices<L> {
 
     /// The link of this far mailbox, this folder and this shelf.
     fn over(far: FarSide<L>, folder: MemFolder, shelf: MemShelf) -> Self
-        requires map { far.far.keywords ≡ [] }
+        ensures map { result.keywords ≡ far.far.keywords }
     {
+        let (link, keywords) = far.into_parts();
         Devices {
-            link: far.into_link(),
+            link,
             folder,
             shelf,
+            keywords,
         }
     }
 
     /// The outside of another run over these devices, which are reopened. All that the run before left stands there, the journal too.
     pub fn again(self, alloc: Global) -> Result<Both<L, MemFolder, MemShelf>, Failure>
         ensures seen { IfOk result (λ both. seen_of both ≡ seen_with
-            (device_at (L.line self.link).end.server (stored_in self.folder) (files_of self.shelf)) untouched) }
-        ensures keywords { IfOk result (λ both. both.far.far.keywords ≡ []) }
+            (device_at self.keywords (L.line self.link).end.server (stored_in self.folder) (files_of self.shelf)) untouched) }
+        ensures keywords { IfOk result (λ both. both.far.far.keywords ≡ self.keywords) }
     {
         let Devices {
             link,
             mut folder,
             mut shelf,
+            keywords,
         } = self;
         folder.reopen();
         shelf.reopen();
-        together(alloc, link, folder, shelf)
+        together(alloc, link, folder, shelf, &keywords)
     }
 
     /// How many calls have stopped.
@@ -192,7 +200,7 @@ impl<L: TrialLink + Drop> Devices<L> {
             return Err(Failure::NoWorld);
         };
         let state = state_in(alloc, &self.shelf)?;
-        let near = contents_of(alloc, &self.folder, &Keywords::new(alloc))?;
+        let near = contents_of(alloc, &self.folder, &self.keywords)?;
         let world = WrittenWorld {
             far: WrittenMailbox::of(far),
             near: WrittenMailbox {

@@ -1,6 +1,6 @@
 //! The program `mbtrial`, over readers and writers.
 
-ghost use Rattle.std.specs.Prelude.{◌≡◌, ◌≤◌, [], IfOk, IsErr};
+ghost use Rattle.std.specs.Prelude.{◌≡◌, ◌≤◌, IfOk, IsErr};
 ghost use Rattle.imap_client.specs.Seen.{HasMap};
 
 use crate::among::run_among;
@@ -131,12 +131,12 @@ fn told_among(alloc: Global, trial: Trial) -> Result<(String, u8), Failure>
 fn told_in_pieces(alloc: Global, trial: Trial, piece: usize) -> Result<(String, u8), Failure>
     ensures { IfOk result (λ told. told.1 ≤ 1) }
 {
-    let options = trial.world.options;
     let tries = trial.course.tries;
     let VisitedSetting::<1> {
         far,
         arrivals,
         near,
+        options,
     } = visited(alloc, setting_of(alloc, trial)?)?;
     let link = MemLink::new(alloc, far.server, far.schedule).in_pieces(piece);
     let link = VisitedLink::<1>::new(link, arrivals);
@@ -147,12 +147,12 @@ fn told_in_pieces(alloc: Global, trial: Trial, piece: usize) -> Result<(String, 
 fn told_over_face(alloc: Global, trial: Trial) -> Result<(String, u8), Failure>
     ensures { IfOk result (λ told. told.1 ≤ 1) }
 {
-    let options = trial.world.options;
     let tries = trial.course.tries;
     let VisitedSetting::<1> {
         far,
         arrivals,
         near,
+        options,
     } = visited(alloc, setting_of(alloc, trial)?)?;
     let words = Rc::new(alloc, Words::new(alloc))?;
     let link = VisitedLink::<1>::new(MemLink::new(alloc, far.server, far.schedule), arrivals);
@@ -173,12 +173,12 @@ fn told_over_loopback<R: Net + AllocGlobal + Clone + Drop>(
     ensures { IfOk result (λ told. told.1 ≤ 1) }
 {
     let alloc = rt.alloc();
-    let options = trial.world.options;
     let tries = trial.course.tries;
     let VisitedSetting {
         far,
         arrivals,
         near,
+        options,
     } = visited(alloc, setting_of(alloc, trial)?)?;
     let link = LoopLink::new(rt, far.server, far.schedule).among(arrivals);
     told_over(alloc, link, near, &options, tries)
@@ -192,7 +192,7 @@ fn told_over<L: TrialLink + Drop>(
     options: &Options,
     tries: u32,
 ) -> Result<(String, u8), Failure>
-    requires { L.honest link → HasMap [] (L.line link).end.server }
+    requires { L.honest link → HasMap options.now.keywords (L.line link).end.server }
     ensures { IfOk result (λ told. told.1 ≤ 1) }
 {
     let NearSetting {
@@ -200,7 +200,7 @@ fn told_over<L: TrialLink + Drop>(
         shelf,
         state,
     } = near;
-    let outside = together(alloc, link, folder, shelf)?;
+    let outside = together(alloc, link, folder, shelf, &options.keywords)?;
     let (outside, settled) = settle_all(alloc, outside, options, tries, &state);
     told_of(alloc, Devices::among(outside)?, settled)
 }

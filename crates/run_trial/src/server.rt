@@ -1,6 +1,6 @@
 //! The far mailbox of a trial, as the INBOX of a server, and the links to it.
 
-ghost use Rattle.std.specs.Prelude.{◌≡◌, [], IfOk, codes};
+ghost use Rattle.std.specs.Prelude.{◌≡◌, IfOk, codes};
 ghost use Rattle.imap_client.specs.Seen.{HasMap};
 ghost use Rattle.imap_server.specs.Boxes.{AreServed};
 ghost use Rattle.run_trial.specs.Settings.{inbox_of};
@@ -11,6 +11,7 @@ use imap_link::link::Link;
 use imap_server::served::are_served;
 use imap_server::server::Server;
 use link_face::face_link::FaceLink;
+use mailcore::keywords::Keywords;
 use mailcore::mailbox::Mailbox;
 use mailcore::mailbox_name::MailboxName;
 use mem_link::loop_link::LoopLink;
@@ -26,11 +27,15 @@ const PASSWORD: &[u8] = b"p";
 
 pub(crate) const MAILBOX: &[u8] = b"INBOX";
 
-/// A server with this mailbox, as its INBOX. `NoWorld`: it has a message that cannot be sent.
-pub(crate) fn server_with(alloc: Global, far: Mailbox) -> Result<Server, Failure>
+/// A server with this mailbox, as its INBOX, and with this map of keywords. `NoWorld`: it has a message that cannot be sent.
+pub(crate) fn server_with(
+    alloc: Global,
+    far: Mailbox,
+    keywords: Keywords,
+) -> Result<Server, Failure>
     ensures served { IfOk result (λ server. AreServed server.server.mailboxes) }
     ensures inbox { IfOk result (λ server. server.server.mailboxes ≡ inbox_of far) }
-    ensures letters { IfOk result (λ server. HasMap [] server.server) }
+    ensures letters { IfOk result (λ server. HasMap keywords server.server) }
 {
     let mut inbox = far;
     inbox.name = MailboxName::inbox(alloc)?;
@@ -41,7 +46,7 @@ pub(crate) fn server_with(alloc: Global, far: Mailbox) -> Result<Server, Failure
     }
     let user = Vec::from_slice(alloc, USER)?;
     let password = Vec::from_slice(alloc, PASSWORD)?;
-    Ok(Server::new(alloc, mailboxes, user, password))
+    Ok(Server::with_keywords(alloc, mailboxes, user, password, keywords))
 }
 
 /// Whose mailbox it is.

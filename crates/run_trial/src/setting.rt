@@ -1,6 +1,6 @@
 //! What the run of a trial is made over: the server with its far mailbox and where the link to it stops, the folder and the shelf.
 
-ghost use Rattle.std.specs.Prelude.{◌≡◌, [], IfOk};
+ghost use Rattle.std.specs.Prelude.{◌≡◌, IfOk};
 ghost use Rattle.imap_client.specs.Seen.{HasMap};
 ghost use Rattle.imap_server.specs.Boxes.{AreServed};
 ghost use Rattle.trial.specs.Worlds.{FitsWords, world_of};
@@ -15,6 +15,7 @@ use mailcore::keywords::Keywords;
 use mailcore::mailbox::Mailbox;
 use maildir::mem_folder::MemFolder;
 use mem_link::schedule::Schedule;
+use rules::options::Options;
 use rules::state::SyncState;
 use std::alloc::Global;
 use trial::arrival::Arrivals;
@@ -37,6 +38,8 @@ pub struct Setting {
     pub state: SyncState,
     /// What others add meanwhile.
     pub arrivals: Arrivals,
+    /// What the run may do, and its map of keywords, which is the server's.
+    pub options: Options,
 }
 
 /// The server, and how the link to it stops and leaves out APPENDUID.
@@ -48,18 +51,20 @@ pub struct FarSetting {
     pub schedule: Schedule,
 }
 
-/// The server with this mailbox, and the stops of the link to it, over which the replies to some APPENDs come without APPENDUID.
+/// The server with this mailbox and this map of keywords, and the stops of the link to it, over which the replies to some APPENDs come
+/// without APPENDUID.
 fn far_with(
     alloc: Global,
     far: Mailbox,
+    keywords: Keywords,
     stops: &[LinkStop],
     mutes: Vec<u64>,
 ) -> Result<FarSetting, Failure>
     ensures served { IfOk result (λ far. AreServed far.server.server.mailboxes) }
     ensures inbox { IfOk result (λ setting. setting.server.server.mailboxes ≡ inbox_of far) }
-    ensures letters { IfOk result (λ setting. HasMap [] setting.server.server) }
+    ensures letters { IfOk result (λ setting. HasMap keywords setting.server.server) }
 {
-    let server = server_with(alloc, far)?;
+    let server = server_with(alloc, far, keywords)?;
     let schedule = schedule_of(alloc, stops, mutes)?;
     Ok(FarSetting { server, schedule })
 }
@@ -68,7 +73,7 @@ fn far_with(
 /// that was read.
 pub fn setting_of(alloc: Global, trial: Trial) -> Result<Setting, Failure>
     ensures served { IfOk result (λ setting. AreServed setting.far.server.server.mailboxes) }
-    ensures letters { IfOk result (λ setting. HasMap [] setting.far.server.server) }
+    ensures letters { IfOk result (λ setting. HasMap setting.options.keywords setting.far.server.server) }
     ensures holds { IfOk result (λ setting. IsSettingOf trial setting) }
     ensures arrivals { IfOk result (λ setting. setting.arrivals ≡ trial.course.arrivals) }
     ensures fits { IfOk result (λ _. FitsWords (world_of trial.world)) }
@@ -79,7 +84,7 @@ pub fn setting_of(alloc: Global, trial: Trial) -> Result<Setting, Failure>
         near,
         waiting,
         state,
-        options: _,
+        options,
     } = world;
     let Course {
         journal,
@@ -97,8 +102,9 @@ pub fn setting_of(alloc: Global, trial: Trial) -> Result<Setting, Failure>
         state.run,
         waiting.len(),
     );
-    let far = far_with(alloc, far, &stops.link, mutes);
-    let folder = folder_with(alloc, near, waiting, stops.folder, &Keywords::new(alloc));
+    let keywords = options.keywords.try_clone(alloc)?;
+    let far = far_with(alloc, far, keywords, &stops.link, mutes);
+    let folder = folder_with(alloc, near, waiting, stops.folder, &options.keywords);
     let shelf = shelf_with(alloc, &state, journal, stops.shelf);
     Ok(Setting {
         far: far?,
@@ -106,5 +112,6 @@ pub fn setting_of(alloc: Global, trial: Trial) -> Result<Setting, Failure>
         shelf: shelf?,
         state,
         arrivals,
+        options,
     })
 }

@@ -16,6 +16,7 @@ use maildir::mem_folder::MemFolder;
 use maildir::visited_folder::{Arrival as NearArrival, VisitedFolder};
 use mem_link::arrivals::{Arrival, Arrivals};
 use mem_link::command::Nth;
+use rules::options::Options;
 use rules::state::SyncState;
 use std::alloc::{AllocError, Global};
 use trial::arrival::FarArrival;
@@ -27,6 +28,8 @@ pub(crate) struct VisitedSetting<const MARKS: u32> {
     /// What others add to the far mailbox.
     pub(crate) arrivals: Arrivals,
     pub(crate) near: NearSetting<MARKS>,
+    /// What the run may do, and its map of keywords, which is the server's.
+    pub(crate) options: Options,
 }
 
 /// The folder, the shelf, and the state that the shelf holds.
@@ -46,6 +49,7 @@ pub(crate) fn visited<const MARKS: u32>(
     ensures served { IfOk result (λ v. AreServed v.far.server.server.mailboxes) }
     ensures letters { IfOk result (λ v. v.far.server.server.keywords ≡ setting.far.server.server.keywords) }
     ensures far { IfOk result (λ v. v.far ≡ setting.far) }
+    ensures options { IfOk result (λ v. v.options ≡ setting.options) }
     ensures arrivals { IfOk result (λ v. v.arrivals.list.items ≡ map arrival_of setting.arrivals.far.items) }
     ensures near { IfOk result (λ v. (stored_in v.near.folder.folder ≡ stored_in setting.folder) × (v.near.folder.arrivals ≡ setting.arrivals.near)) }
     ensures kept { IfOk result (λ v. AreKept setting v.near.shelf v.near.state) }
@@ -56,6 +60,7 @@ pub(crate) fn visited<const MARKS: u32>(
         shelf,
         state,
         arrivals,
+        options,
     } = setting;
     let near = NearSetting {
         folder: folder_among(alloc, folder, arrivals.near),
@@ -66,6 +71,7 @@ pub(crate) fn visited<const MARKS: u32>(
         far,
         arrivals: far_arrivals(alloc, arrivals.far)?,
         near,
+        options,
     })
 }
 

@@ -22,11 +22,13 @@ use Rattle.underway.specs.Conditions.{IsPending, Underway}
 use Rattle.underway.specs.Openings.{Opening, Unplanned}
 use Rattle.underway.proofs.Arrived.{pending_arrives}
 use Rattle.underway.proofs.Growth.{unplanned_arrives}
+use Rattle.mailcore.specs.declared.keywords.Keyword.{Keyword}
 use Rattle.mailcore.specs.declared.side.Side.{Side}
 use Rattle.runner.specs.declared.fault.RunFault.{RunFault}
 use Rattle.runner.specs.declared.pass.Pass.{Pass}
 use Rattle.runner.specs.declared.fault.RunFault.TheVariants as run
-use Rattle.runner.specs.Faults.{IsBeyond, IsCaused, IsLastRun, Reasons, because, call_fault, or_beyond, or_refused, or_unread, stops_met}
+use Rattle.runner.specs.Faults.{IsBeyond, IsCaused, IsLastRun, Reasons, because, call_fault, or_beyond, or_keywords, or_refused, or_unread, stops_met}
+use Rattle.runner.specs.ChangedMaps.{TellsOtherMap}
 use Rattle.runner.specs.Parts.{IsStuck, Left, TellsMore}
 use Rattle.runner.specs.Answers.{Answers, IsAsked, Moves, as_read, run_of}
 use Rattle.runner.specs.Attempts.{AnswersAt, AtOpening, HasNoNext, HasReached, IsReached, MetBefore, MetStops, Reopens, TellsNoNext, TriedAt, failed_before, found_by}
@@ -115,6 +117,9 @@ attempt_changed alone h1 h2 a b c side honest kept told = λ h s p held.
     let t = told h s p (subst (λ (f : Files). Holds f s p) (sym k.files) held) in
     (changed_before (as_read s p) side a b k.validities t.0, kept_next alone a b c k t.1)
 
+pub attempt_map : (alone : Bool) (h1 h2 : Type 0) (keywords : List Keyword) (a b c : Device) → (h2 → h1) → (h1 → IsKept alone a b) → TellsOtherMap h2 alone keywords b c → TellsOtherMap h2 alone keywords a c
+attempt_map alone h1 h2 keywords a b c honest kept told = λ h. let t = told h in (t.0, kept_next alone a b c (kept (honest h)) t.1)
+
 pub attempt_answers : (ours : List ℕ → Bool) (alone : Bool) (opening : Opening) (h1 h2 : Type 0) (options : Options) (stream : Stream) (fixed : Option ℕ) (number : ℕ) (a b : Device) (before : Option ℕ) (r : Result Pass RunFault) → fixed ≡ Some number → (h2 → h1) → (h1 → IsKept alone a b)
     → (h1 → TriedAt ours alone opening before a → TriedAt ours alone opening fixed b)
     → IfOk r (λ pass. h2 → AnswersAt number options pass b stream)
@@ -191,6 +196,7 @@ none_met (run.BadJournal line) other = refl
 none_met (run.StoreFault side number) other = refl
 none_met run.MarksRepeat other = refl
 none_met run.NoMemory other = refl
+none_met run.KeywordsChanged other = refl
 
 -- as an attempt finds the outside
 pub found_first : (n : ℕ) (s : Seen) → n ≡ 0 → found_by n s ≡ s
@@ -288,10 +294,10 @@ pub more_found : (n : ℕ) (start now s1 : Seen) → TellsMore start now → s1 
 more_found n start now s1 p e = more_after start now s1 p (more_none now s1 (ap (λ (s : Seen). s.told) e))
 
 -- a fault that is told in one attempt is told in all
-pub caused_since : {c : Reasons} (h : Type 0) (a u : Device → Type 0) (repeats beyond : Type 0) (unread : OutsideFault → Type 0) (f : RunFault) (s0 s1 s2 : Seen) → TellsMore s0 s1 → s0.appends ≤ s1.appends → (f ≡ run.Stopped → ⊥) → Left c h a u f s1 s2 → (c.repeats → repeats) → (c.beyond → beyond) → ((e : OutsideFault) → c.unread e → unread e)
-    → IsCaused (or_unread unread (or_refused (λ step. Unit {0}) (or_beyond beyond (because (λ side. Unit {0}) repeats)))) f s0 s2
-caused_since {c} h a u repeats beyond unread f s0 s1 s2 more appends other l g b k =
-    caused_told c (or_unread unread (or_refused (λ step. Unit {0}) (or_beyond beyond (because (λ side. Unit {0}) repeats)))) f s0 s2 (record { changed = λ side t. tt; repeats = g; beyond = b; unread = k; refused = λ step t. tt; unstepped = λ t. tt })
+pub caused_since : {c : Reasons} (h : Type 0) (a u : Device → Type 0) (keywords repeats beyond : Type 0) (unread : OutsideFault → Type 0) (f : RunFault) (s0 s1 s2 : Seen) → TellsMore s0 s1 → s0.appends ≤ s1.appends → (f ≡ run.Stopped → ⊥) → Left c h a u f s1 s2 → (c.keywords → keywords) → (c.repeats → repeats) → (c.beyond → beyond) → ((e : OutsideFault) → c.unread e → unread e)
+    → IsCaused (or_unread unread (or_refused (λ step. Unit {0}) (or_beyond beyond (or_keywords keywords (because (λ side. Unit {0}) repeats))))) f s0 s2
+caused_since {c} h a u keywords repeats beyond unread f s0 s1 s2 more appends other l m g b k =
+    caused_told c (or_unread unread (or_refused (λ step. Unit {0}) (or_beyond beyond (or_keywords keywords (because (λ side. Unit {0}) repeats))))) f s0 s2 (record { changed = λ side t. tt; keywords = m; repeats = g; beyond = b; unread = k; refused = λ step t. tt; unstepped = λ t. tt })
     (caused_after c f s0 s1 s2 (λ is. absurd (other is)) more appends l.caused)
 
 -- ---- a run that is fixed is not beyond the next one

@@ -7,6 +7,7 @@ use Rattle.mailcore.specs.Listed.{item_of}
 use Rattle.mailcore.specs.Operations.{ShowsSparing, item_sparing}
 use Rattle.mailcore.specs.Mailboxes.{Mailbox}
 use Rattle.mailcore.specs.Stores.{Waiting}
+use Rattle.sync_state.specs.declared.version.Version.TheVariants.{Two}
 use Rattle.rules.specs.declared.plan.Plan.{Plan}
 use Rattle.book.specs.declared.book.Pending.TheVariants.{Missing, Useless}
 use Rattle.book.specs.Books.{Holds, Turns as TurnsJournal, TurnsHalf}
@@ -81,12 +82,12 @@ module _ (ours : List ℕ → Bool) (alone : Bool) (opening : Opening) where
 
   -- ---- the listings
 
-  pub far_listed : (opened : Option Opened) (far : Listing) (d m d' : Device) → ListsWithin opening.keywords far → Arrives ours alone d m → IsClear alone opening opened true d → d' ≡ m → ListsFar alone d.far.next far m → FarListed alone opening opened far d'
+  pub far_listed : (opened : Option Opened) (far : Listing) (d m d' : Device) → ListsWithin opening.options.keywords far → Arrives ours alone d m → IsClear alone opening opened true d → d' ≡ m → ListsFar alone d.far.next far m → FarListed alone opening opened far d'
   far_listed opened far d m d' within a c is l =
       let g = c.grows in
       rw is (record { clear = clear_arrives opened true d m a c; lists = lists_since alone d.far.next opening.world.far.next far m.far g.far_next l; within = within })
 
-  pub near_listed : (opened : Option Opened) (far near : Listing) (spared : ℕ → Bool) (d m d' : Device) → ListsWithin opening.keywords near → AreOld opening.world.state.max_pushed opening.world.state.entries spared → Arrives ours alone d m → FarListed alone opening opened far d → d' ≡ m → ShowsSparing NearSide spared m.near.store near → BothListed ours alone opening opened far near d'
+  pub near_listed : (opened : Option Opened) (far near : Listing) (spared : ℕ → Bool) (d m d' : Device) → ListsWithin opening.options.keywords near → AreOld opening.world.state.max_pushed opening.world.state.entries spared → Arrives ours alone d m → FarListed alone opening opened far d → d' ≡ m → ShowsSparing NearSide spared m.near.store near → BothListed ours alone opening opened far near d'
   near_listed opened far near spared d m d' within old a f is l =
       let c = clear_arrives opened true d m a f.clear in
       let s = opening.world.state in
@@ -98,7 +99,7 @@ module _ (ours : List ℕ → Bool) (alone : Bool) (opening : Opening) where
         grows = grows;
         admitted = λ e. c.admitted refl e;
         below = names_below alone opening.world (listed_world s far.next d m) grows c.below;
-        within = record { far = shown_within opening.keywords (item_of Far) (λ _. refl) far.items d.far.messages f.lists.shows.items f.within; near = shown_within opening.keywords (item_sparing NearSide spared) (λ _. refl) near.items m.near.store.messages l.items within };
+        within = record { far = shown_within opening.options.keywords (item_of Far) (λ _. refl) far.items d.far.messages f.lists.shows.items f.within; near = shown_within opening.options.keywords (item_sparing NearSide spared) (λ _. refl) near.items m.near.store.messages l.items within };
         holds = (record { far_is = f.lists.shows; spared = spared; old = old; near_is = l }, listed_here ours alone opening.world s far.next d m grows most (λ e. c.admitted refl e) a c.files (spares_more opening.world (listed_world s far.next d m) m (grows_next alone opening.world (listed_world s far.next d m) grows) c.spares));
       } in
       rw is (record { clear = c; since = since })
@@ -114,7 +115,7 @@ module _ (ours : List ℕ → Bool) (alone : Bool) (opening : Opening) where
       let now = made_arrives (Some o) plan d m a p in
       record {
         state = now.clear.state;
-        since = since_map alone opening _ _ (λ w g k. let l = k.1 in written_midway ours alone w opening.options plan m d' k.0 l t.far t.near t.named (t.files w.state l.files)) now.since;
+        since = since_map alone opening _ _ (λ w g k. let l = k.1 in written_midway ours alone w opening.options Two plan m d' k.0 l t.far t.near t.named (t.files w.state l.files)) now.since;
       }
 
   pub half_written : (opened : Option Opened) (plan : Plan) (d m d' : Device) → Arrives ours alone d m → IsMade ours alone opening opened plan d → OfBook (λ _. TurnsHalf Missing Useless) opened m d' → Underway ours alone opening d'

@@ -1,6 +1,7 @@
 -- How several attempts end, by the last of them.
 use Rattle.std.proofs.Common.{◌≡◌, ◌<◌, ◌+◌, ℕ, Bool, List, sym, subst}
 use Rattle.rand_core.specs.Stream.{Stream}
+use Rattle.mailcore.specs.declared.keywords.Keyword.{Keyword}
 use Rattle.mailcore.specs.declared.side.Side.{Side}
 use Rattle.rules.specs.declared.options.Options.{Options}
 use Rattle.outside.specs.Calls.{Seen}
@@ -10,13 +11,14 @@ use Rattle.underway.specs.Openings.{Opening}
 use Rattle.runner.specs.declared.fault.RunFault.{RunFault}
 use Rattle.runner.specs.declared.fault.RunFault.TheVariants as run
 use Rattle.runner.specs.declared.pass.Settled.{Settled}
-use Rattle.runner.specs.Attempts.{AnswersAt, ChangedLast, began_on}
+use Rattle.runner.specs.Attempts.{AnswersAt, ChangedLast, KeptLast, began_on}
+use Rattle.runner.specs.ChangedMaps.{TellsOtherMap}
 use Rattle.runner.specs.Faults.{IsCaused, Reasons}
 use Rattle.runner.specs.Finding.{FindsAt}
 use Rattle.runner.specs.Parts.{Left}
 use Rattle.runner.specs.Results.{IsTold}
 use Rattle.runner.specs.Settled.{IsSettled}
-use Rattle.runner.specs.Validities.{TellsChanged}
+use Rattle.runner.specs.Validities.{IsKept, TellsChanged}
 use Rattle.runner.proofs.Passes.{over_alike}
 use Rattle.runner.proofs.Readings.{underway_files}
 use Rattle.runner.proofs.Reopening.{BeganAt}
@@ -50,3 +52,10 @@ module _ (ours : List ℕ → Bool) (alone : Bool) (opening : Opening) (start s1
         changed = λ s p at. (here honest s p at).0;
         kept = (here honest held.0 held.1.0 held.1.1).1;
       }
+
+  -- since the map of keywords has
+  pub kept_last : {reasons : Reasons} (h : Type 0) (a u : Device → Type 0) (n tries : ℕ) (keywords : List Keyword) (f : RunFault) → BeganAt ours alone opening n start s1 s2 stream drawn → n < tries → f ≡ run.KeywordsChanged → h
+      → Left reasons h a u f s1 s2 → (reasons.keywords → TellsOtherMap h alone keywords s1.device s2.device) → KeptLast ours alone opening tries start s2 stream
+  kept_last {reasons} h a u n tries keywords f b few is honest l tells =
+      let told : TellsOtherMap h alone keywords s1.device s2.device = tells (subst (λ (x : RunFault). IsCaused reasons x s1 s2) is l.caused) in
+      record { earlier = n; few = few; began = b.began; kept = subst (λ (d : Device). IsKept alone d s2.device) (sym b.at) (told honest).1 }

@@ -21,6 +21,7 @@ use Rattle.rules.specs.declared.state.SyncState.{SyncState}
 use Rattle.rules.specs.World.{World}
 use Rattle.rules.proofs.Walks.{Contains-filter_map}
 use Rattle.planner.specs.Written.{mark_of as mark_in}
+use Rattle.sync_state.specs.declared.version.Version.{Version}
 use Rattle.sync_state.specs.declared.journal.Logged.{Logged}
 use Rattle.sync_state.specs.declared.journal.Logged.TheVariants.{Copied, Done}
 use Rattle.book.specs.declared.book.Pending.{Pending}
@@ -52,7 +53,7 @@ use Rattle.runner.specs.declared.performed.StepResult.{StepResult}
 use Rattle.runner.specs.declared.performed.StepResult.TheVariants as did
 use Rattle.runner.specs.Answers.{as_read}
 use Rattle.runner.specs.Finding.{AreFoundSo, FindsAt, FindsBy, FindsSame, IsFoundSo, IsNew, OfSame, copy_at, copy_under, told_found}
-use Rattle.runner.specs.Going.{AtReady, CopiesUnder, HasLogged, log_at, logged_of, logs_of, next_at, plan_at, steps_of}
+use Rattle.runner.specs.Going.{AtReady, CopiesUnder, HasLogged, log_at, logged_of, logs_of, next_at, plan_at, steps_of, version_at}
 use Rattle.runner.proofs.Stages.{stands_of}
 
 -- ---- what others add bears no mark of ours
@@ -129,8 +130,8 @@ grown : (b : Boxes) (side : Side) (m : Message) → b ≡ with_messages_in b sid
 grown b Far m e = not_longer b.far m (ap (λ (x : Boxes). x.far) e)
 grown b Near m e = not_longer b.near m (ap (λ (x : Boxes). x.near) e)
 
-module _ (ours : List ℕ → Bool) (alone : Bool) (w : World) (options : Options) (plan : Plan) (log : List Logged) (dir : Direction) (uid flags : ℕ) (mark : List ℕ) (is : next_of plan.steps log ≡ Some (step.New dir uid flags mark)) where
-  never_both : (copy : ℕ) (d : Device) → Midway ours alone w options plan log false log false d → Midway ours alone w options plan log false (log ++ Copied copy ∷ []) false d → ⊥
+module _ (ours : List ℕ → Bool) (alone : Bool) (w : World) (options : Options) (version : Version) (plan : Plan) (log : List Logged) (dir : Direction) (uid flags : ℕ) (mark : List ℕ) (is : next_of plan.steps log ≡ Some (step.New dir uid flags mark)) where
+  never_both : (copy : ℕ) (d : Device) → Midway ours alone w options version plan log false log false d → Midway ours alone w options version plan log false (log ++ Copied copy ∷ []) false d → ⊥
   never_both copy d a b =
       let s = step.New dir uid flags mark in
       let before = after plan.steps (results_of log) (boxes_of w) in
@@ -141,13 +142,16 @@ module _ (ours : List ℕ → Bool) (alone : Bool) (w : World) (options : Option
       grown before (target dir) _ (sym a.boxes ∙ ap (λ (ms : List (List ℕ)). own (is_own w ms) (boxes_at d)) marks ∙ b.boxes ∙ more)
 
 module _ (ours : List ℕ → Bool) (alone : Bool) (opening : Opening) (opened : Option Opened) where
+  abbrev version : Version
+  version = version_at opened
+
   abbrev plan : Plan
   plan = plan_at opened
 
   abbrev log : List Logged
   log = log_at opened
 
-  planned_at : (w : World) (d : Device) → Stands ours alone w opening.options plan log false d → IsPlanned ours w opening.options plan
+  planned_at : (w : World) (d : Device) → Stands ours alone w opening.options version plan log false d → IsPlanned ours w opening.options plan
   planned_at w d (inl k) = let at = k.1 in at.planned
   planned_at w d (inr k) = let at = k.1 in at.planned
 
@@ -169,11 +173,11 @@ module _ (ours : List ℕ → Bool) (alone : Bool) (opening : Opening) (opened :
   none_there dir uid flags mark is d k =
       let s = k.since in
       by_found s.world s.holds (marked_from mark (first_uid plan (target dir)) (box d (target dir))) refl
-      (sought ours alone s.world opening.options plan log (s.grows).in_order dir uid flags mark is d (inl (false, s.holds)) _ refl)
+      (sought ours alone s.world opening.options version plan log (s.grows).in_order dir uid flags mark is d (inl (false, s.holds)) _ refl)
     where
-      by_found : (w : World) → Midway ours alone w opening.options plan log false log false d → (x : Option ℕ) → marked_from mark (first_uid plan (target dir)) (box d (target dir)) ≡ x → IsSought ours alone w opening.options plan log x d → marked_from mark (first_uid plan (target dir)) (box d (target dir)) ≡ None
+      by_found : (w : World) → Midway ours alone w opening.options version plan log false log false d → (x : Option ℕ) → marked_from mark (first_uid plan (target dir)) (box d (target dir)) ≡ x → IsSought ours alone w opening.options version plan log x d → marked_from mark (first_uid plan (target dir)) (box d (target dir)) ≡ None
       by_found w at None e t = e
-      by_found w at (Some copy) e t = absurd (never_both ours alone w opening.options plan log dir uid flags mark is copy d at t)
+      by_found w at (Some copy) e t = absurd (never_both ours alone w opening.options version plan log dir uid flags mark is copy d at t)
 
   -- before a step none of whose calls is done there is no copy of it
   pub not_there : (s : Step) → next_at opened ≡ Some s → (d : Device) → AtReady ours alone opening opened false d → copy_at plan s d ≡ None

@@ -21,6 +21,7 @@ use Rattle.rules.specs.World.{World, IsInOrder, NamesBelow, store, scene_of}
 use Rattle.rules.proofs.Walks.{Contains-first, Contains-rest}
 use Rattle.rules.proofs.WorldLemmas.{store_is}
 use Rattle.planner.specs.Written.{all_steps}
+use Rattle.sync_state.specs.declared.version.Version.{Version}
 use Rattle.sync_state.specs.declared.journal.Logged.{Logged}
 use Rattle.sync_state.specs.declared.journal.Logged.TheVariants.{Copied, Done, Void}
 use Rattle.book.specs.Agreement.{Copy, copies_of, is_side, is_source_of}
@@ -129,8 +130,8 @@ at_next passes [] log f = refl
 at_next passes (s ∷ steps) [] f = f s refl
 at_next passes (s ∷ steps) (r ∷ log) f = at_next passes steps log f
 
-module _ (ours : List ℕ → Bool) (alone : Bool) (w : World) (options : Options) (plan : Plan) (log : List Logged) (sound : IsInOrder w) (below : NamesBelow w) where
-  free_next : (logged : Logged) (d : Device) → Midway ours alone w options plan log false (log ++ logged ∷ []) false d → (s : Step) → next_of plan.steps log ≡ Some s → is_free_for w.state.entries (record { plan = plan; log = log }) s logged ≡ true
+module _ (ours : List ℕ → Bool) (alone : Bool) (w : World) (options : Options) (version : Version) (plan : Plan) (log : List Logged) (sound : IsInOrder w) (below : NamesBelow w) where
+  free_next : (logged : Logged) (d : Device) → Midway ours alone w options version plan log false (log ++ logged ∷ []) false d → (s : Step) → next_of plan.steps log ≡ Some s → is_free_for w.state.entries (record { plan = plan; log = log }) s logged ≡ true
   free_next (Copied copy) d at (step.New dir uid flags mark) is =
       let p = at.planned in
       let side : Side = target dir in
@@ -155,5 +156,5 @@ module _ (ours : List ℕ → Bool) (alone : Bool) (w : World) (options : Option
   free_next Void d at (step.Flags dir a n set cleared) is = refl
   free_next Void d at (step.Expunge side u) is = refl
 
-  pub copy_is_free : (logged : Logged) (d : Device) → Midway ours alone w options plan log false (log ++ logged ∷ []) false d → is_free w.state.entries (record { plan = plan; log = log }) logged ≡ true
+  pub copy_is_free : (logged : Logged) (d : Device) → Midway ours alone w options version plan log false (log ++ logged ∷ []) false d → is_free w.state.entries (record { plan = plan; log = log }) logged ≡ true
   copy_is_free logged d at = at_next (λ s. is_free_for w.state.entries (record { plan = plan; log = log }) s logged) plan.steps log (free_next logged d at)

@@ -26,7 +26,7 @@ use Rattle.underway.specs.Moments.{Midway, PlannedAt, with_log}
 use Rattle.underway.specs.Openings.{Opening}
 use Rattle.underway.specs.Plans.{next_of}
 use Rattle.underway.proofs.Moves.{midway_filed}
-use Rattle.runner.specs.Going.{AtDone, AtReady, FitsNext, HasLogged, HasUntorn, IsGoing, IsUntorn, log_at, next_at, no_journal, number_at, plan_at}
+use Rattle.runner.specs.Going.{AtDone, AtReady, FitsNext, HasLogged, HasUntorn, IsGoing, IsUntorn, log_at, next_at, no_journal, number_at, plan_at, version_at, version_in}
 use Rattle.runner.proofs.FreeCopies.{copy_is_free}
 use Rattle.runner.proofs.PartCalls.{TellsNoBook}
 use Rattle.runner.proofs.Stages.{done_arrives, done_underway, left_by, moment_map, planned, ready_underway}
@@ -46,14 +46,14 @@ takes_log (Some o) number logged g n f = of_pending o.pending number logged g n 
     of_pending (Planned written) number logged g n f = record { whole = g; number = n; fits = fits_at written.journal.plan.steps written.journal.log logged f }
 
 -- the effect on the plan that is pending
-pub of_book : (does : Pending → Effect Files) (opened : Option Opened) (d d' : Device) → HasUntorn opened → OfBook does opened d d' → OnFiles (does (with_log (plan_at opened) (log_at opened) false)) d d'
+pub of_book : (does : Pending → Effect Files) (opened : Option Opened) (d d' : Device) → HasUntorn opened → OfBook does opened d d' → OnFiles (does (with_log (version_at opened) (plan_at opened) (log_at opened) false)) d d'
 of_book does None d d' g e = absurd g
 of_book does (Some o) d d' g e = of_pending o.pending g e
   where
-    of_pending : (p : Pending) → IsUntorn p → OnFiles (does p) d d' → OnFiles (does (with_log (unwrap_or (journal_in p) no_journal).plan (unwrap_or (journal_in p) no_journal).log false)) d d'
+    of_pending : (p : Pending) → IsUntorn p → OnFiles (does p) d d' → OnFiles (does (with_log (version_in p) (unwrap_or (journal_in p) no_journal).plan (unwrap_or (journal_in p) no_journal).log false)) d d'
     of_pending Missing g e = absurd g
     of_pending Useless g e = absurd g
-    of_pending (Planned written) g e = subst (λ (b : Bool). OnFiles (does (Planned (record { journal = written.journal; is_torn = b }))) d d') g e
+    of_pending (Planned written) g e = subst (λ (b : Bool). OnFiles (does (Planned (record { version = written.version; journal = written.journal; is_torn = b }))) d d') g e
 
 still_open : (f : Pending → Pending) (side : Side) (opened : Option Opened) → IsOpen side opened → IsOpen side (turned f opened)
 still_open f side None h = h
@@ -68,7 +68,7 @@ has_logged (Some o) logged g = of_pending o.pending g.untorn (λ side. still_ope
     of_pending : (p : Pending) → IsUntorn p → ((side : Side) → IsOpen side (Some (record o { pending = logged_more p logged }))) → HasLogged (Some (record o { pending = p })) (Some (record o { pending = logged_more p logged })) (logged ∷ [])
     of_pending Missing g f = absurd g
     of_pending Useless g f = absurd g
-    of_pending (Planned written) g f = record { going = record { untorn = g; boxes = f }; state = refl; plan = refl; log = refl }
+    of_pending (Planned written) g f = record { going = record { untorn = g; boxes = f }; state = refl; version = refl; plan = refl; log = refl }
 
 taken_free : (opened : Option Opened) (logged : Logged) (s : SyncState) → HasUntorn opened → state_of opened ≡ Some s → IsTaken opened logged → is_free s.entries (record { plan = plan_at opened; log = log_at opened }) logged ≡ true → ⊥
 taken_free None logged s g e t f = t
@@ -83,10 +83,10 @@ module _ (ours : List ℕ → Bool) (alone : Bool) (opening : Opening) (opened :
   pub log_made : (now : Option Opened) (d m d' : Device) → IsGoing opened → HasLogged opened now (logged ∷ []) → Arrives ours alone d m → AtDone ours alone opening opened logged d → OfBook (λ p. Turns p (logged_more p logged)) opened m d' → AtReady ours alone opening now false d'
   log_made now d m d' g h a at e =
       let t = of_book (λ p. Turns p (logged_more p logged)) opened m d' g.untorn e in
-      let k = moment_map alone opening opened _ (λ w. Midway ours alone w opening.options (plan_at opened) (log_at opened ++ logged ∷ []) false (log_at opened ++ logged ∷ []) false d')
-      (λ w grows b x. midway_filed ours alone w opening.options (plan_at opened) (log_at opened) (log_at opened ++ logged ∷ []) false false (log_at opened ++ logged ∷ []) false m d' t.far t.near t.named (t.files w.state x.files) x)
+      let k = moment_map alone opening opened _ (λ w. Midway ours alone w opening.options (version_at opened) (plan_at opened) (log_at opened ++ logged ∷ []) false (log_at opened ++ logged ∷ []) false d')
+      (λ w grows b x. midway_filed ours alone w opening.options (version_at opened) (plan_at opened) (log_at opened) (log_at opened ++ logged ∷ []) false false (log_at opened ++ logged ∷ []) false m d' t.far t.near t.named (t.files w.state x.files) x)
       (done_arrives ours alone opening opened logged d m a at) in
-      rw (h.plan, h.log) (record { state = h.state ∙ k.state; since = k.since })
+      rw (h.version, h.plan, h.log) (record { state = h.state ∙ k.state; since = k.since })
 
   made_underway : (d m d' : Device) → IsGoing opened → Arrives ours alone d m → AtDone ours alone opening opened logged d → OfBook (λ p. Turns p (logged_more p logged)) opened m d' → Underway ours alone opening d'
   made_underway d m d' g a at e =
@@ -99,16 +99,16 @@ module _ (ours : List ℕ → Bool) (alone : Bool) (opening : Opening) (opened :
       planned ours alone opening opened (λ w. PlannedAt ours alone w opening.options d') d' (λ w p. p)
       (moment_map alone opening opened _ _ (λ w grows b x. by_files w t.far t.near t.named x (t.files w.state x.files)) (done_arrives ours alone opening opened logged d m a at))
     where
-      by_files : (w : World) → d'.far ≡ m.far → d'.near ≡ m.near → d'.named ≡ m.named → Midway ours alone w opening.options (plan_at opened) (log_at opened) false (log_at opened ++ logged ∷ []) false m → Holds d'.files w.state (with_log (plan_at opened) (log_at opened) false) ⊎ Holds d'.files w.state (with_log (plan_at opened) (log_at opened) true) → PlannedAt ours alone w opening.options d'
-      by_files w far near named x (inl held) = record { plan = plan_at opened; log = log_at opened; is_torn = false; stands = inr (logged, midway_filed ours alone w opening.options (plan_at opened) (log_at opened) (log_at opened) false false (log_at opened ++ logged ∷ []) false m d' far near named held x) }
-      by_files w far near named x (inr held) = record { plan = plan_at opened; log = log_at opened; is_torn = true; stands = inr (logged, midway_filed ours alone w opening.options (plan_at opened) (log_at opened) (log_at opened) false true (log_at opened ++ logged ∷ []) false m d' far near named held x) }
+      by_files : (w : World) → d'.far ≡ m.far → d'.near ≡ m.near → d'.named ≡ m.named → Midway ours alone w opening.options (version_at opened) (plan_at opened) (log_at opened) false (log_at opened ++ logged ∷ []) false m → Holds d'.files w.state (with_log (version_at opened) (plan_at opened) (log_at opened) false) ⊎ Holds d'.files w.state (with_log (version_at opened) (plan_at opened) (log_at opened) true) → PlannedAt ours alone w opening.options d'
+      by_files w far near named x (inl held) = record { version = version_at opened; plan = plan_at opened; log = log_at opened; is_torn = false; stands = inr (logged, midway_filed ours alone w opening.options (version_at opened) (plan_at opened) (log_at opened) (log_at opened) false false (log_at opened ++ logged ∷ []) false m d' far near named held x) }
+      by_files w far near named x (inr held) = record { version = version_at opened; plan = plan_at opened; log = log_at opened; is_torn = true; stands = inr (logged, midway_filed ours alone w opening.options (version_at opened) (plan_at opened) (log_at opened) (log_at opened) false true (log_at opened ++ logged ∷ []) false m d' far near named held x) }
 
   -- the UID of a copy that was made is not taken
   never_taken : (d m : Device) → IsGoing opened → Arrives ours alone d m → AtDone ours alone opening opened logged d → IsTaken opened logged → ⊥
   never_taken d m g a at taken =
       let k = done_arrives ours alone opening opened logged d m a at in
       let s = k.since in
-      let free = copy_is_free ours alone s.world opening.options (plan_at opened) (log_at opened) s.grows.in_order s.below logged m s.holds in
+      let free = copy_is_free ours alone s.world opening.options (version_at opened) (plan_at opened) (log_at opened) s.grows.in_order s.below logged m s.holds in
       taken_free opened logged s.world.state g.untorn (k.state ∙ ap (λ (x : SyncState). Some x) (sym s.grows.state)) taken free
 
   -- whatever a fault leaves

@@ -23,6 +23,7 @@ pub logged_on : (a b c : Option Opened) (ps : List Performed) (p : Performed) �
 logged_on a b c ps p h k = record {
   going = k.going;
   state = k.state ∙ h.state;
+  version = k.version ∙ h.version;
   plan = k.plan ∙ h.plan;
   log = k.log ∙ ap (λ (l : List Logged). l ++ logged_of p.result ∷ []) h.log ∙ append_assoc (log_at a) (logs_of ps) (logged_of p.result ∷ []) ∙ ap (λ (l : List Logged). log_at a ++ l) (logs_more ps p);
 }

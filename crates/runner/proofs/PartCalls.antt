@@ -99,6 +99,7 @@ caused_after reasons (run.BadState line) s0 s1 s2 stop p a (inr h) = inr h
 caused_after reasons (run.BadJournal line) s0 s1 s2 stop p a h = h
 caused_after reasons run.MarksRepeat s0 s1 s2 stop p a h = h
 caused_after reasons run.NoMemory s0 s1 s2 stop p a h = tt
+caused_after reasons run.KeywordsChanged s0 s1 s2 stop p a h = h
 
 pub leaves_after : (u : Device → Type 0) (f : RunFault) (s0 s1 s2 : Seen) → TellsMore s0 s1 → LeavesRun u f s1 s2 → LeavesRun u f s0 s2
 leaves_after u run.Stopped s0 s1 s2 p k = k
@@ -110,6 +111,7 @@ leaves_after u (run.BadState line) s0 s1 s2 p k = k
 leaves_after u (run.BadJournal line) s0 s1 s2 p k = k
 leaves_after u run.MarksRepeat s0 s1 s2 p k = k
 leaves_after u run.NoMemory s0 s1 s2 p k = k
+leaves_after u run.KeywordsChanged s0 s1 s2 p k = k
 
 -- ---- why a fault is told
 
@@ -172,6 +174,7 @@ no_stop reasons (run.BadJournal line) s whole h = refl
 no_stop reasons (run.StoreFault side code) s whole h = refl
 no_stop reasons run.MarksRepeat s whole h = refl
 no_stop reasons run.NoMemory s whole h = refl
+no_stop reasons run.KeywordsChanged s whole h = refl
 
 -- ---- what a fault leaves
 
@@ -201,6 +204,7 @@ leaves_map u v (run.BadState line) s0 s1 g k = k
 leaves_map u v (run.BadJournal line) s0 s1 g k = k
 leaves_map u v run.MarksRepeat s0 s1 g k = g k
 leaves_map u v run.NoMemory s0 s1 g k = g k
+leaves_map u v run.KeywordsChanged s0 s1 g k = g k
 
 -- ---- one call
 
@@ -387,6 +391,7 @@ add_none n = omega arith
 -- the reasons of one part are reasons of another
 pub record AreReasons (c c' : Reasons) : Type 0 where
   pub changed : (side : Side) → c.changed side → c'.changed side
+  pub keywords : c.keywords → c'.keywords
   pub repeats : c.repeats → c'.repeats
   pub beyond : c.beyond → c'.beyond
   pub unread : (e : OutsideFault) → c.unread e → c'.unread e
@@ -406,6 +411,7 @@ caused_told c c' (run.StoreFault side code) s0 s1 k (inr (inl h)) = inr (inl h)
 caused_told c c' (run.StoreFault side code) s0 s1 k (inr (inr h)) = inr (inr (k.unstepped h.0, h.1))
 caused_told c c' run.MarksRepeat s0 s1 k h = k.repeats h
 caused_told c c' run.NoMemory s0 s1 k h = h
+caused_told c c' run.KeywordsChanged s0 s1 k h = k.keywords h
 
 pub left_told : (c c' : Reasons) (h : Type 0) (a underway : Device → Type 0) (f : RunFault) (s0 s1 : Seen) → AreReasons c c' → Left c h a underway f s0 s1 → Left c' h a underway f s0 s1
 left_told c c' h a underway f s0 s1 k l = record { caused = caused_told c c' f s0 s1 k l.caused; no_less = l.no_less; stops = l.stops; goes_on = l.goes_on; left = l.left }
@@ -429,3 +435,27 @@ left_with p h a u f s0 s1 k = record { caused = k.caused; no_less = k.no_less; s
 pub part_with : {T : Type 0} (reasons : Reasons) (p h : Type 0) (a u : Device → Type 0) (copies : T → ℕ) (reaches : T → Device → Type 0) (s0 s1 : Seen) (r : Result T RunFault) → PartOr reasons h a u copies reaches s0 s1 r → PartOr reasons h (λ d. p × a d) (λ d. p × u d) copies (λ x d. p × reaches x d) s0 s1 r
 part_with reasons p h a u copies reaches s0 s1 (Ok x) k = passed_with p h a (reaches x) (copies x) s0 s1 k
 part_with reasons p h a u copies reaches s0 s1 (Err e) k = left_with p h a u e s0 s1 k
+
+-- ---- the same part for another opening, where both are one
+
+module _ {X T : Type 0} (x y : X) (reasons : Reasons) (h : Type 0) (from underway to : X → Device → Type 0) (copies : T → ℕ) (s0 s1 : Seen) (same : h → from y s0.device → x ≡ y) where
+  there : (k : h) → from y s0.device → from x s0.device
+  there k at = subst (λ (z : X). from z s0.device) (sym (same k at)) at
+
+  pub part_by : (r : Result T RunFault) → PartOr reasons h (from x) (underway x) copies (λ t. to x) s0 s1 r → PartOr reasons h (from y) (underway y) copies (λ t. to y) s0 s1 r
+  part_by (Ok t) p = record {
+    is_whole = p.is_whole;
+    stops = p.stops;
+    told = p.told;
+    appends = p.appends;
+    reopened = p.reopened;
+    goes_on = p.goes_on;
+    reaches = λ k at. subst (λ (z : X). to z s1.device) (same k at) (p.reaches k (there k at));
+  }
+  part_by (Err f) p = record {
+    caused = p.caused;
+    no_less = p.no_less;
+    stops = p.stops;
+    goes_on = p.goes_on;
+    left = λ k at. subst (λ (z : X). LeavesRun (underway z) f s0 s1) (same k at) (p.left k (there k at));
+  }

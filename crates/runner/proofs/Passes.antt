@@ -3,6 +3,7 @@ use Rattle.std.proofs.Common.{◌≡◌, ◌⊎◌, ◌≤◌, ◌<◌, ◌+◌,
 use Rattle.std.proofs.lemmas.List.{length-drop, length-map}
 use Rattle.std.specs.Global.{Global}
 use Rattle.rand_core.specs.Stream.{Stream}
+use Rattle.mailcore.specs.declared.keywords.Keyword.{Keyword}
 use Rattle.mailcore.specs.declared.side.Side.{Side}
 use Rattle.mailcore.specs.declared.listing.Listing.{Listing}
 use Rattle.mailcore.specs.Draws.{Draws}
@@ -32,7 +33,7 @@ use Rattle.outside.specs.Opened.{IsBook, IsHeld, IsRead, Opened, TakesCommit, jo
 use Rattle.mailcore.specs.declared.side.Side.TheVariants.{Far, Near}
 use Rattle.underway.specs.Conditions.{IsOver, IsPending, Underway}
 use Rattle.underway.specs.Endings.{DoneAt, IsDone}
-use Rattle.underway.specs.Moments.{PlannedAt}
+use Rattle.underway.specs.Moments.{PlannedAt, Stands}
 use Rattle.underway.specs.Openings.{Grows, IsIdle, Opening, Since, Unplanned}
 use Rattle.underway.specs.Plans.{IsPlanned}
 use Rattle.underway.proofs.Ends.{done_is_done, ended, ended_done, half_ended}
@@ -44,8 +45,9 @@ use Rattle.runner.specs.declared.pass.Pass.TheVariants.{Already, Ran, Finished}
 use Rattle.runner.specs.declared.performed.Performed.{Performed}
 use Rattle.runner.specs.Faults.{IsBeyond, IsCaused, LeavesRun, Reasons}
 use Rattle.runner.specs.Answers.{Answers, AnswersTo, AreUnfit, AtEnd, HasRepeats, IsAsked, IsDrawn, IsEntry, IsPlanFault, IsRest, IsRestOf, IsRun, Reaches, RepeatsIn, RunsBy, as_read, made_in, run_of}
+use Rattle.runner.specs.Maps.{HasMap, HasMapIn, HasOtherMapIn}
 use Rattle.runner.specs.Before.{AreShown, BothListed, HasNoPlan, HasNone, HasPlan, IsEmptied, IsKnown, IsMade, IsTakenUp}
-use Rattle.runner.specs.Going.{AreOpen, AtReady, HasLogged, HasUntorn, IsGoing, IsUntorn, log_at, logged_of, logs_of, next_at, no_journal, plan_at, steps_of}
+use Rattle.runner.specs.Going.{AreOpen, AtReady, HasLogged, HasUntorn, IsGoing, IsUntorn, log_at, logged_of, logs_of, next_at, no_journal, plan_at, steps_of, version_at}
 use Rattle.runner.specs.Parts.{PartOr}
 use Rattle.runner.specs.Validities.{IsKept}
 use Rattle.runner.proofs.Logging.{of_book}
@@ -90,17 +92,26 @@ same_run (Some o) (Some p) options stream steps unfit e k =
     let s : o.state ≡ p.state = cc in
     record { far = k.far; near = k.near; drawn = rw (← s) k.drawn; unfit_are = rw (← s) k.unfit_are }
 
-same_runs : (a b : Option Opened) (options : Options) (stream : Stream) (pass : Pass) → state_of a ≡ state_of b → RunsBy a options stream pass → RunsBy b options stream pass
-same_runs a b options stream Already e k = tt
-same_runs a b options stream (Ran performed unfit) e k = same_run a b options stream (steps_of performed.items) unfit.items e k
-same_runs a b options stream (Finished performed) e k = tt
+same_runs : (a b : Option Opened) (options : Options) (stream : Stream) (pass : Pass) → state_of a ≡ state_of b → (HasMapIn options.keywords a → HasMapIn options.keywords b) → RunsBy a options stream pass → RunsBy b options stream pass
+same_runs a b options stream Already e m k = tt
+same_runs a b options stream (Ran performed unfit) e m k = same_run a b options stream (steps_of performed.items) unfit.items e k
+same_runs a b options stream (Finished performed) e m k = m k
+
+-- an open box is of the same plan
+pub boxed_map : (keywords : List Keyword) (opened : Option Opened) → HasMapIn keywords (with_box Near (with_box Far opened)) → HasMapIn keywords opened
+boxed_map keywords None m = m
+boxed_map keywords (Some o) m = m
+
+pub boxed_other_map : (keywords : List Keyword) (opened : Option Opened) → HasOtherMapIn keywords (with_box Near (with_box Far opened)) → HasOtherMapIn keywords opened
+boxed_other_map keywords None m = m
+boxed_other_map keywords (Some o) m = m
 
 boxed_state : (opened : Option Opened) → state_of (with_box Near (with_box Far opened)) ≡ state_of opened
 boxed_state None = refl
 boxed_state (Some o) = refl
 
 pub boxed_runs : (opened : Option Opened) (options : Options) (stream : Stream) (r : Result Pass RunFault) → IfOk r (RunsBy (with_box Near (with_box Far opened)) options stream) → IfOk r (RunsBy opened options stream)
-boxed_runs opened options stream (Ok pass) k = same_runs (with_box Near (with_box Far opened)) opened options stream pass (boxed_state opened) k
+boxed_runs opened options stream (Ok pass) k = same_runs (with_box Near (with_box Far opened)) opened options stream pass (boxed_state opened) (boxed_map options.keywords opened) k
 boxed_runs opened options stream (Err e) k = tt
 
 pub run_here : (opened now : Option Opened) (options : Options) (stream : Stream) (far near : Listing) (plan : Plan) (steps : List Step) (unfit : List (Side × ℕ)) → now ≡ turned (λ _. Missing) opened → steps ≡ plan.steps → IsDrawn now stream far near options plan.steps → AreUnfit now far near options unfit → IsRun opened options stream steps unfit
@@ -211,7 +222,7 @@ runs_held opened options stream d h0 h1 (Ok pass) a f g = λ h s p k. by_opened 
     by_opened None a held s p k = absurd held
     by_opened (Some o) a held s p k =
         let e = book_known d.files o.state s o.pending p held k in
-        same_runs (Some o) (as_read s p) options stream pass (ap (λ (x : SyncState). Some x) e.0) a
+        same_runs (Some o) (as_read s p) options stream pass (ap (λ (x : SyncState). Some x) e.0) (λ m. subst (HasMap options.keywords) e.1 m) a
 
 pub stores_joined : (alone : Bool) (h0 h1 : Type 0) (d0 d1 d2 : Device) (r : Result Pass RunFault) → IfOk r (λ p. p ≡ Already → h1 → alone ≡ true → (d2.far ≡ d1.far) × (d2.near ≡ d1.near)) → (h1 → h0) → (h0 → alone ≡ true → d1 ≡ d0) → IfOk r (λ p. p ≡ Already → h1 → alone ≡ true → (d2.far ≡ d0.far) × (d2.near ≡ d0.near))
 stores_joined alone h0 h1 d0 d1 d2 (Ok p) k f g = λ is h e. let x = k is h e in let same = g (f h) e in (x.0 ∙ ap (λ (d : Device). d.far) same, x.1 ∙ ap (λ (d : Device). d.near) same)
@@ -298,7 +309,7 @@ module _ (ours : List ℕ → Bool) (alone : Bool) (opening : Opening) where
   ended_at opened is_taken_up d m d' g none a k t =
       let r = ready_arrives ours alone opening opened is_taken_up d m a k in
       let does = of_book CommitsTo opened m d' g.untorn t in
-      since_map alone opening _ _ (λ w grows at. (marks_of (plan_at opened).steps, ended ours alone w opening.options (plan_at opened) (log_at opened) none m d' grows.in_order (stands_of ours alone opening opened w is_taken_up m at) does)) r.since
+      since_map alone opening _ _ (λ w grows at. (marks_of (plan_at opened).steps, ended ours alone w opening.options (version_at opened) (plan_at opened) (log_at opened) none m d' grows.in_order (stands_of ours alone opening opened w is_taken_up m at) does)) r.since
 
   split_done : (d : Device) → Since alone opening (λ w. PlannedAt ours alone w opening.options d ⊎ DoneAt ours alone w opening.options d) → Underway ours alone opening d
   split_done d s = by_world s.holds
@@ -311,7 +322,7 @@ module _ (ours : List ℕ → Bool) (alone : Bool) (opening : Opening) where
   half_ended_at opened is_taken_up d m d' g none a k t =
       let r = ready_arrives ours alone opening opened is_taken_up d m a k in
       let does = of_book CommitsHalf opened m d' g.untorn t in
-      split_done d' (since_map alone opening _ _ (λ w grows at. half_ended ours alone w opening.options (plan_at opened) (log_at opened) none m d' grows.in_order (stands_of ours alone opening opened w is_taken_up m at) does) r.since)
+      split_done d' (since_map alone opening _ _ (λ w grows at. half_ended ours alone w opening.options (version_at opened) (plan_at opened) (log_at opened) none m d' grows.in_order (stands_of ours alone opening opened w is_taken_up m at) does) r.since)
 
   end_over : (d : Device) → AtEnd ours alone opening d → IsOver ours alone opening d
   end_over d s = since_map alone opening _ _ (λ w g k. ended_done ours alone w opening.options d k) s
@@ -346,6 +357,26 @@ module _ (ours : List ℕ → Bool) (alone : Bool) (opening : Opening) where
   idle_planned Missing i p = p
   idle_planned Useless i p = p
   idle_planned (Planned written) i p = i
+
+  planned_map : (keywords : List Keyword) (o : Opened) (w : World) (d : Device) → IsHeld (Some o) d → (p : PlannedAt ours alone w opening.options d) → HasMap keywords o.pending → opening.options.keywords ≡ keywords
+  planned_map keywords o w d held p m =
+      let e = book_known d.files o.state w.state o.pending _ held (planned_files ours alone opening w d p) in
+      let made : p.plan.keywords ≡ keywords = subst (HasMap keywords) e.1 m in
+      by_stands p.stands made
+    where
+      by_stands : Stands ours alone w opening.options p.version p.plan p.log p.is_torn d → p.plan.keywords ≡ keywords → opening.options.keywords ≡ keywords
+      by_stands (inl k) made = let at = k.1 in let is = at.planned.is_plan in sym is.keywords ∙ made
+      by_stands (inr k) made = let at = k.1 in let is = at.planned.is_plan in sym is.keywords ∙ made
+
+  -- where a plan that is pending goes by the map of the call, so does the opening's, whether it is made or not
+  pub known_map : (opened : Option Opened) (options : Options) (stream : Stream) (d : Device) → run_of opened + 1 ≤ opening.world.state.run + 1 → HasMapIn options.keywords opened → IsAsked ours opening options stream → IsKnown ours alone opening opened d → opening.options.keywords ≡ options.keywords
+  known_map None options stream d le m asked k = absurd m
+  known_map (Some o) options stream d le m asked k = by_case k.underway
+    where
+      by_case : Underway ours alone opening d → opening.options.keywords ≡ options.keywords
+      by_case (inl u) = ap (λ (x : Options). x.keywords) (sym u.chosen ∙ asked.called)
+      by_case (inr (inl s)) = planned_map options.keywords o s.world d k.held s.holds m
+      by_case (inr (inr s)) = let e = done_state o s.world d s.grows k.held s.holds in absurd (omega arith)
 
   -- a run that is not done yet: its plan is pending, or there is none
   pub known_planned : (opened : Option Opened) (d : Device) → HasPlan opened → run_of opened + 1 ≤ opening.world.state.run + 1 → IsKnown ours alone opening opened d → IsTakenUp ours alone opening opened d
@@ -397,6 +428,7 @@ caused_plan reasons (run.BadJournal line) s0 s1 h g k = absurd h
 caused_plan reasons (run.StoreFault side number) s0 s1 h g k = absurd h
 caused_plan reasons run.MarksRepeat s0 s1 h g k = k refl
 caused_plan reasons run.NoMemory s0 s1 h g k = tt
+caused_plan reasons run.KeywordsChanged s0 s1 h g k = absurd h
 
 pub memory_plan : (f : RunFault) → f ≡ run.NoMemory → IsPlanFault f
 memory_plan f e = rw e tt
@@ -413,6 +445,7 @@ after_plan u (run.BadJournal line) s0 s1 h k = h
 after_plan u (run.StoreFault side number) s0 s1 h k = absurd h
 after_plan u run.MarksRepeat s0 s1 h k = k
 after_plan u run.NoMemory s0 s1 h k = k
+after_plan u run.KeywordsChanged s0 s1 h k = k
 
 pub none_few : (opened : Option Opened) → log_at opened ≡ [] → length (log_at opened) ≤ length (plan_at opened).steps
 none_few opened e = rw e (omega arith)

@@ -87,8 +87,8 @@ module _ (ours : List ℕ → Bool) (w : World) (s : SyncState) (options : Optio
   count_is = ap (λ (x : Scene). count_new x) above_is ∙ count_same (scene_of w options) shown.spared w.near.messages least
 
   pub planned_by : (plan : Plan) (stream : Stream) → AreDrawn stream far near s options (marks_of plan.steps) → All (λ mark. ours mark ≡ true) (marks_of plan.steps) → plan.run ≡ s.run + 1
-      → plan.far ≡ side_with far (highest_after listed Pull) → plan.near ≡ side_with near (highest_after listed Push) → plan.steps ≡ all_steps listed (marks_of plan.steps) → plan.notes ≡ all_notes listed → IsPlanned ours w options plan
-  planned_by plan stream drawn mine run far_side near_side steps notes =
+      → plan.far ≡ side_with far (highest_after listed Pull) → plan.near ≡ side_with near (highest_after listed Push) → plan.steps ≡ all_steps listed (marks_of plan.steps) → plan.notes ≡ all_notes listed → plan.keywords ≡ options.keywords → IsPlanned ours w options plan
+  planned_by plan stream drawn mine run far_side near_side steps notes keywords =
       let marks = marks_of plan.steps in
       let base : Scene = scene_of w options in
       let spared = shown.spared in
@@ -106,6 +106,7 @@ module _ (ours : List ℕ → Bool) (w : World) (s : SyncState) (options : Optio
           near_highest = ap (λ (p : PlanSide). p.highest) near_side ∙ ap (λ (x : Scene). highest_after x Push) above_is ∙ highest_same base spared w.near.messages least Push;
           steps = steps ∙ ap (λ (x : Scene). all_steps x marks) above_is ∙ steps_same base spared w.near.messages least marks;
           notes = notes ∙ ap (λ (x : Scene). all_notes x) above_is ∙ notes_same base spared w.near.messages least;
+          keywords = keywords;
         };
         next = next;
       }

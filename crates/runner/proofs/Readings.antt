@@ -7,6 +7,7 @@ use Rattle.mailcore.specs.declared.side.Side.TheVariants.{Far, Near}
 use Rattle.rules.specs.declared.plan.Plan.{Plan}
 use Rattle.rules.specs.declared.state.SyncState.{SyncState}
 use Rattle.rules.specs.World.{World}
+use Rattle.sync_state.specs.declared.version.Version.{Version}
 use Rattle.sync_state.specs.declared.fault.BookFault.TheVariants as book
 use Rattle.sync_state.specs.declared.journal.Journal.{Journal}
 use Rattle.sync_state.specs.declared.journal.Logged.{Logged}
@@ -141,17 +142,17 @@ pub unread_files : (e : OutsideFault) (m d' : Device) → d' ≡ m → TellsFile
 unread_files e m d' is t = subst (λ (d : Device). TellsFiles e d.files) (sym is) t
 
 module _ (ours : List ℕ → Bool) (alone : Bool) (opening : Opening) where
-  stands_files : (w : World) (plan : Plan) (log : List Logged) (torn : Bool) (d : Device) → Stands ours alone w opening.options plan log torn d → Holds d.files w.state (with_log plan log torn)
-  stands_files w plan log torn d (inl k) = let at = k.1 in at.files
-  stands_files w plan log torn d (inr k) = let at = k.1 in at.files
+  stands_files : (w : World) (version : Version) (plan : Plan) (log : List Logged) (torn : Bool) (d : Device) → Stands ours alone w opening.options version plan log torn d → Holds d.files w.state (with_log version plan log torn)
+  stands_files w version plan log torn d (inl k) = let at = k.1 in at.files
+  stands_files w version plan log torn d (inr k) = let at = k.1 in at.files
 
-  pub planned_files : (w : World) (d : Device) (p : PlannedAt ours alone w opening.options d) → Holds d.files w.state (with_log p.plan p.log p.is_torn)
-  planned_files w d p = stands_files w p.plan p.log p.is_torn d p.stands
+  pub planned_files : (w : World) (d : Device) (p : PlannedAt ours alone w opening.options d) → Holds d.files w.state (with_log p.version p.plan p.log p.is_torn)
+  planned_files w d p = stands_files w p.version p.plan p.log p.is_torn d p.stands
 
   -- the files of a run that is underway hold a book
   pub underway_files : (d : Device) → Underway ours alone opening d → (s : SyncState) × ((p : Pending) × Holds d.files s p)
   underway_files d (inl u) = (opening.world.state, (u.pending, u.files))
-  underway_files d (inr (inl s)) = let p = s.holds in (s.world.state, (with_log p.plan p.log p.is_torn, planned_files s.world d p))
+  underway_files d (inr (inl s)) = let p = s.holds in (s.world.state, (with_log p.version p.plan p.log p.is_torn, planned_files s.world d p))
   underway_files d (inr (inr s)) = let x = s.holds in (x.state, (x.pending, x.files))
 
   pub unread_left : (e : OutsideFault) (m d' : Device) → Underway ours alone opening m → d' ≡ m → TellsFiles e m.files → FromShelf e → TellsNoBook e × Underway ours alone opening d'
@@ -191,17 +192,17 @@ module _ (ours : List ℕ → Bool) (alone : Bool) (opening : Opening) where
       let e = book_known m.files o.state opening.world.state o.pending n.pending held n.files in
       unplanned_filed alone opening q m d' (idle_kept o.pending q t (subst IsIdle (sym e.1) n.idle)) far near named (subst (λ (s : SyncState). Holds d'.files s q) e.0 now) n
 
-  stands_filed : (w : World) (plan : Plan) (log : List Logged) (torn torn' : Bool) (m d' : Device) → d'.far ≡ m.far → d'.near ≡ m.near → d'.named ≡ m.named → Holds d'.files w.state (with_log plan log torn') → Stands ours alone w opening.options plan log torn m → Stands ours alone w opening.options plan log torn' d'
-  stands_filed w plan log torn torn' m d' far near named holds (inl k) = inl (k.0, midway_filed ours alone w opening.options plan log log torn torn' log k.0 m d' far near named holds k.1)
-  stands_filed w plan log torn torn' m d' far near named holds (inr k) = inr (k.0, midway_filed ours alone w opening.options plan log log torn torn' (log ++ k.0 ∷ []) false m d' far near named holds k.1)
+  stands_filed : (w : World) (version : Version) (plan : Plan) (log : List Logged) (torn torn' : Bool) (m d' : Device) → d'.far ≡ m.far → d'.near ≡ m.near → d'.named ≡ m.named → Holds d'.files w.state (with_log version plan log torn') → Stands ours alone w opening.options version plan log torn m → Stands ours alone w opening.options version plan log torn' d'
+  stands_filed w version plan log torn torn' m d' far near named holds (inl k) = inl (k.0, midway_filed ours alone w opening.options version plan log log torn torn' log k.0 m d' far near named holds k.1)
+  stands_filed w version plan log torn torn' m d' far near named holds (inr k) = inr (k.0, midway_filed ours alone w opening.options version plan log log torn torn' (log ++ k.0 ∷ []) false m d' far near named holds k.1)
 
   filed_planned : (o : Opened) (q : Pending) (m d' : Device) → TurnsIdle o.pending q → Holds m.files o.state o.pending → d'.far ≡ m.far → d'.near ≡ m.near → d'.named ≡ m.named → Holds d'.files o.state q → (w : World) → PlannedAt ours alone w opening.options m → PlannedAt ours alone w opening.options d'
   filed_planned o q m d' t held far near named now w p =
-      let e = book_known m.files o.state w.state o.pending (with_log p.plan p.log p.is_torn) held (planned_files w m p) in
+      let e = book_known m.files o.state w.state o.pending (with_log p.version p.plan p.log p.is_torn) held (planned_files w m p) in
       by_turn e.0 e.1 t
     where
-      by_turn : o.state ≡ w.state → o.pending ≡ with_log p.plan p.log p.is_torn → TurnsIdle o.pending q → PlannedAt ours alone w opening.options d'
-      by_turn s is (inl same) = record { plan = p.plan; log = p.log; is_torn = p.is_torn; stands = stands_filed w p.plan p.log p.is_torn p.is_torn m d' far near named (subst (λ (x : SyncState). Holds d'.files x (with_log p.plan p.log p.is_torn)) s (subst (λ (x : Pending). Holds d'.files o.state x) (same ∙ is) now)) p.stands }
+      by_turn : o.state ≡ w.state → o.pending ≡ with_log p.version p.plan p.log p.is_torn → TurnsIdle o.pending q → PlannedAt ours alone w opening.options d'
+      by_turn s is (inl same) = record { version = p.version; plan = p.plan; log = p.log; is_torn = p.is_torn; stands = stands_filed w p.version p.plan p.log p.is_torn p.is_torn m d' far near named (subst (λ (x : SyncState). Holds d'.files x (with_log p.version p.plan p.log p.is_torn)) s (subst (λ (x : Pending). Holds d'.files o.state x) (same ∙ is) now)) p.stands }
       by_turn s is (inr k) = absurd (subst IsIdle is k.0)
 
   filed_done : (o : Opened) (q : Pending) (m d' : Device) → TurnsIdle o.pending q → Holds m.files o.state o.pending → d'.far ≡ m.far → d'.near ≡ m.near → d'.named ≡ m.named → Holds d'.files o.state q → (w : World) → DoneAt ours alone w opening.options m → DoneAt ours alone w opening.options d'
@@ -263,12 +264,12 @@ module _ (ours : List ℕ → Bool) (alone : Bool) (opening : Opening) where
   pub taken_known : (opened : Option Opened) (d : Device) → IsTakenUp ours alone opening opened d → IsKnown ours alone opening opened d
   taken_known opened d k = record { underway = inr (inl k.pending); held = k.held }
 
-  mended_stands : (written : WrittenJournal) (s : SyncState) (w : World) (m d' : Device) → Holds m.files s (Planned written) → d'.far ≡ m.far → d'.near ≡ m.near → d'.named ≡ m.named → Holds d'.files s (mended (Planned written)) → PlannedAt ours alone w opening.options m → (s ≡ w.state) × Stands ours alone w opening.options written.journal.plan written.journal.log false d'
+  mended_stands : (written : WrittenJournal) (s : SyncState) (w : World) (m d' : Device) → Holds m.files s (Planned written) → d'.far ≡ m.far → d'.near ≡ m.near → d'.named ≡ m.named → Holds d'.files s (mended (Planned written)) → PlannedAt ours alone w opening.options m → (s ≡ w.state) × Stands ours alone w opening.options written.version written.journal.plan written.journal.log false d'
   mended_stands written s w m d' held far near named now p =
-      let e = book_known m.files s w.state (Planned written) (with_log p.plan p.log p.is_torn) held (planned_files w m p) in
-      let is : written ≡ record { journal = record { plan = p.plan; log = p.log }; is_torn = p.is_torn } = let x = e.1 in cc in
-      let files : Holds d'.files w.state (with_log p.plan p.log false) = subst (λ (x : WrittenJournal). Holds d'.files w.state (Planned (record x { is_torn = false }))) is (subst (λ (x : SyncState). Holds d'.files x (Planned (record written { is_torn = false }))) e.0 now) in
-      (e.0, subst (λ (x : WrittenJournal). Stands ours alone w opening.options x.journal.plan x.journal.log false d') (sym is) (stands_filed w p.plan p.log p.is_torn false m d' far near named files p.stands))
+      let e = book_known m.files s w.state (Planned written) (with_log p.version p.plan p.log p.is_torn) held (planned_files w m p) in
+      let is : written ≡ record { version = p.version; journal = record { plan = p.plan; log = p.log }; is_torn = p.is_torn } = let x = e.1 in cc in
+      let files : Holds d'.files w.state (with_log p.version p.plan p.log false) = subst (λ (x : WrittenJournal). Holds d'.files w.state (Planned (record x { is_torn = false }))) is (subst (λ (x : SyncState). Holds d'.files x (Planned (record written { is_torn = false }))) e.0 now) in
+      (e.0, subst (λ (x : WrittenJournal). Stands ours alone w opening.options x.version x.journal.plan x.journal.log false d') (sym is) (stands_filed w p.version p.plan p.log p.is_torn false m d' far near named files p.stands))
 
   pub untorn : (opened : Option Opened) (d m d' : Device) → HasPlan opened → Arrives ours alone d m → IsTakenUp ours alone opening opened d → OfBook (λ p. Turns p (mended p)) opened m d' → AtReady ours alone opening (turned mended opened) true d'
   untorn None d m d' plan a k t = absurd plan

@@ -6,10 +6,12 @@ use Rattle.rules.specs.declared.options.Options.{Options}
 use Rattle.outside.specs.Calls.{Seen}
 use Rattle.outside.specs.Devices.{Device}
 use Rattle.outside.specs.Opened.{Opened}
-use Rattle.underway.specs.Openings.{Opening}
+use Rattle.rules.specs.Outcome.{count_new}
+use Rattle.rules.specs.World.{scene_of}
+use Rattle.underway.specs.Openings.{Opening, Since}
 use Rattle.runner.specs.declared.fault.RunFault.{RunFault}
 use Rattle.runner.specs.Answers.{HasRepeats}
-use Rattle.runner.specs.Faults.{Reasons, RefusedAt, TellsRefused, because, or_refused}
+use Rattle.runner.specs.Faults.{Reasons, RefusedAt, TellsRefused, because, or_keywords, or_refused}
 use Rattle.runner.specs.Going.{number_at}
 use Rattle.runner.specs.Parts.{InStep, Left, Never, Part, PartOr, Passed, RunPart, StepPart, Unstepped}
 use Rattle.runner.proofs.PartCalls.{AreReasons, left_after, left_told, part_after, part_told, part_weaker}
@@ -18,7 +20,7 @@ use Rattle.runner.proofs.PartCalls.{AreReasons, left_after, left_told, part_afte
 
 -- from a condition that leads to that of the part
 step_told : (number : ℕ) (opened : Option Opened) (h a b : Type 0) (d : Device) → (h → b → a) → AreReasons (InStep number opened h a d) (InStep number opened h b d)
-step_told number opened h a b d f = record { changed = λ side n. n; repeats = λ n. n; beyond = λ n. n; unread = λ e n. n; refused = λ step k. (k.0, λ honest at. k.1 honest (f honest at)); unstepped = λ n. n }
+step_told number opened h a b d f = record { changed = λ side n. n; keywords = λ n. n; repeats = λ n. n; beyond = λ n. n; unread = λ e n. n; refused = λ step k. (k.0, λ honest at. k.1 honest (f honest at)); unstepped = λ n. n }
 
 pub step_left_after : (number : ℕ) (opened : Option Opened) (h0 h1 : Type 0) (a b underway : Device → Type 0) (m : ℕ) (f : RunFault) (s0 s1 s2 : Seen) → (h1 → h0) → Passed h0 a b m s0 s1 → Left (InStep number opened h1 (b s1.device) s2.device) h1 b underway f s1 s2 → Left (InStep number opened h1 (a s0.device) s2.device) h1 a underway f s0 s2
 step_left_after number opened h0 h1 a b underway m f s0 s1 s2 honest p q =
@@ -36,22 +38,22 @@ step_weaker number opened h a a' underway copies reaches reaches' s0 s1 r f g p 
 
 -- the next step
 pub next_told : (number : ℕ) (opened : Option Opened) (h a b : Type 0) (d : Device) → number ≡ number_at opened → (h → b → a) → AreReasons (InStep number opened h a d) (or_refused (TellsRefused h b d) Never)
-next_told number opened h a b d is f = record { changed = λ side n. n; repeats = λ n. n; beyond = λ n. n; unread = λ e n. n; refused = λ step k honest at. subst (λ (x : ℕ). RefusedAt x d) (sym (k.0 ∙ is)) (k.1 honest (f honest at)); unstepped = λ n. n }
+next_told number opened h a b d is f = record { changed = λ side n. n; keywords = λ n. n; repeats = λ n. n; beyond = λ n. n; unread = λ e n. n; refused = λ step k honest at. subst (λ (x : ℕ). RefusedAt x d) (sym (k.0 ∙ is)) (k.1 honest (f honest at)); unstepped = λ n. n }
 
 -- a part that performs no step, for its own reasons
 pub unrefused_told : (r : ℕ → Type 0) (c : Reasons) → ((step : ℕ) → c.refused step → ⊥) → AreReasons c (or_refused r c)
-unrefused_told r c n = record { changed = λ side k. k; repeats = λ k. k; beyond = λ k. k; unread = λ e k. k; refused = λ step t. absurd (n step t); unstepped = λ k. k }
+unrefused_told r c n = record { changed = λ side k. k; keywords = λ n. n; repeats = λ k. k; beyond = λ k. k; unread = λ e k. k; refused = λ step t. absurd (n step t); unstepped = λ k. k }
 
 -- one that performs steps alone
 pub steps_told : (r : ℕ → Type 0) (c : Reasons) → ((step : ℕ) → r step → c.refused step) → AreReasons (or_refused r Never) c
-steps_told r c f = record { changed = λ side n. absurd n; repeats = λ n. absurd n; beyond = λ n. absurd n; unread = λ e n. absurd n; refused = f; unstepped = λ n. absurd n }
+steps_told r c f = record { changed = λ side n. absurd n; keywords = λ n. absurd n; repeats = λ n. absurd n; beyond = λ n. absurd n; unread = λ e n. absurd n; refused = f; unstepped = λ n. absurd n }
 
 -- one that performs steps and other calls, and tells no fault of the run's own
 pub calls_told : (r : ℕ → Type 0) (c : Reasons) → ((step : ℕ) → r step → c.refused step) → c.unstepped → AreReasons (or_refused r Unstepped) c
-calls_told r c f u = record { changed = λ side n. absurd n; repeats = λ n. absurd n; beyond = λ n. absurd n; unread = λ e n. absurd n; refused = f; unstepped = λ _. u }
+calls_told r c f u = record { changed = λ side n. absurd n; keywords = λ n. absurd n; repeats = λ n. absurd n; beyond = λ n. absurd n; unread = λ e n. absurd n; refused = f; unstepped = λ _. u }
 
 unstepped_told : (c : Reasons) → c.unstepped → AreReasons Unstepped c
-unstepped_told c u = record { changed = λ side n. absurd n; repeats = λ n. absurd n; beyond = λ n. absurd n; unread = λ e n. absurd n; refused = λ step n. absurd n; unstepped = λ _. u }
+unstepped_told c u = record { changed = λ side n. absurd n; keywords = λ n. absurd n; repeats = λ n. absurd n; beyond = λ n. absurd n; unread = λ e n. absurd n; refused = λ step n. absurd n; unstepped = λ _. u }
 
 pub left_unstepped : {c : Reasons} (h : Type 0) (a underway : Device → Type 0) (f : RunFault) (s0 s1 : Seen) → c.unstepped → Left Unstepped h a underway f s0 s1 → Left c h a underway f s0 s1
 left_unstepped {c} h a underway f s0 s1 u l = left_told Unstepped c h a underway f s0 s1 (unstepped_told c u) l
@@ -63,8 +65,16 @@ part_unstepped c h a underway copies reaches s0 s1 r u p = part_told Unstepped c
 pub repeats_from : (alone : Bool) (opening : Opening) (honest from start : Type 0) (options : Options) (stream : Stream) → (honest → start → from) → HasRepeats alone opening honest from options stream → HasRepeats alone opening honest start options stream
 repeats_from alone opening honest from start options stream leads k = record { count = k.count; repeats = k.repeats; wanted = λ h at. k.wanted h (leads h at) }
 
+-- and for another opening, where both are one
+pub repeats_by : (alone : Bool) (x y : Opening) (honest from start : Type 0) (options : Options) (stream : Stream) → (honest → start → from × (x ≡ y)) → HasRepeats alone x honest from options stream → HasRepeats alone y honest start options stream
+repeats_by alone x y honest from start options stream leads k = record {
+  count = k.count;
+  repeats = k.repeats;
+  wanted = λ h at. let l = leads h at in subst (λ (o : Opening). Since alone o (λ w. k.count ≡ count_new (scene_of w options))) l.1 (k.wanted h l.0);
+}
+
 -- one that makes a plan and performs its steps, between other conditions
-pub run_weaker : {T : Type 0} (alone : Bool) (opening : Opening) (options : Options) (stream : Stream) (changed : Side → Type 0) (h : Type 0) (a a' underway : Device → Type 0) (copies : T → ℕ) (reaches reaches' : T → Device → Type 0) (s0 s1 : Seen) (r : Result T RunFault) → ((d : Device) → a' d → a d) → ((x : T) (d : Device) → reaches x d → reaches' x d)
-    → RunPart (because changed (HasRepeats alone opening h (a s0.device) options stream)) h a underway copies reaches s0 s1 r → RunPart (because changed (HasRepeats alone opening h (a' s0.device) options stream)) h a' underway copies reaches' s0 s1 r
-run_weaker alone opening options stream changed h a a' underway copies reaches reaches' s0 s1 r f g p =
-    part_weaker _ h a a' underway copies reaches reaches' s0 s1 r f g (part_told _ _ h a underway copies reaches s0 s1 r (record { changed = λ side t. t; repeats = λ k. repeats_from alone opening h (a s0.device) (a' s0.device) options stream (λ honest at. f s0.device at) k; beyond = λ n. n; unread = λ e t. t; refused = λ step t honest at. t honest (f s0.device at); unstepped = λ u. u }) p)
+pub run_weaker : {T : Type 0} (alone : Bool) (opening : Opening) (options : Options) (stream : Stream) (changed : Side → Type 0) (keywords : Type 0) (h : Type 0) (a a' underway : Device → Type 0) (copies : T → ℕ) (reaches reaches' : T → Device → Type 0) (s0 s1 : Seen) (r : Result T RunFault) → ((d : Device) → a' d → a d) → ((x : T) (d : Device) → reaches x d → reaches' x d)
+    → RunPart (or_keywords keywords (because changed (HasRepeats alone opening h (a s0.device) options stream))) h a underway copies reaches s0 s1 r → RunPart (or_keywords keywords (because changed (HasRepeats alone opening h (a' s0.device) options stream))) h a' underway copies reaches' s0 s1 r
+run_weaker alone opening options stream changed keywords h a a' underway copies reaches reaches' s0 s1 r f g p =
+    part_weaker _ h a a' underway copies reaches reaches' s0 s1 r f g (part_told _ _ h a underway copies reaches s0 s1 r (record { changed = λ side t. t; keywords = λ n. n; repeats = λ k. repeats_from alone opening h (a s0.device) (a' s0.device) options stream (λ honest at. f s0.device at) k; beyond = λ n. n; unread = λ e t. t; refused = λ step t honest at. t honest (f s0.device at); unstepped = λ u. u }) p)

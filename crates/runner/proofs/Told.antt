@@ -36,7 +36,7 @@ use Rattle.runner.specs.declared.pass.Pass.TheVariants.{Already}
 use Rattle.runner.specs.declared.performed.Performed.{Performed}
 use Rattle.runner.specs.declared.performed.StepResult.{StepResult}
 use Rattle.runner.specs.declared.performed.StepResult.TheVariants as did
-use Rattle.runner.specs.Going.{AtReady, HasLogged, IsGoing, log_at, logged_of, logs_of, next_at, no_journal, plan_at, steps_of}
+use Rattle.runner.specs.Going.{AtReady, HasLogged, IsGoing, log_at, logged_of, logs_of, next_at, no_journal, plan_at, steps_of, version_at}
 use Rattle.runner.specs.Results.{AreResults, AreStepsOf, EndsBy, IsOtherResult, IsResult, IsTold, IsToldRest, IsToldWhole, PassedOver}
 use Rattle.runner.proofs.Logging.{of_book}
 use Rattle.runner.proofs.Stages.{ready_arrives, stands_of}
@@ -136,8 +136,8 @@ module _ (ours : List ℕ → Bool) (alone : Bool) (opening : Opening) where
       let does = of_book CommitsTo opened m d' g.untorn t in
       since_map alone opening _ _ (λ w grows at.
       let stands = stands_of ours alone opening opened w is_taken_up m at in
-      let whole = whole_at ours alone w opening.options (plan_at opened) (log_at opened) none false m stands in
-      record { ended = ended ours alone w opening.options (plan_at opened) (log_at opened) none m d' grows.in_order stands does; planned = whole.planned; fit = whole.fit }) r.since
+      let whole = whole_at ours alone w opening.options (version_at opened) (plan_at opened) (log_at opened) none false m stands in
+      record { ended = ended ours alone w opening.options (version_at opened) (plan_at opened) (log_at opened) none m d' grows.in_order stands does; planned = whole.planned; fit = whole.fit }) r.since
 
   told_last : (old now : Option Opened) (ps : List Performed) (d : Device) → HasLogged old now (logs_of ps) → steps_of ps ≡ drop (length (log_at old)) (plan_at old).steps → EndsBy ours alone opening (plan_at now) (log_at now) d
       → AreStepsOf ours alone opening (plan_at old) (take (length (log_at old)) (plan_at old).steps) ps d
@@ -165,6 +165,11 @@ module _ (ours : List ℕ → Bool) (alone : Bool) (opening : Opening) where
   }
 
 -- ---- from one condition to another
+
+-- the same, where this leads there and back
+pub told_over : (r : Result Pass RunFault) (h from start : Type 0) (P Q : Pass → Type 0) → (h → start → from × ((pass : Pass) → P pass → Q pass)) → IfOk r (λ pass. h → from → P pass) → IfOk r (λ pass. h → start → Q pass)
+told_over (Ok pass) h from start P Q leads k = λ honest at. let l = leads honest at in l.1 pass (k honest l.0)
+told_over (Err e) h from start P Q leads k = tt
 
 pub told_from : (r : Result Pass RunFault) (honest from start : Type 0) (told : Pass → Type 0) → (honest → start → from) → IfOk r (λ pass. honest → from → told pass) → IfOk r (λ pass. honest → start → told pass)
 told_from (Ok pass) honest from start told leads k = λ h at. k h (leads h at)

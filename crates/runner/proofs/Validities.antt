@@ -1,5 +1,6 @@
 -- Which UIDVALIDITY is recorded, and that the calls before the plan keep those of both mailboxes.
 use Rattle.std.proofs.Common.{◌≡◌, ℕ, zero, suc, Bool, not, ◌==◌, List, if◌then◌else◌, Option, Some, None, Result, Ok, Err, OnOk, refl, sym, ◌∙◌, ap, subst, arith}
+use Rattle.mailcore.specs.declared.keywords.Keyword.{Keyword}
 use Rattle.mailcore.specs.declared.side.Side.{Side}
 use Rattle.mailcore.specs.declared.side.Side.TheVariants.{Far, Near}
 use Rattle.mailcore.specs.declared.listing.Listing.{Listing}
@@ -9,6 +10,7 @@ use Rattle.rules.specs.declared.state.SyncState.{SyncState}
 use Rattle.book.specs.declared.book.Pending.{Pending}
 use Rattle.book.specs.declared.book.Pending.TheVariants.{Missing, Useless, Planned}
 use Rattle.book.specs.Books.{Holds, Turns}
+use Rattle.book.specs.Shelves.{Files}
 use Rattle.book.proofs.KnownBooks.{book_known}
 use Rattle.std.proofs.lemmas.Grind.{common_steps}
 use Rattle.underway.specs.Openings.{IsIdle}
@@ -22,6 +24,7 @@ use Rattle.outside.specs.Devices.{Device, box}
 use Rattle.outside.specs.Opened.{IsHeld, Opened, state_of, turned, with_box}
 use Rattle.runner.specs.Before.{HasNoJournal, HasNoPlan}
 use Rattle.runner.specs.Answers.{as_read}
+use Rattle.runner.specs.ChangedMaps.{TellsMap, TellsOtherMap}
 use Rattle.runner.specs.Validities.{BothSame, HasChanged, HasOther, HasSame, HaveValidities, IsKept, IsOther, IsSame, KeepsValidities, ListsChanged, TellsChange, TellsChanged, TellsOther, TellsUnlessSame, after_run, named_after, recorded, recorded_in}
 
 -- ---- which one is recorded
@@ -209,3 +212,22 @@ files_changed alone h0 h1 opened a b c side honest held kept told = λ h s p hol
         same_book : (o : Opened) (s : SyncState) (p : Pending) (side : Side) → o.state ≡ s → o.pending ≡ p → HasChanged (Some o) side a → HasChanged (as_read s p) side a
         same_book o s p Far e f h = rw (sym e, sym f) h
         same_book o s p Near e f h = rw (sym e, sym f) h
+
+pub files_map : (alone : Bool) (h0 h1 : Type 0) (keywords : List Keyword) (opened : Option Opened) (a b c : Device) → (h1 → h0) → (h0 → IsHeld opened a) → (h0 → IsKept alone a b) → TellsMap h1 alone opened keywords b c → TellsOtherMap h1 alone keywords a c
+files_map alone h0 h1 keywords None a b c honest held kept told = λ h. absurd told.0
+files_map alone h0 h1 keywords (Some o) a b c honest held kept told = λ h.
+    let t = told.1 h in
+    let k = kept_next alone a b c (kept (honest h)) t.1 in (
+      record {
+        state = o.state;
+        pending = o.pending;
+        held = subst (λ (f : Files). Holds f o.state o.pending) (sym k.files) (held (honest h));
+        other = told.0;
+        same = of_side t.0;
+      },
+      k,
+    )
+  where
+    of_side : BothSame (Some o) c → (side : Side) → HasSame (Some o) side c
+    of_side both Far = both.0
+    of_side both Near = both.1

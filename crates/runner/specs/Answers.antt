@@ -27,6 +27,7 @@ use Rattle.runner.specs.declared.pass.Pass.TheVariants.{Already, Ran, Finished}
 use Rattle.runner.specs.declared.performed.Performed.{Performed}
 use Rattle.runner.specs.Before.{HasNone, IsKnown}
 use Rattle.runner.specs.Going.{made, steps_of}
+use Rattle.runner.specs.Maps.{HasMapIn}
 
 -- ---- which answer, by what the files held at entry
 
@@ -89,11 +90,11 @@ abbrev pub AnswersTo : (run : ℕ) → Option Opened → Pass → Type 0
 AnswersTo run None pass = ⊥
 AnswersTo run (Some o) pass = Answers run o.state o.pending pass
 
--- what is run where no plan was pending
+-- what is run where no plan was pending; one that was goes by the map of the options
 abbrev pub RunsBy : Option Opened → Options → Stream → Pass → Type 0
 RunsBy opened options stream Already = Unit {0}
 RunsBy opened options stream (Ran performed unfit) = IsRun opened options stream (steps_of performed.items) unfit.items
-RunsBy opened options stream (Finished performed) = Unit {0}
+RunsBy opened options stream (Finished performed) = HasMapIn options.keywords opened
 
 -- a fault of the marks, the planner, or memory
 abbrev pub IsPlanFault : RunFault → Type 0
@@ -105,6 +106,7 @@ IsPlanFault (run.BadJournal line) = ⊥
 IsPlanFault (run.StoreFault side number) = ⊥
 IsPlanFault run.MarksRepeat = Unit {0}
 IsPlanFault run.NoMemory = Unit {0}
+IsPlanFault run.KeywordsChanged = ⊥
 
 abbrev pub IsRestOf : Option Opened → List Performed → Type 0
 IsRestOf None performed = ⊥

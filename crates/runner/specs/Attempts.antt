@@ -98,6 +98,13 @@ pub record ChangedLast (ours : List ℕ → Bool) (alone : Bool) (opening : Open
   pub changed : (s : SyncState) (p : Pending) → Holds (began_on began.reopens.since old.device).files s p → HasChanged (as_read s p) side (began_on began.reopens.since old.device)
   pub kept : IsKept alone (began_on began.reopens.since old.device) new.device
 
+-- The last attempt, one of so many, has changed nothing itself.
+pub record KeptLast (ours : List ℕ → Bool) (alone : Bool) (opening : Opening) (tries : ℕ) (old new : Seen) (stream : Stream) : Type 0 where
+  pub earlier : ℕ
+  pub few : earlier < tries
+  pub began : Began ours alone opening earlier old new stream
+  pub kept : IsKept alone (began_on began.reopens.since old.device) new.device
+
 -- in an attempt marks repeat: so many draws do from where the generator stood then, which was between these two, before there is a mark for
 -- each new message of some world since the opening
 pub record HaveRepeated (honest : Type 0) (ours : List ℕ → Bool) (alone : Bool) (opening : Opening) (options : Options) (stream after : Stream) (start : Device) : Type 0 where
@@ -120,6 +127,7 @@ TellsNoNext (run.BadJournal line) = ⊥
 TellsNoNext (run.StoreFault side number) = ⊥
 TellsNoNext run.MarksRepeat = ⊥
 TellsNoNext run.NoMemory = Unit {0}
+TellsNoNext run.KeywordsChanged = ⊥
 
 -- so it is told where the state's run has it, and nothing has changed then
 abbrev pub HasNoNext : {T : Type 0} → (honest : Type 0) → (alone : Bool) → (d d' : Device) → Result T RunFault → Type 0

@@ -69,7 +69,7 @@ pub record IsClear (alone : Bool) (opening : Opening) (opened : Option Opened) (
 pub record FarListed (alone : Bool) (opening : Opening) (opened : Option Opened) (far : Listing) (d : Device) : Type 0 where
   pub clear : IsClear alone opening opened true d
   pub lists : ListsFar alone opening.world.far.next far d
-  pub within : ListsWithin opening.keywords far
+  pub within : ListsWithin opening.options.keywords far
 
 -- spared are those near messages that cannot be new: each is not above the highest one that was pushed, or an entry names it
 abbrev pub AreOld : (pushed : ℕ) → List Entry → (spared : ℕ → Bool) → Type 0

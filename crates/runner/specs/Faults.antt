@@ -44,6 +44,7 @@ stops_met (run.BadJournal line) = 0
 stops_met (run.StoreFault side number) = 0
 stops_met run.MarksRepeat = 0
 stops_met run.NoMemory = 0
+stops_met run.KeywordsChanged = 0
 
 -- ---- why a run may tell a fault
 
@@ -96,11 +97,12 @@ pub record IsBeyond (run : ℕ) (d : Device) : Type 0 where
 abbrev pub TellsBeyond : (honest : Type 0) → (run : ℕ) → Device → Type 0
 TellsBeyond honest run d = honest → IsBeyond run d
 
--- what stands behind faults of the run's own: that a side's UIDVALIDITY has changed, that marks repeat, that the run is beyond the next
--- one, and that a line of the state or the journal is bad; and behind a refusal: that it is one of this step, or of a call by which no
+-- what stands behind faults of the run's own: that a side's UIDVALIDITY has changed, that the map of keywords has, that marks repeat, that
+-- the run is beyond the next one, and that a line of the state or the journal is bad; and behind a refusal: that it is one of this step, or of a call by which no
 -- step was performed
 pub record Reasons : Type 1 where
   pub changed : Side → Type 0
+  pub keywords : Type 0
   pub repeats : Type 0
   pub beyond : Type 0
   pub unread : OutsideFault → Type 0
@@ -109,11 +111,15 @@ pub record Reasons : Type 1 where
 
 -- while a step is performed: a refusal is one of it
 abbrev pub performing : (refused : (step : ℕ) → Type 0) → Reasons
-performing refused = record { changed = λ side. ⊥; repeats = ⊥; beyond = ⊥; unread = λ fault. ⊥; refused = refused; unstepped = ⊥ }
+performing refused = record { changed = λ side. ⊥; keywords = ⊥; repeats = ⊥; beyond = ⊥; unread = λ fault. ⊥; refused = refused; unstepped = ⊥ }
 
 -- while none is, once the shelf was read: no line of it is bad
 abbrev pub because : (changed : Side → Type 0) → (repeats : Type 0) → Reasons
-because changed repeats = record { changed = changed; repeats = repeats; beyond = ⊥; unread = λ fault. ⊥; refused = λ step. ⊥; unstepped = Unit {0} }
+because changed repeats = record { changed = changed; keywords = ⊥; repeats = repeats; beyond = ⊥; unread = λ fault. ⊥; refused = λ step. ⊥; unstepped = Unit {0} }
+
+-- where the map of keywords may have changed too
+abbrev pub or_keywords : (keywords : Type 0) → Reasons → Reasons
+or_keywords keywords reasons = record reasons { keywords = keywords }
 
 -- where it is read too
 abbrev pub or_unread : (unread : OutsideFault → Type 0) → Reasons → Reasons
@@ -138,6 +144,7 @@ IsCaused reasons (run.BadJournal line) old new = reasons.unread (out.BadJournal 
 IsCaused reasons (run.StoreFault side number) old new = IsLast (out.Box side number) old new ⊎ (IsLost side number old new ⊎ (reasons.unstepped × IsRefusal side number old new))
 IsCaused reasons run.MarksRepeat old new = reasons.repeats
 IsCaused reasons run.NoMemory old new = Unit {0}
+IsCaused reasons run.KeywordsChanged old new = reasons.keywords
 
 -- ---- what a fault leaves of a run that is underway
 
@@ -151,3 +158,4 @@ LeavesRun underway (run.BadJournal line) old new = ⊥
 LeavesRun underway (run.StoreFault side number) old new = underway new.device × (IsLast (out.Box side number) old new ⊎ IsRefusal side number old new)
 LeavesRun underway run.MarksRepeat old new = underway new.device
 LeavesRun underway run.NoMemory old new = underway new.device
+LeavesRun underway run.KeywordsChanged old new = underway new.device

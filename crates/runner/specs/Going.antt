@@ -8,6 +8,8 @@ use Rattle.rules.specs.declared.plan.PlanSide.{PlanSide}
 use Rattle.rules.specs.declared.plan.Step.{Step}
 use Rattle.rules.specs.declared.plan.Step.TheVariants as step
 use Rattle.rules.specs.World.{World}
+use Rattle.sync_state.specs.declared.version.Version.{Version}
+use Rattle.sync_state.specs.declared.version.Version.TheVariants.{Two}
 use Rattle.sync_state.specs.JournalText.{FitsStep}
 use Rattle.sync_state.specs.declared.journal.Journal.{Journal}
 use Rattle.sync_state.specs.declared.journal.Logged.{Logged}
@@ -55,7 +57,7 @@ abbrev pub no_side : PlanSide
 no_side = record { validity = 0; highest = 0; next = 0 }
 
 abbrev pub no_journal : Journal
-no_journal = record { plan = record { run = 0; far = no_side; near = no_side; steps = []; notes = [] }; log = [] }
+no_journal = record { plan = record { run = 0; far = no_side; near = no_side; steps = []; notes = []; keywords = [] }; log = [] }
 
 abbrev pub journal_at : Option Opened → Journal
 journal_at opened = unwrap_or (journal_of opened) no_journal
@@ -65,6 +67,16 @@ plan_at opened = (journal_at opened).plan
 
 abbrev pub log_at : Option Opened → List Logged
 log_at opened = (journal_at opened).log
+
+-- the version of its text
+abbrev pub version_in : Pending → Version
+version_in Missing = Two
+version_in Useless = Two
+version_in (Planned written) = written.version
+
+abbrev pub version_at : Option Opened → Version
+version_at None = Two
+version_at (Some o) = version_in o.pending
 
 abbrev pub IsUntorn : Pending → Type 0
 IsUntorn Missing = ⊥
@@ -114,6 +126,7 @@ FitsNext (Some s) logged = FitsStep s logged
 pub record HasLogged (old new : Option Opened) (results : List Logged) : Type 0 where
   pub going : IsGoing new
   pub state : state_of new ≡ state_of old
+  pub version : version_at new ≡ version_at old
   pub plan : plan_at new ≡ plan_at old
   pub log : log_at new ≡ log_at old ++ results
 
@@ -125,28 +138,28 @@ pub record AtMoment (alone : Bool) (opening : Opening) (opened : Option Opened) 
   pub since : Since alone opening P
 
 -- none of its calls is done; where the plan was taken up again, some or all may be
-abbrev pub Ready : (List ℕ → Bool) → Bool → World → Options → Plan → List Logged → (is_taken_up : Bool) → Device → Type 0
-Ready ours alone w options plan log false d = Midway ours alone w options plan log false log false d
-Ready ours alone w options plan log true d = Stands ours alone w options plan log false d
+abbrev pub Ready : (List ℕ → Bool) → Bool → World → Options → Version → Plan → List Logged → (is_taken_up : Bool) → Device → Type 0
+Ready ours alone w options version plan log false d = Midway ours alone w options version plan log false log false d
+Ready ours alone w options version plan log true d = Stands ours alone w options version plan log false d
 
 abbrev pub AtReady : (List ℕ → Bool) → Bool → Opening → Option Opened → (is_taken_up : Bool) → Device → Type 0
-AtReady ours alone opening opened is_taken_up d = AtMoment alone opening opened (λ w. Ready ours alone w opening.options (plan_at opened) (log_at opened) is_taken_up d)
+AtReady ours alone opening opened is_taken_up d = AtMoment alone opening opened (λ w. Ready ours alone w opening.options (version_at opened) (plan_at opened) (log_at opened) is_taken_up d)
 
 -- its flags are set, if they are set by a call of their own
 abbrev pub AtBegun : (List ℕ → Bool) → Bool → Opening → Option Opened → (is_made : Bool) → Device → Type 0
-AtBegun ours alone opening opened is_made d = AtMoment alone opening opened (λ w. HasBegun ours alone w opening.options (plan_at opened) (log_at opened) is_made d)
+AtBegun ours alone opening opened is_made d = AtMoment alone opening opened (λ w. HasBegun ours alone w opening.options (version_at opened) (plan_at opened) (log_at opened) is_made d)
 
 -- its copy was looked for
 abbrev pub AtSought : (List ℕ → Bool) → Bool → Opening → Option Opened → (found : Option ℕ) → Device → Type 0
-AtSought ours alone opening opened found d = AtMoment alone opening opened (λ w. IsSought ours alone w opening.options (plan_at opened) (log_at opened) found d)
+AtSought ours alone opening opened found d = AtMoment alone opening opened (λ w. IsSought ours alone w opening.options (version_at opened) (plan_at opened) (log_at opened) found d)
 
 -- it is done, and to be logged so
 abbrev pub AtDone : (List ℕ → Bool) → Bool → Opening → Option Opened → Logged → Device → Type 0
-AtDone ours alone opening opened logged d = AtMoment alone opening opened (λ w. Midway ours alone w opening.options (plan_at opened) (log_at opened) false (log_at opened ++ logged ∷ []) false d)
+AtDone ours alone opening opened logged d = AtMoment alone opening opened (λ w. Midway ours alone w opening.options (version_at opened) (plan_at opened) (log_at opened) false (log_at opened ++ logged ∷ []) false d)
 
 -- its copy is made, under some UID
 abbrev pub AtCopied : (List ℕ → Bool) → Bool → Opening → Option Opened → Device → Type 0
-AtCopied ours alone opening opened d = AtMoment alone opening opened (λ w. (copy : ℕ) × Midway ours alone w opening.options (plan_at opened) (log_at opened) false (log_at opened ++ Copied copy ∷ []) false d)
+AtCopied ours alone opening opened d = AtMoment alone opening opened (λ w. (copy : ℕ) × Midway ours alone w opening.options (version_at opened) (plan_at opened) (log_at opened) false (log_at opened ++ Copied copy ∷ []) false d)
 
 -- the copy that was just made was looked for, and found
 abbrev pub FoundCopy : (List ℕ → Bool) → Bool → Opening → Option Opened → (found : Option ℕ) → Device → Type 0

@@ -4,7 +4,9 @@ pub mod Going
 pub mod Before
 pub mod Results
 pub mod Answers
+pub mod Maps
 pub mod Validities
+pub mod ChangedMaps
 pub mod Attempts
 pub mod Finding
 pub mod Settled

@@ -10,7 +10,8 @@ use Rattle.underway.specs.Endings.{IsDone}
 use Rattle.underway.specs.Openings.{IsIdle, Opening}
 use Rattle.runner.specs.declared.pass.Pass.{Pass}
 use Rattle.runner.specs.Answers.{HasRepeats, IsEntry, OfFiles}
-use Rattle.runner.specs.Faults.{Reasons, TellsBeyond, TellsUnread, because, or_beyond, or_unread}
+use Rattle.runner.specs.Faults.{Reasons, TellsBeyond, TellsUnread, because, or_beyond, or_keywords, or_unread}
+use Rattle.runner.specs.ChangedMaps.{TellsOtherMap}
 use Rattle.runner.specs.Finding.{FindsAt}
 use Rattle.runner.specs.Results.{IsTold}
 use Rattle.runner.specs.Validities.{LeavesBoxes, TellsChanged}
@@ -30,11 +31,12 @@ pub record LeavesMade (honest : Type 0) (alone : Bool) (old new : Device) : Type
   pub stores : LeavesBoxes honest alone old new
   pub idle : OfFiles honest old (λ s p. IsIdle p → Holds new.files s Missing)
 
--- Why a pass tells a fault. `ValidityChanged` comes only where that side's UIDVALIDITY is not the recorded one, far before near, and nothing
--- has changed then; `MarksRepeat` only where the generator's draws do, before there is a mark for each new message of some world since the
+-- Why a pass tells a fault. `ValidityChanged` comes only where that side's UIDVALIDITY is not the recorded one, far before near, and
+-- `KeywordsChanged` only where the files hold a plan by another map and both UIDVALIDITYs are those of the plan; nothing has changed then;
+-- `MarksRepeat` only where the generator's draws do, before there is a mark for each new message of some world since the
 -- opening; a line of the state or the journal only where the files that stand there hold no book, but line 0 of the state: where the run is
 -- beyond the next one, or the outside has told it last.
 abbrev pub pass_reasons : (honest : Type 0) → (List ℕ → Bool) → Bool → Opening → (run : ℕ) → Options → Stream → (old new : Device) → Reasons
 pass_reasons honest ours alone opening run options stream old new =
-    or_unread (TellsUnread honest new) (or_beyond (TellsBeyond honest run old) (because (TellsChanged honest alone old new)
-    (HasRepeats alone opening honest (IsEntry ours alone opening run options stream old) options stream)))
+    or_unread (TellsUnread honest new) (or_beyond (TellsBeyond honest run old) (or_keywords (TellsOtherMap honest alone options.keywords old new)
+    (because (TellsChanged honest alone old new) (HasRepeats alone opening honest (IsEntry ours alone opening run options stream old) options stream))))

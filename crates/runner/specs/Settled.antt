@@ -11,8 +11,9 @@ use Rattle.underway.specs.Openings.{Opening}
 use Rattle.runner.specs.declared.fault.RunFault.{RunFault}
 use Rattle.runner.specs.declared.fault.RunFault.TheVariants as run
 use Rattle.runner.specs.declared.pass.Settled.{Settled}
-use Rattle.runner.specs.Attempts.{AnswersAt, Began, ChangedLast, HaveRepeated, MetBefore, MetStops, Reopens, began_on, failed_before}
-use Rattle.runner.specs.Faults.{IsCaused, LeavesRun, RefusedAt, TellsNoRun, because, or_beyond, or_refused, or_unread}
+use Rattle.runner.specs.Attempts.{AnswersAt, Began, ChangedLast, HaveRepeated, KeptLast, MetBefore, MetStops, Reopens, began_on, failed_before}
+use Rattle.runner.specs.ChangedMaps.{HoldsOtherMap}
+use Rattle.runner.specs.Faults.{IsCaused, LeavesRun, RefusedAt, TellsNoRun, because, or_beyond, or_keywords, or_refused, or_unread}
 use Rattle.runner.specs.Finding.{FindsAt}
 use Rattle.runner.specs.Results.{IsTold}
 
@@ -29,20 +30,23 @@ pub record IsSettled (ours : List ℕ → Bool) (alone : Bool) (opening : Openin
   pub told : IsTold ours alone opening settled.last new.device
   pub found : FindsAt ours (began_on began.reopens.since old.device) settled.last
 
--- A fault. The run is underway still. Behind `ValidityChanged` nothing has changed but what the attempts before the last have done. A step
+-- A fault. The run is underway still. Behind `ValidityChanged` and `KeywordsChanged` nothing has changed but what the attempts before the last
+-- have done. A step
 -- that is told as refused is the next one of the plan that the files then hold.
 pub record IsUnsettled (ours : List ℕ → Bool) (alone : Bool) (opening : Opening) (tries : ℕ) (stream : Stream) (fault : RunFault) (old new : Seen) : Type 0 where
   pub left : LeavesRun (Underway ours alone opening) fault old new
   pub changed : (side : Side) → fault ≡ run.ValidityChanged side → ChangedLast ours alone opening tries side old new stream
+  pub keywords : fault ≡ run.KeywordsChanged → KeptLast ours alone opening tries old new stream
   pub refused : (step : ℕ) → fault ≡ run.Refused step → RefusedAt step new.device
 
 -- Why a fault that is no stop is told. A refusal or a fault of a box is the last that was told, unless it is that of a copy that was lost.
--- Marks repeat only where the draws of an attempt do. A line of the state or the journal is told only where the files that stand there hold
+-- Marks repeat only where the draws of an attempt do, and the map of keywords has changed only where the files that stand there hold a plan by
+-- another one. A line of the state or the journal is told only where the files that stand there hold
 -- no book from it on, but line 2 of the state where their run has the greatest number, and but line 0, where the outside has told it last.
 abbrev pub HasReason : (honest : Type 0) → (List ℕ → Bool) → Bool → Opening → Options → (stream after : Stream) → RunFault → (old new : Seen) → Type 0
 HasReason honest ours alone opening options stream after fault old new = (fault ≡ run.Stopped → ⊥) → IsCaused
     (or_unread (TellsNoRun honest new.device) (or_refused (λ step. Unit {0}) (or_beyond (honest → ⊥)
-    (because (λ side. Unit {0}) (HaveRepeated honest ours alone opening options stream after old.device))))) fault old new
+    (or_keywords (honest → HoldsOtherMap options.keywords new.device) (because (λ side. Unit {0}) (HaveRepeated honest ours alone opening options stream after old.device)))))) fault old new
 
 -- behind a fault: each of all attempts met a stop where a stop is told, and else each but the last
 pub record CountsFailed (tries : ℕ) (fault : RunFault) (old new : Seen) : Type 0 where

@@ -55,7 +55,7 @@ fn set_flags<O: Outside>(outside: &mut O, number: usize, flags: &FlagStep) -> Re
     requires next { next_at (O.opened outside.old) ≡ Some (step.Flags flags.now.direction flags.now.far flags.now.near flags.now.set
         flags.now.cleared) }
     requires whole { (O.seen outside.old).is_broken ≡ false }
-    requires map { opening.keywords ≡ O.keywords outside.old }
+    requires map { opening.options.keywords ≡ O.keywords outside.old }
     ensures was_honest { O.honest outside.new → O.honest outside.old }
     ensures keywords { O.keywords outside.new ≡ O.keywords outside.old }
     ensures opened { O.opened outside.new ≡ O.opened outside.old }
@@ -83,7 +83,7 @@ fn clear_flags<O: Outside>(outside: &mut O, number: usize, flags: &FlagStep) -> 
     requires next { next_at (O.opened outside.old) ≡ Some (step.Flags flags.now.direction flags.now.far flags.now.near flags.now.set
         flags.now.cleared) }
     requires whole { (O.seen outside.old).is_broken ≡ false }
-    requires map { opening.keywords ≡ O.keywords outside.old }
+    requires map { opening.options.keywords ≡ O.keywords outside.old }
     ensures was_honest { O.honest outside.new → O.honest outside.old }
     ensures keywords { O.keywords outside.new ≡ O.keywords outside.old }
     ensures opened { O.opened outside.new ≡ O.opened outside.old }
@@ -115,7 +115,7 @@ pub(crate) fn carry_flags<O: Outside>(
     requires next { next_at (O.opened outside.old) ≡ Some (step.Flags flags.now.direction flags.now.far flags.now.near flags.now.set
         flags.now.cleared) }
     requires whole { (O.seen outside.old).is_broken ≡ false }
-    requires map { opening.keywords ≡ O.keywords outside.old }
+    requires map { opening.options.keywords ≡ O.keywords outside.old }
     ensures was_honest { O.honest outside.new → O.honest outside.old }
     ensures keywords { O.keywords outside.new ≡ O.keywords outside.old }
     ensures opened { O.opened outside.new ≡ O.opened outside.old }

@@ -84,7 +84,7 @@ fn copy<O: Outside>(
     ghost opening: { Opening }
     requires going { IsGoing (O.opened outside.old) }
     requires next { next_at (O.opened outside.old) ≡ Some (step.New direction uid flags mark) }
-    requires map { opening.keywords ≡ O.keywords outside.old }
+    requires map { opening.options.keywords ≡ O.keywords outside.old }
     ensures was_honest { O.honest outside.new → O.honest outside.old }
     ensures keywords { O.keywords outside.new ≡ O.keywords outside.old }
     ensures opened { O.opened outside.new ≡ O.opened outside.old }
@@ -125,7 +125,7 @@ pub(crate) fn bring<O: Outside>(
     ghost opening: { Opening }
     requires going { IsGoing (O.opened outside.old) }
     requires next { next_at (O.opened outside.old) ≡ Some (step.New direction uid flags mark) }
-    requires map { opening.keywords ≡ O.keywords outside.old }
+    requires map { opening.options.keywords ≡ O.keywords outside.old }
     ensures was_honest { O.honest outside.new → O.honest outside.old }
     ensures keywords { O.keywords outside.new ≡ O.keywords outside.old }
     ensures opened { O.opened outside.new ≡ O.opened outside.old }

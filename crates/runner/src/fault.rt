@@ -35,6 +35,9 @@ pub enum RunFault {
     /// A growth was refused.
     #[error("no memory")]
     NoMemory,
+    /// A plan of this run is pending, and by its map keywords have other letters than by the one handed in.
+    #[error("keywords changed")]
+    KeywordsChanged,
 }
 
 /// How a fault of the outside is told while no step is performed.

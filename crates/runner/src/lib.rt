@@ -12,5 +12,6 @@ pub mod performed;
 pub mod planning;
 pub mod progress;
 pub mod run;
+mod same_map;
 pub mod settle;
 pub mod steps;

@@ -140,7 +140,7 @@ pub(crate) fn clear<O: Outside>(outside: &mut O) -> Result<(), RunFault>
 fn list_far<O: Outside>(outside: &mut O) -> Result<Listing, RunFault>
     ghost opening: { Opening }
     requires boxes { AreOpen (O.opened outside.old) }
-    requires map { opening.keywords ≡ O.keywords outside.old }
+    requires map { opening.options.keywords ≡ O.keywords outside.old }
     ensures was_honest { O.honest outside.new → O.honest outside.old }
     ensures keywords { O.keywords outside.new ≡ O.keywords outside.old }
     ensures opened { O.opened outside.new ≡ O.opened outside.old }
@@ -165,7 +165,7 @@ fn list_near<O: Outside>(
     ghost opening: { Opening }
     requires spared { SparesOld (O.opened outside.old) (spares spared.now) }
     requires boxes { AreOpen (O.opened outside.old) }
-    requires map { opening.keywords ≡ O.keywords outside.old }
+    requires map { opening.options.keywords ≡ O.keywords outside.old }
     ensures was_honest { O.honest outside.new → O.honest outside.old }
     ensures keywords { O.keywords outside.new ≡ O.keywords outside.old }
     ensures opened { O.opened outside.new ≡ O.opened outside.old }
@@ -196,7 +196,7 @@ pub(crate) fn list_both<O: Outside>(alloc: Global, outside: &mut O) -> Result<Li
     ghost opening: { Opening }
     requires read { IsRead (O.opened outside.old) }
     requires boxes { AreOpen (O.opened outside.old) }
-    requires map { opening.keywords ≡ O.keywords outside.old }
+    requires map { opening.options.keywords ≡ O.keywords outside.old }
     ensures was_honest { O.honest outside.new → O.honest outside.old }
     ensures keywords { O.keywords outside.new ≡ O.keywords outside.old }
     ensures opened { O.opened outside.new ≡ O.opened outside.old }

@@ -4,7 +4,9 @@ ghost use Rattle.std.specs.Prelude.{◌≡◌, ◌<◌, ◌+◌, ◌^◌, [], No
 ghost use Rattle.outside.specs.Opened.{AreCommitted, IsBook, IsHeld, IsRead, TakesCommit};
 ghost use Rattle.underway.specs.Conditions.{Underway};
 ghost use Rattle.underway.specs.Openings.{Opening};
-ghost use Rattle.runner.specs.Faults.{because, or_beyond};
+ghost use Rattle.runner.specs.Faults.{because, or_beyond, or_keywords};
+ghost use Rattle.runner.specs.Maps.{HasMapIn};
+ghost use Rattle.runner.specs.ChangedMaps.{TellsMap};
 ghost use Rattle.runner.specs.Parts.{IsStuck, Part, PartOr, RunPart, Unstepped};
 ghost use Rattle.runner.specs.Validities.{IsKept, LeavesBoxes, TellsChange, TellsUnlessSame};
 ghost use Rattle.runner.specs.Going.{AreOpen, AtReady, IsGoing, log_at, next_at, plan_at};
@@ -20,6 +22,7 @@ use crate::opening::{clear, forget, list_both, open_boxes, recall, untear, write
 use crate::pass::Pass;
 use crate::planning::{make_plan, passed_over};
 use crate::progress::Progress;
+use crate::same_map::same_map;
 use crate::steps::carry_out;
 use mailcore::side::Side;
 use mailcore::uid::Uid;
@@ -61,7 +64,7 @@ fn propose<O: Outside, R: Rng>(
     requires none { HasNoPlan (O.opened outside.old) }
     requires boxes { AreOpen (O.opened outside.old) }
     requires room { run_of (O.opened outside.old) + 1 < 2 ^ 64 }
-    requires map { opening.keywords ≡ O.keywords outside.old }
+    requires map { opening.options.keywords ≡ O.keywords outside.old }
     ensures was_honest { O.honest outside.new → O.honest outside.old }
     ensures keywords { O.keywords outside.new ≡ O.keywords outside.old }
     ensures going { OnOk result (IsGoing (O.opened outside.new)) }
@@ -97,7 +100,7 @@ fn begin<O: Outside, R: Rng, P: Progress>(
     requires none { HasNoPlan (O.opened outside.old) }
     requires boxes { AreOpen (O.opened outside.old) }
     requires room { run_of (O.opened outside.old) + 1 < 2 ^ 64 }
-    requires map { opening.keywords ≡ O.keywords outside.old }
+    requires map { opening.options.keywords ≡ O.keywords outside.old }
     ensures was_honest { O.honest outside.new → O.honest outside.old }
     ensures keywords { O.keywords outside.new ≡ O.keywords outside.old }
     ensures answer { IfOk result (AnswersTo (run_of (O.opened outside.old) + 1) (O.opened outside.old)) }
@@ -132,7 +135,7 @@ fn resume<O: Outside, P: Progress>(
     requires book { IsBook (O.opened outside.old) }
     requires plan { HasPlan (O.opened outside.old) }
     requires boxes { AreOpen (O.opened outside.old) }
-    requires map { opening.keywords ≡ O.keywords outside.old }
+    requires map { opening.options.keywords ≡ O.keywords outside.old }
     ensures was_honest { O.honest outside.new → O.honest outside.old }
     ensures keywords { O.keywords outside.new ≡ O.keywords outside.old }
     ensures answer { IfOk result (AnswersTo (run_of (O.opened outside.old) + 1) (O.opened outside.old)) }
@@ -182,7 +185,8 @@ fn work<O: Outside, R: Rng, P: Progress>(
     requires book { IsBook (O.opened outside.old) }
     requires boxes { AreOpen (O.opened outside.old) }
     requires room { run_of (O.opened outside.old) + 1 < 2 ^ 64 }
-    requires map { opening.keywords ≡ O.keywords outside.old }
+    requires mapped { HasMapIn options.now.keywords (O.opened outside.old) }
+    requires map { opening.options.keywords ≡ O.keywords outside.old }
     ensures was_honest { O.honest outside.new → O.honest outside.old }
     ensures keywords { O.keywords outside.new ≡ O.keywords outside.old }
     ensures answer { IfOk result (AnswersTo (run_of (O.opened outside.old) + 1) (O.opened outside.old)) }
@@ -210,7 +214,7 @@ fn work<O: Outside, R: Rng, P: Progress>(
     }
 }
 
-/// Opens both boxes first.
+/// Opens both boxes first, and looks whether a plan that is pending goes by the map handed in.
 fn open_and_work<O: Outside, R: Rng, P: Progress>(
     alloc: Global,
     outside: &mut O,
@@ -221,7 +225,7 @@ fn open_and_work<O: Outside, R: Rng, P: Progress>(
     ghost opening: { Opening }
     requires book { IsBook (O.opened outside.old) }
     requires room { run_of (O.opened outside.old) + 1 < 2 ^ 64 }
-    requires map { opening.keywords ≡ O.keywords outside.old }
+    requires map { O.keywords outside.old ≡ options.now.keywords }
     ensures was_honest { O.honest outside.new → O.honest outside.old }
     ensures keywords { O.keywords outside.new ≡ O.keywords outside.old }
     ensures answer { IfOk result (AnswersTo (run_of (O.opened outside.old) + 1) (O.opened outside.old)) }
@@ -235,15 +239,17 @@ fn open_and_work<O: Outside, R: Rng, P: Progress>(
     ensures found { IfOk result (λ pass. O.honest outside.new → IsKnownEntry O.ours O.alone opening (O.opened outside.old)
         (run_of (O.opened outside.old) + 1) options.now (R.stream rng.old) (O.seen outside.old).device
         → OfSame O.ours (O.seen outside.old).device (λ d. FindsBy (O.opened outside.old) d pass)) }
-    ensures part { RunPart (because (TellsChange (O.honest outside.new) O.alone (O.opened outside.old) (O.seen outside.old).device
-        (O.seen outside.new).device)
+    ensures part { RunPart (or_keywords (TellsMap (O.honest outside.new) O.alone (O.opened outside.old) options.now.keywords
+        (O.seen outside.old).device (O.seen outside.new).device)
+        (because (TellsChange (O.honest outside.new) O.alone (O.opened outside.old) (O.seen outside.old).device (O.seen outside.new).device)
         (HasRepeats O.alone opening (O.honest outside.new) (IsKnownEntry O.ours O.alone opening (O.opened outside.old)
-        (run_of (O.opened outside.old) + 1) options.now (R.stream rng.old) (O.seen outside.old).device) options.now (R.stream rng.old)))
+        (run_of (O.opened outside.old) + 1) options.now (R.stream rng.old) (O.seen outside.old).device) options.now (R.stream rng.old))))
         (O.honest outside.new)
         (IsKnownEntry O.ours O.alone opening (O.opened outside.old) (run_of (O.opened outside.old) + 1) options.now (R.stream rng.old))
         (Underway O.ours O.alone opening) made_in (λ _. AtEnd O.ours O.alone opening) (O.seen outside.old) (O.seen outside.new) result }
 {
     open_boxes(outside)?;
+    same_map(outside, options)?;
     work(alloc, outside, options, rng, progress)
 }
 
@@ -259,7 +265,7 @@ fn take_up<O: Outside, R: Rng, P: Progress>(
     ghost opening: { Opening }
     requires book { IsBook (O.opened outside.old) }
     requires whole { (O.seen outside.old).is_broken ≡ false }
-    requires map { opening.keywords ≡ O.keywords outside.old }
+    requires map { O.keywords outside.old ≡ options.now.keywords }
     ensures was_honest { O.honest outside.new → O.honest outside.old }
     ensures keywords { O.keywords outside.new ≡ O.keywords outside.old }
     ensures answer { IfOk result (AnswersTo run (O.opened outside.old)) }
@@ -277,9 +283,11 @@ fn take_up<O: Outside, R: Rng, P: Progress>(
         → OfSame O.ours (O.seen outside.old).device (λ d. FindsBy (O.opened outside.old) d pass)) }
     ensures beyond { run_of (O.opened outside.old) + 1 < run → IsErr result × (O.seen outside.new ≡ O.seen outside.old) }
     ensures part { RunPart (or_beyond (run_of (O.opened outside.old) + 1 < run)
+        (or_keywords (TellsMap (O.honest outside.new) O.alone (O.opened outside.old) options.now.keywords (O.seen outside.old).device
+        (O.seen outside.new).device)
         (because (TellsChange (O.honest outside.new) O.alone (O.opened outside.old) (O.seen outside.old).device (O.seen outside.new).device)
         (HasRepeats O.alone opening (O.honest outside.new) (IsKnownEntry O.ours O.alone opening (O.opened outside.old) run options.now
-        (R.stream rng.old) (O.seen outside.old).device) options.now (R.stream rng.old)))) (O.honest outside.new)
+        (R.stream rng.old) (O.seen outside.old).device) options.now (R.stream rng.old))))) (O.honest outside.new)
         (IsKnownEntry O.ours O.alone opening (O.opened outside.old) run options.now (R.stream rng.old)) (Underway O.ours O.alone opening)
         made_in (λ _. Reaches O.ours O.alone opening run) (O.seen outside.old) (O.seen outside.new) result }
 {
@@ -295,7 +303,8 @@ fn take_up<O: Outside, R: Rng, P: Progress>(
 
 /// Carries out the run of this number, or goes on with it where its plan is pending.
 ///
-/// `BadState(0)`: the last run recorded is not the one before. `Stopped`: taken up again, it goes on where it stopped.
+/// `BadState(0)`: the last run recorded is not the one before. `Stopped`: taken up again, it goes on where it stopped. `KeywordsChanged`:
+/// its plan was made by another map of keywords, and nothing has changed; by that map it can be taken up.
 pub fn pass<O: Outside, R: Rng, P: Progress>(
     alloc: Global,
     outside: &mut O,
@@ -305,7 +314,7 @@ pub fn pass<O: Outside, R: Rng, P: Progress>(
     progress: &P,
 ) -> Result<Pass, RunFault>
     ghost opening: { Opening }
-    requires map { opening.keywords ≡ O.keywords outside.old }
+    requires map { O.keywords outside.old ≡ options.now.keywords }
     ensures was_honest { O.honest outside.new → O.honest outside.old }
     ensures keywords { O.keywords outside.new ≡ O.keywords outside.old }
 

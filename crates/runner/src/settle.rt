@@ -5,8 +5,9 @@ ghost use Rattle.underway.specs.Conditions.{IsOver};
 ghost use Rattle.underway.specs.Openings.{Opening};
 ghost use Rattle.runner.specs.Answers.{HasRepeats, Moves, OfFiles, made_in};
 ghost use Rattle.runner.specs.Attempts.{AnswersAt, AtOpening, FromOpening, HasNoNext, HasReached, IsReached, IsTried, TriedAt, found_by};
-ghost use Rattle.runner.specs.Faults.{TellsNoRun, because, or_beyond, or_unread};
+ghost use Rattle.runner.specs.Faults.{TellsNoRun, because, or_beyond, or_keywords, or_unread};
 ghost use Rattle.runner.specs.Finding.{FindsAt, FindsSame};
+ghost use Rattle.runner.specs.ChangedMaps.{TellsOtherMap};
 ghost use Rattle.runner.specs.Parts.{IsStuck, PartOr, RunPart, Unstepped};
 ghost use Rattle.runner.specs.Results.{HasResults, IsTold};
 ghost use Rattle.runner.specs.Settled.{CountsAttempts, HasReason, IsSettled, IsUnsettled};
@@ -85,7 +86,7 @@ fn attempt<O: Outside, R: Rng, P: Progress>(
 ) -> Result<Pass, RunFault>
     ghost opening: { Opening }
     requires whole { (number : ℕ) → run.old ≡ Some number → (O.seen outside.old).is_broken ≡ false }
-    requires map { opening.keywords ≡ O.keywords outside.old }
+    requires map { O.keywords outside.old ≡ options.now.keywords }
     ensures was_honest { O.honest outside.new → O.honest outside.old }
     ensures keywords { O.keywords outside.new ≡ O.keywords outside.old }
     ensures moved { Moves (R.stream rng.old) (R.stream rng.new) }
@@ -103,9 +104,11 @@ fn attempt<O: Outside, R: Rng, P: Progress>(
     ensures stuck { IsStuck (O.seen outside.old) (O.seen outside.new) result }
     ensures part { RunPart (or_unread (TellsNoRun (O.honest outside.new) (O.seen outside.new).device)
         (or_beyond (O.honest outside.new → IsReached run.old (O.seen outside.old).device.files → ⊥)
+        (or_keywords (TellsOtherMap (O.honest outside.new) O.alone options.now.keywords (O.seen outside.old).device
+        (O.seen outside.new).device)
         (because (TellsChanged (O.honest outside.new) O.alone (O.seen outside.old).device (O.seen outside.new).device)
         (HasRepeats O.alone opening (O.honest outside.new) (IsTried O.ours O.alone opening options.now (R.stream rng.old) run.old
-        (O.seen outside.old).device) options.now (R.stream rng.old)))))
+        (O.seen outside.old).device) options.now (R.stream rng.old))))))
         (O.honest outside.new) (IsTried O.ours O.alone opening options.now (R.stream rng.old) run.old)
         (IsTried O.ours O.alone opening options.now (R.stream rng.new) run.new)
         made_in (λ _. IsOver O.ours O.alone opening) (O.seen outside.old) (O.seen outside.new) result }
@@ -139,7 +142,7 @@ pub fn settle<O: Outside, R: Rng, P: Progress>(
     progress: &P,
 ) -> Result<Settled, RunFault>
     ghost opening: { Opening }
-    requires map { opening.keywords ≡ O.keywords outside.old }
+    requires map { O.keywords outside.old ≡ options.now.keywords }
     ensures was_honest { O.honest outside.new → O.honest outside.old }
     ensures keywords { O.keywords outside.new ≡ O.keywords outside.old }
 

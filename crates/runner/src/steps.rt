@@ -37,7 +37,7 @@ fn perform<O: Outside>(
     requires going { IsGoing (O.opened outside.old) }
     requires next { next_at (O.opened outside.old) ≡ Some step.now }
     requires whole { (O.seen outside.old).is_broken ≡ false }
-    requires map { opening.keywords ≡ O.keywords outside.old }
+    requires map { opening.options.keywords ≡ O.keywords outside.old }
     ensures was_honest { O.honest outside.new → O.honest outside.old }
     ensures keywords { O.keywords outside.new ≡ O.keywords outside.old }
     ensures opened { O.opened outside.new ≡ O.opened outside.old }
@@ -140,7 +140,7 @@ fn advance<O: Outside>(
     requires number { number ≡ number_at (O.opened outside.old) }
     requires next { next_at (O.opened outside.old) ≡ Some step }
     requires whole { (O.seen outside.old).is_broken ≡ false }
-    requires map { opening.keywords ≡ O.keywords outside.old }
+    requires map { opening.options.keywords ≡ O.keywords outside.old }
     ensures was_honest { O.honest outside.new → O.honest outside.old }
     ensures keywords { O.keywords outside.new ≡ O.keywords outside.old }
     ensures opened { IfOk result (λ p. HasLogged (O.opened outside.old) (O.opened outside.new) (logged_of p.result ∷ [])) }
@@ -168,7 +168,7 @@ pub(crate) fn carry_out<O: Outside, P: Progress>(
     ghost opening: { Opening }
     requires going { IsGoing (O.opened outside.old) }
     requires whole { (O.seen outside.old).is_broken ≡ false }
-    requires map { opening.keywords ≡ O.keywords outside.old }
+    requires map { opening.options.keywords ≡ O.keywords outside.old }
     ensures was_honest { O.honest outside.new → O.honest outside.old }
     ensures keywords { O.keywords outside.new ≡ O.keywords outside.old }
     ensures opened { IfOk result (λ performed. HasLogged (O.opened outside.old) (O.opened outside.new) (logs_of performed.items)) }

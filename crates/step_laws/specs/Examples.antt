@@ -20,7 +20,7 @@ abbrev both : Directions
 both = record { pull = true; push = true }
 
 abbrev full : (far near : Bool) → Options
-full far near = record { cells = record { new = both; gone = both; flags = both }; expunge = record { far = far; near = near } }
+full far near = record { cells = record { new = both; gone = both; flags = both }; expunge = record { far = far; near = near }; keywords = [] }
 
 abbrev message : (uid flags : ℕ) → Message
 message uid flags = record { uid = uid; flags = flags; bytes = codes "a" ++ LF ∷ [] }

@@ -10,6 +10,7 @@ use crate::fault::{ListFault, StoreFault};
 use crate::notice::Notice;
 use crate::stop_cause::StopCause;
 use config::config::{ImapStore, MaildirStore};
+use mailcore::keywords::Keywords;
 use mailcore::mailbox_name::MailboxName;
 use mailcore::side::Side;
 use outside::outside::Outside;
@@ -64,8 +65,13 @@ pub trait Work {
     /// How it ended.
     ghost ends: { Self.Answer → Outcome };
 
-    /// Does it, over both sides of the mailbox and its state, and tells how far it is.
-    fn over<O: Outside, P: Progress>(self, outside: &mut O, progress: &P) -> Self::Answer;
+    /// The map by which keywords have a letter in it.
+    fn keywords(&self) -> &Keywords
+        ensures { result.now ≡ (options self.now).keywords };
+
+    /// Does it, over both sides of the mailbox and its state, and tells how far it is. Both sides go by its map of keywords.
+    fn over<O: Outside, P: Progress>(self, outside: &mut O, progress: &P) -> Self::Answer
+        requires map { O.keywords outside.old ≡ (options self).keywords };
 }
 
 /// Stores whose mailboxes can be synchronised.

@@ -24,6 +24,14 @@ line_is_none None fits line text first rest parts one none = λ l behind lacks e
     none value f (s.front ∙ same)
 line_is_none (Some x) fits line text first rest parts one none = tt
 
+pub line_of : {T : Type 0} (fits : T → Type 0) (line : T → List ℕ) (value : T) (text first rest : List ℕ) → text ≡ first ++ 10 ∷ rest → OneLine first → fits value × (first ≡ line value)
+    → HasLine [] fits line value text rest
+line_of fits line value text first rest parts one is = record {
+  fitting = is.0;
+  parts = parts ∙ ap (λ (x : List ℕ). x ++ 10 ∷ rest) is.1;
+  one_line = subst (λ (x : List ℕ). OneLine x) is.1 one;
+}
+
 -- ---- order
 
 pub rises-push : (b : ℕ × ℕ × ℕ) (ps : List (ℕ × ℕ × ℕ)) (p : ℕ × ℕ × ℕ) → rises b ps ≡ true → is_below (last_of b ps) p ≡ true → rises b (ps ++ p ∷ []) ≡ true

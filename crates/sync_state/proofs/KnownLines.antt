@@ -1,5 +1,5 @@
 -- A step is known from its line, and a note from its own.
-use Rattle.std.proofs.Common.{◌≡◌, ◌≢◌, ℕ, ◌<◌, ◌^◌, Bool, true, false, cond, List, [], ◌∷◌, ◌++◌, length, get_or, drop, refl, sym, ap, ◌∙◌, arith}
+use Rattle.std.proofs.Common.{◌≡◌, ◌≢◌, ℕ, ◌<◌, ◌^◌, Bool, true, false, cond, List, [], ◌∷◌, ◌++◌, length, get_or, drop, refl, sym, ap, subst, ◌∙◌, arith}
 use Rattle.std.specs.Prelude.{decimal, unwrap_or, ◌==◌}
 use Rattle.std.proofs.lemmas.Bool.{eqb-true}
 use Rattle.std.proofs.lemmas.List.{append-nil, drop_at}
@@ -12,7 +12,10 @@ use Rattle.rules.specs.declared.plan.Note.{Note}
 use Rattle.rules.specs.declared.plan.Note.TheVariants as note
 use Rattle.sync_state.specs.declared.journal.Logged.{Logged}
 use Rattle.sync_state.specs.declared.journal.Logged.TheVariants.{Copied, Done, Void}
+use Rattle.sync_state.specs.declared.version.Version.{Version}
 use Rattle.sync_state.specs.Cuts.{Lacks, SameCut, same_cut, no_cut}
+use Rattle.sync_state.specs.Versions.{StepLetters, NoteLetters}
+use Rattle.sync_state.specs.JournalReading.{IsStepIn, IsNoteIn}
 use Rattle.sync_state.specs.Words.{flags_word, direction_word, side_word}
 use Rattle.sync_state.specs.WordLaws.{direction-injective, direction-lacks, side_word-injective, side_word-lacks, side-injective, side-lacks, flags-injective, flags-lack, letters-lack}
 use Rattle.sync_state.specs.NumberLaws.{uid-injective, uid-lacks}
@@ -135,6 +138,17 @@ note_known (note.Drop f n) (note.Drop f' n') fa fb e =
     let same_n = side-injective n n' fa.1 fb.1 s.behind in cc
 note_known (note.Record f n w) (note.Drop f' n') fa fb e = absurd (other_kind _ _ 2 114 100 refl refl (λ h. absurd (omega (arith, h))) e)
 note_known (note.Drop f n) (note.Record f' n' w') fa fb e = absurd (other_kind _ _ 2 100 114 refl refl (λ h. absurd (omega (arith, h))) e)
+
+-- a line is that of one step, which has flags without a letter
+pub no_step_letters : (v : Version) (s : Step) (line : List ℕ) → IsStep s → ¬ StepLetters v s → line ≡ step_line s → (a : Step) → IsStepIn v a → line ≢ step_line a
+no_step_letters v s line fits none is a fa same =
+    let one = step_known a s fa.0 fits (sym same ∙ is) in
+    none (subst (λ (x : Step). StepLetters v x) one fa.1)
+
+pub no_note_letters : (v : Version) (n : Note) (line : List ℕ) → IsNote n → ¬ NoteLetters v n → line ≡ note_line n → (a : Note) → IsNoteIn v a → line ≢ note_line a
+no_note_letters v n line fits none is a fa same =
+    let one = note_known a n fa.0 fits (sym same ∙ is) in
+    none (subst (λ (x : Note). NoteLetters v x) one fa.1)
 
 pub step_places : (a b : Step) → IsStep a → IsStep b → step_line a ≡ step_line b → step_place a ≡ step_place b
 step_places a b fa fb e = ap step_place (step_known a b fa fb e)

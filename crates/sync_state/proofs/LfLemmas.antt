@@ -1,11 +1,14 @@
 -- No line of a journal has an LF inside.
-use Rattle.std.proofs.Common.{◌≡◌, ◌≢◌, ℕ, ◌<◌, ◌^◌, true, false, cond, List, [], ◌∷◌, ◌++◌, map, length, Option, Some, None, refl, sym, subst, arith, append_assoc}
-use Rattle.std.specs.Prelude.{All, ◌==◌, codes, decimal, unwrap_or}
+use Rattle.std.proofs.Common.{◌≡◌, ◌≢◌, ℕ, ◌<◌, ◌^◌, true, false, cond, List, [], ◌∷◌, ◌++◌, map, length, get_or, Option, Some, None, refl, sym, subst, arith, append_assoc}
+use Rattle.std.specs.Prelude.{All, ◌==◌, ◌&&◌, nat_le, is_none, codes, decimal, unwrap_or}
 use Rattle.std.specs.List.{list_all}
 use Rattle.std.proofs.lemmas.Bool.{false≢true, and_parts}
 use Rattle.std.proofs.lemmas.List.Elements.{All-nil, All-cons, All-push, All-append, All-map, All-weaker}
 use Rattle.std.proofs.lemmas.List.Sums.{AllPass-from_list_all}
-use Rattle.mailcore.specs.FlagNames.{letters_of}
+use Rattle.mailcore.specs.declared.keywords.Keyword.{Keyword}
+use Rattle.mailcore.specs.AtomBytes.{is_atom, is_atom_byte}
+use Rattle.mailcore.specs.FlagNames.{letters_of, flag_named}
+use Rattle.mailcore.specs.KeywordNames.{IsMap, is_keyword_letter, is_keyword_name}
 use Rattle.mailcore.specs.Mark.{IsMark, is_mark_char, MARK_LENGTH}
 use Rattle.mailcore.specs.declared.side.Direction.{Direction}
 use Rattle.mailcore.specs.declared.side.Direction.TheVariants.{Pull, Push}
@@ -17,13 +20,15 @@ use Rattle.rules.specs.declared.plan.Note.{Note}
 use Rattle.rules.specs.declared.plan.Note.TheVariants as note
 use Rattle.rules.specs.declared.plan.Plan.{Plan}
 use Rattle.rules.specs.declared.plan.PlanSide.{PlanSide}
+use Rattle.sync_state.specs.declared.version.Version.{Version}
+use Rattle.sync_state.specs.declared.version.Version.TheVariants.{One, Two}
 use Rattle.sync_state.specs.declared.journal.Logged.{Logged}
 use Rattle.sync_state.specs.declared.journal.Logged.TheVariants.{Copied, Done, Void}
 use Rattle.sync_state.specs.Words.{IsUid, IsUidOrNone, flags_word, direction_word, side_word}
 use Rattle.sync_state.specs.WordLaws.{decimal-lacks, letters-lack}
 use Rattle.sync_state.specs.Lines.{OneLine}
 use Rattle.sync_state.specs.StateText.{run_line}
-use Rattle.sync_state.specs.JournalText.{journal_title, plan_side_text, plan_far_line, plan_near_line, plan_head_lines, plan_lines, go_line, change, step_line, note_line, log_line, IsPlanSide, IsPlan, IsStep, IsNote, FitsStep}
+use Rattle.sync_state.specs.JournalText.{journal_title, plan_side_text, plan_far_line, plan_near_line, plan_head_lines, plan_lines, go_line, keyword_line, change, step_line, note_line, log_line, IsPlanSide, IsPlan, IsStep, IsNote, FitsStep}
 use Rattle.sync_state.proofs.StateLemmas.{lacks_lf}
 use Rattle.sync_state.proofs.GoLemmas.{go_is_one_line}
 
@@ -78,12 +83,33 @@ side_text : (s : PlanSide) → IsPlanSide s → OneLine (plan_side_text s)
 side_text s is = spaced (decimal s.validity) (decimal s.highest ++ 32 ∷ decimal s.next) (decimal-lacks 10 (omega arith) s.validity (omega (arith, is.validity.fits)))
     (spaced (decimal s.highest) (decimal s.next) (decimal-lacks 10 (omega arith) s.highest (omega (arith, is.highest))) (decimal-lacks 10 (omega arith) s.next (omega (arith, is.next.fits))))
 
-head_lines : (p : Plan) → IsPlan p → All OneLine (plan_head_lines p)
-head_lines p is =
-    All-cons OneLine journal_title (run_line p.run ∷ plan_far_line p.far ∷ plan_near_line p.near ∷ []) (lacks_lf journal_title refl)
-    (All-cons OneLine (run_line p.run) (plan_far_line p.far ∷ plan_near_line p.near ∷ []) (behind (codes "run ") (decimal p.run) (lacks_lf (codes "run ") refl) (decimal-lacks 10 (omega arith) p.run is.run))
-    (All-cons OneLine (plan_far_line p.far) (plan_near_line p.near ∷ []) (behind (codes "far ") (plan_side_text p.far) (lacks_lf (codes "far ") refl) (side_text p.far is.far))
-    (All-cons OneLine (plan_near_line p.near) [] (behind (codes "near ") (plan_side_text p.near) (lacks_lf (codes "near ") refl) (side_text p.near is.near)) (All-nil OneLine))))
+title : (v : Version) → OneLine (journal_title v)
+title One = lacks_lf (journal_title One) refl
+title Two = lacks_lf (journal_title Two) refl
+
+atom : (name : List ℕ) → is_atom name ≡ true → OneLine name
+atom name is =
+    let bytes : list_all is_atom_byte name ≡ true = (and_parts (nat_le 1 (length name) && nat_le (length name) 255) (list_all is_atom_byte name) is).1 in
+    All-weaker (λ b. is_atom_byte b ≡ true) IsInside (λ b t e. let none : is_atom_byte 10 ≡ true = subst (λ (x : ℕ). is_atom_byte x ≡ true) e t in false≢true none) name (AllPass-from_list_all is_atom_byte name bytes)
+
+pub keyword_is_one_line : (k : Keyword) → is_keyword_letter k.letter ≡ true → is_keyword_name k.name ≡ true → OneLine (keyword_line k)
+keyword_is_one_line k letter name =
+    let inside : IsInside k.letter = λ e. let none : is_keyword_letter 10 ≡ true = subst (λ (x : ℕ). is_keyword_letter x ≡ true) e letter in false≢true none in
+    behind (codes "k ") (k.letter ∷ 32 ∷ k.name) (lacks_lf (codes "k ") refl)
+    (All-cons IsInside k.letter (32 ∷ k.name) inside
+    (All-cons IsInside 32 k.name (λ e. absurd (omega (arith, e))) (atom k.name (and_parts (is_atom k.name) (is_none (flag_named k.name)) name).0)))
+
+pub keywords_are_lines : (keywords : List Keyword) → IsMap keywords → All OneLine (map keyword_line keywords)
+keywords_are_lines keywords is =
+    All-map OneLine keyword_line keywords (λ i d below. keyword_is_one_line (get_or keywords i d) (is.letters i d below) (is.names i d below))
+
+head_lines : (v : Version) (p : Plan) → IsPlan p → All OneLine (plan_head_lines v p)
+head_lines v p is =
+    let keywords : List (List ℕ) = map keyword_line p.keywords in
+    All-cons OneLine (journal_title v) (run_line p.run ∷ plan_far_line p.far ∷ plan_near_line p.near ∷ keywords) (title v)
+    (All-cons OneLine (run_line p.run) (plan_far_line p.far ∷ plan_near_line p.near ∷ keywords) (behind (codes "run ") (decimal p.run) (lacks_lf (codes "run ") refl) (decimal-lacks 10 (omega arith) p.run is.run))
+    (All-cons OneLine (plan_far_line p.far) (plan_near_line p.near ∷ keywords) (behind (codes "far ") (plan_side_text p.far) (lacks_lf (codes "far ") refl) (side_text p.far is.far))
+    (All-cons OneLine (plan_near_line p.near) keywords (behind (codes "near ") (plan_side_text p.near) (lacks_lf (codes "near ") refl) (side_text p.near is.near)) (keywords_are_lines p.keywords is.keywords))))
 
 step_is_one_line : (s : Step) → IsStep s → OneLine (step_line s)
 step_is_one_line (step.New d u f m) is =
@@ -111,21 +137,21 @@ note_is_one_line (note.Drop far near) is =
     (spaced (decimal (unwrap_or far 0)) (decimal (unwrap_or near 0)) (uid_or_none far is.0) (uid_or_none near is.1))
 
 -- the lines of a plan but its last
-abbrev pub before_go : Plan → List (List ℕ)
-before_go p = plan_head_lines p ++ (map step_line p.steps ++ map note_line p.notes)
+abbrev pub before_go : Version → Plan → List (List ℕ)
+before_go v p = plan_head_lines v p ++ (map step_line p.steps ++ map note_line p.notes)
 
-pub before_go_is_lines : (p : Plan) → IsPlan p → All OneLine (before_go p)
-before_go_is_lines p is =
-    All-append OneLine (plan_head_lines p) (map step_line p.steps ++ map note_line p.notes) (head_lines p is)
+pub before_go_is_lines : (v : Version) (p : Plan) → IsPlan p → All OneLine (before_go v p)
+before_go_is_lines v p is =
+    All-append OneLine (plan_head_lines v p) (map step_line p.steps ++ map note_line p.notes) (head_lines v p is)
     (All-append OneLine (map step_line p.steps) (map note_line p.notes)
     (All-map OneLine step_line p.steps (All-weaker IsStep (λ s. OneLine (step_line s)) step_is_one_line p.steps is.steps))
     (All-map OneLine note_line p.notes (All-weaker IsNote (λ n. OneLine (note_line n)) note_is_one_line p.notes is.notes)))
 
-pub last_is_go : (p : Plan) → plan_lines p ≡ before_go p ++ go_line ∷ []
-last_is_go p = sym (append_assoc (plan_head_lines p) (map step_line p.steps ++ map note_line p.notes) (go_line ∷ []))
+pub last_is_go : (v : Version) (p : Plan) → plan_lines v p ≡ before_go v p ++ go_line ∷ []
+last_is_go v p = sym (append_assoc (plan_head_lines v p) (map step_line p.steps ++ map note_line p.notes) (go_line ∷ []))
 
-pub plan_is_lines : (p : Plan) → IsPlan p → All OneLine (plan_lines p)
-plan_is_lines p is = subst (λ (ls : List (List ℕ)). All OneLine ls) (sym (last_is_go p)) (All-push OneLine (before_go p) go_line (before_go_is_lines p is) go_is_one_line)
+pub plan_is_lines : (v : Version) (p : Plan) → IsPlan p → All OneLine (plan_lines v p)
+plan_is_lines v p is = subst (λ (ls : List (List ℕ)). All OneLine ls) (sym (last_is_go v p)) (All-push OneLine (before_go v p) go_line (before_go_is_lines v p is) go_is_one_line)
 
 -- a line that logs a step
 pub log_line_is_one_line : (s : Step) (l : Logged) (number : ℕ) → number < 2 ^ 64 → FitsStep s l → OneLine (log_line number l)

@@ -2,8 +2,10 @@ pub mod AddingLemmas
 pub mod GoLemmas
 pub mod ItemLemmas
 pub mod JournalEnds
+pub mod JournalHeads
 pub mod JournalLemmas
 pub mod JournalTails
+pub mod KeywordReading
 pub mod KnownJournals
 pub mod KnownLines
 pub mod KnownStates
@@ -14,5 +16,6 @@ pub mod LogLemmas
 pub mod OrderedItems
 pub mod PairLemmas
 pub mod PlanTexts
+pub mod SecondVersion
 pub mod StateLemmas
 pub mod StepLemmas

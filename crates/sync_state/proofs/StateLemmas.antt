@@ -16,12 +16,15 @@ use Rattle.sync_state.specs.declared.words.Positive.{Positive}
 use Rattle.sync_state.specs.declared.words.Highest.{Highest}
 use Rattle.sync_state.specs.declared.words.Run.{Run}
 use Rattle.sync_state.specs.declared.state_text.Head.{Head}
+use Rattle.sync_state.specs.declared.version.Version.{Version}
+use Rattle.sync_state.specs.declared.version.Version.TheVariants.{One, Two}
 use Rattle.sync_state.specs.declared.fault.BookFault.{BookFault}
 use Rattle.sync_state.specs.declared.fault.BookFault.TheVariants.{Stopped, BadState, BadJournal, NoMemory}
 use Rattle.sync_state.specs.Faults.{TellsState}
 use Rattle.sync_state.specs.Cuts.{same_cut}
-use Rattle.sync_state.specs.Words.{IsPositive, IsRun, IsUidOrNone, flags_word}
-use Rattle.sync_state.specs.WordLaws.{side-injective, side-lacks, flags-injective}
+use Rattle.sync_state.specs.Words.{IsPositive, IsRun, IsUidOrNone, flags_word, version_word}
+use Rattle.sync_state.specs.WordLaws.{side-injective, side-lacks, flags-injective, version-injective}
+use Rattle.sync_state.specs.Versions.{HasLetters}
 use Rattle.sync_state.specs.Lines.{lines_text, OneLine, AreLines, IsBadLine, HasLine, HasNoLine}
 use Rattle.sync_state.specs.StateText.{state_title, run_line, far_line, near_line, entry_line, end_line, state_lines, IsHighest, IsEntry, HasText, StateText, StateLines}
 use Rattle.sync_state.specs.StateReading.{HeadFits, head_lines, HeadRead, AreEntries, EntriesRead, IsBadEntry, IsNoEnd, IsBehindEnd, TellsEntry, TellsEnd}
@@ -48,7 +51,7 @@ with_entries h es = record {
   entries = es;
 }
 
-fits_with : (h : Head) (es : List Entry) → HeadFits h → All IsEntry es → ArePairs es → HasText (with_entries h es)
+fits_with : (h : Head) (es : List Entry) → HeadFits h → All (IsEntry h.version) es → ArePairs es → HasText h.version (with_entries h es)
 fits_with h es f all pairs = record {
   run = f.run;
   far_validity = f.far_validity;
@@ -74,77 +77,77 @@ is_first = record { positive = omega arith; fits = omega arith }
 is_zero : IsHighest 0
 is_zero = omega arith
 
-spelled : (h : Head) (es : List Entry) → HeadFits h → All IsEntry es → ArePairs es → StateLines (state_lines (with_entries h es))
-spelled h es f all pairs = record { state = with_entries h es; fits = fits_with h es f all pairs; same = refl }
+spelled : (h : Head) (es : List Entry) → HeadFits h → All (IsEntry h.version) es → ArePairs es → StateLines (state_lines h.version (with_entries h es))
+spelled h es f all pairs = record { version = h.version; state = with_entries h es; fits = fits_with h es f all pairs; same = refl }
 
-bare : (h : Head) → HeadFits h → StateLines (state_lines (with_entries h []))
-bare h f = spelled h [] f (All-nil IsEntry) no_pairs
+bare : (h : Head) → HeadFits h → StateLines (state_lines h.version (with_entries h []))
+bare h f = spelled h [] f (All-nil (IsEntry h.version)) no_pairs
 
 pub nth : (i : ℕ) (ls bs : List (List ℕ)) → ls ≡ bs → get_or ls i [] ≡ get_or bs i []
 nth i ls bs e = ap (λ (x : List (List ℕ)). get_or x i []) e
 
 no_state_is_empty : StateLines [] → ⊥
-no_state_is_empty s = let e = nth 0 [] (state_lines s.state) s.same in let h : [] ≡ state_title = e in cc
+no_state_is_empty s = let e = nth 0 [] (state_lines s.version s.state) s.same in let h : [] ≡ state_title s.version = e in cc
 
 -- ---- the first four lines
 
-pub bad_title : (text : List ℕ) → HasNoLine {T = Unit {0}} state_title (λ _. Unit {0}) (λ _. []) text → IsBadLine StateLines text 1
+pub bad_title : (text : List ℕ) → HasNoLine {T = Version} (codes "mbsync state ") (λ _. Unit {0}) version_word text → IsBadLine StateLines text 1
 bad_title text none = record {
   before = [];
   rest = text;
   lines = no_lines text;
   number_is = refl;
-  begins = let h : Head = record { run = first_run; far = first_side; near = first_side } in
-      record { more = state_lines (with_entries h []); spelled = bare h (record { run = is_first_run; far_validity = is_first; max_pulled = is_zero; near_validity = is_first; max_pushed = is_zero }) };
-  stops = λ line behind one e b. none line behind one e tt tt (nth 0 (line ∷ b.more) (state_lines b.spelled.state) b.spelled.same);
+  begins = let h : Head = record { version = Two; run = first_run; far = first_side; near = first_side } in
+      record { more = state_lines Two (with_entries h []); spelled = bare h (record { run = is_first_run; far_validity = is_first; max_pulled = is_zero; near_validity = is_first; max_pushed = is_zero }) };
+  stops = λ line behind one e b. none line behind one e b.spelled.version tt (nth 0 (line ∷ b.more) (state_lines b.spelled.version b.spelled.state) b.spelled.same);
   ends_early = λ e s. no_state_is_empty s;
 }
 
-pub bad_run : (text rest : List ℕ) → AreLines (state_title ∷ []) text rest
+pub bad_run : (v : Version) (text rest : List ℕ) → AreLines (state_title v ∷ []) text rest
     → HasNoLine (codes "run ") (λ (r : Run). IsRun r.0) (λ r. decimal r.0) rest → IsBadLine StateLines text 2
-bad_run text rest lines none = record {
-  before = state_title ∷ [];
+bad_run v text rest lines none = record {
+  before = state_title v ∷ [];
   rest = rest;
   lines = lines;
   number_is = refl;
-  begins = let h : Head = record { run = first_run; far = first_side; near = first_side } in
+  begins = let h : Head = record { version = v; run = first_run; far = first_side; near = first_side } in
       record { more = run_line 1 ∷ far_line 1 0 ∷ near_line 1 0 ∷ end_line ∷ []; spelled = bare h (record { run = is_first_run; far_validity = is_first; max_pulled = is_zero; near_validity = is_first; max_pushed = is_zero }) };
   stops = λ line behind one e b. none line behind one e (record { 0 = b.spelled.state.run }) b.spelled.fits.run
-      (nth 1 (state_title ∷ line ∷ b.more) (state_lines b.spelled.state) b.spelled.same);
-  ends_early = λ e s. let h : [] ≡ run_line s.state.run = nth 1 (state_title ∷ []) (state_lines s.state) s.same in cc;
+      (nth 1 (state_title v ∷ line ∷ b.more) (state_lines b.spelled.version b.spelled.state) b.spelled.same);
+  ends_early = λ e s. let h : [] ≡ run_line s.state.run = nth 1 (state_title v ∷ []) (state_lines s.version s.state) s.same in cc;
 }
 
-pub bad_far : (text rest : List ℕ) (r : Run) → IsRun r.0 → AreLines (state_title ∷ run_line r.0 ∷ []) text rest
+pub bad_far : (v : Version) (text rest : List ℕ) (r : Run) → IsRun r.0 → AreLines (state_title v ∷ run_line r.0 ∷ []) text rest
     → HasNoLine (codes "far ") (λ (p : Positive × Highest). IsPositive p.0.0 × IsHighest p.1.0) (λ p. decimal p.0.0 ++ 32 ∷ decimal p.1.0) rest
     → IsBadLine StateLines text 3
-bad_far text rest r is lines none = record {
-  before = state_title ∷ run_line r.0 ∷ [];
+bad_far v text rest r is lines none = record {
+  before = state_title v ∷ run_line r.0 ∷ [];
   rest = rest;
   lines = lines;
   number_is = refl;
-  begins = let h : Head = record { run = r; far = first_side; near = first_side } in
+  begins = let h : Head = record { version = v; run = r; far = first_side; near = first_side } in
       record { more = far_line 1 0 ∷ near_line 1 0 ∷ end_line ∷ []; spelled = bare h (record { run = is; far_validity = is_first; max_pulled = is_zero; near_validity = is_first; max_pushed = is_zero }) };
   stops = λ line behind one e b. let s = b.spelled.state in
       none line behind one e (record { 0 = s.far_validity }, record { 0 = s.max_pulled }) (b.spelled.fits.far_validity, b.spelled.fits.max_pulled)
-      (nth 2 (state_title ∷ run_line r.0 ∷ line ∷ b.more) (state_lines s) b.spelled.same);
-  ends_early = λ e s. let h : [] ≡ far_line s.state.far_validity s.state.max_pulled = nth 2 (state_title ∷ run_line r.0 ∷ []) (state_lines s.state) s.same in cc;
+      (nth 2 (state_title v ∷ run_line r.0 ∷ line ∷ b.more) (state_lines b.spelled.version s) b.spelled.same);
+  ends_early = λ e s. let h : [] ≡ far_line s.state.far_validity s.state.max_pulled = nth 2 (state_title v ∷ run_line r.0 ∷ []) (state_lines s.version s.state) s.same in cc;
 }
 
-pub bad_near : (text rest : List ℕ) (r : Run) (far : Positive × Highest) → IsRun r.0 → IsPositive far.0.0 × IsHighest far.1.0
-    → AreLines (state_title ∷ run_line r.0 ∷ far_line far.0.0 far.1.0 ∷ []) text rest
+pub bad_near : (v : Version) (text rest : List ℕ) (r : Run) (far : Positive × Highest) → IsRun r.0 → IsPositive far.0.0 × IsHighest far.1.0
+    → AreLines (state_title v ∷ run_line r.0 ∷ far_line far.0.0 far.1.0 ∷ []) text rest
     → HasNoLine (codes "near ") (λ (p : Positive × Highest). IsPositive p.0.0 × IsHighest p.1.0) (λ p. decimal p.0.0 ++ 32 ∷ decimal p.1.0) rest
     → IsBadLine StateLines text 4
-bad_near text rest r far is fits lines none = record {
-  before = state_title ∷ run_line r.0 ∷ far_line far.0.0 far.1.0 ∷ [];
+bad_near v text rest r far is fits lines none = record {
+  before = state_title v ∷ run_line r.0 ∷ far_line far.0.0 far.1.0 ∷ [];
   rest = rest;
   lines = lines;
   number_is = refl;
-  begins = let h : Head = record { run = r; far = far; near = first_side } in
+  begins = let h : Head = record { version = v; run = r; far = far; near = first_side } in
       record { more = near_line 1 0 ∷ end_line ∷ []; spelled = bare h (record { run = is; far_validity = fits.0; max_pulled = fits.1; near_validity = is_first; max_pushed = is_zero }) };
   stops = λ line behind one e b. let s = b.spelled.state in
       none line behind one e (record { 0 = s.near_validity }, record { 0 = s.max_pushed }) (b.spelled.fits.near_validity, b.spelled.fits.max_pushed)
-      (nth 3 (state_title ∷ run_line r.0 ∷ far_line far.0.0 far.1.0 ∷ line ∷ b.more) (state_lines s) b.spelled.same);
-  ends_early = λ e s. let h : [] ≡ near_line s.state.near_validity s.state.max_pushed = nth 3 (state_title ∷ run_line r.0 ∷ far_line far.0.0 far.1.0 ∷ []) (state_lines s.state) s.same in cc;
+      (nth 3 (state_title v ∷ run_line r.0 ∷ far_line far.0.0 far.1.0 ∷ line ∷ b.more) (state_lines b.spelled.version s) b.spelled.same);
+  ends_early = λ e s. let h : [] ≡ near_line s.state.near_validity s.state.max_pushed = nth 3 (state_title v ∷ run_line r.0 ∷ far_line far.0.0 far.1.0 ∷ []) (state_lines s.version s.state) s.same in cc;
 }
 
 -- ---- entries
@@ -160,8 +163,13 @@ entry_from a b s = let f = s.far in let n = s.near in let w = s.flags in
     ∙ ap (λ (x : Option ℕ). let e : Entry = record { far = b.far; near = x; flags = a.flags } in e) n
     ∙ ap (λ (x : ℕ). let e : Entry = record { far = b.far; near = b.near; flags = x } in e) w
 
-pub entry_line-injective : (a b : Entry) → IsEntry a → IsEntry b → entry_line a ≡ entry_line b → a ≡ b
-entry_line-injective a b fa fb e =
+-- a set of flags that have letters in a version
+pub letters_within : (v : Version) (flags : ℕ) → HasLetters v flags → flags < 2 ^ FLAGS
+letters_within One flags h = omega (arith, h)
+letters_within Two flags h = h
+
+pub entry_line-injective : (v : Version) (a b : Entry) → IsEntry v a → IsEntry v b → entry_line a ≡ entry_line b → a ≡ b
+entry_line-injective v a b fa fb e =
     let behind = ap (λ (x : List ℕ). drop 2 x) e in
     let s = same_cut 32 (decimal (uid_of Far a)) (decimal (uid_of Far b)) (decimal (uid_of Near a) ++ 32 ∷ flags_word a.flags) (decimal (uid_of Near b) ++ 32 ∷ flags_word b.flags)
     (side-lacks a.far fa.far) (side-lacks b.far fb.far) behind in
@@ -169,7 +177,7 @@ entry_line-injective a b fa fb e =
     entry_from a b (record {
       far = side-injective a.far b.far fa.far fb.far s.front;
       near = side-injective a.near b.near fa.near fb.near t.front;
-      flags = flags-injective a.flags b.flags fa.flags fb.flags t.behind;
+      flags = flags-injective a.flags b.flags (letters_within v a.flags fa.flags) (letters_within v b.flags fb.flags) t.behind;
     })
 
 pub no_end : (e : Entry) → entry_line e ≢ end_line
@@ -181,23 +189,32 @@ record Behind (all before : List Entry) (tail : List (List ℕ)) : Type 0 where
   same : all ≡ before ++ after
   tail_is : tail ≡ map entry_line after ++ end_line ∷ []
 
-behind : (all before : List Entry) (tail : List (List ℕ)) → All IsEntry all → All IsEntry before
+behind : (v : Version) (all before : List Entry) (tail : List (List ℕ)) → All (IsEntry v) all → All (IsEntry v) before
     → map entry_line before ++ tail ≡ map entry_line all ++ end_line ∷ [] → Behind all before tail
-behind all [] tail fa fb e = record { after = all; same = refl; tail_is = e }
-behind [] (b ∷ bs) tail fa fb e =
+behind v all [] tail fa fb e = record { after = all; same = refl; tail_is = e }
+behind v [] (b ∷ bs) tail fa fb e =
     let h : entry_line b ≡ end_line = nth 0 (entry_line b ∷ (map entry_line bs ++ tail)) (end_line ∷ []) e in absurd (no_end b h)
-behind (a ∷ all) (b ∷ bs) tail fa fb e =
+behind v (a ∷ all) (b ∷ bs) tail fa fb e =
     let first : entry_line b ≡ entry_line a = nth 0 (entry_line b ∷ (map entry_line bs ++ tail)) (entry_line a ∷ (map entry_line all ++ end_line ∷ [])) e in
     let rest = ap (λ (x : List (List ℕ)). drop 1 x) e in
-    let same = entry_line-injective b a (All-head IsEntry b bs fb) (All-head IsEntry a all fa) first in
-    let r = behind all bs tail (All-tail IsEntry a all fa) (All-tail IsEntry b bs fb) rest in
+    let same = entry_line-injective v b a (All-head (IsEntry v) b bs fb) (All-head (IsEntry v) a all fa) first in
+    let r = behind v all bs tail (All-tail (IsEntry v) a all fa) (All-tail (IsEntry v) b bs fb) rest in
     record { after = r.after; same = ap (λ (x : Entry). x ∷ all) (sym same) ∙ ap (λ (x : List Entry). b ∷ x) r.same; tail_is = r.tail_is }
 
 -- a state that begins with these lines of a head and of entries
-of_state : (h : Head) (before : List Entry) (tail : List (List ℕ)) (s : SyncState) → HasText s → All IsEntry before
-    → (head_lines h ++ map entry_line before) ++ tail ≡ state_lines s → Behind s.entries before tail
-of_state h before tail s fits all e =
-    behind s.entries before tail fits.entries all (ap (λ (x : List (List ℕ)). drop 4 x) e)
+record OfState (h : Head) (before : List Entry) (tail : List (List ℕ)) : Type 0 where
+  state : SyncState
+  fits : HasText h.version state
+  behind : Behind state.entries before tail
+
+of_state : (h : Head) (before : List Entry) (tail lines : List (List ℕ)) → StateLines lines → All (IsEntry h.version) before
+    → (head_lines h ++ map entry_line before) ++ tail ≡ lines → OfState h before tail
+of_state h before tail lines s all e =
+    let same = e ∙ s.same in
+    let title : state_title s.version ≡ state_title h.version = sym (nth 0 ((head_lines h ++ map entry_line before) ++ tail) (state_lines s.version s.state) same) in
+    let version : s.version ≡ h.version = version-injective s.version h.version (ap (λ (x : List ℕ). drop 13 x) title) in
+    let fits : HasText h.version s.state = subst (λ (v : Version). HasText v s.state) version s.fits in
+    record { state = s.state; fits = fits; behind = behind h.version s.state.entries before tail fits.entries all (ap (λ (x : List (List ℕ)). drop 4 x) same) }
 
 -- what is behind: the last line, or an entry
 record IsNext (all before : List Entry) (line : List ℕ) : Type 0 where
@@ -212,16 +229,25 @@ next_line all before line more b = by_after b.after b.same b.tail_is where
   by_after [] same e = inl (nth 0 (line ∷ more) (end_line ∷ []) e)
   by_after (y ∷ ys) same e = inr (record { entry = y; others = ys; same = same; line_is = nth 0 (line ∷ more) (entry_line y ∷ (map entry_line ys ++ end_line ∷ [])) e })
 
-pub no_entry : {X : Type 0} (r : Option X) (text : List ℕ)
-    → HasNoLine (codes "e ") (λ (p : Option ℕ × (Option ℕ × ℕ)). IsUidOrNone p.0 × (IsUidOrNone p.1.0 × (p.1.1 < 2 ^ FLAGS))) (λ p. decimal (unwrap_or p.0 0) ++ 32 ∷ (decimal (unwrap_or p.1.0 0) ++ 32 ∷ flags_word p.1.1)) text
-    → IfNone r (HasNoLine [] IsEntry entry_line text)
-no_entry None text none = λ line behind one e v f. none line behind one e (v.far, (v.near, v.flags)) (f.far, (f.near, f.flags))
-no_entry (Some x) text none = tt
+-- no far UID, near UID and flags are spelled so
+pub no_entry : {X : Type 0} (r : Option X) (v : Version) (line : List ℕ)
+    → ((p : Option ℕ × (Option ℕ × ℕ)) → IsUidOrNone p.0 × (IsUidOrNone p.1.0 × (p.1.1 < 2 ^ FLAGS)) → line ≢ codes "e " ++ (decimal (unwrap_or p.0 0) ++ 32 ∷ (decimal (unwrap_or p.1.0 0) ++ 32 ∷ flags_word p.1.1)))
+    → IfNone r ((e : Entry) → IsEntry v e → line ≢ entry_line e)
+no_entry None v line none = λ e f. none (e.far, (e.near, e.flags)) (f.far, (f.near, letters_within v e.flags f.flags))
+no_entry (Some x) v line none = tt
 
-pub entry_more : (es : List Entry) (e : Entry) (text between rest : List ℕ) → AreEntries es text between → HasLine [] IsEntry entry_line e between rest
-    → ArePairs (es ++ e ∷ []) → AreEntries (es ++ e ∷ []) text rest
-entry_more es e text between rest a l p = record {
-  fits = All-push IsEntry es e a.fits l.fitting;
+-- the one that is spelled so has flags without a letter
+pub no_letter : (v : Version) (line : List ℕ) (e : Entry) → IsEntry Two e → ¬ HasLetters v e.flags → line ≡ entry_line e
+    → (a : Entry) → IsEntry v a → line ≢ entry_line a
+no_letter v line e fits none is a fa same =
+    let fa_wide : IsEntry Two a = record { far = fa.far; near = fa.near; flags = letters_within v a.flags fa.flags } in
+    let one : a ≡ e = entry_line-injective Two a e fa_wide fits (sym same ∙ is) in
+    none (subst (λ (x : Entry). HasLetters v x.flags) one fa.flags)
+
+pub entry_more : (v : Version) (es : List Entry) (e : Entry) (text between rest : List ℕ) → AreEntries v es text between → HasLine [] (IsEntry v) entry_line e between rest
+    → ArePairs (es ++ e ∷ []) → AreEntries v (es ++ e ∷ []) text rest
+entry_more v es e text between rest a l p = record {
+  fits = All-push (IsEntry v) es e a.fits l.fitting;
   pairs = p;
   lines = let P : List (List ℕ) → Type 0 = λ x. AreLines x text rest in
       subst P (sym (map-append entry_line es (e ∷ []))) (line_more (map entry_line es) (entry_line e) text between rest a.lines l.one_line l.parts);
@@ -229,27 +255,27 @@ entry_more es e text between rest a l p = record {
 
 -- ---- the whole
 
-lines_before : (h : Head) (es : List Entry) (text between rest : List ℕ) → HeadRead h text between → AreEntries es between rest → AreLines (head_lines h ++ map entry_line es) text rest
+lines_before : (h : Head) (es : List Entry) (text between rest : List ℕ) → HeadRead h text between → AreEntries h.version es between rest → AreLines (head_lines h ++ map entry_line es) text rest
 lines_before h es text between rest head are = more_lines (head_lines h) (map entry_line es) text between rest head.lines are.lines
 
-regroup : (h : Head) (es : List Entry) (line : List ℕ) (more : List (List ℕ)) (s : SyncState)
-    → ((head_lines h ++ map entry_line es) ++ line ∷ []) ++ more ≡ state_lines s → (head_lines h ++ map entry_line es) ++ line ∷ more ≡ state_lines s
-regroup h es line more s e = sym (append_assoc (head_lines h ++ map entry_line es) (line ∷ []) more) ∙ e
+regroup : (h : Head) (es : List Entry) (line : List ℕ) (more : List (List ℕ))
+    → (head_lines h ++ map entry_line es) ++ line ∷ more ≡ ((head_lines h ++ map entry_line es) ++ line ∷ []) ++ more
+regroup h es line more = sym (append_assoc (head_lines h ++ map entry_line es) (line ∷ []) more)
 
-entry_of : (s : SyncState) (es ys : List Entry) (y : Entry) → HasText s → s.entries ≡ es ++ y ∷ ys → IsEntry y
-entry_of s es ys y fits e =
-    let all = subst (λ (x : List Entry). All IsEntry x) e fits.entries in
-    subst (λ (x : Entry). IsEntry x) (get_or_at es y ys y (length es) refl) (all (length es) y (omega (arith, length-append es (y ∷ ys))))
+entry_of : (v : Version) (s : SyncState) (es ys : List Entry) (y : Entry) → HasText v s → s.entries ≡ es ++ y ∷ ys → IsEntry v y
+entry_of v s es ys y fits e =
+    let all = subst (λ (x : List Entry). All (IsEntry v) x) e fits.entries in
+    subst (λ (x : Entry). IsEntry v x) (get_or_at es y ys y (length es) refl) (all (length es) y (omega (arith, length-append es (y ∷ ys))))
 
-none_stands : (s : SyncState) (es : List Entry) (e : Entry) (line : List ℕ) → HasText s → IsEntry e → may_end e es ≡ false → line ≡ entry_line e → IsNext s.entries es line → ⊥
-none_stands s es e line fits is stops line_is n =
-    let y = entry_of s es n.others n.entry fits n.same in
-    let same : e ≡ n.entry = entry_line-injective e n.entry is y (sym line_is ∙ n.line_is) in
+none_stands : (v : Version) (s : SyncState) (es : List Entry) (e : Entry) (line : List ℕ) → HasText v s → IsEntry v e → may_end e es ≡ false → line ≡ entry_line e → IsNext s.entries es line → ⊥
+none_stands v s es e line fits is stops line_is n =
+    let y = entry_of v s es n.others n.entry fits n.same in
+    let same : e ≡ n.entry = entry_line-injective v e n.entry is y (sym line_is ∙ n.line_is) in
     let may = may_stand es n.others n.entry (subst (λ (x : List Entry). ArePairs x) n.same fits.pairs) in
     let here : may_end e es ≡ true = subst (λ (x : Entry). may_end x es ≡ true) (sym same) may in
     false≢true (sym stops ∙ here)
 
-pub bad_state_entry : (h : Head) (text between : List ℕ) (number : ℕ) → HeadRead h text between → IsBadEntry 4 between number → IsBadLine StateLines text number
+pub bad_state_entry : (h : Head) (text between : List ℕ) (number : ℕ) → HeadRead h text between → IsBadEntry h.version 4 between number → IsBadLine StateLines text number
 bad_state_entry h text between number head b = record {
   before = head_lines h ++ map entry_line b.before;
   rest = b.rest;
@@ -258,10 +284,10 @@ bad_state_entry h text between number head b = record {
   begins = record { more = end_line ∷ []; spelled = spelled h b.before head.fits b.are.fits b.are.pairs };
   stops = λ line behind one e g.
       let cut = same_cut 10 line (entry_line b.entry) behind b.behind one b.one_line (sym e ∙ b.parts) in
-      let s = g.spelled.state in
-      elim (next_line s.entries b.before line g.more (of_state h b.before (line ∷ g.more) s g.spelled.fits b.are.fits (regroup h b.before line g.more s g.spelled.same))) [
+      let o = of_state h b.before (line ∷ g.more) _ g.spelled b.are.fits (regroup h b.before line g.more) in
+      elim (next_line o.state.entries b.before line g.more o.behind) [
         | inl last ↦ no_end b.entry (sym cut.front ∙ last)
-        | inr n ↦ none_stands s b.before b.entry line g.spelled.fits b.fits b.stops cut.front n
+        | inr n ↦ none_stands h.version o.state b.before b.entry line o.fits b.fits b.stops cut.front n
       ];
   ends_early = λ e s. let h : [] ≡ entry_line b.entry ++ 10 ∷ b.behind = sym e ∙ b.parts in cc;
 }
@@ -270,7 +296,7 @@ no_tail : (es : List Entry) → [] ≢ map entry_line es ++ end_line ∷ []
 no_tail [] e = cc
 no_tail (x ∷ es) e = cc
 
-pub bad_state_end : (h : Head) (es : List Entry) (text between rest : List ℕ) (number : ℕ) → HeadRead h text between → EntriesRead es between rest
+pub bad_state_end : (h : Head) (es : List Entry) (text between rest : List ℕ) (number : ℕ) → HeadRead h text between → EntriesRead h.version es between rest
     → IsNoEnd (4 + length es) rest number → IsBadLine StateLines text number
 bad_state_end h es text between rest number head read b = record {
   before = head_lines h ++ map entry_line es;
@@ -279,14 +305,14 @@ bad_state_end h es text between rest number head read b = record {
   number_is = b.number_is ∙ omega (arith, length-map es entry_line);
   begins = record { more = end_line ∷ []; spelled = spelled h es head.fits read.are.fits read.are.pairs };
   stops = λ line behind one e g.
-      let s = g.spelled.state in
-      elim (next_line s.entries es line g.more (of_state h es (line ∷ g.more) s g.spelled.fits read.are.fits (regroup h es line g.more s g.spelled.same))) [
+      let o = of_state h es (line ∷ g.more) _ g.spelled read.are.fits (regroup h es line g.more) in
+      elim (next_line o.state.entries es line g.more o.behind) [
         | inl last ↦ b.none line behind one e last
-        | inr n ↦ read.all line behind one e n.entry (entry_of s es n.others n.entry g.spelled.fits n.same) n.line_is
+        | inr n ↦ read.all line behind one e n.entry (entry_of h.version o.state es n.others n.entry o.fits n.same) n.line_is
       ];
   ends_early = λ e s.
-      let r = of_state h es [] s.state s.fits read.are.fits (append-nil (head_lines h ++ map entry_line es) ∙ s.same) in
-      no_tail r.after r.tail_is;
+      let o = of_state h es [] _ s read.are.fits (append-nil (head_lines h ++ map entry_line es)) in
+      no_tail o.behind.after o.behind.tail_is;
 }
 
 nothing_behind : (es : List Entry) (line : List ℕ) (more : List (List ℕ)) → end_line ∷ line ∷ more ≢ map entry_line es ++ end_line ∷ []
@@ -301,7 +327,7 @@ lacks_lf line h =
 last_is_one_line : OneLine end_line
 last_is_one_line = lacks_lf end_line refl
 
-pub bad_state_tail : (h : Head) (es : List Entry) (text between rest : List ℕ) (number : ℕ) → HeadRead h text between → EntriesRead es between rest
+pub bad_state_tail : (h : Head) (es : List Entry) (text between rest : List ℕ) (number : ℕ) → HeadRead h text between → EntriesRead h.version es between rest
     → IsBehindEnd (4 + length es) rest number → IsBadLine StateLines text number
 bad_state_tail h es text between rest number head read b =
     let before : List (List ℕ) = (head_lines h ++ map entry_line es) ++ end_line ∷ [] in
@@ -312,29 +338,30 @@ bad_state_tail h es text between rest number head read b =
       number_is = b.number_is ∙ omega (arith, length-map es entry_line, length-append (map entry_line es) (end_line ∷ []));
       begins = record { more = []; spelled = let P : List (List ℕ) → Type 0 = λ x. StateLines x in subst P (sym (append-nil before)) (spelled h es head.fits read.are.fits read.are.pairs) };
       stops = λ line behind one e g.
-          let s = g.spelled.state in
-          let same : (head_lines h ++ map entry_line es) ++ end_line ∷ line ∷ g.more ≡ state_lines s =
+          let same : (head_lines h ++ map entry_line es) ++ end_line ∷ line ∷ g.more ≡ (before ++ line ∷ []) ++ g.more =
           sym (append_assoc (head_lines h ++ map entry_line es) (end_line ∷ line ∷ []) g.more)
-          ∙ ap (λ (x : List (List ℕ)). x ++ g.more) (sym (append_assoc (head_lines h ++ map entry_line es) (end_line ∷ []) (line ∷ [])))
-          ∙ g.spelled.same in
-          let r = of_state h es (end_line ∷ line ∷ g.more) s g.spelled.fits read.are.fits same in
-          nothing_behind r.after line g.more r.tail_is;
+          ∙ ap (λ (x : List (List ℕ)). x ++ g.more) (sym (append_assoc (head_lines h ++ map entry_line es) (end_line ∷ []) (line ∷ []))) in
+          let o = of_state h es (end_line ∷ line ∷ g.more) _ g.spelled read.are.fits same in
+          nothing_behind o.behind.after line g.more o.behind.tail_is;
       ends_early = λ e s. absurd (b.some e);
     }
 
-pub state_is : (h : Head) (es : List Entry) (text between rest : List ℕ) → HeadRead h text between → EntriesRead es between rest
+pub state_is : (h : Head) (es : List Entry) (text between rest : List ℕ) → HeadRead h text between → EntriesRead h.version es between rest
     → rest ≡ end_line ++ 10 ∷ [] → StateText (with_entries h es) text
 state_is h es text between rest head read e =
     let l = line_more (head_lines h ++ map entry_line es) end_line text rest [] (lines_before h es text between rest head read.are) last_is_one_line e in
-    record { fits = fits_with h es head.fits read.are.fits read.are.pairs; spelled = l.parts ∙ append-nil (lines_text ((head_lines h ++ map entry_line es) ++ end_line ∷ [])) }
+    record {
+      version = h.version;
+      is_text = record { fits = fits_with h es head.fits read.are.fits read.are.pairs; spelled = l.parts ∙ append-nil (lines_text ((head_lines h ++ map entry_line es) ++ end_line ∷ [])) };
+    }
 
-pub stops_in_entries : (h : Head) (text between : List ℕ) (fault : BookFault) → HeadRead h text between → TellsEntry 4 between fault → TellsState text fault
+pub stops_in_entries : (h : Head) (text between : List ℕ) (fault : BookFault) → HeadRead h text between → TellsEntry h.version 4 between fault → TellsState text fault
 stops_in_entries h text between Stopped head t = t
 stops_in_entries h text between (BadState number) head t = bad_state_entry h text between number head t
 stops_in_entries h text between (BadJournal number) head t = t
 stops_in_entries h text between NoMemory head t = t
 
-pub stops_at_end : (h : Head) (es : List Entry) (text between rest : List ℕ) (fault : BookFault) → HeadRead h text between → EntriesRead es between rest
+pub stops_at_end : (h : Head) (es : List Entry) (text between rest : List ℕ) (fault : BookFault) → HeadRead h text between → EntriesRead h.version es between rest
     → TellsEnd (4 + length es) rest fault → TellsState text fault
 stops_at_end h es text between rest Stopped head read t = t
 stops_at_end h es text between rest (BadState number) head read t = elim t [

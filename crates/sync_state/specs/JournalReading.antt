@@ -1,5 +1,7 @@
 -- What the parts of reading a journal tell.
-use Rattle.std.specs.Prelude.{ℕ, zero, suc, ◌+◌, ◌<◌, ◌^◌, ◌≡◌, ◌≢◌, true, false, List, [], ◌∷◌, ◌++◌, All, map, length, not, ◌==◌}
+use Rattle.std.specs.Prelude.{ℕ, zero, suc, ◌+◌, ◌<◌, ◌^◌, ◌≡◌, ◌≢◌, ◌⊎◌, true, false, List, [], ◌∷◌, ◌++◌, All, map, length, not, ◌==◌}
+use Rattle.mailcore.specs.declared.keywords.Keyword.{Keyword}
+use Rattle.mailcore.specs.KeywordNames.{IsMap}
 use Rattle.rules.specs.declared.plan.Step.{Step}
 use Rattle.rules.specs.declared.plan.Note.{Note}
 use Rattle.rules.specs.declared.plan.Plan.{Plan}
@@ -7,10 +9,21 @@ use Rattle.sync_state.specs.declared.fault.BookFault.{BookFault}
 use Rattle.sync_state.specs.declared.fault.BookFault.TheVariants.{Stopped, BadState, BadJournal, NoMemory}
 use Rattle.sync_state.specs.declared.journal.Logged.{Logged}
 use Rattle.sync_state.specs.declared.journal.WrittenJournal.{WrittenJournal}
+use Rattle.sync_state.specs.declared.journal_read.PlanNumbers.{PlanNumbers}
 use Rattle.sync_state.specs.declared.journal_read.PlanHead.{PlanHead}
+use Rattle.sync_state.specs.declared.version.Version.{Version}
 use Rattle.sync_state.specs.Lines.{AreLines, OneLine, HasNoLine}
-use Rattle.sync_state.specs.JournalText.{IsPlanSide, FitsStep, IsLog, log_line, log_lines, plan_head_lines, is_below, rises, bottom, HasGo, IsBadJournal, JournalText}
+use Rattle.sync_state.specs.JournalText.{IsPlanSide, IsStep, IsNote, FitsStep, IsLog, keyword_line, log_line, log_lines, plan_head_lines, is_below, rises, bottom, HasGo, IsBadJournal, JournalText}
 use Rattle.sync_state.specs.Places.{last_of}
+use Rattle.sync_state.specs.Versions.{HasKeywords, StepLetters, NoteLetters}
+
+-- a step that a text of this version may hold
+abbrev pub IsStepIn : Version → Step → Type 0
+IsStepIn version s = IsStep s × StepLetters version s
+
+-- and a note
+abbrev pub IsNoteIn : Version → Note → Type 0
+IsNoteIn version n = IsNote n × NoteLetters version n
 
 -- the bad line of a journal's text with `go`, or want of memory
 abbrev pub TellsJournal : List ℕ → BookFault → Type 0
@@ -19,23 +32,63 @@ TellsJournal text (BadState line) = ⊥
 TellsJournal text (BadJournal line) = HasGo text × IsBadJournal text line
 TellsJournal text NoMemory = Unit {0}
 
+-- ---- the head
+
+abbrev pub TellsNumbers : List ℕ → BookFault → Type 0
+TellsNumbers text Stopped = ⊥
+TellsNumbers text (BadState line) = ⊥
+TellsNumbers text (BadJournal line) = IsBadJournal text line
+TellsNumbers text NoMemory = ⊥
+
+-- the bad line of the head, or want of memory
 abbrev pub TellsHead : List ℕ → BookFault → Type 0
-TellsHead text Stopped = ⊥
-TellsHead text (BadState line) = ⊥
-TellsHead text (BadJournal line) = IsBadJournal text line
-TellsHead text NoMemory = ⊥
+TellsHead text fault = (fault ≡ NoMemory) ⊎ TellsNumbers text fault
 
 abbrev pub with_items : PlanHead → List Step → List Note → Plan
-with_items h steps notes = record { run = h.run.0; far = h.far; near = h.near; steps = steps; notes = notes }
+with_items h steps notes =
+    record { run = h.numbers.run.0; far = h.numbers.far; near = h.numbers.near; steps = steps; notes = notes; keywords = h.keywords }
+
+-- the lines of a head
+abbrev pub head : PlanHead → List (List ℕ)
+head h = plan_head_lines h.numbers.version (with_items h [] [])
+
+pub record NumbersFit (n : PlanNumbers) : Type 0 where
+  pub run : n.run.0 < 2 ^ 64
+  pub far : IsPlanSide n.far
+  pub near : IsPlanSide n.near
+
+-- the first four lines
+pub record NumbersRead (n : PlanNumbers) (text rest : List ℕ) : Type 0 where
+  pub fits : NumbersFit n
+  pub lines : AreLines (head (record { numbers = n; keywords = [] })) text rest
+
+-- a keyword that may stand behind these in a text of this version
+pub record IsNextKeyword (version : Version) (keywords : List Keyword) (k : Keyword) : Type 0 where
+  pub map_is : IsMap (keywords ++ k ∷ [])
+  pub words : HasKeywords version (keywords ++ k ∷ [])
+
+-- the first line is that of a keyword, which stands behind the old ones in the new ones
+pub record KeywordAdded (old new : List Keyword) (text rest : List ℕ) : Type 0 where
+  pub keyword : Keyword
+  pub added : new ≡ old ++ keyword ∷ []
+  pub one_line : OneLine (keyword_line keyword)
+  pub parts : text ≡ keyword_line keyword ++ 10 ∷ rest
+
+pub record KeywordsRead (version : Version) (keywords : List Keyword) (text rest : List ℕ) : Type 0 where
+  pub map_is : IsMap keywords
+  pub words : HasKeywords version keywords
+  pub lines : AreLines (map keyword_line keywords) text rest
+  pub all : HasNoLine [] (IsNextKeyword version keywords) keyword_line rest
 
 pub record PlanHeadFits (h : PlanHead) : Type 0 where
-  pub run : h.run.0 < 2 ^ 64
-  pub far : IsPlanSide h.far
-  pub near : IsPlanSide h.near
+  pub numbers : NumbersFit h.numbers
+  pub map_is : IsMap h.keywords
+  pub words : HasKeywords h.numbers.version h.keywords
 
 pub record PlanHeadRead (h : PlanHead) (text rest : List ℕ) : Type 0 where
   pub fits : PlanHeadFits h
-  pub lines : AreLines (plan_head_lines (with_items h [] [])) text rest
+  pub lines : AreLines (head h) text rest
+  pub all : HasNoLine [] (IsNextKeyword h.numbers.version h.keywords) keyword_line rest
 
 -- ---- steps and notes, each of which has a line and a place
 
@@ -104,5 +157,5 @@ TellsLog steps taken text NoMemory = Unit {0}
 -- a text holds this journal
 pub record IsWritten (written : WrittenJournal) (text : List ℕ) : Type 0 where
   pub torn : List ℕ
-  pub spelled : JournalText written.journal text torn
+  pub spelled : JournalText written.version written.journal text torn
   pub is_torn : written.is_torn ≡ not (length torn == 0)

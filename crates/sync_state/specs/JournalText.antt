@@ -1,5 +1,6 @@
 -- The text of a journal: a plan, and the lines that log its steps.
 use Rattle.std.specs.Prelude.{ℕ, ◌+◌, ◌≡◌, ◌==◌, if◌then◌else◌, List, [], ◌∷◌, ◌++◌, map, length, unwrap_or, codes, decimal}
+use Rattle.mailcore.specs.declared.keywords.Keyword.{Keyword}
 use Rattle.mailcore.specs.FlagNames.{letters_of}
 use Rattle.rules.specs.declared.plan.Step.{Step}
 use Rattle.rules.specs.declared.plan.Step.TheVariants as step
@@ -11,12 +12,14 @@ pub use Rattle.rules.specs.Plans.{IsPlanSide, IsStep, IsNote, step_place, note_p
 use Rattle.sync_state.specs.declared.journal.Logged.{Logged}
 use Rattle.sync_state.specs.declared.journal.Logged.TheVariants.{Copied, Done, Void}
 use Rattle.sync_state.specs.declared.journal.Journal.{Journal}
-use Rattle.sync_state.specs.Words.{IsUid, flags_word, direction_word, side_word}
+use Rattle.sync_state.specs.declared.version.Version.{Version}
+use Rattle.sync_state.specs.Words.{IsUid, flags_word, version_word, direction_word, side_word}
+use Rattle.sync_state.specs.Versions.{HasWords}
 use Rattle.sync_state.specs.Lines.{OneLine, AreLines, Begins}
 use Rattle.sync_state.specs.StateText.{run_line}
 
-abbrev pub journal_title : List ℕ
-journal_title = codes "journal 1"
+abbrev pub journal_title : Version → List ℕ
+journal_title version = codes "journal " ++ version_word version
 
 abbrev pub plan_side_text : PlanSide → List ℕ
 plan_side_text side = decimal side.validity ++ 32 ∷ (decimal side.highest ++ 32 ∷ decimal side.next)
@@ -26,6 +29,10 @@ plan_far_line side = codes "far " ++ plan_side_text side
 
 abbrev pub plan_near_line : PlanSide → List ℕ
 plan_near_line side = codes "near " ++ plan_side_text side
+
+-- a letter, and the name of its keyword
+abbrev pub keyword_line : Keyword → List ℕ
+keyword_line k = codes "k " ++ (k.letter ∷ 32 ∷ k.name)
 
 -- flags that are set or cleared, behind their sign; nothing if there are none
 abbrev pub change : (sign flags : ℕ) → List ℕ
@@ -56,11 +63,12 @@ abbrev pub log_lines : ℕ → List Logged → List (List ℕ)
 log_lines number [] = []
 log_lines number (logged ∷ log) = log_line number logged ∷ log_lines (number + 1) log
 
-abbrev pub plan_head_lines : Plan → List (List ℕ)
-plan_head_lines p = journal_title ∷ run_line p.run ∷ plan_far_line p.far ∷ plan_near_line p.near ∷ []
+abbrev pub plan_head_lines : Version → Plan → List (List ℕ)
+plan_head_lines version p =
+    journal_title version ∷ run_line p.run ∷ plan_far_line p.far ∷ plan_near_line p.near ∷ map keyword_line p.keywords
 
-abbrev pub plan_lines : Plan → List (List ℕ)
-plan_lines p = plan_head_lines p ++ ((map step_line p.steps ++ map note_line p.notes) ++ go_line ∷ [])
+abbrev pub plan_lines : Version → Plan → List (List ℕ)
+plan_lines version p = plan_head_lines version p ++ ((map step_line p.steps ++ map note_line p.notes) ++ go_line ∷ [])
 
 -- ---- which journals have a text
 
@@ -89,24 +97,27 @@ IsLog steps [] = Unit {0}
 IsLog [] (logged ∷ log) = ⊥
 IsLog (s ∷ steps) (logged ∷ log) = FitsStep s logged × IsLog steps log
 
-abbrev pub journal_lines : Journal → List (List ℕ)
-journal_lines j = plan_lines j.plan ++ log_lines 1 j.log
+abbrev pub journal_lines : Version → Journal → List (List ℕ)
+journal_lines version j = plan_lines version j.plan ++ log_lines 1 j.log
 
 pub record HasJournal (j : Journal) : Type 0 where
   pub plan : IsPlan j.plan
   pub log : IsLog j.plan.steps j.log
 
--- the whole lines of a text are a journal's; a torn line may stand behind them
-pub record JournalText (j : Journal) (text torn : List ℕ) : Type 0 where
+-- the whole lines of a text are a journal's in this version; a torn line may stand behind them
+pub record JournalText (version : Version) (j : Journal) (text torn : List ℕ) : Type 0 where
   pub fits : HasJournal j
-  pub lines : AreLines (journal_lines j) text torn
+  pub words : HasWords version j.plan
+  pub lines : AreLines (journal_lines version j) text torn
   pub no_line : OneLine torn
 
 -- the lines of some journal
 pub record JournalLines (lines : List (List ℕ)) : Type 0 where
+  pub version : Version
   pub journal : Journal
   pub fits : HasJournal journal
-  pub same : lines ≡ journal_lines journal
+  pub words : HasWords version journal.plan
+  pub same : lines ≡ journal_lines version journal
 
 -- `go` is one of the whole lines
 pub record HasGo (text : List ℕ) : Type 0 where

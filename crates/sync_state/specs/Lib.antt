@@ -9,5 +9,6 @@ pub mod NumberLaws
 pub mod Places
 pub mod StateReading
 pub mod StateText
+pub mod Versions
 pub mod WordLaws
 pub mod Words

@@ -5,6 +5,7 @@ use Rattle.rules.specs.Entries.{ArePairs, may_end}
 use Rattle.sync_state.specs.declared.fault.BookFault.{BookFault}
 use Rattle.sync_state.specs.declared.fault.BookFault.TheVariants.{Stopped, BadState, BadJournal, NoMemory}
 use Rattle.sync_state.specs.declared.state_text.Head.{Head}
+use Rattle.sync_state.specs.declared.version.Version.{Version}
 use Rattle.sync_state.specs.Words.{IsPositive, IsRun}
 use Rattle.sync_state.specs.Lines.{AreLines, OneLine, HasNoLine}
 use Rattle.sync_state.specs.StateText.{state_title, run_line, far_line, near_line, entry_line, end_line, IsHighest, IsEntry}
@@ -17,40 +18,40 @@ pub record HeadFits (head : Head) : Type 0 where
   pub max_pushed : IsHighest head.near.1.0
 
 abbrev pub head_lines : Head → List (List ℕ)
-head_lines h = state_title ∷ run_line h.run.0 ∷ far_line h.far.0.0 h.far.1.0 ∷ near_line h.near.0.0 h.near.1.0 ∷ []
+head_lines h = state_title h.version ∷ run_line h.run.0 ∷ far_line h.far.0.0 h.far.1.0 ∷ near_line h.near.0.0 h.near.1.0 ∷ []
 
 pub record HeadRead (head : Head) (text rest : List ℕ) : Type 0 where
   pub fits : HeadFits head
   pub lines : AreLines (head_lines head) text rest
 
 -- lines of entries
-pub record AreEntries (entries : List Entry) (text rest : List ℕ) : Type 0 where
-  pub fits : All IsEntry entries
+pub record AreEntries (version : Version) (entries : List Entry) (text rest : List ℕ) : Type 0 where
+  pub fits : All (IsEntry version) entries
   pub pairs : ArePairs entries
   pub lines : AreLines (map entry_line entries) text rest
 
-pub record EntriesRead (entries : List Entry) (text rest : List ℕ) : Type 0 where
-  pub are : AreEntries entries text rest
-  pub all : HasNoLine [] IsEntry entry_line rest
+pub record EntriesRead (version : Version) (entries : List Entry) (text rest : List ℕ) : Type 0 where
+  pub are : AreEntries version entries text rest
+  pub all : HasNoLine [] (IsEntry version) entry_line rest
 
 -- an entry that may not stand behind those before it
-pub record IsBadEntry (taken : ℕ) (text : List ℕ) (number : ℕ) : Type 0 where
+pub record IsBadEntry (version : Version) (taken : ℕ) (text : List ℕ) (number : ℕ) : Type 0 where
   pub before : List Entry
   pub entry : Entry
   pub rest : List ℕ
   pub behind : List ℕ
-  pub are : AreEntries before text rest
-  pub fits : IsEntry entry
+  pub are : AreEntries version before text rest
+  pub fits : IsEntry version entry
   pub one_line : OneLine (entry_line entry)
   pub parts : rest ≡ entry_line entry ++ 10 ∷ behind
   pub stops : may_end entry before ≡ false
   pub number_is : number ≡ taken + length before + 1
 
-abbrev pub TellsEntry : ℕ → List ℕ → BookFault → Type 0
-TellsEntry taken text Stopped = ⊥
-TellsEntry taken text (BadState number) = IsBadEntry taken text number
-TellsEntry taken text (BadJournal number) = ⊥
-TellsEntry taken text NoMemory = Unit {0}
+abbrev pub TellsEntry : Version → ℕ → List ℕ → BookFault → Type 0
+TellsEntry version taken text Stopped = ⊥
+TellsEntry version taken text (BadState number) = IsBadEntry version taken text number
+TellsEntry version taken text (BadJournal number) = ⊥
+TellsEntry version taken text NoMemory = Unit {0}
 
 -- the last line is missing
 pub record IsNoEnd (taken : ℕ) (text : List ℕ) (number : ℕ) : Type 0 where

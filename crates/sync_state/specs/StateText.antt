@@ -1,16 +1,17 @@
 -- The text of a state.
-use Rattle.std.specs.Prelude.{ℕ, ◌<◌, ◌^◌, ◌≡◌, List, [], ◌∷◌, ◌++◌, All, map, codes, decimal}
+use Rattle.std.specs.Prelude.{ℕ, ◌≡◌, List, [], ◌∷◌, ◌++◌, All, map, codes, decimal}
 use Rattle.mailcore.specs.declared.side.Side.TheVariants.{Far, Near}
-use Rattle.mailcore.specs.FlagSet.{FLAGS}
 use Rattle.rules.specs.declared.entry.Entry.{Entry}
 use Rattle.rules.specs.declared.state.SyncState.{SyncState}
 use Rattle.rules.specs.Entries.{ArePairs, uid_of}
 pub use Rattle.rules.specs.Plans.{IsHighest}
-use Rattle.sync_state.specs.Words.{IsPositive, IsRun, IsUidOrNone, flags_word}
+use Rattle.sync_state.specs.declared.version.Version.{Version}
+use Rattle.sync_state.specs.Words.{IsPositive, IsRun, IsUidOrNone, flags_word, version_word}
+use Rattle.sync_state.specs.Versions.{HasLetters}
 use Rattle.sync_state.specs.Lines.{lines_text}
 
-abbrev pub state_title : List ℕ
-state_title = codes "mbsync state 1"
+abbrev pub state_title : Version → List ℕ
+state_title version = codes "mbsync state " ++ version_word version
 
 abbrev pub run_line : ℕ → List ℕ
 run_line run = codes "run " ++ decimal run
@@ -28,33 +29,39 @@ entry_line e = codes "e " ++ (decimal (uid_of Far e) ++ 32 ∷ (decimal (uid_of 
 abbrev pub end_line : List ℕ
 end_line = codes "end"
 
-abbrev pub state_lines : SyncState → List (List ℕ)
-state_lines s =
-    state_title ∷ run_line s.run ∷ far_line s.far_validity s.max_pulled ∷ near_line s.near_validity s.max_pushed
+abbrev pub state_lines : Version → SyncState → List (List ℕ)
+state_lines version s =
+    state_title version ∷ run_line s.run ∷ far_line s.far_validity s.max_pulled ∷ near_line s.near_validity s.max_pushed
     ∷ (map entry_line s.entries ++ end_line ∷ [])
 
-pub record IsEntry (e : Entry) : Type 0 where
+pub record IsEntry (version : Version) (e : Entry) : Type 0 where
   pub far : IsUidOrNone e.far
   pub near : IsUidOrNone e.near
-  pub flags : e.flags < 2 ^ FLAGS
+  pub flags : HasLetters version e.flags
 
--- a state of a run that was made, with numbers in their ranges: such a state has a text
-pub record HasText (s : SyncState) : Type 0 where
+-- a state of a run that was made, with numbers in their ranges: such a state has a text of this version
+pub record HasText (version : Version) (s : SyncState) : Type 0 where
   pub run : IsRun s.run
   pub far_validity : IsPositive s.far_validity
   pub max_pulled : IsHighest s.max_pulled
   pub near_validity : IsPositive s.near_validity
   pub max_pushed : IsHighest s.max_pushed
-  pub entries : All IsEntry s.entries
+  pub entries : All (IsEntry version) s.entries
   pub pairs : ArePairs s.entries
 
--- the text of a state
+-- the text of a state in this version
+pub record IsStateText (version : Version) (s : SyncState) (text : List ℕ) : Type 0 where
+  pub fits : HasText version s
+  pub spelled : text ≡ lines_text (state_lines version s)
+
+-- a text of a state
 pub record StateText (s : SyncState) (text : List ℕ) : Type 0 where
-  pub fits : HasText s
-  pub spelled : text ≡ lines_text (state_lines s)
+  pub version : Version
+  pub is_text : IsStateText version s text
 
 -- the lines of some state
 pub record StateLines (lines : List (List ℕ)) : Type 0 where
+  pub version : Version
   pub state : SyncState
-  pub fits : HasText state
-  pub same : lines ≡ state_lines state
+  pub fits : HasText version state
+  pub same : lines ≡ state_lines version state

@@ -14,8 +14,10 @@ use Rattle.mailcore.specs.FlagSet.{has, FLAGS}
 use Rattle.mailcore.specs.FlagNames.{LETTERS, letters_from, letters_of}
 use Rattle.mailcore.specs.Mark.{IsMark}
 use Rattle.mailcore.proofs.FlagLetters.{set_from_letters}
+use Rattle.sync_state.specs.declared.version.Version.{Version}
+use Rattle.sync_state.specs.declared.version.Version.TheVariants.{One, Two}
 use Rattle.sync_state.specs.Cuts.{Lacks}
-use Rattle.sync_state.specs.Words.{IsUidOrNone, flags_word, direction_word, side_word}
+use Rattle.sync_state.specs.Words.{IsUidOrNone, flags_word, version_word, direction_word, side_word}
 
 -- ---- numbers
 
@@ -100,6 +102,17 @@ side-injective (Some u) (Some v) fa fb e = ap (λ (x : ℕ). Some x) (decimal_in
 pub side-lacks : (a : Option ℕ) → IsUidOrNone a → Lacks 32 (decimal (unwrap_or a 0))
 side-lacks None fits = decimal-lacks 32 (omega arith) 0 (omega arith)
 side-lacks (Some u) fits = decimal-lacks 32 (omega arith) u (omega (arith, fits.below_last))
+
+-- ---- versions
+
+pub version-injective : (a b : Version) → version_word a ≡ version_word b → a ≡ b
+version-injective One One e = refl
+version-injective One Two e = let h : 49 ≡ 50 = ap (λ (x : List ℕ). get_or x 0 0) e in absurd (omega (arith, h))
+version-injective Two One e = let h : 50 ≡ 49 = ap (λ (x : List ℕ). get_or x 0 0) e in absurd (omega (arith, h))
+version-injective Two Two e = refl
+
+pub version-fits-injective : (a b : Version) → Unit {0} → Unit {0} → version_word a ≡ version_word b → a ≡ b
+version-fits-injective a b _ _ e = version-injective a b e
 
 -- ---- directions and sides
 

@@ -5,6 +5,8 @@ use Rattle.mailcore.specs.declared.side.Direction.TheVariants.{Pull, Push}
 use Rattle.mailcore.specs.declared.side.Side.{Side}
 use Rattle.mailcore.specs.declared.side.Side.TheVariants.{Far, Near}
 use Rattle.mailcore.specs.FlagNames.{letters_of}
+use Rattle.sync_state.specs.declared.version.Version.{Version}
+use Rattle.sync_state.specs.declared.version.Version.TheVariants.{One, Two}
 pub use Rattle.rules.specs.Plans.{IsUid, IsPositive, IsUidOrNone}
 
 -- the number of a run that was made
@@ -15,6 +17,10 @@ pub record IsRun (n : ℕ) : Type 0 where
 -- the letters of flags, or `-` for none
 abbrev pub flags_word : ℕ → List ℕ
 flags_word flags = if flags == 0 then codes "-" else letters_of flags
+
+abbrev pub version_word : Version → List ℕ
+version_word One = codes "1"
+version_word Two = codes "2"
 
 abbrev pub direction_word : Direction → List ℕ
 direction_word Pull = codes "pull"

@@ -4,7 +4,9 @@ ghost use Rattle.std.specs.Prelude.{◌≡◌, ◌↔◌, ◌<◌, ◌^◌, All,
 ghost use Rattle.sync_state.specs.JournalText.{IsPlan, IsPlanSide, rises, bottom};
 
 use crate::items::Item;
+use crate::keyword_lines::map_fits;
 use crate::place::Place;
+use crate::version::Version;
 use rules::plan::{Plan, PlanSide};
 
 /// Whether a plan has a text: the UIDVALIDITY and the UIDNEXT of both sides are above 0, no highest UID is 4294967295,
@@ -15,6 +17,7 @@ pub fn has_text(plan: &Plan) -> bool
     ensures { IsPlan plan.now ↔ (result ≡ true) }
 {
     run_fits(plan.run);
+    map_fits(&plan.keywords);
     side_has_text(plan.far)
         && side_has_text(plan.near)
         && are_in_order(plan.steps.as_slice())
@@ -35,7 +38,7 @@ fn side_has_text(side: PlanSide) -> bool
 /// Whether each stands behind the one before it.
 fn are_in_order<A: Item>(items: &[A]) -> bool
     ensures order { result ≡ rises bottom (map A.place items.now) }
-    ensures fit { result ≡ true → All A.fits items.now }
+    ensures fit { result ≡ true → All (A.fits Version.Two) items.now }
 {
     let mut last = Place::BOTTOM;
     for item in items {

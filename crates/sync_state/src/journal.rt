@@ -2,6 +2,7 @@
 
 ghost use Rattle.std.specs.Prelude.{◌≡◌, ◌++◌, ◌∷◌, [], OnOk, OnErr};
 
+use crate::version::Version;
 use mailcore::uid::Uid;
 use rules::plan::Plan;
 use std::alloc::AllocError;
@@ -77,6 +78,8 @@ pub struct Journal {
 /// A journal as it stands in its file.
 #[derive(Drop)]
 pub struct WrittenJournal {
+    /// The version of its text.
+    pub version: Version,
     /// What its whole lines say.
     pub journal: Journal,
     /// Whether a torn line stands behind them.

@@ -3,25 +3,39 @@
 ghost use Rattle.std.specs.Prelude.{◌≡◌, ◌≢◌, ◌+◌, ◌<◌, [], length, IfOk, IfErr, IfSome, IfNone, OnOk, MatchBool, MatchOption};
 ghost use Rattle.sync_state.specs.declared.journal.Logged.{Logged};
 ghost use Rattle.sync_state.specs.JournalText.{HasGo, log_line};
-ghost use Rattle.sync_state.specs.JournalReading.{TellsHead, PlanHeadRead, FitsAt, LogRead, TellsLog};
+ghost use Rattle.sync_state.specs.JournalReading.{TellsHead, TellsNumbers, PlanHeadRead, NumbersRead, FitsAt, LogRead, TellsLog};
 
 use crate::fault::BookFault;
 use crate::journal::Logged;
 use crate::journal_lines::read_logged;
+use crate::keyword_lines::read_keywords;
 use crate::lines::Lines;
+use crate::version::Version;
 use crate::words::{Highest, Number, Positive};
+use mailcore::keywords::Keywords;
 use rules::plan::{PlanSide, Step};
 use std::alloc::Global;
 
 /// The numbers with which a plan begins.
 #[derive(Clone, Copy)]
-pub struct PlanHead {
+pub struct PlanNumbers {
+    /// The version of the text.
+    pub version: Version,
     /// The number of the run.
     pub run: Number,
     /// The far side.
     pub far: PlanSide,
     /// The near side.
     pub near: PlanSide,
+}
+
+/// What stands before the steps of a plan.
+#[derive(Drop)]
+pub struct PlanHead {
+    /// The numbers.
+    pub numbers: PlanNumbers,
+    /// The keywords.
+    pub keywords: Keywords,
 }
 
 /// UIDVALIDITY, highest UID and UIDNEXT.
@@ -40,14 +54,26 @@ pub fn has_go(text: &[u8]) -> bool
     false
 }
 
-/// The numbers of the first four lines.
-pub fn read_head(lines: &mut Lines<'_>) -> Result<PlanHead, BookFault>
+/// What stands before the steps. A line that is no keyword of the map is left.
+pub fn read_head(alloc: Global, lines: &mut Lines<'_>) -> Result<PlanHead, BookFault>
     requires { lines.old.taken ≡ 0 }
     ensures ok { IfOk result (λ head. PlanHeadRead head lines.old.rest.now lines.new.rest.now) }
-    ensures taken { OnOk result (lines.new.taken ≡ 4) }
+    ensures taken { IfOk result (λ head. lines.new.taken ≡ 4 + length head.keywords) }
     ensures refused { IfErr result (TellsHead lines.old.rest.now) }
 {
-    let Some(()) = lines.take(b"journal 1") else {
+    let numbers = read_numbers(lines)?;
+    let keywords = read_keywords(alloc, lines, numbers.version)?;
+    Ok(PlanHead { numbers, keywords })
+}
+
+/// The numbers of the first four lines.
+fn read_numbers(lines: &mut Lines<'_>) -> Result<PlanNumbers, BookFault>
+    requires { lines.old.taken ≡ 0 }
+    ensures ok { IfOk result (λ numbers. NumbersRead numbers lines.old.rest.now lines.new.rest.now) }
+    ensures taken { OnOk result (lines.new.taken ≡ 4) }
+    ensures refused { IfErr result (TellsNumbers lines.old.rest.now) }
+{
+    let Some(version) = lines.take(b"journal ") else {
         return Err(BookFault::BadJournal(1));
     };
     let Some(run) = lines.take(b"run ") else {
@@ -59,7 +85,8 @@ pub fn read_head(lines: &mut Lines<'_>) -> Result<PlanHead, BookFault>
     let Some(near) = lines.take::<SideFields>(b"near ") else {
         return Err(BookFault::BadJournal(4));
     };
-    Ok(PlanHead {
+    Ok(PlanNumbers {
+        version,
         run,
         far: plan_side(far),
         near: plan_side(near),

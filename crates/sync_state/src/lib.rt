@@ -9,10 +9,12 @@ pub mod journal;
 pub mod journal_lines;
 pub mod journal_read;
 pub mod journal_text;
+pub mod keyword_lines;
 pub mod laws;
 pub mod lines;
 pub mod place;
 pub mod state_text;
+pub mod version;
 mod words;
 
 pub use rules::entry::{Entries, Entry};

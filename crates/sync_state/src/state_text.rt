@@ -1,13 +1,16 @@
 //! The text of a state.
 
-ghost use Rattle.std.specs.Prelude.{◌≡◌, ◌+◌, ◌++◌, ◌<◌, [], ◌∷◌, length, IfOk, IfErr, IfSome, IfNone, OnOk, OnErr, Err};
+ghost use Rattle.std.specs.Prelude.{◌≡◌, ◌≢◌, ◌+◌, ◌++◌, ◌<◌, [], ◌∷◌, length, IfOk, IfErr, IfSome, IfNone, OnOk, OnErr, Err};
+ghost use Rattle.rules.specs.declared.entry.Entry.{Entry};
 ghost use Rattle.sync_state.specs.Lines.{lines_text, HasLine, HasNoLine};
 ghost use Rattle.sync_state.specs.StateText.{StateText, IsEntry, entry_line, end_line, state_lines};
 ghost use Rattle.sync_state.specs.Faults.{TellsState};
 ghost use Rattle.sync_state.specs.StateReading.{HeadRead, EntriesRead, TellsEntry, TellsEnd};
 
 use crate::fault::BookFault;
+use crate::fields::after;
 use crate::lines::{Lines, push_line};
+use crate::version::Version;
 use crate::words::{Highest, Positive, Run};
 use mailcore::fault::PushFault;
 use mailcore::flags::Flags;
@@ -15,6 +18,7 @@ use mailcore::uid::Uid;
 use rules::entry::{Entries, Entry};
 use rules::state::SyncState;
 use std::alloc::Global;
+use texts::cut::cut;
 
 /// Far UID, near UID and flags.
 type EntryFields = (Option<Uid>, (Option<Uid>, Flags));
@@ -22,19 +26,20 @@ type EntryFields = (Option<Uid>, (Option<Uid>, Flags));
 /// The numbers with which a state begins.
 #[derive(Clone, Copy)]
 struct Head {
+    version: Version,
     run: Run,
     far: (Positive, Highest),
     near: (Positive, Highest),
 }
 
-/// The state with this text. `BadState`: it is the text of no state.
+/// The state with this text, in whatever version. `BadState`: it is the text of no state.
 pub fn read_state_text(alloc: Global, text: &[u8]) -> Result<SyncState, BookFault>
     ensures spelled { IfOk result (λ state. StateText state text.now) }
     ensures refused { IfErr result (TellsState text.now) }
 {
     let mut lines = Lines::new(text);
     let head = read_head(&mut lines)?;
-    let entries = read_entries(alloc, &mut lines)?;
+    let entries = read_entries(alloc, &mut lines, head.version)?;
     read_end(&mut lines)?;
     Ok(SyncState {
         run: head.run.0,
@@ -53,7 +58,7 @@ fn read_head(lines: &mut Lines<'_>) -> Result<Head, BookFault>
     ensures taken { OnOk result (lines.new.taken ≡ 4) }
     ensures refused { IfErr result (TellsState lines.old.rest.now) }
 {
-    let Some(()) = lines.take(b"mbsync state 1") else {
+    let Some(version) = lines.take(b"mbsync state ") else {
         return Err(BookFault::BadState(1));
     };
     let Some(run) = lines.take(b"run ") else {
@@ -65,17 +70,26 @@ fn read_head(lines: &mut Lines<'_>) -> Result<Head, BookFault>
     let Some(near) = lines.take(b"near ") else {
         return Err(BookFault::BadState(4));
     };
-    Ok(Head { run, far, near })
+    Ok(Head {
+        version,
+        run,
+        far,
+        near,
+    })
 }
 
 /// The entries of the next lines.
-fn read_entries(alloc: Global, lines: &mut Lines<'_>) -> Result<Entries, BookFault>
-    ensures ok { IfOk result (λ entries. EntriesRead entries lines.old.rest.now lines.new.rest.now) }
+fn read_entries(
+    alloc: Global,
+    lines: &mut Lines<'_>,
+    version: Version,
+) -> Result<Entries, BookFault>
+    ensures ok { IfOk result (λ entries. EntriesRead version entries lines.old.rest.now lines.new.rest.now) }
     ensures taken { IfOk result (λ entries. lines.new.taken ≡ lines.old.taken + length entries) }
-    ensures refused { IfErr result (TellsEntry lines.old.taken lines.old.rest.now) }
+    ensures refused { IfErr result (TellsEntry version lines.old.taken lines.old.rest.now) }
 {
     let mut entries = Entries::new(alloc);
-    while let Some(entry) = take_entry(lines) {
+    while let Some(entry) = take_entry(lines, version) {
         match entries.push(entry) {
             Ok(()) => {}
             Err(PushFault::OutOfOrder) => return Err(BookFault::BadState(lines.taken)),
@@ -85,16 +99,32 @@ fn read_entries(alloc: Global, lines: &mut Lines<'_>) -> Result<Entries, BookFau
     Ok(entries)
 }
 
-/// Takes the next line if it is an entry.
-fn take_entry(lines: &mut Lines<'_>) -> Option<Entry>
-    ensures some { IfSome result (λ entry. HasLine [] IsEntry entry_line entry lines.old.rest.now lines.new.rest.now) }
+/// Takes the next line if it is an entry of this version.
+fn take_entry(lines: &mut Lines<'_>, version: Version) -> Option<Entry>
+    ensures some { IfSome result (λ entry. HasLine [] (IsEntry version) entry_line entry lines.old.rest.now lines.new.rest.now) }
     ensures taken { IfSome result (λ _. lines.new.taken ≡ lines.old.taken + 1) }
     ensures shorter { IfSome result (λ _. length lines.new.rest.now < length lines.old.rest.now) }
-    ensures none { IfNone result (HasNoLine [] IsEntry entry_line lines.old.rest.now) }
+    ensures none { IfNone result (HasNoLine [] (IsEntry version) entry_line lines.old.rest.now) }
     ensures unchanged { IfNone result (lines.new ≡ lines.old) }
 {
-    let (far, (near, flags)) = lines.take::<EntryFields>(b"e ")?;
-    Some(Entry { far, near, flags })
+    let (line, rest) = cut(lines.rest, b'\n')?;
+    let entry = entry_of(line, version)?;
+    lines.taken += 1;
+    lines.rest = rest;
+    Some(entry)
+}
+
+/// The entry with this line.
+fn entry_of(line: &[u8], version: Version) -> Option<Entry>
+    ensures some { IfSome result (λ entry. IsEntry version entry × (line.now ≡ entry_line entry)) }
+    ensures none { IfNone result ((entry : Entry) → IsEntry version entry → line.now ≢ entry_line entry) }
+{
+    let (far, (near, flags)) = after::<EntryFields>(line, b"e ")?;
+    if version.has_letters(flags) {
+        Some(Entry { far, near, flags })
+    } else {
+        None
+    }
 }
 
 /// The last line, behind which nothing stands.
@@ -112,14 +142,14 @@ fn read_end(lines: &mut Lines<'_>) -> Result<(), BookFault>
     }
 }
 
-/// The text of a state. A state has one if it is of a run that was made, with UIDVALIDITYs from 1 on and no highest UID
+/// The text of a state, in the second version. A state has one if it is of a run that was made, with UIDVALIDITYs from 1 on and no highest UID
 /// above 4294967294.
 pub fn write_state_text(alloc: Global, state: &SyncState) -> Result<Vec<u8>, BookFault>
-    ensures spelled { IfOk result (λ text. text.items ≡ lines_text (state_lines state.now)) }
+    ensures spelled { IfOk result (λ text. text.items ≡ lines_text (state_lines Version.Two state.now)) }
     ensures no_memory { OnErr result (result ≡ Err BookFault.NoMemory) }
 {
     let mut text = Vec::new(alloc);
-    push_line(&mut text, b"mbsync state 1", ())?;
+    push_line(&mut text, b"mbsync state ", Version::Two)?;
     push_line(&mut text, b"run ", Run(state.run))?;
     let far = (Positive(state.far_validity), Highest(state.max_pulled));
     push_line(&mut text, b"far ", far)?;

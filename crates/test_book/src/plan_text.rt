@@ -1,14 +1,15 @@
 //! A plan from its lines. Unlike a journal's reader it takes any numbers and any order, so that plans without a text can be
 //! tried too.
 
+use mailcore::keywords::Keywords;
 use rules::plan::{Note, Notes, Plan, PlanSide, Step, Steps};
 use std::alloc::{AllocError, Global};
 use sync_state::journal_lines::{read_note, read_step};
 use test_scripts::failure::Failure;
 use test_scripts::words::Words;
 
-/// The lines of a plan that were read: `run RUN`, `far VALIDITY HIGHEST NEXT`, `near ..`, and steps and notes. Numbers whose line is
-/// missing are 0.
+/// The lines of a plan that were read: `run RUN`, `far VALIDITY HIGHEST NEXT`, `near ..`, `k LETTER NAME`, and steps and notes. Numbers
+/// whose line is missing are 0.
 #[derive(Drop)]
 pub struct Draft {
     run: u64,
@@ -16,6 +17,7 @@ pub struct Draft {
     near: PlanSide,
     steps: Vec<Step>,
     notes: Vec<Note>,
+    keywords: Keywords,
 }
 
 impl Draft {
@@ -32,6 +34,7 @@ impl Draft {
             near: side,
             steps: Vec::new(alloc),
             notes: Vec::new(alloc),
+            keywords: Keywords::new(alloc),
         }
     }
 
@@ -57,6 +60,7 @@ impl Draft {
             "run" => self.run = line.long_number(),
             "far" => self.far = read_side(&mut line),
             "near" => self.near = read_side(&mut line),
+            "k" => line.keyword(&mut self.keywords),
             _ => line.refuse(),
         }
         line.end()
@@ -70,6 +74,7 @@ impl Draft {
             near: self.near,
             steps: Steps::from_vec(self.steps),
             notes: Notes::from_vec(self.notes),
+            keywords: self.keywords,
         }
     }
 }
@@ -108,5 +113,6 @@ pub fn copy_of(alloc: Global, plan: &Plan) -> Result<Plan, AllocError> {
         near: plan.near,
         steps: Steps::from_vec(steps),
         notes: Notes::from_vec(notes),
+        keywords: plan.keywords.try_clone(alloc)?,
     })
 }

@@ -8,8 +8,9 @@ use rules::state::SyncState;
 use std::alloc::Global;
 use sync_state::fault::BookFault;
 use sync_state::journal::{Journal, WrittenJournal};
-use sync_state::journal_text::{read_journal, write_journal, write_plan};
+use sync_state::journal_text::{read_journal, write_journal_in, write_plan};
 use sync_state::state_text::{read_state_text, write_state_text};
+use sync_state::version::Version;
 use test_scripts::failure::Failure;
 use test_scripts::told::Told;
 
@@ -75,8 +76,19 @@ fn tell_state(
     told.text(", ");
     told.shown(&state.entries.as_slice().len());
     told.text(" entries, ");
-    tell_written(told, written.as_slice() == text);
+    told.text(how_written(&written, text));
     Ok(())
+}
+
+/// How the text of a state that was read from a text is written.
+fn how_written(written: &[u8], text: &[u8]) -> &'static str {
+    let lines = written.strip_prefix(b"mbsync state 2\n");
+    let read_lines = text.strip_prefix(b"mbsync state 1\n");
+    match (lines, read_lines) {
+        _ if written == text => "written as it was",
+        (Some(lines), Some(read_lines)) if lines == read_lines => "written in version 2",
+        _ => "written otherwise",
+    }
 }
 
 /// Tells the run of a journal's plan and how many steps, notes and logged steps it has.
@@ -97,28 +109,25 @@ fn tell_journal(
     told.shown(&log.as_slice().len());
     told.text(" logged, ");
     told.text(if written.is_torn { "torn, " } else { "whole, " });
-    tell_written(told, is_written_as(alloc, written, text)?);
-    Ok(())
-}
-
-/// Tells whether what was read is written as it was.
-fn tell_written(told: &mut Told, is_same: bool) {
-    told.text(if is_same {
+    told.text(if is_written_as(alloc, written, text)? {
         "written as it was"
     } else {
         "written otherwise"
     });
+    Ok(())
 }
 
-/// Whether the plan of a journal is written as the text begins, and all of the journal as the text up to its torn line.
+/// Whether all of a journal is written, in its version, as the text up to its torn line, and its plan, where that is the second, as the
+/// text begins.
 fn is_written_as(alloc: Global, written: &WrittenJournal, text: &[u8]) -> Result<bool, Failure> {
     let plan = write_plan(alloc, &written.journal.plan).map_err(failure_of)?;
-    let whole = write_journal(alloc, &written.journal).map_err(failure_of)?;
+    let whole = write_journal_in(alloc, written.version, &written.journal).map_err(failure_of)?;
     let is_same = match text.strip_prefix(whole.as_slice()) {
         Some(torn) => torn.is_empty() != written.is_torn && !torn.contains(&b'\n'),
         None => false,
     };
-    Ok(is_same && text.starts_with(plan.as_slice()))
+    let begins_so = written.version == Version::One || text.starts_with(plan.as_slice());
+    Ok(is_same && begins_so)
 }
 
 /// The state and the journal of both texts. `Script`: one of them is not spelled as such.

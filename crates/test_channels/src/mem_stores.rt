@@ -16,6 +16,7 @@ use stores::fault::{ListFault, ServerFault, StoreFault};
 use stores::notice::Notice;
 use stores::stop_cause::StopCause;
 use stores::stores::{BoxLists, Stores, Work};
+use test_run::stage::has_map;
 use test_scripts::failure::Failure;
 use test_scripts::told::Told;
 
@@ -253,8 +254,13 @@ impl Stores for MemStores<'_> {
         self.is_untold = true;
         let steps = Steps::new(self.alloc);
         let answer = match self.boxes.last_mut() {
-            Some(one) => Ok(work.over(&mut one.outside, &steps)),
-            None => Err(StoreFault::Box(RunFault::Stopped)),
+            Some(one) if has_map(&one.outside, work.keywords()) => {
+                Ok(work.over(&mut one.outside, &steps))
+            }
+            _ => {
+                self.failure = Some(Failure::Script);
+                Err(StoreFault::Box(RunFault::Stopped))
+            }
         };
         self.tell_steps(place.far.as_str(), &steps);
         answer

@@ -27,6 +27,7 @@ pub(crate) fn run_fault(words: &str) -> Option<RunFault> {
         "stopped" => Some(RunFault::Stopped),
         "marks repeat" => Some(RunFault::MarksRepeat),
         "no memory" => Some(RunFault::NoMemory),
+        "keywords changed" => Some(RunFault::KeywordsChanged),
         _ => box_fault(words),
     }
 }

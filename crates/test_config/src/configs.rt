@@ -76,6 +76,11 @@ fn tell_channel(told: &mut Told, config: &Config, channel: &Channel) {
     add_cells(told, channel.cells);
     add(told, &[" create ", sides_word(channel.create)]);
     add(told, &[" expunge ", sides_word(channel.expunge)]);
+    for keyword in channel.keywords.as_slice() {
+        told.text(" keyword ");
+        told.bytes(&[keyword.letter, b' ']);
+        told.bytes(keyword.name.as_slice());
+    }
     told.end();
 }
 

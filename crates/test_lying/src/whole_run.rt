@@ -23,18 +23,23 @@ use test_scripts::told::Told;
 use trial::attempts::settle_trial;
 use worlds::plan_lines::side_word;
 
-/// Everything is propagated, and nothing is expunged.
-const OPTIONS: Options = Options {
-    cells: Cells {
-        new: BOTH,
-        gone: BOTH,
-        flags: BOTH,
-    },
-    expunge: options::Sides {
-        far: false,
-        near: false,
-    },
-};
+/// Everything is propagated, and nothing is expunged. Only the six flags have a name.
+fn everything(alloc: Global) -> Options
+    ensures { result.keywords ≡ [] }
+{
+    Options {
+        cells: Cells {
+            new: BOTH,
+            gone: BOTH,
+            flags: BOTH,
+        },
+        expunge: options::Sides {
+            far: false,
+            near: false,
+        },
+        keywords: Keywords::new(alloc),
+    }
+}
 
 const BOTH: Directions = Directions {
     pull: true,
@@ -56,16 +61,23 @@ pub(crate) fn settle<L: Link + Drop>(
     // The folder has a meta file, so that this is of no use.
     let fresh = NonZeroU32::MIN;
     let both = sides.together(alloc, fresh, Keywords::new(alloc));
-    let (outside, settled) = settle_over(alloc, both);
+    let options = everything(alloc);
+    let (outside, settled) = settle_over(alloc, both, &options);
     tell_settled(told, settled);
     let Sides { folder, shelf, .. } = Sides::of(outside);
     Devices { folder, shelf }
 }
 
 /// Makes one run over an outside, and gives it back beside what the run came to.
-fn settle_over<O: Outside>(alloc: Global, outside: O) -> (O, Result<Settled, RunFault>) {
+fn settle_over<O: Outside>(
+    alloc: Global,
+    outside: O,
+    options: &Options,
+) -> (O, Result<Settled, RunFault>)
+    requires { O.keywords outside ≡ options.now.keywords }
+{
     let mut outside = outside;
-    let settled = settle_trial(alloc, &mut outside, &OPTIONS, 1);
+    let settled = settle_trial(alloc, &mut outside, options, 1);
     (outside, settled)
 }
 
@@ -114,6 +126,7 @@ fn tell_fault(told: &mut Told, fault: RunFault) {
         }
         RunFault::MarksRepeat => told.text("MarksRepeat"),
         RunFault::NoMemory => told.text("NoMemory"),
+        RunFault::KeywordsChanged => told.text("KeywordsChanged"),
     }
 }
 

@@ -1,5 +1,6 @@
 //! What the name of a file says.
 
+use maildir::letters::flags_in;
 use maildir::name::{Name, read_name, write_name};
 use std::alloc::{AllocError, Global};
 use test_scripts::told::Told;
@@ -14,6 +15,10 @@ pub fn tell_name(alloc: Global, text: &[u8], told: &mut Told) -> Result<(), Allo
     told.text("  base ");
     told.quoted(name.base);
     tell_parts(told, &name);
+    if let Some(letters) = name.letters {
+        told.text(", flags ");
+        told.flags(flags_in(letters));
+    }
     told.text(", written ");
     told.quoted(&written);
     told.end();

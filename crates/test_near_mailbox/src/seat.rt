@@ -63,12 +63,17 @@ impl<F: OpenFolder> Seat<F> {
 
     /// Opens the mailbox, with this validity where it has no meta file, and gives its validity and next UID. `Absent` where no folder
     /// is.
-    pub fn open(&mut self, alloc: Global, fresh: NonZeroU32) -> Result<(u32, u32), NearFault> {
+    pub fn open(
+        &mut self,
+        alloc: Global,
+        fresh: NonZeroU32,
+        keywords: Keywords,
+    ) -> Result<(u32, u32), NearFault> {
         let Some(mut folder) = self.take() else {
             return Err(NearFault::Absent);
         };
         folder.forget();
-        match NearBox::open(alloc, folder, fresh, Keywords::new(alloc)) {
+        match NearBox::open(alloc, folder, fresh, keywords) {
             Ok(near) => {
                 let meta = near.meta();
                 *self = Seat::Mailbox(near);
@@ -127,13 +132,16 @@ impl<F: OpenFolder> Seat<F> {
         told: &mut Told,
     ) -> Option<NearFault> {
         match word {
-            "open" => match self.open(alloc, read_validity(line)) {
-                Ok((validity, next)) => {
-                    tell_numbers(told, validity, next);
-                    None
+            "open" => {
+                let fresh = read_validity(line);
+                match self.open(alloc, fresh, read_keywords(alloc, line)) {
+                    Ok((validity, next)) => {
+                        tell_numbers(told, validity, next);
+                        None
+                    }
+                    Err(fault) => tell_done(told, Err(fault)),
                 }
-                Err(fault) => tell_done(told, Err(fault)),
-            },
+            }
             "sync" => {
                 let folder = self.close()?;
                 tell_done(told, folder.sync().map_err(NearFault::from))
@@ -165,6 +173,18 @@ pub fn read_validity(line: &mut Words<'_>) -> NonZeroU32 {
             NonZeroU32::new(1).unwrap()
         }
     }
+}
+
+/// Reads pairs of a letter and a name, up to the end of the line.
+fn read_keywords(alloc: Global, line: &mut Words<'_>) -> Keywords {
+    let mut keywords = Keywords::new(alloc);
+    for _ in b'a'..=b'z' {
+        if line.is_over() {
+            break;
+        }
+        line.keyword(&mut keywords);
+    }
+    keywords
 }
 
 /// Tells the files in a folder, its calls, and how many have stopped.

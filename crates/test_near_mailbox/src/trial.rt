@@ -5,6 +5,7 @@ use crate::memory::Memory;
 use crate::seat::{Seat, read_validity};
 use crate::stop::tell_stop;
 use device::schedule::{Moment, Stop};
+use mailcore::keywords::Keywords;
 use maildir::folder::Folder;
 use maildir::mem_folder::{FolderCall, MemFolder};
 use near_box::NearFault;
@@ -96,7 +97,8 @@ impl Trial<'_> {
         if operation.word() == "open" {
             return Ok(0);
         }
-        let _ = seat.open(self.rt.alloc(), self.fresh);
+        let alloc = self.rt.alloc();
+        let _ = seat.open(alloc, self.fresh, Keywords::new(alloc));
         match seat.close() {
             Some(folder) => Ok(folder.calls().len()),
             None => Ok(0),
@@ -212,7 +214,7 @@ impl Trial<'_> {
     fn act(&mut self, seat: &mut Seat<MemFolder>, line: &mut Words<'_>, told: &mut Told) {
         let alloc = self.rt.alloc();
         let word = line.word();
-        let fault = match seat.open(alloc, self.fresh) {
+        let fault = match seat.open(alloc, self.fresh, Keywords::new(alloc)) {
             Err(fault) => {
                 told.shown(&fault);
                 Some(fault)

@@ -108,7 +108,7 @@ fn plain_of(world: &DrawnWorld) -> Plain<'_> {
         far: world.far.items.as_slice(),
         near: world.near.items.as_slice(),
         state: &world.state,
-        options: world.options,
+        options: &world.options,
     }
 }
 

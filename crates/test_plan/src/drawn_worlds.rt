@@ -2,6 +2,7 @@
 
 use mailcore::fault::PushFault;
 use mailcore::flags::{Flag, Flags};
+use mailcore::keywords::Keywords;
 use mailcore::listing::{Item, Items, Listing};
 use mailcore::uid::Uid;
 use planner::state::{Cells, Directions, Entries, Entry, Options, Sides, SyncState};
@@ -127,7 +128,12 @@ impl Numbers {
             far: self.coin(),
             near: self.coin(),
         };
-        let options = Options { cells, expunge };
+        let keywords = Keywords::new(alloc);
+        let options = Options {
+            cells,
+            expunge,
+            keywords,
+        };
         Ok(DrawnWorld {
             far,
             near,

@@ -24,7 +24,7 @@ pub fn tell_of_message(
         "mark" => tell_mark(told, Tuid::read(&bytes)),
         "mark_of" => tell_mark(told, mark_of(&bytes)),
         "content" => tell_quoted(told, &content(alloc, &bytes)?),
-        "flags" => tell_flags(told, named_flags(alloc, &bytes)),
+        "flags" => tell_flags(told, Flags::from_letters(&bytes)),
         "imap" => {
             told.begin();
             told.flags(Flags::from_imap(&bytes, &Keywords::new(alloc)));
@@ -71,17 +71,7 @@ fn tell_quoted(told: &mut Told, bytes: &[u8]) {
     told.end();
 }
 
-/// The flags with these letters, if each of them has a name in IMAP. No keyword has one.
-fn named_flags(alloc: Global, letters: &[u8]) -> Option<Flags> {
-    let flags = Flags::from_letters(letters)?;
-    if flags.kept(&Keywords::new(alloc)) == flags {
-        Some(flags)
-    } else {
-        None
-    }
-}
-
-/// Tells the letters of flags and their names in IMAP.
+/// Tells the letters of flags, and the names in IMAP of those that have one whatever the map of keywords.
 fn tell_flags(told: &mut Told, flags: Option<Flags>) {
     let Some(flags) = flags else {
         told.answer("none");

@@ -19,7 +19,7 @@ pub struct Plain<'a> {
     /// What the last run recorded.
     pub state: &'a SyncState,
     /// What the run may do.
-    pub options: Options,
+    pub options: &'a Options,
 }
 
 /// Both ways of a message.

@@ -91,9 +91,10 @@ impl Runs {
     fn first_stage(&mut self) -> Result<Stage, Failure> {
         let schedule = std::mem::replace(&mut self.schedule, Schedule::new(self.alloc));
         match stage_of(self.alloc, &self.world, schedule) {
-            Ok(mut stage) => {
-                stage.parts.shelf.put(File::Journal, self.journal.take());
-                Ok(stage)
+            Ok(stage) => {
+                let Stage { options, mut parts } = stage;
+                parts.shelf.put(File::Journal, self.journal.take());
+                Ok(Stage { options, parts })
             }
             Err(failure) => Err(failure),
         }

@@ -1,6 +1,6 @@
 //! A world in memory, over which runs are made.
 
-ghost use Rattle.std.specs.Prelude.{◌≡◌, false, [], IfOk};
+ghost use Rattle.std.specs.Prelude.{◌≡◌, ◌↔◌, true, false, IfOk};
 ghost use Rattle.pair.specs.Pairs.{seen_of};
 
 use crate::calls::{BoxSchedule, Schedule};
@@ -55,8 +55,9 @@ impl Parts {
 pub struct Stage {
     /// What a run may do.
     pub options: Options,
-    /// Both mailboxes and the shelf.
+    /// Both mailboxes, which go by the map of the options, and the shelf.
     pub parts: Parts,
+    pub ghost map: { parts.far.keywords ≡ options.keywords },
 }
 
 /// The world that a text gives, whose calls stop and are refused as the schedule says. There is no journal.
@@ -77,8 +78,8 @@ impl Stage {
             waiting,
             state,
         } = world;
-        let far = far_box(alloc, far, schedule.far);
-        let near = near_box(alloc, near, waiting, schedule.near);
+        let far = far_box(alloc, far, &options.keywords, schedule.far);
+        let near = near_box(alloc, near, waiting, &options.keywords, schedule.near);
         let shelf = shelf_with(alloc, &state, None, schedule.shelf_stops);
         match (far, near, shelf) {
             (Ok(far), Ok(near), Ok(shelf)) => Ok(Stage {
@@ -104,14 +105,24 @@ impl Stage {
 
 /// An outside of these parts, opened again.
 pub fn outside_of(alloc: Global, parts: Parts) -> MemOutside
-    ensures { (seen_of result).is_broken ≡ false }
+    ensures whole { (seen_of result).is_broken ≡ false }
+    ensures map { result.far.keywords ≡ parts.far.keywords }
 {
     let Parts { far, near, shelf } = parts;
     Pair::new(alloc, far, near, BookPart::new(alloc, shelf))
 }
 
+/// Whether this is its map of keywords.
+pub fn has_map(outside: &MemOutside, keywords: &Keywords) -> bool
+    ensures { result ≡ true ↔ outside.now.far.keywords ≡ keywords.now }
+{
+    outside.far().keywords().is_same(keywords)
+}
+
 /// What an outside is made of.
-pub fn parts_of(outside: MemOutside) -> Parts {
+pub fn parts_of(outside: MemOutside) -> Parts
+    ensures map { result.far.keywords ≡ outside.far.keywords }
+{
     let (far, near, book) = outside.into_parts();
     Parts {
         far,
@@ -170,41 +181,40 @@ fn waiting_files(alloc: Global, files: &[Message]) -> Result<Vec<WaitingFile>, A
     Ok(waiting)
 }
 
-/// The far mailbox of a world. Only the six flags have a name.
+/// The far mailbox of a world, by this map of keywords.
 fn far_box(
     alloc: Global,
     mailbox: Mailbox,
+    keywords: &Keywords,
     schedule: BoxSchedule,
 ) -> Result<MemMailbox<OfFar>, Failure>
-    ensures { IfOk result (λ far. far.keywords ≡ []) }
+    ensures { IfOk result (λ far. far.keywords ≡ keywords.now) }
 {
+    let keywords = keywords.try_clone(alloc)?;
     match store_of(mailbox) {
-        Some(store) => Ok(MemMailbox::far(
-            alloc,
-            store,
-            schedule.condition(),
-            Keywords::new(alloc),
-        )),
+        Some(store) => Ok(MemMailbox::far(alloc, store, schedule.condition(), keywords)),
         None => Err(Failure::Script),
     }
 }
 
-/// The near mailbox of a world. Only the six flags have a name.
+/// The near mailbox of a world, by this map of keywords.
 fn near_box(
     alloc: Global,
     mailbox: Mailbox,
     waiting: Vec<WaitingFile>,
+    keywords: &Keywords,
     schedule: BoxSchedule,
 ) -> Result<MemMailbox<OfNear>, Failure>
-    ensures { IfOk result (λ near. near.keywords ≡ []) }
+    ensures { IfOk result (λ near. near.keywords ≡ keywords.now) }
 {
+    let keywords = keywords.try_clone(alloc)?;
     match (store_of(mailbox), files_of(alloc, waiting)) {
         (Some(store), Ok(files)) => Ok(MemMailbox::near(
             alloc,
             store,
             files,
             schedule.condition(),
-            Keywords::new(alloc),
+            keywords,
         )),
         (_, Err(AllocError)) => Err(Failure::NoMemory),
         (None, _) => Err(Failure::Script),

@@ -3,6 +3,7 @@
 use crate::failure::Failure;
 use device::schedule::Moment;
 use mailcore::flags::Flags;
+use mailcore::keywords::Keywords;
 use mailcore::side::Side;
 use mailcore::uid::Uid;
 use std::alloc::Global;
@@ -126,6 +127,16 @@ impl<'a> Words<'a> {
                 self.is_bad = true;
                 Moment::Before
             }
+        }
+    }
+
+    /// Takes a letter and a name, and adds them to a map. Refuses what is no keyword, and one that is given twice.
+    pub fn keyword(&mut self, keywords: &mut Keywords) {
+        let letter = self.word();
+        let name = self.word();
+        match letter.as_bytes() {
+            [letter] if keywords.add(*letter, name.as_bytes()).is_ok() => {}
+            _ => self.refuse(),
         }
     }
 

@@ -8,8 +8,8 @@ use worlds::fault::WorldFault;
 use worlds::read::read_world;
 use worlds::world::{Waiting, World};
 
-/// What stands before the lines of a world that begin with `far`.
-const OPTIONS: &[u8] = b"sync None\nexpunge None\n";
+/// What stands before the lines of a world that begin with `far`: the letters `a` and `b` are those of keywords.
+const OPTIONS: &[u8] = b"sync None\nexpunge None\nkeyword a $Label1\nkeyword b Junk\n";
 
 /// The world of this text. `Script`: it is none.
 pub(crate) fn world_of(alloc: Global, text: &[u8]) -> Result<World, Failure> {

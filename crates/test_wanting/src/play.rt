@@ -75,7 +75,7 @@ fn failure_of(failure: TrialFailure) -> Failure {
 /// Makes the run of a trial, and another one where it ends with a fault.
 fn settle(alloc: Global, text: &[u8], told: &mut Told) -> Result<(), TrialFailure> {
     let trial = read_trial(alloc, text)?;
-    let options = trial.world.options;
+    let options = trial.world.options.try_clone(alloc)?;
     let tries = trial.course.tries;
     let (outside, settled) = run_in_memory(alloc, trial)?;
     let devices = Devices::of(outside);
@@ -97,7 +97,7 @@ fn settle_over<O: Outside>(
     options: &Options,
     tries: u32,
 ) -> (O, Result<Settled, RunFault>)
-    ensures map { O.keywords result.0 ≡ O.keywords outside }
+    requires map { O.keywords outside ≡ options.now.keywords }
 {
     let mut outside = outside;
     let settled = settle_trial(alloc, &mut outside, options, tries);

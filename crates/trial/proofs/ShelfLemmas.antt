@@ -6,6 +6,7 @@ use Rattle.mailcore.specs.declared.side.Side.TheVariants.{Far, Near}
 use Rattle.rules.specs.Opening.{IsFirst, IsLater, IsOpening}
 use Rattle.rules.specs.Plans.{IsUidOrNone}
 use Rattle.rules.specs.World.{World}
+use Rattle.sync_state.specs.declared.version.Version.TheVariants.{Two}
 use Rattle.sync_state.specs.Lines.{lines_text}
 use Rattle.sync_state.specs.StateText.{HasText, state_lines}
 use Rattle.book.specs.declared.book.Pending.TheVariants.{Missing}
@@ -18,7 +19,7 @@ side_fits None next named below fits = tt
 side_fits (Some zero) next named below fits = absurd (named refl)
 side_fits (Some (suc uid)) next named below fits = record { positive = omega arith; below_last = omega arith }
 
-later_text : (w : World) → IsOpening w → FitsWords w → IsLater w → HasText w.state
+later_text : (w : World) → IsOpening w → FitsWords w → IsLater w → HasText Two w.state
 later_text w opening fits later = record {
   run = record { positive = later.run; fits = fits.run };
   far_validity = record {
@@ -42,12 +43,15 @@ later_text w opening fits later = record {
 state_held : (w : World) → IsOpening w → FitsWords w → HoldsState (state_file w.state) w.state
 state_held w opening fits = by_run (eqb w.state.run 0) refl
   where
-    by_run : (b : Bool) → eqb w.state.run 0 ≡ b → HoldsState (cond b None (Some (lines_text (state_lines w.state)))) w.state
+    by_run : (b : Bool) → eqb w.state.run 0 ≡ b → HoldsState (cond b None (Some (lines_text (state_lines Two w.state)))) w.state
     by_run true e =
         ⊎_elim (λ (first : IsFirst w.state). first) (λ (later : IsLater w). let p = later.run in let q : w.state.run ≡ 0 = eqb-true w.state.run 0 e in absurd (omega arith)) opening.unchanged
     by_run false e = record {
-      fits = ⊎_elim (λ (first : IsFirst w.state). absurd (eqb-false w.state.run 0 e first.run)) (λ (later : IsLater w). later_text w opening fits later) opening.unchanged;
-      spelled = refl;
+      version = Two;
+      is_text = record {
+        fits = ⊎_elim (λ (first : IsFirst w.state). absurd (eqb-false w.state.run 0 e first.run)) (λ (later : IsLater w). later_text w opening fits later) opening.unchanged;
+        spelled = refl;
+      };
     }
 
 pub shelf_holds : (w : World) → IsOpening w → FitsWords w → Holds (shelf_of w.state None) w.state Missing

@@ -2,7 +2,6 @@
 use Rattle.std.specs.Prelude.{◌≡◌, ℕ, Bool, true, List, []}
 use Rattle.rand_core.specs.Steps.{steps_u64_low, stream_of}
 use Rattle.rand_core.specs.Stream.{Stream}
-use Rattle.mailcore.specs.declared.keywords.Keyword.{Keyword}
 use Rattle.mailcore.specs.Stores.{Store}
 use Rattle.rules.specs.declared.options.Options.{Options}
 use Rattle.rules.specs.declared.state.SyncState.{SyncState}
@@ -20,9 +19,9 @@ abbrev pub no_state : SyncState
 no_state = record { run = 0; far_validity = 0; near_validity = 0; max_pulled = 0; max_pushed = 0; entries = [] }
 
 -- an opening with nothing in it, under a map, for who says nothing of one
-abbrev pub no_opening : List Keyword → Options → Opening
-no_opening keywords options =
-    record { world = record { far = no_messages; near = no_messages; waiting = []; state = no_state }; options = options; called = options; keywords = keywords }
+abbrev pub no_opening : Options → Opening
+no_opening options =
+    record { world = record { far = no_messages; near = no_messages; waiting = []; state = no_state }; options = options; called = options }
 
 -- whatever the mark is, nobody else writes it
 abbrev pub AreOurs : (List ℕ → Bool) → Type 0

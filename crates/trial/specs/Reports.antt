@@ -1,7 +1,7 @@
 -- How a run's end is told.
 use Rattle.std.specs.Prelude.{ℕ, Result, Ok, Err}
 use Rattle.runner.specs.declared.fault.RunFault.{RunFault}
-use Rattle.runner.specs.declared.fault.RunFault.TheVariants.{Stopped, Refused, ValidityChanged, BadState, BadJournal, StoreFault, MarksRepeat, NoMemory}
+use Rattle.runner.specs.declared.fault.RunFault.TheVariants.{Stopped, Refused, ValidityChanged, BadState, BadJournal, StoreFault, MarksRepeat, NoMemory, KeywordsChanged}
 
 -- the number of a fault
 abbrev pub fault_number : RunFault → ℕ
@@ -13,6 +13,7 @@ fault_number (BadJournal line) = 5
 fault_number (StoreFault side number) = 6
 fault_number MarksRepeat = 7
 fault_number NoMemory = 8
+fault_number KeywordsChanged = 9
 
 -- the exit status
 abbrev pub status_of : {T : Type 0} → Result T RunFault → ℕ

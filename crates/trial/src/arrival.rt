@@ -85,19 +85,23 @@ impl Arrivals {
     }
 
     /// Adds what a line says behind its word `arrive`: `far before CALL k FLAGS "BYTES"`, CALL a command, or `near` and a call of the
-    /// folder.
-    pub fn add(&mut self, alloc: Global, text: &[u8], line: Line<'_>) -> Result<(), WorldFault>
+    /// folder. Its flags have a name by this map.
+    pub fn add(
+        &mut self,
+        alloc: Global,
+        text: &[u8],
+        keywords: &Keywords,
+        line: Line<'_>,
+    ) -> Result<(), WorldFault>
         ensures { IfErr result (IsOf line.entry.number) }
     {
-        // Only the six have a name.
-        let keywords = Keywords::new(alloc);
-        let Some(coming) = Coming::read(text, &keywords) else {
+        let Some(coming) = Coming::read(text, keywords) else {
             return Err(line.fault());
         };
         let bytes = read_bytes(alloc, coming.text, line)?;
         match coming.side {
             Side::Far => self.add_far(coming, bytes, line),
-            Side::Near => self.add_near(alloc, coming, bytes, &keywords, line),
+            Side::Near => self.add_near(alloc, coming, bytes, keywords, line),
         }
     }
 

@@ -26,7 +26,7 @@ pub fn settle_trial<O: Outside>(
     tries: u32,
 ) -> Result<Settled, RunFault>
     ghost opening: { Opening }
-    requires map { opening.keywords ≡ O.keywords outside.old }
+    requires map { O.keywords outside.old ≡ options.now.keywords }
     ensures was_honest { O.honest outside.new → O.honest outside.old }
     ensures keywords { O.keywords outside.new ≡ O.keywords outside.old }
 

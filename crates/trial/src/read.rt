@@ -2,11 +2,13 @@
 
 ghost use Rattle.std.specs.Prelude.{◌≡◌, ◌+◌, ◌≤◌, ◌<◌, IfErr, IfOk};
 ghost use Rattle.worlds.specs.Lines.{IsOf, IsUpTo, line_count, line_ends};
+ghost use Rattle.trial.specs.Worlds.{IsNamed, world_of};
 
 use crate::arrival::Arrivals;
 use crate::count::read_ordinal;
 use crate::stop::{DeviceStop, Stops, read_cut, read_stop};
 use crate::trial::{Course, Trial};
+use mailcore::keywords::Keywords;
 use std::alloc::Global;
 use worlds::fault::WorldFault;
 use worlds::line::{Line, Lines};
@@ -17,18 +19,23 @@ use worlds::world::Waiting;
 /// The trial that a text gives. `Line`: after this line no valid trial is possible, or one is, and the text ends too early, and this is
 /// the line after its last whole one.
 pub fn read_trial(alloc: Global, text: &[u8]) -> Result<Trial, WorldFault>
-    ensures { IfErr result (IsUpTo (line_ends text.now + 1)) }
+    ensures named { IfOk result (λ trial. IsNamed trial.world.options.keywords (world_of trial.world)) }
+    ensures fault { IfErr result (IsUpTo (line_ends text.now + 1)) }
 {
     let mut lines = Lines::new(text);
     let world = take_world(alloc, Waiting::Kept, &mut lines)?;
-    match read_course(alloc, &mut lines) {
+    match read_course(alloc, &world.options.keywords, &mut lines) {
         Ok(course) => Ok(Trial { world, course }),
         Err(fault) => Err(fault),
     }
 }
 
 /// What the lines behind a world's say, up to the end of the text.
-fn read_course(alloc: Global, lines: &mut Lines<'_>) -> Result<Course, WorldFault>
+fn read_course(
+    alloc: Global,
+    keywords: &Keywords,
+    lines: &mut Lines<'_>,
+) -> Result<Course, WorldFault>
     ensures fault { IfErr result (IsUpTo (line_count lines.old + 1)) }
 {
     let mut course = Course {
@@ -38,7 +45,7 @@ fn read_course(alloc: Global, lines: &mut Lines<'_>) -> Result<Course, WorldFaul
         mutes: Vec::new(alloc),
         arrivals: Arrivals::new(alloc),
     };
-    match take_course(alloc, &mut course, lines) {
+    match take_course(alloc, keywords, &mut course, lines) {
         Ok(()) => Ok(course),
         Err(fault) => Err(fault),
     }
@@ -59,11 +66,16 @@ pub fn take_tries(lines: &mut Lines<'_>) -> Result<u32, WorldFault>
 }
 
 /// Adds what the next lines say, which are the last ones.
-fn take_course(alloc: Global, course: &mut Course, lines: &mut Lines<'_>) -> Result<(), WorldFault>
+fn take_course(
+    alloc: Global,
+    keywords: &Keywords,
+    course: &mut Course,
+    lines: &mut Lines<'_>,
+) -> Result<(), WorldFault>
     ensures fault { IfErr result (IsUpTo (line_count lines.old + 1)) }
 {
     while let Some(line) = lines.take_if(b"") {
-        add_line(alloc, course, line)?;
+        add_line(alloc, keywords, course, line)?;
     }
     if lines.rest.is_empty() {
         Ok(())
@@ -73,14 +85,19 @@ fn take_course(alloc: Global, course: &mut Course, lines: &mut Lines<'_>) -> Res
 }
 
 /// Adds what a line says: the journal, what others add, an APPEND without APPENDUID, or a stop.
-fn add_line(alloc: Global, course: &mut Course, line: Line<'_>) -> Result<(), WorldFault>
+fn add_line(
+    alloc: Global,
+    keywords: &Keywords,
+    course: &mut Course,
+    line: Line<'_>,
+) -> Result<(), WorldFault>
     ensures { IfErr result (IsOf line.entry.number) }
 {
     if let Some(text) = line.text.strip_prefix(b"journal ") {
         return add_journal(alloc, course, text, line);
     }
     if let Some(text) = line.text.strip_prefix(b"arrive ") {
-        return course.arrivals.add(alloc, text, line);
+        return course.arrivals.add(alloc, text, keywords, line);
     }
     if let Some(text) = line.text.strip_prefix(b"mute ") {
         return add_mute(course, text, line);

@@ -87,5 +87,6 @@ fn fault_number(fault: RunFault) -> u8
         RunFault::StoreFault(_, _) => 6,
         RunFault::MarksRepeat => 7,
         RunFault::NoMemory => 8,
+        RunFault::KeywordsChanged => 9,
     }
 }

@@ -1,5 +1,5 @@
-//! Serves the far mailbox of a world (docs/FORMATS.md, "World") as INBOX over IMAP, on so many connections one after
-//! another: `trial-imapd ADDR FILE COUNT`.
+//! Serves the far mailbox of a world (docs/FORMATS.md, "World") as INBOX over IMAP, with the world's keywords, on so many connections
+//! one after another: `trial-imapd ADDR FILE COUNT`.
 #![tactic(auto)]
 
 mod arguments;

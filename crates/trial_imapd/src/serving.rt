@@ -30,7 +30,7 @@ pub fn serve(rt: &HostRuntime, task: Task) -> Result<(), Failure> {
     serve_all(&mut server, &listener, task.count, &notes)
 }
 
-/// A server with the far mailbox of the world in this file.
+/// A server with the far mailbox and the keywords of the world in this file.
 fn open_server(rt: &HostRuntime, file: &str) -> Result<Server, Failure> {
     let alloc = rt.alloc();
     let text = match fs::read(rt, file) {
@@ -46,7 +46,8 @@ fn open_server(rt: &HostRuntime, file: &str) -> Result<Server, Failure> {
     }
     let user = Vec::from_slice(alloc, USER)?;
     let password = Vec::from_slice(alloc, PASSWORD)?;
-    Ok(Server::new(alloc, mailboxes, user, password))
+    let keywords = world.options.keywords;
+    Ok(Server::with_keywords(alloc, mailboxes, user, password, keywords))
 }
 
 /// Serves the next connections, so many. One that cannot be taken, or that fails, counts too.

@@ -11,6 +11,7 @@ use Rattle.rules.specs.declared.plan.Plan.{Plan}
 use Rattle.rules.specs.declared.state.SyncState.{SyncState}
 use Rattle.rules.specs.World.{World, store}
 use Rattle.rules.specs.WorldAfter.{messages_under}
+use Rattle.sync_state.specs.declared.version.Version.{Version}
 use Rattle.sync_state.specs.declared.journal.Logged.{Logged}
 use Rattle.step_laws.specs.OwnLaws.{is_own}
 use Rattle.step_laws.proofs.Among.{unseen}
@@ -26,12 +27,12 @@ use Rattle.underway.proofs.Foreign.{two, foreign_unseen}
 use Rattle.underway.proofs.Growth.{files_same, since_map, unplanned_arrives}
 use Rattle.underway.proofs.Moves.{midway_arrives}
 
-pub stands_arrives : (ours : List ℕ → Bool) (alone : Bool) (w : World) (options : Options) (plan : Plan) (log : List Logged) (torn : Bool) (d m : Device) → Arrives ours alone d m → Stands ours alone w options plan log torn d → Stands ours alone w options plan log torn m
-stands_arrives ours alone w options plan log torn d m a (inl k) = inl (k.0, midway_arrives ours alone w options plan log torn log k.0 d m a k.1)
-stands_arrives ours alone w options plan log torn d m a (inr k) = inr (k.0, midway_arrives ours alone w options plan log torn (log ++ k.0 ∷ []) false d m a k.1)
+pub stands_arrives : (ours : List ℕ → Bool) (alone : Bool) (w : World) (options : Options) (version : Version) (plan : Plan) (log : List Logged) (torn : Bool) (d m : Device) → Arrives ours alone d m → Stands ours alone w options version plan log torn d → Stands ours alone w options version plan log torn m
+stands_arrives ours alone w options version plan log torn d m a (inl k) = inl (k.0, midway_arrives ours alone w options version plan log torn log k.0 d m a k.1)
+stands_arrives ours alone w options version plan log torn d m a (inr k) = inr (k.0, midway_arrives ours alone w options version plan log torn (log ++ k.0 ∷ []) false d m a k.1)
 
 pub planned_arrives : (ours : List ℕ → Bool) (alone : Bool) (w : World) (options : Options) (d m : Device) → Arrives ours alone d m → PlannedAt ours alone w options d → PlannedAt ours alone w options m
-planned_arrives ours alone w options d m a p = record { plan = p.plan; log = p.log; is_torn = p.is_torn; stands = stands_arrives ours alone w options p.plan p.log p.is_torn d m a p.stands }
+planned_arrives ours alone w options d m a p = record { version = p.version; plan = p.plan; log = p.log; is_torn = p.is_torn; stands = stands_arrives ours alone w options p.version p.plan p.log p.is_torn d m a p.stands }
 
 -- ---- a run that is done
 

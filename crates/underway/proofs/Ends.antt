@@ -14,6 +14,7 @@ use Rattle.rules.specs.World.{World, IsInOrder, Store, store, scene_of}
 use Rattle.rules.specs.WorldAfter.{messages_under}
 use Rattle.planner.specs.Written.{all_steps, marks_of}
 use Rattle.planner.proofs.Theorem.{in_turn}
+use Rattle.sync_state.specs.declared.version.Version.{Version}
 use Rattle.sync_state.specs.declared.journal.Logged.{Logged}
 use Rattle.book.specs.declared.book.Pending.{Pending}
 use Rattle.book.specs.declared.book.Pending.TheVariants.{Missing, Useless}
@@ -51,9 +52,9 @@ with_boxes d s b waiting = record {
 pub marks_are : (ours : List ℕ → Bool) (w : World) (options : Options) (plan : Plan) (p : IsPlanned ours w options plan) → marks_of plan.steps ≡ p.marks
 marks_are ours w options plan p = in_turn (scene_of w options) (scene_of w options) refl p.marks plan.steps (p.are_marks).count (p.is_plan).steps
 
-module _ (ours : List ℕ → Bool) (alone : Bool) (w : World) (options : Options) (plan : Plan) (log : List Logged) (none : next_of plan.steps log ≡ None) where
+module _ (ours : List ℕ → Bool) (alone : Bool) (w : World) (options : Options) (version : Version) (plan : Plan) (log : List Logged) (none : next_of plan.steps log ≡ None) where
   -- behind the last step nothing is half done
-  pub whole_at : (torn : Bool) (d : Device) → Stands ours alone w options plan log torn d → Midway ours alone w options plan log torn log false d
+  pub whole_at : (torn : Bool) (d : Device) → Stands ours alone w options version plan log torn d → Midway ours alone w options version plan log torn log false d
   whole_at torn d (inl k) =
       let at = k.1 in
       record {
@@ -72,7 +73,7 @@ module _ (ours : List ℕ → Bool) (alone : Bool) (w : World) (options : Option
       nothing false = refl
   whole_at torn d (inr k) = let at = k.1 in absurd (fit_past plan.steps log k.0 none at.fit)
 
-  pub alike_now : (torn : Bool) (d : Device) (s : SyncState) → IsInOrder w → Midway ours alone w options plan log torn log false d → Commits (record { plan = plan; log = log }) w.state s → AlikeAt ours alone w options (marks_of plan.steps) d s
+  pub alike_now : (torn : Bool) (d : Device) (s : SyncState) → IsInOrder w → Midway ours alone w options version plan log torn log false d → Commits (record { plan = plan; log = log }) w.state s → AlikeAt ours alone w options (marks_of plan.steps) d s
   alike_now torn d s sound at c =
       let p = at.planned in
       let marks : List (List ℕ) = p.marks in
@@ -107,30 +108,30 @@ module _ (ours : List ℕ → Bool) (alone : Bool) (w : World) (options : Option
         nobody = λ e. ap (λ (b : Boxes). with_boxes d s b []) (at.nobody e).0 ∙ ap (λ (fs : List Waiting). with_boxes d s (boxes_at d) fs) (sym (at.nobody e).1);
       })
 
-  pub ended : (m d' : Device) → IsInOrder w → Stands ours alone w options plan log false m → OnFiles (CommitsTo (with_log plan log false)) m d' → EndedUnder ours alone w options (marks_of plan.steps) d'
+  pub ended : (m d' : Device) → IsInOrder w → Stands ours alone w options version plan log false m → OnFiles (CommitsTo (with_log version plan log false)) m d' → EndedUnder ours alone w options (marks_of plan.steps) d'
   ended m d' sound stands t =
       let at = whole_at false m stands in
       let made = t.files w.state at.files in
       record { state = made.state; files = made.held; alike = alike_filed ours alone w options (marks_of plan.steps) m d' made.state t.far t.near t.named (alike_now false m made.state sound at made.made) }
 
-  pub half_ended : (m d' : Device) → IsInOrder w → Stands ours alone w options plan log false m → OnFiles (CommitsHalf (with_log plan log false)) m d' → PlannedAt ours alone w options d' ⊎ DoneAt ours alone w options d'
+  pub half_ended : (m d' : Device) → IsInOrder w → Stands ours alone w options version plan log false m → OnFiles (CommitsHalf (with_log version plan log false)) m d' → PlannedAt ours alone w options d' ⊎ DoneAt ours alone w options d'
   half_ended m d' sound stands t = by_files (t.files w.state at.files)
     where
-      at : Midway ours alone w options plan log false log false m
+      at : Midway ours alone w options version plan log false log false m
       at = whole_at false m stands
 
       done : (pending : Pending) → IsIdle pending → (s : SyncState) → Commits (record { plan = plan; log = log }) w.state s → Holds d'.files s pending → DoneAt ours alone w options d'
       done pending idle s made held = record { state = s; pending = pending; idle = idle; files = held; marks = marks_of plan.steps; alike = alike_filed ours alone w options (marks_of plan.steps) m d' s t.far t.near t.named (alike_now false m s sound at made) }
 
-      committed : (k : HoldsCommitted (with_log plan log false) w.state d'.files) → DoneAt ours alone w options d'
+      committed : (k : HoldsCommitted (with_log version plan log false) w.state d'.files) → DoneAt ours alone w options d'
       committed k = by_held k.held
         where
           by_held : Holds d'.files k.state Useless ⊎ Holds d'.files k.state Missing → DoneAt ours alone w options d'
           by_held (inl held) = done Useless tt k.state k.made held
           by_held (inr held) = done Missing tt k.state k.made held
 
-      by_files : Holds d'.files w.state (with_log plan log false) ⊎ HoldsCommitted (with_log plan log false) w.state d'.files → PlannedAt ours alone w options d' ⊎ DoneAt ours alone w options d'
-      by_files (inl held) = inl (record { plan = plan; log = log; is_torn = false; stands = inl (false, midway_filed ours alone w options plan log log false false log false m d' t.far t.near t.named held at) })
+      by_files : Holds d'.files w.state (with_log version plan log false) ⊎ HoldsCommitted (with_log version plan log false) w.state d'.files → PlannedAt ours alone w options d' ⊎ DoneAt ours alone w options d'
+      by_files (inl held) = inl (record { version = version; plan = plan; log = log; is_torn = false; stands = inl (false, midway_filed ours alone w options version plan log log false false log false m d' t.far t.near t.named held at) })
       by_files (inr k) = inr (committed k)
 
 pub ended_done : (ours : List ℕ → Bool) (alone : Bool) (w : World) (options : Options) (d : Device) → EndedAt ours alone w options d → DoneAt ours alone w options d

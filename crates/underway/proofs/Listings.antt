@@ -7,6 +7,7 @@ use Rattle.mailcore.specs.declared.side.Side.{Side}
 use Rattle.mailcore.specs.declared.side.Side.TheVariants.{Far, Near}
 use Rattle.mailcore.proofs.RiseLemmas.{rise-ends}
 use Rattle.mailcore.specs.Mailboxes.{Mailbox}
+use Rattle.sync_state.specs.declared.version.Version.{Version}
 use Rattle.rules.specs.declared.entry.Entry.{Entry}
 use Rattle.rules.specs.declared.options.Options.{Options}
 use Rattle.rules.specs.declared.plan.Plan.{Plan}
@@ -110,8 +111,8 @@ module _ (ours : List ℕ → Bool) (alone : Bool) where
   fit_none [] = tt
   fit_none (s ∷ steps) = tt
 
-  pub plan_written : (w : World) (options : Options) (plan : Plan) (m d' : Device) → IsPlanned ours w options plan → Listed ours alone w m → d'.far ≡ m.far → d'.near ≡ m.near → d'.named ≡ m.named → Holds d'.files w.state (with_log plan [] false) → Midway ours alone w options plan [] false [] false d'
-  plan_written w options plan m d' p l far near named holds =
+  pub plan_written : (w : World) (options : Options) (version : Version) (plan : Plan) (m d' : Device) → IsPlanned ours w options plan → Listed ours alone w m → d'.far ≡ m.far → d'.near ≡ m.near → d'.named ≡ m.named → Holds d'.files w.state (with_log version plan [] false) → Midway ours alone w options version plan [] false [] false d'
+  plan_written w options version plan m d' p l far near named holds =
       let same = same_boxes m d' far near in
       let boxes : boxes_at d' ≡ boxes_at m = rw (far, near) refl in
       let own_is = l.boxes p.marks p.are_ours in

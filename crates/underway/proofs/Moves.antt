@@ -10,6 +10,7 @@ use Rattle.mailcore.specs.Mailboxes.{Mailbox}
 use Rattle.rules.specs.declared.options.Options.{Options}
 use Rattle.rules.specs.declared.plan.Plan.{Plan}
 use Rattle.rules.specs.World.{World, store}
+use Rattle.sync_state.specs.declared.version.Version.{Version}
 use Rattle.sync_state.specs.declared.journal.Logged.{Logged}
 use Rattle.book.specs.Books.{Holds}
 use Rattle.step_laws.specs.Steps.{Boxes, Rises, given, own, box as messages_in, with_box as with_messages_in}
@@ -68,14 +69,14 @@ pub same_boxes : (d d' : Device) → d'.far ≡ d.far → d'.near ≡ d.near →
 same_boxes d d' far near Far = far
 same_boxes d d' far near Near = ap (λ (n : Mailbox). n.store) near
 
-module _ (ours : List ℕ → Bool) (alone : Bool) (w : World) (options : Options) (plan : Plan) where
+module _ (ours : List ℕ → Bool) (alone : Bool) (w : World) (options : Options) (version : Version) (plan : Plan) where
   -- ---- others
 
-  pub midway_arrives : (log : List Logged) (torn : Bool) (results : List Logged) (is_half : Bool) (d m : Device) → Arrives ours alone d m → Midway ours alone w options plan log torn results is_half d → Midway ours alone w options plan log torn results is_half m
+  pub midway_arrives : (log : List Logged) (torn : Bool) (results : List Logged) (is_half : Bool) (d m : Device) → Arrives ours alone d m → Midway ours alone w options version plan log torn results is_half d → Midway ours alone w options version plan log torn results is_half m
   midway_arrives log torn results is_half d m a at =
       let now : Device = record d { far = record d.far { next = a.next; messages = d.far.messages ++ a.messages }; near = record d.near { waiting = a.waiting } } in
       let far_next = rise-ends w.far.next (given Far plan.steps (results_of results)) d.far.next (at.rises Far) in
-      subst (λ (x : Device). Midway ours alone w options plan log torn results is_half x) (sym a.now) (record {
+      subst (λ (x : Device). Midway ours alone w options version plan log torn results is_half x) (sym a.now) (record {
         planned = at.planned;
         files = at.files;
         fit = at.fit;
@@ -91,7 +92,7 @@ module _ (ours : List ℕ → Bool) (alone : Bool) (w : World) (options : Option
   -- ---- the journal
 
   -- both mailboxes as they were, and another journal
-  pub midway_filed : (log now : List Logged) (torn torn' : Bool) (results : List Logged) (is_half : Bool) (d d' : Device) → d'.far ≡ d.far → d'.near ≡ d.near → d'.named ≡ d.named → Holds d'.files w.state (with_log plan now torn') → Midway ours alone w options plan log torn results is_half d → Midway ours alone w options plan now torn' results is_half d'
+  pub midway_filed : (log now : List Logged) (torn torn' : Bool) (results : List Logged) (is_half : Bool) (d d' : Device) → d'.far ≡ d.far → d'.near ≡ d.near → d'.named ≡ d.named → Holds d'.files w.state (with_log version plan now torn') → Midway ours alone w options version plan log torn results is_half d → Midway ours alone w options version plan now torn' results is_half d'
   midway_filed log now torn torn' results is_half d d' far near named holds at =
       let same = same_boxes d d' far near in
       let boxes : boxes_at d' ≡ boxes_at d = rw (far, near) refl in
@@ -108,7 +109,7 @@ module _ (ours : List ℕ → Bool) (alone : Bool) (w : World) (options : Option
 
   -- ---- a next UID
 
-  set_aside_to : (side : Side) (log : List Logged) (torn : Bool) (results : List Logged) (is_half : Bool) (d : Device) (next : ℕ) → (box d side).next ≤ next → Midway ours alone w options plan log torn results is_half d → Midway ours alone w options plan log torn results is_half (on_box side (λ s. record s { next = next }) d)
+  set_aside_to : (side : Side) (log : List Logged) (torn : Bool) (results : List Logged) (is_half : Bool) (d : Device) (next : ℕ) → (box d side).next ≤ next → Midway ours alone w options version plan log torn results is_half d → Midway ours alone w options version plan log torn results is_half (on_box side (λ s. record s { next = next }) d)
   set_aside_to Far log torn results is_half d next le at = record {
     planned = at.planned;
     files = at.files;
@@ -132,12 +133,12 @@ module _ (ours : List ℕ → Bool) (alone : Bool) (w : World) (options : Option
     nobody = at.nobody;
   }
 
-  pub midway_set_aside : (side : Side) (log : List Logged) (torn : Bool) (results : List Logged) (is_half : Bool) (d d' : Device) → SetsAside side d d' → Midway ours alone w options plan log torn results is_half d → Midway ours alone w options plan log torn results is_half d'
-  midway_set_aside side log torn results is_half d d' s at = subst (λ (x : Device). Midway ours alone w options plan log torn results is_half x) (sym s.now) (set_aside_to side log torn results is_half d s.next s.least at)
+  pub midway_set_aside : (side : Side) (log : List Logged) (torn : Bool) (results : List Logged) (is_half : Bool) (d d' : Device) → SetsAside side d d' → Midway ours alone w options version plan log torn results is_half d → Midway ours alone w options version plan log torn results is_half d'
+  midway_set_aside side log torn results is_half d d' s at = subst (λ (x : Device). Midway ours alone w options version plan log torn results is_half x) (sym s.now) (set_aside_to side log torn results is_half d s.next s.least at)
 
   -- ---- a message is named, and nothing is changed
 
-  midway_named_to : (side : Side) (uid : ℕ) (log : List Logged) (torn : Bool) (results : List Logged) (is_half : Bool) (d : Device) → uid < (store w side).next → Midway ours alone w options plan log torn results is_half d → Midway ours alone w options plan log torn results is_half (naming side uid d)
+  midway_named_to : (side : Side) (uid : ℕ) (log : List Logged) (torn : Bool) (results : List Logged) (is_half : Bool) (d : Device) → uid < (store w side).next → Midway ours alone w options version plan log torn results is_half d → Midway ours alone w options version plan log torn results is_half (naming side uid d)
   midway_named_to side uid log torn results is_half d before at = record {
     planned = at.planned;
     files = at.files;
@@ -149,13 +150,13 @@ module _ (ours : List ℕ → Bool) (alone : Bool) (w : World) (options : Option
     nobody = at.nobody;
   }
 
-  pub midway_named : (side : Side) (uid : ℕ) (log : List Logged) (torn : Bool) (results : List Logged) (is_half : Bool) (d d' : Device) → uid < (store w side).next → Names side uid d d' → Midway ours alone w options plan log torn results is_half d → Midway ours alone w options plan log torn results is_half d'
-  midway_named side uid log torn results is_half d d' before is at = subst (λ (x : Device). Midway ours alone w options plan log torn results is_half x) (sym is) (midway_named_to side uid log torn results is_half d before at)
+  pub midway_named : (side : Side) (uid : ℕ) (log : List Logged) (torn : Bool) (results : List Logged) (is_half : Bool) (d d' : Device) → uid < (store w side).next → Names side uid d d' → Midway ours alone w options version plan log torn results is_half d → Midway ours alone w options version plan log torn results is_half d'
+  midway_named side uid log torn results is_half d d' before is at = subst (λ (x : Device). Midway ours alone w options version plan log torn results is_half x) (sym is) (midway_named_to side uid log torn results is_half d before at)
 
-  pub stands_named : (side : Side) (uid : ℕ) (log : List Logged) (torn : Bool) (d d' : Device) → uid < (store w side).next → Names side uid d d' → Stands ours alone w options plan log torn d → Stands ours alone w options plan log torn d'
+  pub stands_named : (side : Side) (uid : ℕ) (log : List Logged) (torn : Bool) (d d' : Device) → uid < (store w side).next → Names side uid d d' → Stands ours alone w options version plan log torn d → Stands ours alone w options version plan log torn d'
   stands_named side uid log torn d d' before is (inl k) = inl (k.0, midway_named side uid log torn log k.0 d d' before is k.1)
   stands_named side uid log torn d d' before is (inr k) = inr (k.0, midway_named side uid log torn (log ++ k.0 ∷ []) false d d' before is k.1)
 
-  pub begun_named : (side : Side) (uid : ℕ) (log : List Logged) (is_made : Bool) (d d' : Device) → uid < (store w side).next → Names side uid d d' → HasBegun ours alone w options plan log is_made d → HasBegun ours alone w options plan log is_made d'
+  pub begun_named : (side : Side) (uid : ℕ) (log : List Logged) (is_made : Bool) (d d' : Device) → uid < (store w side).next → Names side uid d d' → HasBegun ours alone w options version plan log is_made d → HasBegun ours alone w options version plan log is_made d'
   begun_named side uid log is_made d d' before is (inl k) = inl (k.0, midway_named side uid log false log k.0 d d' before is k.1, k.2)
   begun_named side uid log is_made d d' before is (inr k) = inr (k.0, midway_named side uid log false (log ++ k.0 ∷ []) false d d' before is k.1)

@@ -1,6 +1,5 @@
 -- What a run begins with, and what becomes of it before there is a plan.
 use Rattle.std.specs.Prelude.{◌≡◌, ◌≤◌, ◌<◌, ℕ, Bool, true, List, [], ◌++◌, All, IsPermutation, length}
-use Rattle.mailcore.specs.declared.keywords.Keyword.{Keyword}
 use Rattle.mailcore.specs.declared.side.Side.{Side}
 use Rattle.mailcore.specs.declared.mailbox.Message.{Message}
 use Rattle.mailcore.specs.Rise.{Rise}
@@ -15,12 +14,11 @@ use Rattle.book.specs.Books.{Holds}
 use Rattle.step_laws.specs.Keywords.{IsWithinWorld}
 use Rattle.outside.specs.Devices.{Device}
 
--- the world that a run is made on, the options of its plan, those of the call, and the map that gives flags their names in IMAP
+-- the world that a run is made on, the options of its plan, and those of the call
 pub record Opening : Type 0 where
   pub world : World
   pub options : Options
   pub called : Options
-  pub keywords : List Keyword
 
 -- both mailboxes of a device as a world, with this state
 abbrev pub world_at : Device → SyncState → World
@@ -71,5 +69,5 @@ pub record Since (alone : Bool) (opening : Opening) (P : World → Type 0) : Typ
   pub grows : Grows alone opening.world world
   pub admitted : alone ≡ true → world.waiting ≡ []
   pub below : NamesBelow world
-  pub within : IsWithinWorld opening.keywords world
+  pub within : IsWithinWorld opening.options.keywords world
   pub holds : P world

@@ -1,14 +1,15 @@
 -- Which words are flags.
-use Rattle.std.proofs.Common.{◌≡◌, ◌≢◌, ℕ, ◌<◌, ◌^◌, Bool, true, false, cond, eqb, List, [], ◌∷◌, length, Option, None, Some, refl, sym, ap, subst, ◌∙◌, arith}
+use Rattle.std.proofs.Common.{◌≡◌, ◌≢◌, ℕ, suc, ◌<◌, ◌^◌, Bool, true, false, cond, eqb, eq-eqb, List, [], ◌∷◌, length, get_or, Option, None, Some, refl, sym, ap, subst, ◌∙◌, arith}
 use Rattle.std.proofs.Math.Dec.{eqb-suc-zero}
 use Rattle.std.proofs.lemmas.Bool.{false≢true, eqb-true}
-use Rattle.std.specs.Prelude.{IfNone, IfSome, codes, ◌==◌}
-use Rattle.mailcore.specs.FlagNames.{letters_of}
-use Rattle.mailcore.specs.FlagSet.{FLAGS}
+use Rattle.std.specs.Prelude.{IfNone, IfSome, codes, ◌==◌, ◌||◌}
+use Rattle.std.specs.List.{list_any}
+use Rattle.mailcore.specs.FlagNames.{LETTERS, letters_from, letters_of}
+use Rattle.mailcore.specs.FlagSet.{FLAGS, has}
 use Rattle.mailcore.specs.declared.keywords.Keyword.{Keyword}
 use Rattle.mailcore.specs.KeywordNames.{IsWithin, kept}
 use Rattle.mailcore.proofs.FlagLetters.{set_from_letters}
-use Rattle.mailcore.proofs.KnownFlags.{kept-within}
+use Rattle.mailcore.proofs.KnownFlags.{kept-same, kept-within}
 use Rattle.worlds.specs.Words.{flags_word}
 
 neither : (b : Bool) (flags : ℕ) (word : List ℕ) → word ≢ codes "-" → letters_of flags ≢ word → cond b (codes "-") (letters_of flags) ≢ word
@@ -63,3 +64,40 @@ letters_words text some (Some flags) h = letters_word text (some_text text some)
 -- flags that are all kept have names
 pub kept_within : (map : List Keyword) (flags : ℕ) → kept map flags ≡ flags → IsWithin map flags
 kept_within map flags same = subst (λ n. IsWithin map n) same (kept-within map flags)
+
+-- no set has `-` as its letters
+no_dash : (from : ℕ) (letters : List ℕ) (flags : ℕ) → list_any (λ x. x == 45) letters ≡ false → letters_from from letters flags ≢ codes "-"
+no_dash from [] flags none e = let never : [] ≡ codes "-" = e in cc
+no_dash from (x ∷ xs) flags none e =
+    let parts = neither (x == 45) (list_any (λ y. y == 45) xs) none in
+    by_test (has flags from) parts.0 (no_dash (suc from) xs flags parts.1) e
+  where
+    neither : (a b : Bool) → (a || b) ≡ false → (a ≡ false) × (b ≡ false)
+    neither true b h = absurd (false≢true (sym h))
+    neither false b h = (refl, h)
+
+    by_test : (b : Bool) → (x == 45) ≡ false → letters_from (suc from) xs flags ≢ codes "-"
+        → cond b (x ∷ letters_from (suc from) xs flags) (letters_from (suc from) xs flags) ≢ codes "-"
+    by_test true other behind is = false≢true (sym other ∙ eq-eqb x 45 (ap (λ (l : List ℕ). get_or l 0 0) is))
+    by_test false other behind is = behind is
+
+letters-no_dash : (flags : ℕ) → letters_of flags ≢ codes "-"
+unfolding letters_of
+letters-no_dash flags = no_dash 0 LETTERS flags refl
+
+-- a word is that of one set
+one_set : (a b : ℕ) → a < 2 ^ FLAGS → b < 2 ^ FLAGS → flags_word a ≡ flags_word b → a ≡ b
+one_set a b fits fits' same = by_tests (a == 0) (b == 0) refl refl same
+  where
+    by_tests : (x y : Bool) → (a == 0) ≡ x → (b == 0) ≡ y → cond x (codes "-") (letters_of a) ≡ cond y (codes "-") (letters_of b) → a ≡ b
+    by_tests true true p q e = eqb-true a 0 p ∙ sym (eqb-true b 0 q)
+    by_tests true false p q e = absurd (letters-no_dash b (sym e))
+    by_tests false true p q e = absurd (letters-no_dash a e)
+    by_tests false false p q e = set_from_letters a b fits fits' e
+
+-- a word of flags of which one has no name is no word of flags that all have one
+pub none_named : (map : List Keyword) (flags : ℕ) (word : List ℕ) → flags < 2 ^ FLAGS → flags_word flags ≡ word → kept map flags ≢ flags
+    → (others : ℕ) → IsWithin map others → flags_word others ≢ word
+none_named map flags word fits is apart others within other_is =
+    let same = one_set others flags within.set fits (other_is ∙ sym is) in
+    apart (subst (λ n. kept map n ≡ n) same (kept-same map others within))

@@ -1,4 +1,6 @@
 pub mod Admission
+pub mod Keywords
 pub mod Lines
 pub mod Trial
 pub mod Words
+pub mod Worlds

@@ -6,6 +6,7 @@ pub mod line;
 pub mod listed;
 pub mod plan_lines;
 pub mod read;
+mod read_keywords;
 pub mod read_mailbox;
 mod read_options;
 mod read_state;

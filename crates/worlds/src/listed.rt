@@ -1,9 +1,12 @@
 //! Worlds of whose mailboxes only the listings are kept: all that a plan is made of. So no message takes memory for its bytes.
 
-ghost use Rattle.std.specs.Prelude.{◌≡◌, ◌+◌, ◌<◌, ◌≤◌, ◌++◌, [], ◌∷◌, IfErr, IfOk, OnOk};
+ghost use Rattle.std.specs.Prelude.{◌≡◌, ◌+◌, ◌<◌, ◌≤◌, ◌++◌, ℕ, List, [], ◌∷◌, IfErr, IfOk, OnOk};
 ghost use Rattle.mailcore.specs.Content.{fit};
+ghost use Rattle.mailcore.specs.KeywordNames.{IsWithin};
 ghost use Rattle.worlds.specs.Admission.{item_under};
+ghost use Rattle.worlds.specs.Keywords.{IsHead};
 ghost use Rattle.worlds.specs.Lines.{IsOf, IsUpTo, line_count, line_ends};
+ghost use Rattle.worlds.specs.Worlds.{AreListedNamed};
 
 use crate::fault::WorldFault;
 use crate::line::{Line, Lines};
@@ -39,11 +42,14 @@ pub struct ListedWorld {
 
 /// The world that a text gives. Behind its line `end` nothing may stand.
 pub fn read_listed_world(alloc: Global, text: &[u8]) -> Result<ListedWorld, WorldFault>
-    ensures { IfErr result (IsUpTo (line_ends text.now + 1)) }
+    ensures head { IfOk result (λ w. (behind : List ℕ) × IsHead w.options.keywords behind text.now) }
+    ensures far { IfOk result (λ w. AreListedNamed w.options.keywords w.far.items) }
+    ensures near { IfOk result (λ w. AreListedNamed w.options.keywords w.near.items) }
+    ensures fault { IfErr result (IsUpTo (line_ends text.now + 1)) }
 {
     let mut lines = Lines::new(text);
     let options = read_options(alloc, &mut lines)?;
-    let (far, near) = read_listings(alloc, &mut lines)?;
+    let (far, near) = read_listings(alloc, &options.keywords, &mut lines)?;
     let state = read_state(alloc, &mut lines)?;
     read_end(&mut lines)?;
     read_nothing(&lines)?;
@@ -56,16 +62,20 @@ pub fn read_listed_world(alloc: Global, text: &[u8]) -> Result<ListedWorld, Worl
 }
 
 /// What the far and the near mailbox list.
-fn read_listings(alloc: Global, lines: &mut Lines<'_>) -> Result<(Listing, Listing), WorldFault>
+fn read_listings(
+    alloc: Global,
+    keywords: &Keywords,
+    lines: &mut Lines<'_>,
+) -> Result<(Listing, Listing), WorldFault>
+    ensures far { IfOk result (λ listings. AreListedNamed keywords.now listings.0.items) }
+    ensures near { IfOk result (λ listings. AreListedNamed keywords.now listings.1.items) }
     ensures count { line_count lines.new ≤ line_count lines.old }
     ensures fault { IfErr result (IsUpTo (line_count lines.old + 1)) }
 {
     let mut bytes = Vec::new(alloc);
-    // Only the six have a name.
-    let keywords = Keywords::new(alloc);
-    let far = read_listing(alloc, Side::Far, &keywords, &mut bytes, lines)?;
-    let mut near = read_listing(alloc, Side::Near, &keywords, &mut bytes, lines)?;
-    admit_waiting(&mut near, &keywords, &mut bytes, lines)?;
+    let far = read_listing(alloc, Side::Far, keywords, &mut bytes, lines)?;
+    let mut near = read_listing(alloc, Side::Near, keywords, &mut bytes, lines)?;
+    admit_waiting(&mut near, keywords, &mut bytes, lines)?;
     Ok((far, near))
 }
 
@@ -77,6 +87,7 @@ fn read_listing(
     bytes: &mut Vec<u8>,
     lines: &mut Lines<'_>,
 ) -> Result<Listing, WorldFault>
+    ensures named { IfOk result (λ listing. AreListedNamed keywords.now listing.items) }
     ensures count { line_count lines.new ≤ line_count lines.old }
     ensures fault { IfErr result (IsUpTo (line_count lines.old + 1)) }
 {
@@ -106,6 +117,7 @@ fn read_item(
     line: Line<'_>,
 ) -> Result<Item, WorldFault>
     ensures item { IfOk result (λ item. item.fit ≡ fit side bytes.new.items) }
+    ensures named { IfOk result (λ item. IsWithin keywords.now item.flags) }
     ensures fault { IfErr result (IsOf line.entry.number) }
 {
     let Some((uid, flags, text)) = split_message(line.text, keywords) else {
@@ -129,6 +141,7 @@ fn admit_waiting(
     bytes: &mut Vec<u8>,
     lines: &mut Lines<'_>,
 ) -> Result<(), WorldFault>
+    ensures named { OnOk result (AreListedNamed keywords.now near.old.items → AreListedNamed keywords.now near.new.items) }
     ensures count { line_count lines.new ≤ line_count lines.old }
     ensures fault { IfErr result (IsUpTo (line_count lines.old + 1)) }
 {

@@ -1,7 +1,9 @@
 //! How a world is read from its text (docs/FORMATS.md, "World").
 
-ghost use Rattle.std.specs.Prelude.{◌≡◌, ◌≢◌, ◌+◌, ◌≤◌, [], IfErr, OnErr};
+ghost use Rattle.std.specs.Prelude.{◌≡◌, ◌≢◌, ◌+◌, ◌≤◌, ℕ, List, [], IfErr, IfOk, OnErr, map};
+ghost use Rattle.worlds.specs.Keywords.{IsHead};
 ghost use Rattle.worlds.specs.Lines.{IsUpTo, line_count, line_ends};
+ghost use Rattle.worlds.specs.Worlds.{AreNamed, IsNamed, waiting_of, world_of};
 
 use crate::fault::WorldFault;
 use crate::line::Lines;
@@ -16,7 +18,9 @@ use std::alloc::Global;
 
 /// The world that a text gives. Behind its line `end` nothing may stand.
 pub fn read_world(alloc: Global, text: &[u8], waiting: Waiting) -> Result<World, WorldFault>
-    ensures { IfErr result (IsUpTo (line_ends text.now + 1)) }
+    ensures head { IfOk result (λ w. (behind : List ℕ) × IsHead w.options.keywords behind text.now) }
+    ensures named { IfOk result (λ w. IsNamed w.options.keywords (world_of w)) }
+    ensures fault { IfErr result (IsUpTo (line_ends text.now + 1)) }
 {
     let mut lines = Lines::new(text);
     let world = take_world(alloc, waiting, &mut lines)?;
@@ -42,11 +46,13 @@ pub fn take_world(
     waiting: Waiting,
     lines: &mut Lines<'_>,
 ) -> Result<World, WorldFault>
+    ensures head { IfOk result (λ w. (behind : List ℕ) × IsHead w.options.keywords behind lines.old.rest.now) }
+    ensures named { IfOk result (λ w. IsNamed w.options.keywords (world_of w)) }
     ensures count { line_count lines.new ≤ line_count lines.old }
     ensures fault { IfErr result (IsUpTo (line_count lines.old + 1)) }
 {
     let options = read_options(alloc, lines)?;
-    let (far, near, waiting) = read_mailboxes(alloc, waiting, lines)?;
+    let (far, near, waiting) = read_mailboxes(alloc, waiting, &options.keywords, lines)?;
     let state = read_state(alloc, lines)?;
     read_end(lines)?;
     Ok(World {
@@ -62,16 +68,17 @@ pub fn take_world(
 fn read_mailboxes(
     alloc: Global,
     waiting: Waiting,
+    keywords: &Keywords,
     lines: &mut Lines<'_>,
 ) -> Result<(Mailbox, Mailbox, Vec<WaitingFile>), WorldFault>
+    ensures far { IfOk result (λ parts. AreNamed keywords.now parts.0.messages []) }
+    ensures near { IfOk result (λ parts. AreNamed keywords.now parts.1.messages (map waiting_of parts.2.items)) }
     ensures count { line_count lines.new ≤ line_count lines.old }
     ensures fault { IfErr result (IsUpTo (line_count lines.old + 1)) }
 {
-    // Only the six have a name.
-    let keywords = Keywords::new(alloc);
-    let far = read_mailbox(alloc, Side::Far, &keywords, lines)?;
-    let mut near = read_mailbox(alloc, Side::Near, &keywords, lines)?;
-    let waiting = read_waiting(alloc, waiting, &mut near, &keywords, lines)?;
+    let far = read_mailbox(alloc, Side::Far, keywords, lines)?;
+    let mut near = read_mailbox(alloc, Side::Near, keywords, lines)?;
+    let waiting = read_waiting(alloc, waiting, &mut near, keywords, lines)?;
     Ok((far, near, waiting))
 }
 

@@ -1,8 +1,10 @@
 //! The lines of the mailboxes of a world: `far` and `near`, `f`, `n` and `w`.
 
-ghost use Rattle.std.specs.Prelude.{◌≡◌, ◌+◌, ◌<◌, ◌≤◌, ◌^◌, ◌++◌, [], ◌∷◌, IfErr, IsErrOf, OnOk};
+ghost use Rattle.std.specs.Prelude.{◌≡◌, ◌+◌, ◌<◌, ◌≤◌, ◌^◌, ◌++◌, [], ◌∷◌, IfErr, IfOk, IfSome, IsErrOf, OnOk, map};
+ghost use Rattle.mailcore.specs.KeywordNames.{IsWithin};
 ghost use Rattle.worlds.specs.Lines.{IsOf, IsUpTo, line_count};
 ghost use Rattle.worlds.specs.Admission.{message_of};
+ghost use Rattle.worlds.specs.Worlds.{AreNamed, waiting_of};
 
 use crate::fault::WorldFault;
 use crate::line::{Line, Lines};
@@ -31,6 +33,7 @@ pub fn read_mailbox(
     keywords: &Keywords,
     lines: &mut Lines<'_>,
 ) -> Result<Mailbox, WorldFault>
+    ensures named { IfOk result (λ mailbox. AreNamed keywords.now mailbox.messages []) }
     ensures count { line_count lines.new ≤ line_count lines.old }
     ensures fault { IfErr result (IsUpTo (line_count lines.old + 1)) }
 {
@@ -66,7 +69,8 @@ fn read_message(
     keywords: &Keywords,
     line: Line<'_>,
 ) -> Result<Message, WorldFault>
-    ensures { IfErr result (IsOf line.entry.number) }
+    ensures named { IfOk result (λ message. IsWithin keywords.now message.flags) }
+    ensures fault { IfErr result (IsOf line.entry.number) }
 {
     let Some((uid, flags, text)) = split_message(line.text, keywords) else {
         return Err(line.fault());
@@ -86,7 +90,9 @@ fn read_message(
 pub(crate) fn split_message<'a>(
     text: &'a [u8],
     keywords: &Keywords,
-) -> Option<(Uid, Flags, &'a [u8])> {
+) -> Option<(Uid, Flags, &'a [u8])>
+    ensures { IfSome result (λ parts. IsWithin keywords.now parts.1) }
+{
     let (uid, text) = split_word(text)?;
     let (flags, text) = split_word(text)?;
     Some((read_uid(uid)?, read_named(flags, keywords)?, text))
@@ -132,6 +138,8 @@ pub fn read_waiting(
     keywords: &Keywords,
     lines: &mut Lines<'_>,
 ) -> Result<Vec<WaitingFile>, WorldFault>
+    ensures named { IfOk result (λ files. AreNamed keywords.now near.old.messages []
+        → AreNamed keywords.now near.new.messages (map waiting_of files.items)) }
     ensures count { line_count lines.new ≤ line_count lines.old }
     ensures fault { IfErr result (IsUpTo (line_count lines.old + 1)) }
 {
@@ -151,7 +159,8 @@ fn read_waiting_file(
     keywords: &Keywords,
     line: Line<'_>,
 ) -> Result<WaitingFile, WorldFault>
-    ensures { IfErr result (IsOf line.entry.number) }
+    ensures named { IfOk result (λ file. IsWithin keywords.now file.flags) }
+    ensures fault { IfErr result (IsOf line.entry.number) }
 {
     let Some((flags, text)) = split_file(line.text, keywords) else {
         return Err(line.fault());
@@ -164,7 +173,9 @@ fn read_waiting_file(
 }
 
 /// The flags of a waiting file, and the quoted text of its bytes.
-pub(crate) fn split_file<'a>(text: &'a [u8], keywords: &Keywords) -> Option<(Flags, &'a [u8])> {
+pub(crate) fn split_file<'a>(text: &'a [u8], keywords: &Keywords) -> Option<(Flags, &'a [u8])>
+    ensures { IfSome result (λ parts. IsWithin keywords.now parts.0) }
+{
     let (flags, text) = split_word(text)?;
     Some((read_named(flags, keywords)?, text))
 }

@@ -1,16 +1,19 @@
-//! The lines `sync` and `expunge` of a world.
+//! The lines of a world that say what the run may do: `sync`, `expunge` and `keyword`.
 
-ghost use Rattle.std.specs.Prelude.{◌≡◌, ◌+◌, ◌≤◌, IfErr};
+ghost use Rattle.std.specs.Prelude.{◌≡◌, ◌+◌, ◌≤◌, IfErr, IfOk};
+ghost use Rattle.worlds.specs.Keywords.{IsHead};
 ghost use Rattle.worlds.specs.Lines.{IsOf, IsUpTo, line_count, line_ends};
 
 use crate::fault::WorldFault;
 use crate::line::Lines;
+use crate::read_keywords::read_keywords;
 use rules::options::{Cells, Options, Sides};
 use rules::sync_words::sync_ops;
 use std::alloc::{AllocError, Global};
 
-/// What the run may do, from the next two lines.
+/// What the run may do, from the next two lines and the keyword lines behind them.
 pub fn read_options(alloc: Global, lines: &mut Lines<'_>) -> Result<Options, WorldFault>
+    ensures head { IfOk result (λ options. IsHead options.keywords lines.new.rest.now lines.old.rest.now) }
     ensures count { line_count lines.new ≤ line_count lines.old }
     ensures fault { IfErr result (IsUpTo (line_count lines.old + 1)) }
 {
@@ -18,7 +21,12 @@ pub fn read_options(alloc: Global, lines: &mut Lines<'_>) -> Result<Options, Wor
     let cells = read_cells(alloc, line.text)?.ok_or(line.fault())?;
     let line = lines.take(b"expunge ")?;
     let expunge = read_sides(line.text).ok_or(line.fault())?;
-    Ok(Options { cells, expunge })
+    let keywords = read_keywords(alloc, lines)?;
+    Ok(Options {
+        cells,
+        expunge,
+        keywords,
+    })
 }
 
 /// The cells that Sync words with one space between choose, or none if they are no such words.

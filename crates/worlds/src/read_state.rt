@@ -76,6 +76,7 @@ fn push_entry(entries: &mut Entries, line: Line<'_>) -> Result<(), WorldFault>
     line.pushed(entries.push(entry))
 }
 
+/// The entry of a line. Its flags may be such as have no name now.
 fn read_entry(text: &[u8]) -> Option<Entry> {
     let (far, text) = split_word(text)?;
     let (near, flags) = split_word(text)?;

@@ -53,6 +53,7 @@ pub fn read_side(word: &[u8]) -> Option<Option<Uid>>
 /// Flags: their letters in the order of ASCII, or `-` for none.
 pub fn read_flags(word: &[u8]) -> Option<Flags>
     ensures spelled { IfSome result (λ flags. flags_word flags ≡ word.now) }
+    ensures set { IfSome result (λ flags. flags < 2 ^ FLAGS) }
     ensures none { IfNone result ((flags : ℕ) → flags < 2 ^ FLAGS → flags_word flags ≢ word.now) }
 {
     if word == b"-".as_slice() {
@@ -69,6 +70,7 @@ pub fn read_flags(word: &[u8]) -> Option<Flags>
 pub fn read_named(word: &[u8], keywords: &Keywords) -> Option<Flags>
     ensures spelled { IfSome result (λ flags. flags_word flags ≡ word.now) }
     ensures within { IfSome result (IsWithin keywords.now) }
+    ensures none { IfNone result ((flags : ℕ) → IsWithin keywords.now flags → flags_word flags ≢ word.now) }
 {
     let flags = read_flags(word)?;
     if flags.kept(keywords) == flags {

@@ -1,6 +1,11 @@
 //! How the text of a world is written (docs/FORMATS.md, "World").
 
+ghost use Rattle.std.specs.Prelude.{◌≡◌, ◌++◌, true, [], ◌∷◌, OnOk, string_bytes};
+ghost use Rattle.mailcore.specs.KeywordNames.{is_keyword_letter, is_keyword_name};
+ghost use Rattle.worlds.specs.Keywords.{keyword_lines};
+
 use mailcore::flags::Flags;
+use mailcore::keywords::{Keyword, Keywords};
 use mailcore::mailbox::{Mailbox, Message};
 use mailcore::octets::Octets;
 use mailcore::side::Side;
@@ -84,7 +89,8 @@ fn write_options(text: &mut String, options: &Options) -> Result<(), AllocError>
         (false, true) => "Near",
         (true, true) => "Both",
     };
-    writeln!(text, "\nexpunge {expunge}")
+    writeln!(text, "\nexpunge {expunge}")?;
+    write_keywords(text, &options.keywords)
 }
 
 /// Adds a compound word for each cell that is on, or `None`.
@@ -106,6 +112,30 @@ fn write_cells(text: &mut String, cells: &Cells) -> Result<(), AllocError> {
         }
     }
     Ok(())
+}
+
+/// Adds a line for each keyword, in the order of the letters.
+fn write_keywords(text: &mut String, keywords: &Keywords) -> Result<(), AllocError>
+    ensures { OnOk result (string_bytes text.new ≡ string_bytes text.old ++ keyword_lines keywords.now []) }
+{
+    for keyword in keywords.as_slice() {
+        write_keyword(text, keyword)?;
+    }
+    Ok(())
+}
+
+fn write_keyword(text: &mut String, keyword: &Keyword) -> Result<(), AllocError>
+    requires letter { is_keyword_letter keyword.now.letter ≡ true }
+    requires name { is_keyword_name keyword.now.name ≡ true }
+    ensures { OnOk result (string_bytes text.new ≡ string_bytes text.old ++ keyword_lines (keyword.now ∷ []) []) }
+{
+    text.push_str("keyword ")?;
+    text.push(char::from(keyword.letter))?;
+    text.push(' ')?;
+    for &byte in keyword.name.as_slice() {
+        text.push(char::from(byte))?;
+    }
+    text.push('\n')
 }
 
 fn write_mailbox(

@@ -3,7 +3,7 @@ use Rattle.std.proofs.lemmas.Grind.{common_steps}
 use Rattle.stores.specs.Asked.{joined_of}
 use Rattle.channels.specs.Asks.{ways_of}
 use Rattle.channels.proofs.AskLemmas.{IfOk-listed, IfOk-settled}
-use Rattle.channels.proofs.ChannelLemmas.{SoFar-place_listed, SoFar-place_settled, SoFar-unjoined}
+use Rattle.channels.proofs.ChannelLemmas.{SoFar-place_listed, SoFar-place_settled, SoFar-place_unsettled, SoFar-unjoined}
 use Rattle.channels.proofs.run.run_place.Goals as goal
 
 -- the channel was listed
@@ -14,11 +14,11 @@ returns-then-work-clause-asks g c =
     c.in-Some.ensures c.if-work.true c.list_channel.ensures.asks
 
 -- it was run, with its options
-pub returns-clause-asks : goal.returns-clause-asks
-returns-clause-asks g c =
+pub returns-in-Ok-clause-asks : goal.returns-in-Ok-clause-asks
+returns-in-Ok-clause-asks g c =
     IfOk-settled g.S.BoxLists.noted c.args.work.config.now (ways_of c.args.work.request.now c.args.cells) c.args.place (joined_of c.in-Some.of)
-    c.options_of-options.result (g.S.BoxLists.asked c.args.stores.now.stores.now) (g.S.BoxLists.asked c.settle_channel.new.stores.stores.now)
-    c.settle_channel.result c.in-Some.ensures c.if-work.false c.options_of-options.ensures c.settle_channel.ensures.asks
+    c.in-Ok.options (g.S.BoxLists.asked c.args.stores.now.stores.now) (g.S.BoxLists.asked c.settle_channel.new.stores.stores.now)
+    c.settle_channel.result c.in-Some.ensures c.if-work.false c.in-Ok.ensures c.settle_channel.ensures.asks
 
 pub returns-then-work-clause-asked : goal.returns-then-work-clause-asked
 returns-then-work-clause-asked g c =
@@ -26,11 +26,18 @@ returns-then-work-clause-asked g c =
     (g.S.BoxLists.asked c.args.stores.now.stores.now) (g.S.BoxLists.asked c.list_channel.new.stores.stores.now) c.list_channel.result
     c.in-Some.ensures c.if-work.true c.list_channel.ensures.asked
 
-pub returns-clause-asked : goal.returns-clause-asked
-returns-clause-asked g c =
+pub returns-in-Ok-clause-asked : goal.returns-in-Ok-clause-asked
+returns-in-Ok-clause-asked g c =
     SoFar-place_settled g.S.BoxLists.noted c.args.work.config.now (ways_of c.args.work.request.now c.args.cells) c.args.place (joined_of c.in-Some.of)
-    c.options_of-options.result (g.S.BoxLists.asked c.args.stores.now.stores.now) (g.S.BoxLists.asked c.settle_channel.new.stores.stores.now)
-    c.settle_channel.result c.in-Some.ensures c.if-work.false c.options_of-options.ensures c.settle_channel.ensures.asked
+    c.in-Ok.options (g.S.BoxLists.asked c.args.stores.now.stores.now) (g.S.BoxLists.asked c.settle_channel.new.stores.stores.now)
+    c.settle_channel.result c.in-Some.ensures c.if-work.false c.in-Ok.ensures c.settle_channel.ensures.asked
+
+-- there is no memory for its options
+pub returns-in-Err-clause-asked : goal.returns-in-Err-clause-asked
+returns-in-Err-clause-asked g c =
+    SoFar-place_unsettled g.S.BoxLists.noted c.args.work.config.now (ways_of c.args.work.request.now c.args.cells) c.args.place (joined_of c.in-Some.of)
+    (g.S.BoxLists.asked c.args.stores.now.stores.now) (g.S.BoxLists.asked c.tell_list.new.self.stores.now) c.tell_list.result
+    c.in-Some.ensures c.if-work.false c.tell_list.ensures.asks.1 c.tell_list.ensures.over
 
 -- there is no such channel
 pub returns-in_default-clause-asked : goal.returns-in_default-clause-asked

@@ -1,4 +1,4 @@
-use Rattle.std.proofs.Common.{subst, sym}
+use Rattle.std.proofs.Common.{refl, subst, sym}
 use Rattle.std.specs.Prelude.{Some}
 use Rattle.config_words.specs.declared.fault.ConfigFault.{ConfigFault}
 use Rattle.config_words.specs.declared.fault.FaultKind.TheVariants.{UnknownName}
@@ -9,4 +9,4 @@ use Rattle.config.proofs.first.unknown_first.Goals as goal
 pub returns-clause-again : goal.returns-clause-again
 returns-clause-again c = λ again told.
     subst (λ (fault : ConfigFault). Tells again (Some fault)) (sym c.first_of.ensures.earlier)
-    (tells_other again c.args.first (record { line = c.args.line; kind = UnknownName }) told (λ is. cc) (λ is. cc))
+    (tells_other again c.args.first (record { line = c.args.line; kind = UnknownName }) told refl (λ is. cc))

@@ -1,7 +1,7 @@
 use Rattle.std.proofs.Common.{◌∙◌, ℕ, List, ap, arith, subst, sym}
 use Rattle.config.specs.Lines.{line_count}
 use Rattle.config.specs.Readings.{IsRead}
-use Rattle.config.specs.Standing.{lines_again, lines_of}
+use Rattle.config.specs.Standing.{faults_again, lines_of}
 use Rattle.std.specs.Prelude.{fold}
 use Rattle.config.specs.Configurations.{no_parts, parted}
 use Rattle.config.proofs.PartedLemmas.{all_accepted, all_parted, first_parted, more_parted}
@@ -31,8 +31,8 @@ loop-line-preserved c = (
 
 pub returns-in-Ok-finish-clause-again : goal.returns-in-Ok-finish-clause-again
 returns-in-Ok-finish-clause-again c =
-    unless_memory (lines_again c.args.text.now) c.in-Ok-finish.told
-    (c.in-Ok-finish.ensures.again (lines_again c.args.text.now)
+    unless_memory (faults_again c.args.text.now) c.in-Ok-finish.told
+    (c.in-Ok-finish.ensures.again (faults_again c.args.text.now)
     (all_so_far c.args.text.now c.loop-line.lines.taken c.loop-line.lines.rest.now c.loop-line.reading c.loop-line.invariant.2 c.in_default.ensures.all))
 
 pub returns-in-Ok-finish-clause-means : goal.returns-in-Ok-finish-clause-means

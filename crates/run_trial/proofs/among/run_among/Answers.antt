@@ -1,14 +1,15 @@
-use Rattle.std.proofs.Common.{◌∙◌, refl, sym, ap, subst, arith}
-use Rattle.std.specs.Prelude.{IfErr, IfOk}
+use Rattle.std.proofs.Common.{◌≡◌, ◌∙◌, refl, sym, ap, subst, arith}
+use Rattle.std.specs.Prelude.{IfErr, IfOk, OnOk}
 use Rattle.maildir.specs.MemFolders.{stored_in}
 use Rattle.book.specs.MemShelves.{files_of}
 use Rattle.outside.specs.Devices.{Device}
 use Rattle.pair.specs.Pairs.{seen_of}
+use Rattle.rules.specs.declared.options.Options.{Options}
 use Rattle.rules.specs.World.{World}
 use Rattle.trial.specs.declared.arrival.Arrivals.{Arrivals}
-use Rattle.trial.specs.Worlds.{FitsWords, world_of}
+use Rattle.trial.specs.Worlds.{FitsWords, device_of, world_of}
 use Rattle.run_trial.specs.declared.setting.FarSetting.{FarSetting}
-use Rattle.run_trial.specs.Among.{LeavesAmong}
+use Rattle.run_trial.specs.Among.{IsOverAmong, LeavesAmong}
 use Rattle.run_trial.proofs.AmongLemmas.{bear_none, device_kept}
 use Rattle.run_trial.proofs.MemoryLemmas.{holds_world, stands}
 use Rattle.run_trial.proofs.among.run_among.Goals as goal
@@ -18,7 +19,7 @@ run_visited-requires g c =
     let said =
     bear_none g.row.MARKS c.args.trial.course.arrivals.far.items c.in_ok-setting.setting.arrivals.far.items c.in_ok-among.among.arrivals.list.items
     (ap (λ (a : Arrivals). a.far.items) c.in_ok-setting.ensures.arrivals) c.in_ok-among.ensures.arrivals c.requires.said in
-    (omega arith, (omega arith, (omega arith, (c.in_ok-among.ensures.served, (c.in_ok-among.ensures.letters ∙ c.in_ok-setting.ensures.letters, said)))))
+    (omega arith, (omega arith, (omega arith, (c.in_ok-among.ensures.served, (c.in_ok-among.ensures.letters ∙ c.in_ok-setting.ensures.letters ∙ ap (λ (o : Options). o.keywords) (sym c.in_ok-among.ensures.options), said)))))
 
 pub returns-clause-over : goal.returns-clause-over
 returns-clause-over g c = λ zero none opening named room.
@@ -26,11 +27,12 @@ returns-clause-over g c = λ zero none opening named room.
     let setting = c.in_ok-setting.setting in
     let among = c.in_ok-among.among in
     let fits : FitsWords start = c.in_ok-setting.ensures.fits in
-    let there = device_kept setting among.far.server.server (stored_in among.near.folder.folder) (files_of among.near.shelf)
-    (ap (λ (f : FarSetting). f.server.server) c.in_ok-among.ensures.far) c.in_ok-among.ensures.near.0 c.in_ok-among.ensures.kept.0 in
+    let there = device_kept setting among.options among.far.server.server (stored_in among.near.folder.folder) (files_of among.near.shelf)
+    c.in_ok-among.ensures.options (ap (λ (f : FarSetting). f.server.server) c.in_ok-among.ensures.far) c.in_ok-among.ensures.near.0 c.in_ok-among.ensures.kept.0 in
     let same = there ∙ stands c.args.trial setting start refl c.in_ok-setting.ensures.holds none opening fits named in
-    c.run_visited.ensures.over zero start (sym (c.in_ok-among.ensures.kept.1 ∙ c.in_ok-setting.ensures.holds.state))
-    (record { held = holds_world start _ opening fits same; sound = opening; room = room })
+    subst (λ (o : Options). IfOk c.run_visited.result (λ run. OnOk run.1 (IsOverAmong start o (seen_of run.0).device))) (c.in_ok-among.ensures.options ∙ c.in_ok-setting.ensures.holds.options)
+    (c.run_visited.ensures.over zero start (sym (c.in_ok-among.ensures.kept.1 ∙ c.in_ok-setting.ensures.holds.state))
+    (record { held = holds_world start _ opening fits same; sound = opening; room = room }))
 
 pub returns-clause-left : goal.returns-clause-left
 returns-clause-left g c = λ zero none opening named room.
@@ -38,12 +40,17 @@ returns-clause-left g c = λ zero none opening named room.
     let setting = c.in_ok-setting.setting in
     let among = c.in_ok-among.among in
     let fits : FitsWords start = c.in_ok-setting.ensures.fits in
-    let there = device_kept setting among.far.server.server (stored_in among.near.folder.folder) (files_of among.near.shelf)
-    (ap (λ (f : FarSetting). f.server.server) c.in_ok-among.ensures.far) c.in_ok-among.ensures.near.0 c.in_ok-among.ensures.kept.0 in
+    let there = device_kept setting among.options among.far.server.server (stored_in among.near.folder.folder) (files_of among.near.shelf)
+    c.in_ok-among.ensures.options (ap (λ (f : FarSetting). f.server.server) c.in_ok-among.ensures.far) c.in_ok-among.ensures.near.0 c.in_ok-among.ensures.kept.0 in
     let same = there ∙ stands c.args.trial setting start refl c.in_ok-setting.ensures.holds none opening fits named in
-    subst (λ (d : Device). IfOk c.run_visited.result (λ run. IfErr run.1 (λ fault. LeavesAmong start c.args.trial.world.options d fault (seen_of run.0)))) same
+    subst (λ (o : Options). IfOk c.run_visited.result (λ run. IfErr run.1 (λ fault. LeavesAmong start o (device_of start) fault (seen_of run.0)))) (c.in_ok-among.ensures.options ∙ c.in_ok-setting.ensures.holds.options)
+    (subst (λ (d : Device). IfOk c.run_visited.result (λ run. IfErr run.1 (λ fault. LeavesAmong start among.options d fault (seen_of run.0)))) same
     (c.run_visited.ensures.left zero start (sym (c.in_ok-among.ensures.kept.1 ∙ c.in_ok-setting.ensures.holds.state))
-    (record { held = holds_world start _ opening fits same; sound = opening; room = room }))
+    (record { held = holds_world start _ opening fits same; sound = opening; room = room })))
 
 pub returns-clause-stopped : goal.returns-clause-stopped
 returns-clause-stopped g c = c.run_visited.ensures.stopped
+
+pub returns-clause-map : goal.returns-clause-map
+returns-clause-map g c =
+    subst (λ (o : Options). IfOk c.run_visited.result (λ run. run.0.far.far.keywords ≡ o.keywords)) (c.in_ok-among.ensures.options ∙ c.in_ok-setting.ensures.holds.options) c.run_visited.ensures.map

@@ -1,7 +1,6 @@
 -- Link, folder and shelf in memory always keep their word.
-use Rattle.std.proofs.Common.{◌∙◌, List, [], false, ap, refl, sym, subst}
-use Rattle.std.specs.Prelude.{IfErr, OnOk}
-use Rattle.mailcore.specs.declared.keywords.Keyword.{Keyword}
+use Rattle.std.proofs.Common.{◌∙◌, ap, refl, sym, subst}
+use Rattle.std.specs.Prelude.{IfErr}
 use Rattle.mem_link.specs.declared.mem_link.MemLink.{MemLink}
 use Rattle.mem_link.specs.MemLinks.{line_of}
 use Rattle.maildir.specs.MemFolders.{stored_in}
@@ -10,31 +9,29 @@ use Rattle.outside.specs.Calls.{Seen}
 use Rattle.pair.specs.Pairs.{seen_of}
 use Rattle.alike_laws.specs.Beginnings.{Begins, opening_of}
 use Rattle.imap_link.specs.Sending.{anybody}
-use Rattle.underway.specs.Conditions.{IsOver, Underway}
+use Rattle.underway.specs.Conditions.{Underway}
 use Rattle.runner.specs.Attempts.{MetStops}
 use Rattle.runner.specs.Faults.{LeavesRun}
-use Rattle.run_trial.proofs.AmongLemmas.{are_ours, left_among, ours, over_among}
+use Rattle.run_trial.proofs.AmongLemmas.{are_ours, left_among, over_among}
 use Rattle.run_trial.proofs.MemoryLemmas.{parts_seen, stops_met}
 use Rattle.run_trial.proofs.among.run_visited.Goals as goal
 
 pub returns-clause-over : goal.returns-clause-over
 returns-clause-over g c = λ none start named begins.
-    let same = parts_seen _ c.args.setting.far.server.server (stored_in c.args.setting.near.folder.folder) (files_of c.args.setting.near.shelf) _ (ap (λ (l : MemLink). (line_of l).end.server) c.new-link.ensures.link ∙ c.new.ensures.server) c.in_ok-outside.ensures.seen in
-    over_among g.row.MARKS none start c.args.options.now (seen_of c.settle_all.result.0).device c.settle_all.result.1
-    (subst (λ (k : List Keyword). OnOk c.settle_all.result.1 (IsOver (ours g.row.MARKS none g.row.MARKS) false (opening_of k start c.args.options.now) (seen_of c.settle_all.result.0).device)) c.in_ok-outside.ensures.keywords
-    (c.settle_all.ensures.over start named (tt, refl, refl) (are_ours g.row.MARKS none) (subst (λ (s : Seen). Begins start s.device) (sym same) begins)))
+    let same = parts_seen c.args.setting.options.keywords _ c.args.setting.far.server.server (stored_in c.args.setting.near.folder.folder) (files_of c.args.setting.near.shelf) _ (ap (λ (l : MemLink). (line_of l).end.server) c.new-link.ensures.link ∙ c.new.ensures.server) c.in_ok-outside.ensures.seen in
+    over_among g.row.MARKS none start c.args.setting.options (seen_of c.settle_all.result.0).device c.settle_all.result.1
+    (c.settle_all.ensures.over start named (tt, refl, refl) (are_ours g.row.MARKS none) (subst (λ (s : Seen). Begins start s.device) (sym same) begins))
 
 pub returns-clause-left : goal.returns-clause-left
 returns-clause-left g c = λ none start named begins.
-    let same = parts_seen _ c.args.setting.far.server.server (stored_in c.args.setting.near.folder.folder) (files_of c.args.setting.near.shelf) _ (ap (λ (l : MemLink). (line_of l).end.server) c.new-link.ensures.link ∙ c.new.ensures.server) c.in_ok-outside.ensures.seen in
-    subst (λ (s : Seen). IfErr c.settle_all.result.1 (λ fault. LeavesRun (Underway anybody.ours anybody.alone (opening_of [] start c.args.options.now)) fault s (seen_of c.settle_all.result.0))) same
-    (left_among g.row.MARKS none start c.args.options.now (seen_of c.in_ok-outside.outside) (seen_of c.settle_all.result.0) c.settle_all.result.1
-    (subst (λ (k : List Keyword). IfErr c.settle_all.result.1 (λ fault. LeavesRun (Underway (ours g.row.MARKS none g.row.MARKS) false (opening_of k start c.args.options.now)) fault (seen_of c.in_ok-outside.outside) (seen_of c.settle_all.result.0))) c.in_ok-outside.ensures.keywords
-    (c.settle_all.ensures.left start named (tt, refl, refl) (are_ours g.row.MARKS none) (subst (λ (s : Seen). Begins start s.device) (sym same) begins))))
+    let same = parts_seen c.args.setting.options.keywords _ c.args.setting.far.server.server (stored_in c.args.setting.near.folder.folder) (files_of c.args.setting.near.shelf) _ (ap (λ (l : MemLink). (line_of l).end.server) c.new-link.ensures.link ∙ c.new.ensures.server) c.in_ok-outside.ensures.seen in
+    subst (λ (s : Seen). IfErr c.settle_all.result.1 (λ fault. LeavesRun (Underway anybody.ours anybody.alone (opening_of start c.args.setting.options)) fault s (seen_of c.settle_all.result.0))) same
+    (left_among g.row.MARKS none start c.args.setting.options (seen_of c.in_ok-outside.outside) (seen_of c.settle_all.result.0) c.settle_all.result.1
+    (c.settle_all.ensures.left start named (tt, refl, refl) (are_ours g.row.MARKS none) (subst (λ (s : Seen). Begins start s.device) (sym same) begins)))
 
 pub returns-clause-stopped : goal.returns-clause-stopped
 returns-clause-stopped g c = λ stopped.
-    let same = parts_seen _ c.args.setting.far.server.server (stored_in c.args.setting.near.folder.folder) (files_of c.args.setting.near.shelf) _ (ap (λ (l : MemLink). (line_of l).end.server) c.new-link.ensures.link ∙ c.new.ensures.server) c.in_ok-outside.ensures.seen in
+    let same = parts_seen c.args.setting.options.keywords _ c.args.setting.far.server.server (stored_in c.args.setting.near.folder.folder) (files_of c.args.setting.near.shelf) _ (ap (λ (l : MemLink). (line_of l).end.server) c.new-link.ensures.link ∙ c.new.ensures.server) c.in_ok-outside.ensures.seen in
     stops_met c.args.tries (seen_of c.settle_all.result.0).stops
     (subst (λ (s : Seen). MetStops c.args.tries s (seen_of c.settle_all.result.0)) same (c.settle_all.ensures.stopped stopped))
 

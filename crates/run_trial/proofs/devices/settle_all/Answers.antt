@@ -3,15 +3,15 @@ use Rattle.run_trial.proofs.devices.settle_all.Goals as goal
 
 pub returns-clause-done : goal.returns-clause-done
 returns-clause-done g c = λ start same honest alone ours begins.
-    done_of g.O.Outside.ours g.O.Outside.alone (g.O.Outside.keywords c.args.outside) start c.args.options.now c.args.state.now (g.O.Outside.seen c.args.outside).device (g.O.Outside.seen c.settle_from.result.0).device
+    done_of g.O.Outside.ours g.O.Outside.alone start c.args.options.now c.args.state.now (g.O.Outside.seen c.args.outside).device (g.O.Outside.seen c.settle_from.result.0).device
     c.settle_from.result.1 same begins (c.settle_from.ensures.done honest alone ours)
 
 pub returns-clause-over : goal.returns-clause-over
 returns-clause-over g c = λ start same honest ours begins.
-    over_of g.O.Outside.ours g.O.Outside.alone (g.O.Outside.keywords c.args.outside) start c.args.options.now c.args.state.now (g.O.Outside.seen c.args.outside).device (g.O.Outside.seen c.settle_from.result.0).device
+    over_of g.O.Outside.ours g.O.Outside.alone start c.args.options.now c.args.state.now (g.O.Outside.seen c.args.outside).device (g.O.Outside.seen c.settle_from.result.0).device
     c.settle_from.result.1 same begins (c.settle_from.ensures.over honest ours)
 
 pub returns-clause-left : goal.returns-clause-left
 returns-clause-left g c = λ start same honest ours begins.
-    left_of g.O.Outside.ours g.O.Outside.alone (g.O.Outside.keywords c.args.outside) start c.args.options.now c.args.state.now (g.O.Outside.seen c.args.outside) (g.O.Outside.seen c.settle_from.result.0)
+    left_of g.O.Outside.ours g.O.Outside.alone start c.args.options.now c.args.state.now (g.O.Outside.seen c.args.outside) (g.O.Outside.seen c.settle_from.result.0)
     c.settle_from.result.1 same begins (c.settle_from.ensures.left honest ours)

@@ -1,7 +1,6 @@
 -- Link, folder and shelf in memory always keep their word, and nobody else writes a mark.
-use Rattle.std.proofs.Common.{◌∙◌, List, [], refl, sym, ap, subst}
+use Rattle.std.proofs.Common.{◌∙◌, refl, sym, ap, subst}
 use Rattle.std.specs.Prelude.{IfErr}
-use Rattle.mailcore.specs.declared.keywords.Keyword.{Keyword}
 use Rattle.outside.specs.Calls.{Seen}
 use Rattle.pair.specs.Pairs.{seen_of}
 use Rattle.maildir.specs.Gains.{nobody}
@@ -21,10 +20,8 @@ returns-clause-done c = λ start named begins.
 pub returns-clause-left : goal.returns-clause-left
 returns-clause-left c = λ start named begins.
     let same = setting_seen c.args.setting _ _ c.new-link.ensures.server c.in_ok-outside.ensures.seen in
-    subst (λ (s : Seen). IfErr c.settle_all.result.1 (λ fault. LeavesRun (Underway nobody.ours nobody.alone (opening_of [] start c.args.options.now)) fault s (seen_of c.settle_all.result.0))) same
-    (subst (λ (k : List Keyword). IfErr c.settle_all.result.1 (λ fault. LeavesRun (Underway nobody.ours nobody.alone (opening_of k start c.args.options.now)) fault (seen_of c.in_ok-outside.outside) (seen_of c.settle_all.result.0)))
-    c.in_ok-outside.ensures.keywords
-    (c.settle_all.ensures.left start named (tt, refl, refl) (λ mark. refl) (subst (λ (s : Seen). Begins start s.device) (sym same) begins)))
+    subst (λ (s : Seen). IfErr c.settle_all.result.1 (λ fault. LeavesRun (Underway nobody.ours nobody.alone (opening_of start c.args.setting.options)) fault s (seen_of c.settle_all.result.0))) same
+    (c.settle_all.ensures.left start named (tt, refl, refl) (λ mark. refl) (subst (λ (s : Seen). Begins start s.device) (sym same) begins))
 
 pub returns-clause-greatest : goal.returns-clause-greatest
 returns-clause-greatest c =

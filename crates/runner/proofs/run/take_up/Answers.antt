@@ -35,8 +35,8 @@ returns-clause-part g c =
     let stream = g.R.Rng.stream c.args.rng.now in
     let next = IsKnownEntry ours alone g.opening opened (run_of opened + 1) options stream in
     let entry = IsKnownEntry ours alone g.opening opened c.args.run options stream in
-    part_told _ _ _ _ _ _ _ _ _ _ (record { changed = λ side t. t; repeats = λ k. k; beyond = λ n. absurd n; unread = λ e n. n; refused = λ step t. t; unstepped = λ u. u })
-    (run_weaker alone g.opening options stream _ _ next entry _ _ _ (λ x. Reaches ours alone g.opening c.args.run) _ _ _ (λ d k. record { most = let m = k.most in omega (arith, is, m); asked = k.asked; known = k.known }) (λ x d k. end_reaches ours alone g.opening c.args.run d k) c.open_and_work.ensures.part)
+    part_told _ _ _ _ _ _ _ _ _ _ (record { changed = λ side t. t; keywords = λ n. n; repeats = λ k. k; beyond = λ n. absurd n; unread = λ e n. n; refused = λ step t. t; unstepped = λ u. u })
+    (run_weaker alone g.opening options stream _ _ _ next entry _ _ _ (λ x. Reaches ours alone g.opening c.args.run) _ _ _ (λ d k. record { most = let m = k.most in omega (arith, is, m); asked = k.asked; known = k.known }) (λ x d k. end_reaches ours alone g.opening c.args.run d k) c.open_and_work.ensures.part)
 
 pub returns-then-run-last-gt1-clause-part : goal.returns-then-run-last-gt1-clause-part
 returns-then-run-last-gt1-clause-part g c =

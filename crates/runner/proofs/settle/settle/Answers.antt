@@ -5,9 +5,10 @@ use Rattle.underway.specs.Conditions.{Underway}
 use Rattle.runner.specs.declared.fault.RunFault.TheVariants as run
 use Rattle.runner.specs.declared.pass.Pass.{Pass}
 use Rattle.runner.specs.Attempts.{HaveRepeated, IsReached, IsTried}
+use Rattle.runner.specs.ChangedMaps.{HoldsOtherMap}
 use Rattle.runner.specs.Faults.{TellsNoRun}
 use Rattle.runner.proofs.Attempts.{caused_since, failed_few, found_device, greatest_since, kept_none, met_before, more_found, moved_twice, refused_for, stops_kept, stops_more, stuck_first, stuck_more, tried_underway}
-use Rattle.runner.proofs.Ends.{changed_last, settled_so}
+use Rattle.runner.proofs.Ends.{changed_last, kept_last, settled_so}
 use Rattle.runner.proofs.Reopening.{attempted_more, attempted_none, began_at, reopens_more}
 use Rattle.runner.proofs.PartCalls.{leaves_after, leaves_map, more_after, more_none}
 use Rattle.runner.proofs.PlanFacts.{moved_none}
@@ -154,6 +155,7 @@ returns-in-Err-clause-left g c = λ h asked at.
       left = leaves_after (Underway ours alone g.opening) fault s0 s1 s2 (more_found tried s0 now s1 i.told e)
           (leaves_map after (Underway ours alone g.opening) fault s1 s2 (λ k. tried_underway ours alone g.opening c.attempt.new.run s2.device k.tried) (part.left h here));
       changed = λ side is. changed_last ours alone g.opening s0 s1 s2 stream drawn _ _ _ tried c.args.tries side fault began (omega arith) is h part (λ told. told);
+      keywords = λ is. kept_last ours alone g.opening s0 s1 s2 stream drawn _ _ _ tried c.args.tries options.keywords fault began (omega arith) is h part (λ told. told);
       refused = λ step is. refused_for _ _ _ fault s1 s2 step is part h here;
     }
 
@@ -169,7 +171,7 @@ returns-in-Err-clause-caused g c = λ other.
     let start = g.R.Rng.stream c.args.rng.now in
     let before = IsTried g.O.Outside.ours g.O.Outside.alone g.opening c.args.options.now (g.R.Rng.stream c.loop-tried.rng) c.loop-tried.run in
     let device = found_device c.loop-tried.tried now s1 e in
-    caused_since _ _ _ (HaveRepeated (g.O.Outside.honest c.attempt.new.outside) g.O.Outside.ours g.O.Outside.alone g.opening c.args.options.now start (g.R.Rng.stream c.attempt.new.rng) s0.device) (g.O.Outside.honest c.attempt.new.outside → ⊥) (TellsNoRun (g.O.Outside.honest c.attempt.new.outside) (g.O.Outside.seen c.attempt.new.outside).device) c.in-Err.fault s0 s1 s2 (more_found c.loop-tried.tried s0 now s1 i.told e) appends other c.in-Err.ensures.part (λ k. record { drawn = g.R.Rng.stream c.loop-tried.rng; moved = i.moved; on = c.attempt.ensures.moved; count = k.count; repeats = k.repeats; wanted = λ h asked at. k.wanted h (subst before (sym device) (i.left (c.again.ensures.was_honest (c.attempt.ensures.was_honest h)) asked at)) }) (λ b h. b h (subst (λ (d : Device). IsReached c.loop-tried.run d.files) (sym device) (i.reached (c.again.ensures.was_honest (c.attempt.ensures.was_honest h))))) (λ e t. t)
+    caused_since _ _ _ (g.O.Outside.honest c.attempt.new.outside → HoldsOtherMap c.args.options.now.keywords s2.device) (HaveRepeated (g.O.Outside.honest c.attempt.new.outside) g.O.Outside.ours g.O.Outside.alone g.opening c.args.options.now start (g.R.Rng.stream c.attempt.new.rng) s0.device) (g.O.Outside.honest c.attempt.new.outside → ⊥) (TellsNoRun (g.O.Outside.honest c.attempt.new.outside) (g.O.Outside.seen c.attempt.new.outside).device) c.in-Err.fault s0 s1 s2 (more_found c.loop-tried.tried s0 now s1 i.told e) appends other c.in-Err.ensures.part (λ t h. (t h).0) (λ k. record { drawn = g.R.Rng.stream c.loop-tried.rng; moved = i.moved; on = c.attempt.ensures.moved; count = k.count; repeats = k.repeats; wanted = λ h asked at. k.wanted h (subst before (sym device) (i.left (c.again.ensures.was_honest (c.attempt.ensures.was_honest h)) asked at)) }) (λ b h. b h (subst (λ (d : Device). IsReached c.loop-tried.run d.files) (sym device) (i.reached (c.again.ensures.was_honest (c.attempt.ensures.was_honest h))))) (λ e t. t)
 
 pub returns-in-Err-clause-counts : goal.returns-in-Err-clause-counts
 returns-in-Err-clause-counts g c =

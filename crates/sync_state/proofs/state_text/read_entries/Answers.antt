@@ -11,9 +11,9 @@ loop-entry-preserved c =
     let e = c.in-Some.entry in
     let are = c.loop-entry.invariant.0 in
     let pairs = ArePairs-push es e are.pairs c.in-Ok.ensures.fits in
-    let more = entry_more es e c.args.lines.now.rest.now c.loop-entry.lines.rest.now c.take_entry.new.lines.rest.now are c.in-Some.ensures.some pairs in
+    let more = entry_more c.args.version es e c.args.lines.now.rest.now c.loop-entry.lines.rest.now c.take_entry.new.lines.rest.now are c.in-Some.ensures.some pairs in
     let same : c.push.new.self ≡ es ++ e ∷ [] = c.in-Ok.ensures.ok in
     let size = ap (λ (x : List Entry). length x) same in
     let taken = c.in-Some.ensures.taken in
     let before = c.loop-entry.invariant.1 in
-    (subst (λ (x : List Entry). AreEntries x c.args.lines.now.rest.now c.take_entry.new.lines.rest.now) (sym same) more, omega (arith, length-append es (e ∷ [])))
+    (subst (λ (x : List Entry). AreEntries c.args.version x c.args.lines.now.rest.now c.take_entry.new.lines.rest.now) (sym same) more, omega (arith, length-append es (e ∷ [])))

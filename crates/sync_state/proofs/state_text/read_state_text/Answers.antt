@@ -10,7 +10,7 @@ returns-in_err-entries-clause-refused c =
     let between = c.read_head.new.lines.rest.now in
     let fault = c.in_err-entries.field-0.0 in
     let head = subst (λ (x : List ℕ). HeadRead c.in_ok-head.head x between) c.new-lines.ensures.1 c.in_ok-head.ensures.ok in
-    let told = subst (λ (n : ℕ). TellsEntry n between fault) c.in_ok-head.ensures.taken c.in_err-entries.ensures.refused in
+    let told = subst (λ (n : ℕ). TellsEntry c.in_ok-head.head.version n between fault) c.in_ok-head.ensures.taken c.in_err-entries.ensures.refused in
     let p = err_from_is_err_and c.from_residual-in_err-entries.result c.from_residual-in_err-entries.ensures.1 in
     rw (p.1, p.2) (stops_in_entries c.in_ok-head.head text between fault head told)
 

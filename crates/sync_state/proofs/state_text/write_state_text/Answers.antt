@@ -1,5 +1,6 @@
 use Rattle.std.proofs.Common.{◌≡◌, ◌∙◌, ℕ, List, [], ◌∷◌, ◌++◌, map, take, ap}
 use Rattle.rules.specs.declared.entry.Entry.{Entry}
+use Rattle.sync_state.specs.declared.version.Version.TheVariants.{Two}
 use Rattle.std.proofs.lemmas.List.{take_all}
 use Rattle.sync_state.specs.Lines.{lines_text}
 use Rattle.sync_state.specs.StateText.{state_title, run_line, far_line, near_line, entry_line, end_line}
@@ -14,11 +15,11 @@ loop-entry-preserved c =
 pub returns-clause-spelled : goal.returns-clause-spelled
 returns-clause-spelled c =
     let s = c.args.state.now in
-    let l1 : List (List ℕ) = state_title ∷ [] in
-    let l2 : List (List ℕ) = state_title ∷ run_line s.run ∷ [] in
-    let l3 : List (List ℕ) = state_title ∷ run_line s.run ∷ far_line s.far_validity s.max_pulled ∷ [] in
-    let l4 : List (List ℕ) = state_title ∷ run_line s.run ∷ far_line s.far_validity s.max_pulled ∷ near_line s.near_validity s.max_pushed ∷ [] in
-    let h1 = line_added [] state_title _ _ c.new-text.ensures.items c.in_ok-push_line.ensures in
+    let l1 : List (List ℕ) = state_title Two ∷ [] in
+    let l2 : List (List ℕ) = state_title Two ∷ run_line s.run ∷ [] in
+    let l3 : List (List ℕ) = state_title Two ∷ run_line s.run ∷ far_line s.far_validity s.max_pulled ∷ [] in
+    let l4 : List (List ℕ) = state_title Two ∷ run_line s.run ∷ far_line s.far_validity s.max_pulled ∷ near_line s.near_validity s.max_pushed ∷ [] in
+    let h1 = line_added [] (state_title Two) _ _ c.new-text.ensures.items c.in_ok-push_line.ensures in
     let h2 = line_added l1 (run_line s.run) _ _ h1 c.in_ok-push_line-2.ensures in
     let h3 = line_added l2 (far_line s.far_validity s.max_pulled) _ _ h2 c.in_ok-push_line-3.ensures in
     let h4 = line_added l3 (near_line s.near_validity s.max_pushed) _ _ h3 c.in_ok-push_line-4.ensures in

@@ -1,9 +1,13 @@
 use Rattle.std.proofs.Common.{◌≤◌, length}
 use Rattle.worlds.specs.Lines.{line_count}
+use Rattle.worlds.specs.Worlds.{AreListedNamed}
 use Rattle.worlds.proofs.listed.admit_waiting.Given as goal
 
 abbrev pub invariant-loop-line : goal.invariant-loop-line
-invariant-loop-line l = line_count l.lines ≤ line_count l.fn.lines
+invariant-loop-line l = record {
+  named : AreListedNamed l.keywords l.fn.near.items → AreListedNamed l.keywords l.near.items;
+  count : line_count l.lines ≤ line_count l.fn.lines;
+}
 
 abbrev pub decreases-loop-line : goal.decreases-loop-line
 decreases-loop-line l = length l.lines.rest.now

@@ -1,9 +1,13 @@
-use Rattle.std.proofs.Common.{◌≤◌, length}
+use Rattle.std.proofs.Common.{◌≤◌, [], length, map}
 use Rattle.worlds.specs.Lines.{line_count}
+use Rattle.worlds.specs.Worlds.{AreNamed, waiting_of}
 use Rattle.worlds.proofs.read_mailbox.read_waiting.Given as goal
 
 abbrev pub invariant-loop-line : goal.invariant-loop-line
-invariant-loop-line l = line_count l.lines ≤ line_count l.fn.lines
+invariant-loop-line l = record {
+  named : AreNamed l.keywords l.fn.near.messages [] → AreNamed l.keywords l.near.messages (map waiting_of l.kept.items);
+  count : line_count l.lines ≤ line_count l.fn.lines;
+}
 
 abbrev pub decreases-loop-line : goal.decreases-loop-line
 decreases-loop-line l = length l.lines.rest.now

@@ -3,6 +3,7 @@ use Rattle.std.specs.List.{list_any}
 use Rattle.std.proofs.lemmas.Result.{err_from_is_err_and}
 use Rattle.book.specs.declared.book.Pending.{Pending}
 use Rattle.book.specs.declared.book.Pending.TheVariants.{Missing, Useless, Planned}
+use Rattle.sync_state.specs.declared.version.Version.TheVariants.{Two}
 use Rattle.sync_state.specs.declared.journal.Logged.{Logged}
 use Rattle.book.specs.Books.{Holds, Fits}
 use Rattle.rules.specs.declared.entry.Entry.{Entry}
@@ -37,8 +38,8 @@ invariant_of-self-2 g c =
     let plan = c.args.plan in
     let ready : book.is_ready ≡ true = search rules in
     let text = c.deref.ensures.value ∙ c.in_ok-text.ensures.spelled in
-    let now : Planned (record { journal = record { plan = plan; log = c.from_vec-log.result }; is_torn = false }) ≡ begun plan =
-    ap (λ (l : List Logged). Planned (record { journal = record { plan = plan; log = l }; is_torn = false })) (c.from_vec-log.ensures ∙ c.new.ensures.items) in
+    let now : Planned (record { version = Two; journal = record { plan = plan; log = c.from_vec-log.result }; is_torn = false }) ≡ begun plan =
+    ap (λ (l : List Logged). Planned (record { version = Two; journal = record { plan = plan; log = l }; is_torn = false })) (c.from_vec-log.ensures ∙ c.new.ensures.items) in
     record {
       sound = book.sound;
       is_whole = λ _. c.in_ok-append.ensures.is_whole;

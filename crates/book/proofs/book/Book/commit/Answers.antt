@@ -2,10 +2,11 @@ use Rattle.std.proofs.Common.{◌≡◌, ◌∙◌, true, sym, subst, rules}
 use Rattle.std.proofs.lemmas.Result.{err_from_is_err_and}
 use Rattle.book.specs.declared.book.Pending.{Pending}
 use Rattle.book.specs.declared.book.Pending.TheVariants.{Useless, Planned}
-use Rattle.sync_state.specs.StateText.{StateText}
+use Rattle.sync_state.specs.declared.version.Version.TheVariants.{Two}
+use Rattle.sync_state.specs.StateText.{IsStateText}
 use Rattle.book.specs.Books.{Holds}
 use Rattle.book.specs.Commits.{LeavesCommit, HoldsMade}
-use Rattle.book.proofs.CommitLemmas.{state_put, state_put_or_not, journal_removed, journal_removed_or_not}
+use Rattle.book.proofs.CommitLemmas.{file_put, file_stays, state_put, state_put_or_not, journal_removed, journal_removed_or_not}
 use Rattle.book.proofs.TurnLemmas.{committed_to, committed_half, sound_entries}
 use Rattle.book.proofs.book.Book.commit.Goals as goal
 
@@ -20,7 +21,7 @@ returns-in_err-replace-clause-leaves g c = λ honest.
     let old = (g.S.Shelf.seen book.shelf).stored in
     let new = (g.S.Shelf.seen c.replace.new.self).stored in
     let w = c.in-Planned.written in
-    let spelled : StateText c.in_ok-state.state c.deref.result.now = record { fits = c.in_ok-state.ensures.has_text; spelled = c.deref.ensures.value ∙ c.in_ok-text.ensures.spelled } in
+    let spelled : IsStateText Two c.in_ok-state.state c.deref.result.now = record { fits = c.in_ok-state.ensures.has_text; spelled = c.deref.ensures.value ∙ c.in_ok-text.ensures.spelled } in
     let held : Holds old book.state (Planned w) = subst (λ (p : Pending). Holds old book.state p) c.in-Planned.is (book.holds ready honest) in
     rw (e.1) (committed_half old new book.state book.pending (book.holds ready honest)
     (subst (λ (p : Pending). LeavesCommit p book.state new) (sym c.in-Planned.is)
@@ -35,12 +36,13 @@ returns-in_err-remove-clause-leaves g c = λ honest.
     let mid = (g.S.Shelf.seen c.replace.new.self).stored in
     let new = (g.S.Shelf.seen c.remove.new.self).stored in
     let w = c.in-Planned.written in
-    let spelled : StateText c.in_ok-state.state c.deref.result.now = record { fits = c.in_ok-state.ensures.has_text; spelled = c.deref.ensures.value ∙ c.in_ok-text.ensures.spelled } in
+    let spelled : IsStateText Two c.in_ok-state.state c.deref.result.now = record { fits = c.in_ok-state.ensures.has_text; spelled = c.deref.ensures.value ∙ c.in_ok-text.ensures.spelled } in
     let held : Holds old book.state (Planned w) = subst (λ (p : Pending). Holds old book.state p) c.in-Planned.is (book.holds ready honest) in
     let put : Holds mid c.in_ok-state.state _ = state_put c.deref.result.now old mid book.state c.in_ok-state.state w (c.in_ok-replace.ensures.effect honest) spelled c.in_ok-state.ensures.commits.run held in
     rw (e.1) (committed_half old new book.state book.pending (book.holds ready honest)
     (subst (λ (p : Pending). LeavesCommit p book.state new) (sym c.in-Planned.is)
-    (journal_removed_or_not mid new book.state c.in_ok-state.state w (c.in_err-remove.ensures.left honest) c.in_ok-state.ensures.commits put)))
+    (journal_removed_or_not mid new book.state c.in_ok-state.state w (c.in_err-remove.ensures.left honest) c.in_ok-state.ensures.commits
+    (file_put c.deref.result.now old mid c.in_ok-state.state (c.in_ok-replace.ensures.effect honest) spelled) put)))
 
 pub returns-clause-leaves : goal.returns-clause-leaves
 returns-clause-leaves g c = λ honest.
@@ -50,12 +52,14 @@ returns-clause-leaves g c = λ honest.
     let mid = (g.S.Shelf.seen c.replace.new.self).stored in
     let new = (g.S.Shelf.seen c.remove.new.self).stored in
     let w = c.in-Planned.written in
-    let spelled : StateText c.in_ok-state.state c.deref.result.now = record { fits = c.in_ok-state.ensures.has_text; spelled = c.deref.ensures.value ∙ c.in_ok-text.ensures.spelled } in
+    let spelled : IsStateText Two c.in_ok-state.state c.deref.result.now = record { fits = c.in_ok-state.ensures.has_text; spelled = c.deref.ensures.value ∙ c.in_ok-text.ensures.spelled } in
     let held : Holds old book.state (Planned w) = subst (λ (p : Pending). Holds old book.state p) c.in-Planned.is (book.holds ready honest) in
     let put : Holds mid c.in_ok-state.state Useless = state_put c.deref.result.now old mid book.state c.in_ok-state.state w (c.in_ok-replace.ensures.effect honest) spelled c.in_ok-state.ensures.commits.run held in
     let made : HoldsMade (Planned w) book.state new = record {
       state = c.in_ok-state.state;
       made = c.in_ok-state.ensures.commits;
+      written = file_stays mid new c.in_ok-state.state (c.in_ok-remove.ensures.effect honest)
+          (file_put c.deref.result.now old mid c.in_ok-state.state (c.in_ok-replace.ensures.effect honest) spelled);
       held = journal_removed mid new c.in_ok-state.state (c.in_ok-remove.ensures.effect honest) put;
     } in
     committed_to old new book.state book.pending (book.holds ready honest)

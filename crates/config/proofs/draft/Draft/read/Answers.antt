@@ -4,10 +4,12 @@ use Rattle.config_words.specs.declared.keyword.Place.{Place}
 use Rattle.config.specs.Drafts.{IsTaken, place_of, standing_of}
 use Rattle.config_words.specs.Keywords.{meant_at, opened_by, section_of}
 use Rattle.config_words.specs.Places.{is_section}
-use Rattle.config.specs.Standing.{begins_again, begun}
+use Rattle.mailcore.specs.declared.keywords.Keyword as mail
+use Rattle.config.specs.Standing.{begins_again, begun, keyword_from}
+use Rattle.config.proofs.KeywordLemmas.{misplaced_stays, section_gives}
 use Rattle.config.proofs.NameLemmas.{misplaced_so, opens_same, placed}
-use Rattle.config.specs.Configurations.{line_said}
-use Rattle.config_words.specs.Meanings.{said}
+use Rattle.config.specs.Sections.{line_said}
+use Rattle.config_words.specs.Meanings.{Said, said}
 use Rattle.config_words.specs.Places.{opened}
 use Rattle.config_words.specs.Words.{arguments_of}
 use Rattle.config.specs.Views.{view}
@@ -16,20 +18,29 @@ use Rattle.config.proofs.draft.Draft.read.Goals as goal
 
 pub read_arguments-requires : goal.read_arguments-requires
 read_arguments-requires c =
-    misplaced_so (is_section (place_of c.args.self.now.section)) (section_of c.at-keyword.result) (standing_of c.args.self.now) (standing_of c.meet.new.self)
+    misplaced_so (is_section (place_of c.args.self.now.section)) c.at-keyword.result (section_of c.at-keyword.result) (standing_of c.args.self.now) (standing_of c.meet.new.self)
     c.in_ok-misplaced.misplaced c.in_ok-misplaced.ensures.standing
 
 pub returns-clause-standing : goal.returns-clause-standing
 returns-clause-standing c =
     let old = standing_of c.args.self.now in
     let at = place_of c.args.self.now.section in
+    let read = c.in-Some.keyword in
+    let meant = c.at-keyword.result in
+    let word = c.args.keyword.now in
     let text = c.args.arguments.now in
-    let met =
-    subst (λ (p : Place). opened_by p c.at-keyword.result ≡ opened_by p c.in-Some.keyword) c.place.ensures c.at-keyword.ensures.opened in
-    let same = opens_same at c.in-Some.keyword c.at-keyword.result c.args.keyword.now met c.in-Some.ensures.section in
-    subst (λ (s : Option Place). IsTaken (begins_again s text old) (begun s text old) (standing_of c.read_arguments.new.self) c.read_arguments.result) same
-    (placed (is_section at) (section_of c.at-keyword.result) c.in_ok-misplaced.misplaced text old (standing_of c.meet.new.self)
-    (standing_of c.read_arguments.new.self) c.read_arguments.result c.in_ok-misplaced.ensures.standing c.read_arguments.ensures.standing)
+    let new = standing_of c.read_arguments.new.self in
+    let met = subst (λ (p : Place). opened_by p meant ≡ opened_by p read) c.place.ensures c.at-keyword.ensures.opened in
+    let opens = opens_same at read meant word met c.in-Some.ensures.section in
+    let same : said meant (arguments_of text).list ≡ line_said at (word, text) =
+    line_at at read meant word text c.in-Some.ensures.named (c.at-keyword.ensures.meant ∙ ap (λ (p : Place). meant_at p read) c.place.ensures) in
+    let gives = keyword_from (said meant (arguments_of text).list) text in
+    let taken =
+    placed (is_section at) meant (section_of meant) c.in_ok-misplaced.misplaced gives text old (standing_of c.meet.new.self) new c.read_arguments.result
+    c.in_ok-misplaced.ensures.standing (section_gives meant text) (λ fault is. misplaced_stays at meant fault text old is) c.read_arguments.ensures.standing in
+    subst (λ (k : Option mail.Keyword). IsTaken (begins_again (opened at word) k text old) (begun (opened at word) k text old) new c.read_arguments.result)
+    (ap (λ (s : Option Said). keyword_from s text) same)
+    (subst (λ (s : Option Place). IsTaken (begins_again s gives text old) (begun s gives text old) new c.read_arguments.result) opens taken)
 
 pub returns-clause-view : goal.returns-clause-view
 returns-clause-view c =
@@ -43,7 +54,7 @@ returns-clause-view c =
     let opens = opens_same at read meant word (subst (λ (p : Place). opened_by p meant ≡ opened_by p read) c.place.ensures c.at-keyword.ensures.opened)
     c.in-Some.ensures.section in
     let begins : c.in_ok-misplaced.misplaced ≡ None → section_of meant ≡ opened at word =
-    λ none. begins_so (is_section at) (section_of meant) c.in_ok-misplaced.misplaced (standing_of c.args.self.now) (standing_of c.meet.new.self)
+    λ none. begins_so (is_section at) meant (section_of meant) c.in_ok-misplaced.misplaced (standing_of c.args.self.now) (standing_of c.meet.new.self)
     c.in_ok-misplaced.ensures.standing none ∙ opens in
     read_view c.read_arguments.result c.in_ok-misplaced.misplaced (section_of meant) (opened at word) (said meant (arguments_of text).list)
     (line_said at (word, text)) (view c.args.self.now) (view c.meet.new.self) (view c.read_arguments.new.self) begins same c.in_ok-misplaced.ensures.view
@@ -61,7 +72,7 @@ returns-clause-titled c =
     let opens = opens_same at read meant word (subst (λ (p : Place). opened_by p meant ≡ opened_by p read) c.place.ensures c.at-keyword.ensures.opened)
     c.in-Some.ensures.section in
     let begins : c.in_ok-misplaced.misplaced ≡ None → section_of meant ≡ opened at word =
-    λ none. begins_so (is_section at) (section_of meant) c.in_ok-misplaced.misplaced (standing_of c.args.self.now) (standing_of c.meet.new.self)
+    λ none. begins_so (is_section at) meant (section_of meant) c.in_ok-misplaced.misplaced (standing_of c.args.self.now) (standing_of c.meet.new.self)
     c.in_ok-misplaced.ensures.standing none ∙ opens in
     read_titled c.read_arguments.result c.in_ok-misplaced.misplaced (section_of meant) (opened at word) (said meant (arguments_of text).list)
     (line_said at (word, text)) begins same c.read_arguments.ensures.placed c.read_arguments.ensures.titled

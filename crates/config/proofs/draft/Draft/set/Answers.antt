@@ -13,8 +13,5 @@ returns-in-Far-clause-lines c = λ last line are. c.set_far.ensures.lines last a
 pub returns-in-Near-clause-lines : goal.returns-in-Near-clause-lines
 returns-in-Near-clause-lines c = λ last line are. c.set_near.ensures.lines last are
 
-pub returns-in_err-set_in_section-in_default-clause-lines : goal.returns-in_err-set_in_section-in_default-clause-lines
-returns-in_err-set_in_section-in_default-clause-lines c = λ last line are. c.set_in_section.ensures.lines last are
-
-pub returns-in_ok-set_in_section-in_default-clause-lines : goal.returns-in_ok-set_in_section-in_default-clause-lines
-returns-in_ok-set_in_section-in_default-clause-lines c = λ last line are. c.set_in_section.ensures.lines last are
+pub returns-in_default-clause-lines : goal.returns-in_default-clause-lines
+returns-in_default-clause-lines c = λ last line are. c.set_in_section.ensures.lines last are

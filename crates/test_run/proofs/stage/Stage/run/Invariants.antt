@@ -2,4 +2,4 @@ use Rattle.trial.specs.Openings.{no_opening}
 use Rattle.test_run.proofs.stage.Stage.run.Given as goal
 
 abbrev pub ghost-settle_trial : goal.ghost-settle_trial
-ghost-settle_trial a = no_opening a.outside.now.far.keywords a.options.now
+ghost-settle_trial a = no_opening a.options.now

@@ -1,0 +1,27 @@
+-- When it is told that the map of keywords has changed.
+use Rattle.std.specs.Prelude.{Bool, List, Option}
+use Rattle.mailcore.specs.declared.keywords.Keyword.{Keyword}
+use Rattle.mailcore.specs.declared.side.Side.{Side}
+use Rattle.rules.specs.declared.state.SyncState.{SyncState}
+use Rattle.book.specs.declared.book.Pending.{Pending}
+use Rattle.book.specs.Books.{Holds}
+use Rattle.outside.specs.Devices.{Device, box}
+use Rattle.outside.specs.Opened.{Opened}
+use Rattle.runner.specs.Maps.{HasOtherMap, HasOtherMapIn}
+use Rattle.runner.specs.Validities.{BothSame, IsKept, IsSame, recorded}
+
+-- the files hold a plan that was made by another map, and both mailboxes have the UIDVALIDITY that it names
+pub record HoldsOtherMap (keywords : List Keyword) (d : Device) : Type 0 where
+  pub state : SyncState
+  pub pending : Pending
+  pub held : Holds d.files state pending
+  pub other : HasOtherMap keywords pending
+  pub same : (side : Side) → IsSame (recorded state pending side) (box d side).validity
+
+-- only of such a plan, and nothing has changed
+abbrev pub TellsOtherMap : (honest : Type 0) → (alone : Bool) → List Keyword → (d d' : Device) → Type 0
+TellsOtherMap honest alone keywords d d' = honest → HoldsOtherMap keywords d' × IsKept alone d d'
+
+-- the same by what was read
+abbrev pub TellsMap : (honest : Type 0) → (alone : Bool) → Option Opened → List Keyword → (d d' : Device) → Type 0
+TellsMap honest alone opened keywords d d' = HasOtherMapIn keywords opened × (honest → BothSame opened d' × IsKept alone d d')

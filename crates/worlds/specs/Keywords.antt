@@ -1,0 +1,66 @@
+-- The keyword lines of a text, and the map that they give.
+use Rattle.std.specs.Prelude.{ℕ, ◌+◌, ◌≡◌, ◌++◌, List, [], ◌∷◌, codes, length}
+use Rattle.mailcore.specs.declared.keywords.Keyword.{Keyword}
+use Rattle.mailcore.specs.KeywordNames.{IsMap}
+use Rattle.worlds.specs.declared.fault.WorldFault.{WorldFault}
+use Rattle.worlds.specs.declared.fault.WorldFault.TheVariants.{Line, NoMemory}
+use Rattle.worlds.specs.Lines.{IsLine}
+
+-- what stands in a keyword's line behind the word `keyword `: its letter, a space and its name
+abbrev pub keyword_text : Keyword → List ℕ
+keyword_text k = k.letter ∷ 32 ∷ k.name
+
+-- a line for each keyword, and what stands behind them
+abbrev pub keyword_lines : List Keyword → (behind : List ℕ) → List ℕ
+keyword_lines [] behind = behind
+keyword_lines (k ∷ ks) behind = codes "keyword " ++ (keyword_text k ++ 10 ∷ keyword_lines ks behind)
+
+-- the keyword lines with which a text begins are those of a map; `behind` is what stands behind them
+pub record Gives (keywords : List Keyword) (behind text : List ℕ) : Type 0 where
+  pub is_map : IsMap keywords
+  pub lines : text ≡ keyword_lines keywords behind
+  pub all : (line rest : List ℕ) → ¬ IsLine (codes "keyword ") line rest behind
+
+-- no map has these keywords and, as its last one, that of a line
+abbrev pub HasNoNext : List Keyword → (line : List ℕ) → Type 0
+HasNoNext keywords line = (k : Keyword) → keyword_text k ≡ line → ¬ IsMap (keywords ++ k ∷ [])
+
+-- want of memory, or the line with this number is a bad one: no map goes on with it
+abbrev pub IsOfBadNext : List Keyword → (line : List ℕ) → (number : ℕ) → WorldFault → Type 0
+IsOfBadNext keywords line number (Line n) = (n ≡ number) × HasNoNext keywords line
+IsOfBadNext keywords line number NoMemory = Unit {0}
+
+-- the first bad one of the keyword lines with which a text begins, where `taken` lines stand before it; those before the bad one
+-- are those of a map
+pub record IsFirstBad (taken : ℕ) (text : List ℕ) (number : ℕ) : Type 0 where
+  pub keywords : List Keyword
+  pub line : List ℕ
+  pub behind : List ℕ
+  pub rest : List ℕ
+  pub is_map : IsMap keywords
+  pub lines : text ≡ keyword_lines keywords rest
+  pub is_line : IsLine (codes "keyword ") line behind rest
+  pub bad : HasNoNext keywords line
+  pub number_is : number ≡ taken + length keywords + 1
+
+-- want of memory, or the fault of that line
+abbrev pub IsOfFirstBad : (taken : ℕ) (text : List ℕ) → WorldFault → Type 0
+IsOfFirstBad taken text (Line n) = IsFirstBad taken text n
+IsOfFirstBad taken text NoMemory = Unit {0}
+
+-- what a line adds to a map: one keyword behind the others
+pub record Adds (old : List Keyword) (line : List ℕ) (new : List Keyword) : Type 0 where
+  pub keyword : Keyword
+  pub text : keyword_text keyword ≡ line
+  pub behind : new ≡ old ++ keyword ∷ []
+  pub is_map : IsMap new
+
+-- a text begins with a line `sync` and a line `expunge`, and goes on with the keyword lines of a map
+pub record IsHead (keywords : List Keyword) (behind text : List ℕ) : Type 0 where
+  pub sync : List ℕ
+  pub from_expunge : List ℕ
+  pub expunge : List ℕ
+  pub from_keywords : List ℕ
+  pub first : IsLine (codes "sync ") sync from_expunge text
+  pub second : IsLine (codes "expunge ") expunge from_keywords from_expunge
+  pub gives : Gives keywords behind from_keywords
