@@ -6,10 +6,10 @@ usage: bench/gate.py [--kept] [--compare OLD] [LOG]
 The gate is `rt ci`, and here it proves all anew: what earlier runs on this machine kept is not taken, unless `--kept` asks
 for it; the table then has what was left to do. What the gate prints goes to LOG (gate.log in the folder for temporary files
 where none is given). Minutes are processor minutes, asked of the system twice a second while the checks run: a check's last
-half second may be missing, and what no check used (compilers, linkers, the programs) is told in the line `all else`. Run it
+half second may be missing, and what no check used (compilers, linkers, the programs) is in the line `all else`. Run it
 with nothing beside it. Control-C ends it, and prints what it cost so far.
 
-With `--compare OLD`, a file with such a table (docs/GATE.md, say), the crates that grew or shrank are told behind the table, and
+With `--compare OLD`, a file with such a table (docs/GATE.md, say), the crates that grew or shrank are printed after the table, and
 the sums. Processors differ by the hour: a crate counts only where it changed by more than a quarter, once the minutes of the crates
 that both tables have are set to one sum, and by more than half a minute.
 """
@@ -161,4 +161,5 @@ def main():
     sys.exit(status)
 
 
-main()
+if __name__ == "__main__":
+    main()

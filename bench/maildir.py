@@ -1,30 +1,32 @@
 #!/usr/bin/env python3
-"""Prints how long a near mailbox takes to be opened and listed, and what of the system that takes:
+"""Prints how long a near mailbox takes to be opened and listed, and how many system calls that takes.
 
-    bench/maildir.py
-
-The mailboxes have 10,000 and 100,000 small messages, in folders that are made for the run: a third of the messages stand
-in `new`. Each message is read once, so ten times the messages take about ten times as long. Seconds are the least of three
-runs; system calls are counted by strace where it is there. A listing that asks no message whether it is fit, as that of a
-run with nothing to do, has to make at most 20 system calls and one for each 50 names. Before that a folder is made with a name
-outside UTF-8, at which the listing has to stop; one with a fifo under a name without a UID, which is left alone; one with a fifo
-under the name of a message, which is listed, and stops the listing where it is read; and one without `tmp`, which is absent. Then
-1,000 messages are appended, and the calls that sync are counted: two a message, for the copy and for the meta file, and three at
-the end, for the names in `cur`, in `new` and in the folder. At the end 10,000 copies are sought by their marks, one after
-another, as a pull that was stopped seeks them: each file has to be opened once. tests_of_stores does it, by lines of a script of
-`near_mailbox` (crates/test_near_mailbox)."""
+The mailboxes have 10,000 and 100,000 small messages, in folders that are made for the run: a third of the messages are in `new`. Each
+message is read once, so ten times the messages take about ten times as long. Seconds are the least of three runs; system calls are
+counted by strace if it is there. A listing that asks no message whether it is fit, as that of a run with nothing to do, has to make at
+most 20 system calls and one for each 50 names. Before that a folder is made with a name outside UTF-8, at which the listing has to stop;
+one with a fifo under a name without a UID, which is ignored; one with a fifo under the name of a message, which is listed, and stops the
+listing where it is read; and one without `tmp`, which is absent. Then 1,000 messages are appended, and the calls that sync are counted:
+two a message, for the copy and for the meta file, and three at the end, for the names in `cur`, in `new` and in the folder. At the end
+10,000 copies are sought by their marks, one after another, as a pull that was stopped seeks them: each file has to be opened once.
+tests_of_stores does it, by lines of a script of `near_mailbox` (crates/test_near_mailbox)."""
 import os
-import re
+import pathlib
 import shutil
 import subprocess
 import sys
 import tempfile
 import time
 
-from memory import peak
-from played import build, play, program, text_of
+sys.path.insert(0, str(pathlib.Path(__file__).resolve().parents[1]))
+from bench.memory import peak
+from tests.support.measured import STRACE_ROW
+from tests.support.places import build, built, parser_of
+from tests.support.played import play, text_of
+from tests.support.tally import Tally
 
 NAME = "tests_of_stores"
+TALLY = Tally()
 SIZES = (10000, 100000)
 
 
@@ -51,10 +53,18 @@ def answer(folder, *asked):
     return answers[2] + [it for told in answers[3:] for it in told]
 
 
+def must_be(is_so, otherwise):
+    """Counts a check; if it fails the script ends."""
+    if is_so:
+        TALLY.passes()
+    else:
+        TALLY.fails(otherwise)
+        TALLY.end()
+
+
 def expect(folder, wanted, *asked):
     found = answer(folder, *asked)
-    if found[-1] != wanted:
-        sys.exit(f"{os.fsdecode(folder)}: {found} in place of {wanted}")
+    must_be(found[-1] == wanted, f"{os.fsdecode(folder)}: {found} instead of {wanted}")
 
 
 def check_bad_folders(top):
@@ -82,17 +92,16 @@ def run(folder, count):
     start = time.monotonic()
     told = answer(folder, "count")
     seconds = time.monotonic() - start
-    if told[-1] != str(count):
-        sys.exit(f"{count} messages: {told}")
+    must_be(told[-1] == str(count), f"{count} messages: {told}")
     return seconds
 
 
 def traced(folder, asked, *flags):
-    """What strace tells of such a run, or none where it is missing or may not be used."""
+    """What strace prints of such a run, or none if it is missing or may not be used."""
     if shutil.which("strace") is None:
         return None
     with tempfile.NamedTemporaryFile("r") as table:
-        done = subprocess.run(["strace", "-f", *flags, "-o", table.name, program(NAME)],
+        done = subprocess.run(["strace", "-f", *flags, "-o", table.name, built(NAME)],
                               input=text_of("near_mailbox", script_of(folder, asked)), capture_output=True, check=False)
         return table.read() if done.returncode == 0 else None
 
@@ -102,8 +111,7 @@ def counted(folder, asked):
     table = traced(folder, asked, "-c")
     if table is None:
         return None
-    rows = re.findall(r"^ +[\d.]+ +[\d.]+ +\d+ +(\d+) +(?:\d+ +)?(\w+)$", table, re.MULTILINE)
-    return {name: int(number) for number, name in rows if name != "total"}
+    return {name: int(number) for number, name in STRACE_ROW.findall(table) if name != "total"}
 
 
 def calls(folder, count):
@@ -125,8 +133,7 @@ def calls_at_rest(folder, count):
     if all_calls is None or start is None:
         return "not counted, strace cannot be used"
     more = sum(all_calls.values()) - sum(start.values())
-    if more > 20 + count / 50:
-        sys.exit(f"{count} messages: {more} system calls more than for none, with no message asked")
+    must_be(more <= 20 + count / 50, f"{count} messages: {more} system calls more than for none, with no message asked")
     return "%d, and %d more for the messages" % (sum(start.values()), more)
 
 
@@ -137,7 +144,7 @@ def measure(top, count):
     with tempfile.TemporaryFile() as source:
         source.write(text_of("near_mailbox", script_of(folder, "count")))
         source.seek(0)
-        memory = peak([program(NAME)], source)
+        memory = peak([built(NAME)], source)
     print("%7d messages  %7.3f s  %5.1f MB at most  %5.2f us and %4.0f bytes a message"
           % (count, seconds, memory / 1e6, seconds / count * 1e6, memory / count))
     print("        system calls a message: %s" % (calls(folder, count) or "not counted, strace cannot be used"))
@@ -151,12 +158,11 @@ def measure_syncs(top, count):
     make(folder, 0)
     table = traced(folder, f"append {count} copies", "-e", "trace=fsync")
     if table is None:
-        print("syncs are not counted, strace cannot be used")
+        TALLY.skip("counting syncs", "strace cannot be used")
         return
     syncs, wanted = table.count("fsync("), 2 * count + 3
     print("%7d messages appended with %d syncs" % (count, syncs))
-    if answer(folder, "count")[-1] != str(count) or syncs != wanted:
-        sys.exit(f"{count} messages appended with {syncs} syncs in place of {wanted}")
+    must_be(answer(folder, "count")[-1] == str(count) and syncs == wanted, f"{count} messages appended with {syncs} syncs instead of {wanted}")
 
 
 def measure_marks(top, count):
@@ -166,16 +172,15 @@ def measure_marks(top, count):
     start = time.monotonic()
     told = answer(folder, f"find {count} marks")
     seconds = time.monotonic() - start
-    if told[-1] != str(count):
-        sys.exit(f"{count} marks: {told}")
+    must_be(told[-1] == str(count), f"{count} marks: {told}")
     counts = counted(folder, f"find {count} marks")
     opened = "not counted, strace cannot be used" if counts is None else counts["openat"]
     print("%7d marks sought   %7.3f s  files opened: %s" % (count, seconds, opened))
-    if counts is not None and opened > count + 20:
-        sys.exit(f"{opened} files opened for {count} copies")
+    must_be(counts is None or opened <= count + 20, f"{opened} files opened for {count} copies")
 
 
 def main():
+    parser_of(__doc__).parse_args()
     build(NAME)
     with tempfile.TemporaryDirectory() as top:
         top = os.fsencode(top)
@@ -185,6 +190,8 @@ def main():
         measure_marks(top, 10000)
     print("ten times the messages take %.1f times as long and %.1f times the memory"
           % (many[0] / few[0], many[1] / few[1]))
+    TALLY.end()
 
 
-main()
+if __name__ == "__main__":
+    main()

@@ -1,4 +1,4 @@
-"""How much memory a program takes, for the scripts beside this one."""
+"""How much memory a program takes."""
 import os
 import re
 import subprocess

@@ -1,21 +1,22 @@
 #!/usr/bin/env python3
-"""Prints the seconds and the peak memory of mbplan on large worlds:
+"""Prints the seconds and the peak memory of mbplan on large worlds.
 
-    bench/plan.py [PROGRAM]
-
-PROGRAM is bin/mbplan if it is left out. Worlds have up to 1,000,000 messages on each side, half of them paired. One has a
-single message of 16777216 bytes. It fails where ten times as many messages take more than 12 times as long, or a world of
-100,000 messages on each side or more takes more than 6 times as much memory as its text."""
+Worlds have up to 1,000,000 messages on each side, half of them paired. One has a single message of 16777216 bytes. Ten times as many
+messages have to take at most 12 times as long, and a world of 100,000 messages on each side or more at most 6 times as much memory as its
+text."""
 import os
+import pathlib
 import resource
 import subprocess
 import sys
 import tempfile
 import time
 
-from memory import peak
+sys.path.insert(0, str(pathlib.Path(__file__).resolve().parents[1]))
+from bench.memory import peak
+from tests.support.places import TOP, parser_of
+from tests.support.tally import Tally
 
-TOP = os.path.dirname(os.path.dirname(os.path.abspath(__file__)))
 BIGGEST = 16777216
 MOST_TIMES_AS_LONG = 12
 MOST_TIMES_THE_TEXT = 6
@@ -69,7 +70,9 @@ def measure(program, name, world):
 
 
 def main():
-    program = sys.argv[1] if len(sys.argv) > 1 else os.path.join(TOP, "bin", "mbplan")
+    words = parser_of(__doc__)
+    words.add_argument("program", nargs="?", default=os.path.join(TOP, "bin", "mbplan"), help="bin/mbplan, if it is left out")
+    program = words.parse_args().program
     measure(program, "200 messages a side", many(200))
     measure(program, "2,000 messages a side", many(2000))
     few, times_few = measure(program, "100,000 messages a side", many(100000))
@@ -77,8 +80,11 @@ def main():
     measure(program, "a message of 16777216 bytes", biggest())
     print("ten times as many messages take %.1f times as long (at most %d are asked), and at most %.1f times as much memory"
           " as the text (%d are asked)" % (more / few, MOST_TIMES_AS_LONG, max(times_few, times_more), MOST_TIMES_THE_TEXT))
-    if more > MOST_TIMES_AS_LONG * few or max(times_few, times_more) > MOST_TIMES_THE_TEXT:
-        sys.exit(1)
+    tally = Tally()
+    tally.check(f"at most {MOST_TIMES_AS_LONG} times as long", more <= MOST_TIMES_AS_LONG * few)
+    tally.check(f"at most {MOST_TIMES_THE_TEXT} times the text", max(times_few, times_more) <= MOST_TIMES_THE_TEXT)
+    tally.end()
 
 
-main()
+if __name__ == "__main__":
+    main()

@@ -1,29 +1,27 @@
 #!/usr/bin/env python3
-"""What it costs to take up a run of which half was done, beside the other half unbroken.
+"""Prints what it costs to resume a run of which half was done, beside the other half unbroken.
 
-usage: bench/resumed.py [PROGRAM] [--messages N] [--repeat N]
-
-PROGRAM is crates/mbtrial/out/mbtrial if it is left out. A first pull of N messages (10000 if it is left out) was stopped when half of
-its steps were logged: their copies stand in the near mailbox, and the journal has the plan and the log. mbtrial finishes it. The
-same work without a break is a pull of the other half beside the first one, which a state knows; a first pull of half as many
-messages into an empty mailbox is told beside it. Pushes likewise. Told are seconds of the processor, the least of so many runs (3),
-each with the reading of its text. Each run has to make the copies that are wanted, and no more; status 1 if one does not. The limit
-is twice the time of the other half; the script says where it is passed, and that is no failure."""
-import argparse
-import base64
-import os
+A first pull of N messages was stopped when half of its steps were logged: their copies are in the near mailbox, and the journal has the
+plan and the log. mbtrial finishes it. The same work without a break is a pull of the other half beside the first one, which a state
+knows; a first pull of half as many messages into an empty mailbox is printed beside it. Pushes likewise. Printed are seconds of the
+processor, the least of some runs, each with the reading of its text. Each run has to make the copies that are wanted, and no more. The
+limit is twice the time of the other half; the script says where it is passed, and that is no failure."""
+import pathlib
 import resource
-import struct
 import subprocess
 import sys
 
-TOP = os.path.dirname(os.path.dirname(os.path.abspath(__file__)))
+sys.path.insert(0, str(pathlib.Path(__file__).resolve().parents[1]))
+from oracle import outcome_model
+from tests.support.places import built, must_run, parser_of
+from tests.support.tally import Tally
+
 LIMIT = 2
 
 
 def mark(k):
-    """The k-th mark of the trial generator, whose k-th word is k: nine bytes, eight of a word and one of the next."""
-    return base64.urlsafe_b64encode(struct.pack("<Q", 2 * k - 1) + bytes([2 * k % 256])).decode()
+    """The k-th mark of the trial generator."""
+    return outcome_model.mark(k).decode()
 
 
 def sources(is_pull, count):
@@ -66,7 +64,7 @@ def is_done(told, is_pull, count, done, is_resumed):
     word, letter, run = "pull" if is_pull else "push", "n" if is_pull else "f", 1 if is_resumed or done == 0 else 2
     lines = told.split("\n")
     steps = [f"new {word} {k} -> {k}" for k in range(done + 1, count + 1)]
-    # a run that was planned when copies stood there has seen them
+    # A run that was planned when copies were there has seen them.
     seen = 0 if is_resumed else done
     highest = f"{count} {seen}" if is_pull else f"{seen} {count}"
     entries = [line for line in lines if line.startswith("e ")]
@@ -84,34 +82,39 @@ def processor(program, text):
     return after.ru_utime + after.ru_stime - before.ru_utime - before.ru_stime, told
 
 
-def cost(program, repeat, *case):
+def cost(tally, program, repeat, *case):
     """The least time of so many runs of a case, each of which has to do its work."""
     text, least = trial(*case), None
     for _ in range(repeat):
         seconds, told = processor(program, text)
         if not is_done(told, *case):
-            sys.exit(f"another end of {case}: {told[:200]}")
+            tally.fails(f"another end of {case}: {told[:200]}")
+            tally.end()
+        tally.passes()
         least = seconds if least is None else min(least, seconds)
     return least
 
 
 def main():
-    words = argparse.ArgumentParser(description="What it costs to take up a run of which half was done.")
-    words.add_argument("program", nargs="?", default=os.path.join(TOP, "crates", "mbtrial", "out", "mbtrial"))
-    words.add_argument("--messages", type=int, default=10000)
-    words.add_argument("--repeat", type=int, default=3)
+    words = parser_of(__doc__)
+    words.add_argument("program", nargs="?", default=built("mbtrial"), help="the built mbtrial, if it is left out")
+    words.add_argument("--messages", type=int, default=10000, metavar="N", help="how many messages (10000)")
+    words.add_argument("--repeat", type=int, default=3, metavar="N", help="how many runs (3)")
     told = words.parse_args()
+    must_run(told.program)
+    tally = Tally()
     for is_pull in True, False:
         name = "pull" if is_pull else "push"
         for count in (told.messages // 4, told.messages // 2, told.messages):
             half = count // 2
-            resumed = cost(told.program, told.repeat, is_pull, count, half, True)
-            unbroken = cost(told.program, told.repeat, is_pull, count, half, False)
-            alone = cost(told.program, told.repeat, is_pull, half, 0, False)
+            resumed = cost(tally, told.program, told.repeat, is_pull, count, half, True)
+            unbroken = cost(tally, told.program, told.repeat, is_pull, count, half, False)
+            alone = cost(tally, told.program, told.repeat, is_pull, half, 0, False)
             ratio = resumed / unbroken
             passed = f" (more than {LIMIT})" if ratio > LIMIT else ""
             print(f"{name} of {count}, {half} done: resumed {resumed:.2f} s, the other half unbroken {unbroken:.2f} s, {ratio:.1f} times{passed};"
                   f" a first {name} of {half} {alone:.2f} s", flush=True)
+    tally.end()
 
 
 if __name__ == "__main__":

@@ -1,23 +1,22 @@
 #!/usr/bin/env python3
-"""Prints what runs over large mailboxes in memory cost, through mbtrial:
+"""Prints what runs over large mailboxes in memory cost, through mbtrial.
 
-    bench/run.py [PROGRAM] [--most N]
-
-PROGRAM is crates/mbtrial/out/mbtrial if it is left out. 1,000, 10,000 and 100,000 messages of 3 KB (or up to N) are pulled into an
-empty near mailbox. What that run leaves is the world of a run with nothing to do, and of one before which 1% of the far messages got
-a flag. Each has its seconds, on the clock and of the processor, its greatest memory, and how many times the work of the processor it
-is of the size before; past 12 times that is said. The costs are those of the whole program: the text is read and written, client
-and server speak IMAP, folder and shelf are in memory. A run whose steps are not those that it should have ends the script. Run it with
-nothing beside it."""
-import argparse
+1,000, 10,000 and 100,000 messages of 3 KB (or up to N) are pulled into an empty near mailbox. What that run leaves is the world of a run
+with nothing to do, and of one before which 1% of the far messages got a flag. Each has its seconds, on the clock and of the processor, its
+greatest memory, and how many times the work of the processor it is of the size before, which has to be at most 12. The costs are those of
+the whole program: the text is read and written, client and server speak IMAP, folder and shelf are in memory. A run whose steps are not
+those that it should have ends the script. Run it with nothing beside it."""
 import os
+import pathlib
 import re
 import sys
 import tempfile
 
-from measured import measured
+sys.path.insert(0, str(pathlib.Path(__file__).resolve().parents[1]))
+from tests.support.measured import measured
+from tests.support.places import built, must_run, parser_of
+from tests.support.tally import Tally
 
-TOP = os.path.dirname(os.path.dirname(os.path.abspath(__file__)))
 SIZES = (1000, 10000, 100000)
 LIMIT = 12
 OPTIONS = b"sync Full\nexpunge None\n"
@@ -84,11 +83,12 @@ def works(program, count):
 
 
 def main():
-    words = argparse.ArgumentParser(description="Prints what runs over large mailboxes in memory cost.")
-    words.add_argument("program", nargs="?", default=os.path.join(TOP, "crates", "mbtrial", "out", "mbtrial"))
-    words.add_argument("--most", type=int, default=SIZES[-1])
+    words = parser_of(__doc__)
+    words.add_argument("program", nargs="?", default=built("mbtrial"), help="the built mbtrial, if it is left out")
+    words.add_argument("--most", type=int, default=SIZES[-1], metavar="N")
     asked = words.parse_args()
-    before = {}
+    must_run(asked.program)
+    tally, before = Tally(), {}
     for count in [size for size in SIZES if size <= asked.most]:
         for work, cost, size in works(asked.program, count):
             times = cost.processor / before[work] if work in before else None
@@ -96,6 +96,9 @@ def main():
             told = "" if times is None else f"  {times:.1f} times" + (f", past {LIMIT}" if times > LIMIT else "")
             print("%7d messages  %-16s %7.1f MB of text %9.2f s %9.2f s of the processor %8.1f MB%s"
                   % (count, work, size / 1e6, cost.seconds, cost.processor, cost.peak, told), flush=True)
+            if times is not None:
+                tally.check(f"{count} messages, {work}: at most {LIMIT} times the work", times <= LIMIT)
+    tally.end()
 
 
 if __name__ == "__main__":

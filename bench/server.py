@@ -1,28 +1,26 @@
 #!/usr/bin/env python3
-"""Prints how fast trial-imapd serves a mailbox over loopback:
+"""Prints how fast trial-imapd serves a mailbox over loopback.
 
-    bench/server.py
-
-The mailbox has 10,000 and 100,000 messages of 3 KB. They are listed, fetched by one command, and 1,000 of them one by one;
-then as many are appended to an empty mailbox, each once its literal is asked for; and a literal of 16 MB and a tenth of it is
-sent in pieces of 4096 bytes. With seconds and MB a second it prints how many times as long ten times the work takes, and the
-greatest memory of the server. Run it with nothing beside it."""
+The mailbox has 10,000 and 100,000 messages of 3 KB. They are listed, fetched by one command, and 1,000 of them one by one; then as many
+are appended to an empty mailbox, each once its literal is asked for; and a literal of 16 MB and a tenth of it is sent in pieces of 4096
+bytes. With seconds and MB a second it prints how many times as long ten times the work takes, and the greatest memory of the server. Each
+connection has to be answered to its end. Run it with nothing beside it."""
 import os
+import pathlib
 import sys
 import tempfile
 import time
 
-from trial_imapd import Server, build, world
+sys.path.insert(0, str(pathlib.Path(__file__).resolve().parents[1]))
+from tests.support.messages import of_3_kb
+from tests.support.places import parser_of
+from tests.support.tally import Tally
+from tests.support.trial_imapd import Server, build, world
 
 SIZES = (10000, 100000)
 SINGLE = 1000
 LITERALS = (1677721, 16777216)
 MB = 1000000
-
-
-def message(n):
-    head = b"From: a@example.org\r\nSubject: %d\r\n\r\n" % n
-    return head + (b"0123456789" * 6 + b"\r\n") * ((3000 - len(head)) // 62)
 
 
 def timed(work):
@@ -57,7 +55,7 @@ def file_of(folder, messages):
 
 def fetching(folder, count):
     """Rows of what reads a mailbox: a name, seconds, bytes."""
-    file = file_of(folder, [message(n) for n in range(1, count + 1)])
+    file = file_of(folder, [of_3_kb(n) for n in range(1, count + 1)])
     server = Server(file, 1)
     connection = begin(server)
     rows = []
@@ -73,7 +71,7 @@ def fetching(folder, count):
 def appending(folder, count):
     server = Server(file_of(folder, []), 1)
     connection = begin(server)
-    messages = [message(n) for n in range(1, count + 1)]
+    messages = [of_3_kb(n) for n in range(1, count + 1)]
 
     def append_all():
         for uid, text in enumerate(messages, 1):
@@ -90,7 +88,7 @@ def one_literal(folder, size):
     return [("a literal in pieces of 4096 bytes", seconds, size)], end(server, connection)
 
 
-def show(measure, sizes, unit):
+def show(tally, measure, sizes, unit):
     with tempfile.TemporaryDirectory() as folder:
         before = None
         for size in sizes:
@@ -100,10 +98,18 @@ def show(measure, sizes, unit):
                 print("%d %s: %s: %.3f s, %.0f MB/s%s" % (size, unit, name, seconds, count / MB / seconds, ratio), flush=True)
             print("%d %s: greatest memory %.0f MB" % (size, unit, peak), flush=True)
             before = rows
+            tally.passes()
+
+
+def main():
+    parser_of(__doc__).parse_args()
+    build()
+    tally = Tally()
+    show(tally, fetching, SIZES, "messages")
+    show(tally, appending, SIZES, "messages")
+    show(tally, one_literal, LITERALS, "bytes")
+    tally.end()
 
 
 if __name__ == "__main__":
-    build()
-    show(fetching, SIZES, "messages")
-    show(appending, SIZES, "messages")
-    show(one_literal, LITERALS, "bytes")
+    main()

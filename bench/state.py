@@ -1,19 +1,22 @@
 #!/usr/bin/env python3
-"""Prints the seconds and the peak memory of reading and writing states and journals:
+"""Prints the seconds and the peak memory of reading and writing states and journals.
 
-    bench/state.py
-
-A state of 10,000 entries and one of 100,000, a journal of 100,000 steps without a log and one whose steps are all logged, each read
-and written again; and the 10,000 steps of a journal on the disk logged by a call each. Logging syncs nothing, and the journal and
-its folder are synced once where it is opened: these calls are counted where strace can be used. The memory is the greatest that the
-program held, in a run of its own. tests_of_stores does it, by lines of a script of `book` (crates/test_book)."""
+A state of 10,000 entries and one of 100,000, a journal of 100,000 steps without a log and one whose steps are all logged, each read and
+written again; and the 10,000 steps of a journal on the disk logged by a call each. Logging syncs nothing, and the journal and its folder
+are synced once when it is opened: these calls are counted if strace can be used. The memory is the greatest that the program held, in a
+run of its own. tests_of_stores does it, by lines of a script of `book` (crates/test_book)."""
 import os
+import pathlib
 import shutil
 import subprocess
+import sys
 import tempfile
 
-from memory import peak
-from played import build, play, program, text_of
+sys.path.insert(0, str(pathlib.Path(__file__).resolve().parents[1]))
+from bench.memory import peak
+from tests.support.places import build, built, parser_of
+from tests.support.played import play, text_of
+from tests.support.tally import Tally
 
 NAME = "tests_of_stores"
 MARK = "abcdefghijklmnopqrstuvwxyzABCDEFGHIJKLMNOPQRSTUVWXYZ0123456789-_"
@@ -48,12 +51,12 @@ def peak_of(lines, folder):
         here = os.getcwd()
         os.chdir(folder)
         try:
-            return peak([program(NAME)], source)
+            return peak([built(NAME)], source)
         finally:
             os.chdir(here)
 
 
-def measure_text(kind, lines):
+def measure_text(tally, kind, lines):
     """How long a text takes to be read and written again."""
     with tempfile.TemporaryDirectory() as folder:
         with open(os.path.join(folder, "text"), "w", encoding="ascii") as file:
@@ -63,6 +66,7 @@ def measure_text(kind, lines):
         answers, times = play(NAME, "book", script, folder)
         memory = peak_of(script, folder)
     print("%-8s %-46s %9d bytes  read and written in %8.3f s  %5.1f MB" % (kind, answers[-1][0], size, times[-1], memory / 1e6))
+    tally.passes()
 
 
 def in_new_folder(act):
@@ -82,31 +86,33 @@ def count_syncs(folder):
     if shutil.which("strace") is None:
         return None
     with tempfile.NamedTemporaryFile("r") as trace:
-        traced = subprocess.run(["strace", "-f", "-e", "trace=fsync", "-o", trace.name, program(NAME)], cwd=folder,
+        traced = subprocess.run(["strace", "-f", "-e", "trace=fsync", "-o", trace.name, built(NAME)], cwd=folder,
                                 input=text_of("book", script_of_steps()), capture_output=True, check=False)
         return trace.read().count("fsync(") if traced.returncode == 0 else None
 
 
-def measure_steps():
+def measure_steps(tally):
     answers, times = in_new_folder(lambda folder: play(NAME, "book", script_of_steps(), folder))
     memory = in_new_folder(lambda folder: peak_of(script_of_steps(), folder))
     print("%-8s %-46s logged in %8.3f s  %5.1f MB" % ("steps", answers[-1][0], times[-1], memory / 1e6))
     syncs = in_new_folder(count_syncs)
     if syncs is None:
-        print("syncs are not counted, strace cannot be used")
-    elif syncs == 2:
-        print("         the journal and its folder are synced once each")
+        tally.skip("counting syncs", "strace cannot be used")
     else:
-        raise SystemExit(f"{syncs} syncs in place of 2")
+        tally.check("the journal and its folder are synced once each", syncs == 2, f"{syncs} syncs")
 
 
 def main():
+    parser_of(__doc__).parse_args()
     build(NAME)
-    measure_text("state", state(10000))
-    measure_text("state", state(100000))
-    measure_text("journal", journal(100000, 0))
-    measure_text("journal", journal(100000, 100000))
-    measure_steps()
+    tally = Tally()
+    measure_text(tally, "state", state(10000))
+    measure_text(tally, "state", state(100000))
+    measure_text(tally, "journal", journal(100000, 0))
+    measure_text(tally, "journal", journal(100000, 100000))
+    measure_steps(tally)
+    tally.end()
 
 
-main()
+if __name__ == "__main__":
+    main()

@@ -1,29 +1,30 @@
 #!/usr/bin/env python3
-"""Prints what mbsync costs over trial-imapd, beside isync on the same mailboxes where it is installed:
+"""Prints what mbsync costs over trial-imapd, beside isync on the same mailboxes if it is installed.
 
-    bench/sync.py [--program PROGRAM] [--isync PROGRAM] [--most N]
-
-A mailbox of 10,000 messages of 3 KB is pulled into an empty folder. Then come the run behind that, a run with nothing to do, and one
-before which 1% of the far messages got a flag. Each has its seconds, on the clock and of
-the processor, and its greatest memory; in separate runs over 1,000 messages strace counts syncs and system calls a message. Then
-mbsync alone shows how this grows, at 1,000, 10,000 and 100,000 messages, or up to N.
+A mailbox of 10,000 messages of 3 KB is pulled into an empty folder. Then come the run after that, a run with nothing to do, and one
+before which 1% of the far messages got a flag. Each has its seconds, on the clock and of the processor, and its greatest memory; in
+separate runs over 1,000 messages strace counts syncs and system calls a message. Then mbsync alone shows how this grows, at 1,000, 10,000
+and 100,000 messages, or up to N. After each pull and each flag all messages have to be there.
 
 isync does not speak the profile of IMAP4rev2 that trial-imapd takes. So it goes through a go-between in this process, which puts what it
-asks into the profile's words, and mbsync is measured through it once more, so that the two can be compared. What is missing is
-told. PROGRAM is the built mbsync, and isync's is /usr/bin/mbsync, if they are left out. Run it with nothing beside it."""
-import argparse
+asks into the profile's words, and mbsync is measured through it once more, so that the two can be compared. If isync is missing, that is
+printed. Run it with nothing beside it."""
 import os
+import pathlib
 import sys
 import tempfile
 
-from configuration import configured
-from go_between import GoBetween
-from imap_side import ImapSide
-from maildir_side import MaildirSide
-from measured import measured, system_calls
-from trial_imapd import TOP, Server, build, world
+sys.path.insert(0, str(pathlib.Path(__file__).resolve().parents[1]))
+from tests.support.configuration import ISYNC_ONLY, configured
+from tests.support.go_between import GoBetween
+from tests.support.imap_side import ImapSide
+from tests.support.maildir_side import MaildirSide
+from tests.support.measured import measured, system_calls
+from tests.support.messages import of_3_kb
+from tests.support.places import MBSYNC, must_run, parser_of
+from tests.support.tally import Tally
+from tests.support.trial_imapd import Server, build, world
 
-MBSYNC = os.path.join(TOP, "crates", "mbsync_main", "out", "mbsync_main")
 COMPARED = 10000
 COUNTED = 1000
 SIZES = (1000, 10000, 100000)
@@ -32,13 +33,9 @@ Far :far:
 Near :near:
 SyncState *
 """
-# isync goes over to TLS by itself, if it is not told otherwise.
-ISYNC_STORE = "SSLType None\nAuthMechs LOGIN\n"
 
 
-def message(n):
-    head = b"From: a@example.org\r\nSubject: %d\r\n\r\n" % n
-    return head + (b"0123456789" * 6 + b"\r\n") * ((3000 - len(head)) // 62)
+TALLY = Tally()
 
 
 class Boxes:
@@ -48,7 +45,7 @@ class Boxes:
         self.count = count
         file = os.path.join(top, "bench.world")
         with open(file, "wb") as text:
-            text.write(world([message(n) for n in range(1, count + 1)]))
+            text.write(world([of_3_kb(n) for n in range(1, count + 1)]))
         self.server = Server(file, 65535)
         self.server.connect().logout()
         self.between = GoBetween(self.server.port) if through_go_between else None
@@ -56,7 +53,7 @@ class Boxes:
         configuration = os.path.join(top, "mbsyncrc")
         with open(configuration, "w", encoding="ascii") as text:
             port = self.between.port if self.between else self.server.port
-            text.write(configured(port, top, CHANNEL, ISYNC_STORE if is_isync else ""))
+            text.write(configured(port, top, CHANNEL, ISYNC_ONLY if is_isync else ""))
         self.command = [program, "-c", configuration, "bench"]
 
     def change_flags(self, sign):
@@ -67,8 +64,11 @@ class Boxes:
     def check(self, flagged):
         """All messages have to be there, and so many with the flag."""
         flags = [name["letters"] or "" for _, name in self.near.files()]
-        if (len(flags), sum("F" in letters for letters in flags)) != (self.count, flagged):
-            sys.exit(f"{self.command}: {len(flags)} messages, {sum('F' in letters for letters in flags)} with the flag")
+        found = (len(flags), sum("F" in letters for letters in flags))
+        if found != (self.count, flagged):
+            TALLY.fails(f"{self.command}: {found[0]} messages, {found[1]} with the flag")
+            TALLY.end()
+        TALLY.passes()
 
     def stop(self):
         if self.between:
@@ -80,7 +80,7 @@ def works(boxes, run):
     """Each work, with what a run of the command gives."""
     found = [("first pull", run(boxes.command))]
     boxes.check(0)
-    found.append(("the run behind", run(boxes.command)))
+    found.append(("the run after it", run(boxes.command)))
     found.append(("nothing to do", run(boxes.command)))
     boxes.change_flags(b"+")
     found.append(("1% of the flags", run(boxes.command)))
@@ -125,25 +125,22 @@ def grow(program, most):
 
 
 def main():
-    words = argparse.ArgumentParser()
-    words.add_argument("--program", default=MBSYNC)
-    words.add_argument("--isync", default="/usr/bin/mbsync")
-    words.add_argument("--most", type=int, default=SIZES[-1])
+    words = parser_of(__doc__)
+    words.add_argument("--program", default=MBSYNC, help="the built mbsync, if it is left out")
+    words.add_argument("--isync", default="/usr/bin/mbsync", help="/usr/bin/mbsync, if it is left out")
+    words.add_argument("--most", type=int, default=SIZES[-1], metavar="N")
     words = words.parse_args()
+    must_run(words.program)
     build()
-    is_ours_there, is_isync_there = os.access(words.program, os.X_OK), os.access(words.isync, os.X_OK)
     print(f"{COMPARED} messages of 3 KB; system calls over {COUNTED}")
-    if is_ours_there:
-        compare("mbsync", words.program)
-        compare("mbsync, through go-between", words.program, through_go_between=True)
-    if is_isync_there:
+    compare("mbsync", words.program)
+    compare("mbsync, through go-between", words.program, through_go_between=True)
+    if os.access(words.isync, os.X_OK):
         compare("isync, through go-between", words.isync, is_isync=True, through_go_between=True)
-    if is_ours_there:
-        grow(words.program, words.most)
-    if not is_isync_there:
-        print(f"isync is not installed at {words.isync}: its rows are missing")
-    if not is_ours_there:
-        sys.exit(f"{words.program} is not built: its rows are missing")
+    else:
+        TALLY.skip("isync", f"it is not installed at {words.isync}")
+    grow(words.program, words.most)
+    TALLY.end()
 
 
 if __name__ == "__main__":

@@ -1,25 +1,27 @@
 #!/usr/bin/env python3
-"""Prints how fast replies are read from memory, beside a plain search for line feeds in the same bytes:
-
-    bench/wire.py
+"""Prints how fast replies are read from memory, beside a plain search for line feeds in the same bytes.
 
 One input is FETCH replies with UID, FLAGS and RFC822.SIZE, 10,000 and ten times as many; the other one FETCH reply with a
 body of 16777216 bytes, and one of a tenth. Reading takes ten times as long for ten times the bytes.
 
 The same bytes are then read as they would come over a connection: pushed to a buffer, scanned once, and read at each place
 where the scanner stops; as one piece, and in pieces of 4096 bytes. Many pieces take about as long as one. tests_of_words makes and
-reads them, by lines of a script of `wire` (crates/test_wire)."""
+reads them, by lines of a script of `wire` (crates/test_wire). All replies of each input have to be read."""
+import pathlib
 import re
 import sys
 
-from played import build, play
+sys.path.insert(0, str(pathlib.Path(__file__).resolve().parents[1]))
+from tests.support.places import build, parser_of
+from tests.support.played import play
+from tests.support.tally import Tally
 
 PROGRAM = "tests_of_words"
 BODY = 16777216
 ONE_PIECE = 4294967295
 
 
-def measure(name, made, replies):
+def measure(tally, name, made, replies):
     """The seconds of reading at once, as one piece and in many: the least of five runs each."""
     lines = ["clock", made, "read all", f"feed in pieces of {ONE_PIECE}", "feed in pieces of 4096", "line feeds"]
     best, answers = None, None
@@ -28,7 +30,9 @@ def measure(name, made, replies):
         best = [min(pair) for pair in zip(best, times[2:])] if best else times[2:]
     told = {tuple(map(int, re.findall(r"\d+", answers[place][0])))[:2] for place in (2, 3, 4)}
     if len(told) != 1 or min(told)[0] != replies:
-        sys.exit(f"{name}: not all was read: {answers}")
+        tally.fails(f"{name}: not all was read: {answers}")
+        tally.end()
+    tally.passes()
     used = min(told)[1]
     reading, whole, pieces, scanning = best
     print("%-22s %7d replies %9d bytes  %8.4f s  %7.1f MB/s  %9.0f replies/s  line feeds alone %8.4f s"
@@ -39,11 +43,15 @@ def measure(name, made, replies):
 
 
 def main():
+    parser_of(__doc__).parse_args()
     build(PROGRAM)
-    few, many = measure("10,000 listings", "listings 10000", 10000), measure("100,000 listings", "listings 100000", 100000)
+    tally = Tally()
+    few, many = (measure(tally, f"{count:,} listings", f"listings {count}", count) for count in (10000, 100000))
     print("ten times the listings take %.1f times as long" % (many / few))
-    small, large = measure("a body of 1.6 MB", f"body {BODY // 10}", 1), measure("a body of 16 MB", f"body {BODY}", 1)
+    small, large = measure(tally, "a body of 1.6 MB", f"body {BODY // 10}", 1), measure(tally, "a body of 16 MB", f"body {BODY}", 1)
     print("ten times the body takes %.1f times as long" % (large / small))
+    tally.end()
 
 
-main()
+if __name__ == "__main__":
+    main()

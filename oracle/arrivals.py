@@ -2,45 +2,46 @@
 """Runs the built mbtrial on random worlds to which others add messages while calls stop, and looks whether what is left is what the
 rules of docs/RULES.md say, read once more.
 
-usage: bench/arrivals.py [PROGRAM] [--count N] [--seed S] [--tcp] [--self-test]
-
-PROGRAM is crates/mbtrial/out/mbtrial if it is left out, N 2000, S 1; `--tcp` is handed on to it. World k has the seed S + k. Up to three
-messages or files come before calls that are drawn at random, and up to three other calls stop. Each message has a line of its own, so
-that it is known wherever it stands. The run has to be settled, and what it leaves has to be what `outcome_model.py` says of the world
-with those arrivals in it that were listed, with the others behind it as they came: the same messages with the same flags and bytes, but
-for marks, and the same entries and highest messages; which UIDs the run gave does not matter. An arrival whose call was made has to be
-there. Then the world that is left is given to mbtrial again, alone, and what that run leaves has to be what the model says: so each
-fit arrival is copied then. Each trial that differs is told with its seed. At the end stands how many arrivals were listed, came later or
-did not come, and status 1 if a trial differs. `--self-test` reads four rules of arrivals wrongly in turn, each of which some trial has to
-tell."""
-import importlib
+World k has the seed S + k. Up to three messages or files come before calls that are drawn at random, and up to three other calls stop.
+Each message has a line of its own, so that it is known wherever it is. The run has to be settled, and what it leaves has to be what
+outcome_model.py says of the world with those arrivals in it that were listed, followed by the others as they came: the same messages with
+the same flags and bytes, but for marks, and the same entries and highest messages; which UIDs the run gave does not matter. An arrival
+whose call was made has to be there. Then the world that is left is given to mbtrial again, alone, and what that run leaves has to be what
+the model says: so each fit arrival is copied then. Each trial that differs is printed with its seed. At the end it says how many arrivals
+were listed, came later or did not come. --self-test reads four rules of arrivals wrongly in turn, each of which some trial has to show."""
 import itertools
+import pathlib
 import random
 import re
 import subprocess
 import sys
 from collections import Counter
 
-from outcome_model import GREATEST_NEXT, fault, outcome
-from plan_model import escaped, letters_of, text_of
-
-worlds = importlib.import_module("random-trials")
+sys.path.insert(0, str(pathlib.Path(__file__).resolve().parents[1]))
+from oracle import random_trials
+from oracle.mail import escaped, unescaped
+from oracle.outcome_model import GREATEST_NEXT, fault, outcome
+from oracle.plan_model import letters_of, text_of
+from tests.support.places import must_run
+from tests.support.tally import Tally
 
 COMMANDS = ("SELECT", "FETCH", "STORE", "EXPUNGE", "APPEND")
 FOLDER = ("folder.write_tmp", "folder.rename", "folder.remove", "folder.replace_meta")
 SHELF = ("shelf.append", "shelf.replace", "shelf.remove")
 OWN_LINE = re.compile(rb"^N: (\d+)", re.MULTILINE)
 MARK = re.compile(rb"^X-TUID: [A-Za-z0-9_-]{12}\r*\n")
-ESCAPE = re.compile(rb"\\([0-9a-f]{2})")
 MESSAGE_LINE = re.compile(r'(?:(\d+) )?(\S+) "(.*)"', re.DOTALL)
 
 
 # ---- trials
 
-def numbered(world, rng):
+def numbered(world):
     """The world, with a line of its own in front of each message."""
     count = itertools.count(1)
-    own = lambda data: b"N: %d\n" % next(count) + data
+
+    def own(data):
+        return b"N: %d\n" % next(count) + data
+
     world = dict(world, waiting=[(letters, own(data)) for letters, data in world["waiting"]])
     for side in ("far", "near"):
         world[side] = [(uid, letters, own(data)) for uid, letters, data in world[side]]
@@ -48,7 +49,7 @@ def numbered(world, rng):
 
 
 def random_arrivals(rng, letters):
-    """Side, call, number, letters and bytes of what comes, each behind numbers that no message of the world has."""
+    """Side, call, number, letters and bytes of what comes, each with a line that no message of the world has."""
     arrivals = []
     for k in range(rng.randrange(1, 4)):
         side = rng.choice(["far", "near"])
@@ -79,7 +80,7 @@ def read_world(before, lines):
             world[word + "_validity"], world[word + "_next"] = map(int, rest.split())
         elif word in ("f", "n", "w"):
             uid, letters, text = MESSAGE_LINE.fullmatch(rest).groups()
-            data = ESCAPE.sub(lambda found: bytes([int(found[1], 16)]), text.encode("latin-1"))
+            data = unescaped(text.encode("latin-1"))
             letters = "" if letters == "-" else letters
             if word == "w":
                 world["waiting"].append((letters, data))
@@ -111,8 +112,13 @@ def named(world, opening):
     for side in ("far", "near"):
         for uid, _, data in world[side]:
             known[side, uid] = uid if uid < opening[side + "_next"] else ("message", name_of(data))
-    uid_of = lambda side, uid: known.get((side, uid), uid if uid < opening[side + "_next"] else "gone")
-    bare = lambda data: MARK.sub(b"X-TUID:\n", data, count=1)
+
+    def uid_of(side, uid):
+        return known.get((side, uid), uid if uid < opening[side + "_next"] else "gone")
+
+    def bare(data):
+        return MARK.sub(b"X-TUID:\n", data, count=1)
+
     messages = {side: sorted((str(uid_of(side, uid)), letters, bare(data)) for uid, letters, data in world[side]) for side in ("far", "near")}
     entries = sorted((str(uid_of("far", far)), str(uid_of("near", near)), letters) for far, near, letters in world["entries"])
     highest = [up_to(world, opening, "far", world["max_pulled"]), up_to(world, opening, "near", world["max_pushed"])]
@@ -120,7 +126,7 @@ def named(world, opening):
 
 
 def with_arrivals(world, arrivals, are_read):
-    """The world with these arrivals behind it; near files that are read come before those that wait, each before the last."""
+    """The world followed by these arrivals; near files that are read come before those that wait, each before the last."""
     world = dict(world, far=list(world["far"]), waiting=list(world["waiting"]))
     for side, _, _, letters, data in arrivals:
         if side == "far":
@@ -133,7 +139,9 @@ def with_arrivals(world, arrivals, are_read):
 
 def expected(world, arrivals, fates, misread):
     """What is left where these became of the arrivals."""
-    fated = lambda fate: [arrival for arrival, became in zip(arrivals, fates) if became == fate]
+    def fated(fate):
+        return [arrival for arrival, became in zip(arrivals, fates) if became == fate]
+
     listed = with_arrivals(world, fated("listed"), True)
     return misread(with_arrivals(outcome(listed), fated("later"), False), fated("later"))
 
@@ -178,20 +186,21 @@ WRONG_READINGS = (deleted_is_expunged, flags_are_touched, has_an_entry, raises_t
 
 class Runs:
     def __init__(self, program, arguments, misread=as_it_is):
-        self.command, self.differing, self.met = [program, *arguments], 0, Counter()
+        self.command, self.tally, self.met = [program, *arguments], Tally(), Counter()
         self.misread = misread
 
     def ask(self, text):
         return subprocess.run(self.command, input=text.encode(), capture_output=True, check=False, timeout=300).stdout.decode().split("\n")
 
     def differs(self, seed, what, text, found):
-        self.differing += 1
         if self.misread is as_it_is:
-            print(f"seed {seed}: {what}\n{text[:4000]}found {found!r:.4000}\n")
+            self.tally.fails(f"seed {seed}: {what}\n{text[:4000]}found {found!r:.4000}\n")
+        else:
+            self.tally.failed += 1
 
     def trial(self, seed):
         rng = random.Random(seed)
-        world = numbered(worlds.random_world(seed), rng)
+        world = numbered(random_trials.random_world(seed))
         if fault(world) or any(world[side + "_next"] > GREATEST_NEXT - 100 for side in ("far", "near")):
             self.met["left out"] += 1
             return
@@ -225,35 +234,38 @@ class Runs:
     def next_run(self, seed, left, whole):
         """A run over what is left, alone."""
         if fault(left):
+            self.tally.passes()
             return
         found = self.ask(text_of(left) + "tries 1\n")
         again = read_world(left, found[next(k for k, line in enumerate(found) if line.startswith("far ")):])
         if found[0] != "settled ran 0" or named(outcome(left), left) != named(again, left):
             self.differs(seed, "the next run is not what the rules say", whole + text_of(left), found)
+        else:
+            self.tally.passes()
 
 
 def self_test(asked):
-    """Whether each wrong reading is told, as a status."""
-    status = 0
+    """Looks whether some trial shows each wrong reading."""
+    tally = Tally()
     for misread in WRONG_READINGS:
         runs = Runs(asked.program, [], misread)
         for seed in range(asked.seed, asked.seed + 300):
             runs.trial(seed)
-        print(f"{misread.__name__}: {runs.differing} of 300 trials differ")
-        status |= not runs.differing
-    return int(status)
+        tally.check(f"{misread.__name__}: {runs.tally.failed} of 300 trials differ", runs.tally.failed)
+    tally.end()
 
 
 def main():
-    asked = worlds.words_of("Compares mbtrial with the rules where others add messages.").parse_args()
+    asked = random_trials.words_of(__doc__).parse_args()
+    must_run(asked.program)
     if asked.self_test:
-        sys.exit(self_test(asked))
+        self_test(asked)
     runs = Runs(asked.program, ["--tcp"] if asked.tcp else [])
     for seed in range(asked.seed, asked.seed + asked.count):
         runs.trial(seed)
     print(", ".join(f"{kind} {number}" for kind, number in sorted(runs.met.items())))
-    print(f"{asked.count} trials from seed {asked.seed}, {runs.differing} differ")
-    sys.exit(1 if runs.differing else 0)
+    print(f"{asked.count} trials from seed {asked.seed}, {runs.tally.failed} differ")
+    runs.tally.end()
 
 
 if __name__ == "__main__":

@@ -1,7 +1,8 @@
-"""Judges what a run has left: nothing lost, doubled or revived, each flag as the rules say, and each byte where it belongs."""
+"""Judges what a run has left: nothing lost, duplicated or resurrected, each flag as the rules say, and each byte where it belongs."""
 import re
 
-from run_model import OTHER, content, name_of
+from oracle.mail import content
+from oracle.run_model import name_of
 
 MARK_LINE = rb"X-TUID: [A-Za-z0-9_-]{12}"
 

@@ -1,15 +1,14 @@
-"""What a run leaves by docs/RULES.md, and what mbtrial tells of it by docs/FORMATS.md, read once more: for scripts beside this one.
+"""What a run leaves by docs/RULES.md, and what mbtrial prints of it by docs/FORMATS.md, read once more.
 
 Worlds are the tables of `plan_model`. An end is asked of each message and each entry by itself; the steps come from `plan_model`."""
 import base64
 
-from plan_model import CELLS, LETTERS, changed_bits, content, is_fit, plan, recorded_after, world_after_options
+from oracle.mail import LETTERS, TYPES, WAYS, content, is_fit
+from oracle.plan_model import CELLS, changed_bits, plan, recorded_after, world_after_options
 
 GREATEST_NEXT = 4294967295
 GREATEST_RUN = 18446744073709551615
 CHANGED, REFUSED, BAD_STATE, OTHER_FAULT = 3, 2, 4, 6
-TYPES = ("New", "Gone", "Flags")
-WAYS = ("Pull", "Push")
 
 
 def cells_of(words):

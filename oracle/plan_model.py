@@ -1,16 +1,14 @@
 """The plan of a world by docs/RULES.md, read here once more and in another language, and how a world is written.
 
-A world is a table: `cells` and `expunge` (what the run may do); `keywords` (a name for some letters from a to z); of `far` and `near` the messages (UID, letters, bytes), `_validity`
-and `_next`; `waiting` files (letters, bytes); and the state: `run`, `far_recorded` and `near_recorded` (validities), `max_pulled`,
-`max_pushed`, and `entries` (far UID, near UID, letters)."""
-import re
+A world is a table: `cells` and `expunge` (what the run may do); `keywords` (a name for some letters from a to z); of `far` and `near`
+the messages (UID, letters, bytes), `_validity` and `_next`; `waiting` files (letters, bytes); and the state: `run`, `far_recorded` and
+`near_recorded` (validities), `max_pulled`, `max_pushed`, and `entries` (far UID, near UID, letters)."""
 from string import ascii_lowercase
 
-SIX = "DFPRST"
-LETTERS = SIX + ascii_lowercase
+from oracle.mail import LETTERS, SIX, TYPES, WAYS, escaped, is_fit
+
 NAMES = ("$Label1", "$Label2", "Junk", "NonJunk", "$MDNSent", "to-do", "~")
-MOST = 16777216
-CELLS = [(way, kind) for way in ("Pull", "Push") for kind in ("New", "Gone", "Flags")]
+CELLS = [(way, kind) for way in WAYS for kind in TYPES]
 EXPUNGE = {(): "None", ("far",): "Far", ("near",): "Near", ("far", "near"): "Both"}
 
 
@@ -25,35 +23,6 @@ def random_keywords(rng):
 def letters_of(keywords):
     """The letters that a message of a world with these keywords may have."""
     return SIX + "".join(sorted(keywords))
-
-
-# ---- messages
-
-def lines_of(data):
-    """The lines with their ends, LF for any CRs and LF; the last may have none."""
-    parts = data.split(b"\n")
-    return [part.rstrip(b"\r") + b"\n" for part in parts[:-1]] + [part for part in parts[-1:] if part]
-
-
-def content(data):
-    kept, in_header = [], True
-    for line in lines_of(data):
-        in_header = in_header and line != b"\n"
-        if not (in_header and line.lower().startswith(b"x-tuid:")):
-            kept.append(line)
-    return b"".join(kept)
-
-
-def far_length(data):
-    """How long the content is with CR LF line ends."""
-    text = content(data)
-    return len(text) + text.count(b"\n")
-
-
-def is_fit(side, data):
-    if side == "far":
-        return len(data) <= MOST
-    return 0 not in data and far_length(data) <= MOST
 
 
 # ---- the rules
@@ -97,7 +66,7 @@ def news(world, way, side, messages, paired, highest):
 
 
 def plan(world):
-    """Status, lines, and what is told."""
+    """Status, lines, and what is reported."""
     far = {uid: (letters, data) for uid, letters, data in world["far"]}
     near = {uid: (letters, data) for uid, letters, data in world["near"]}
     for index, (letters, data) in enumerate(world["waiting"]):
@@ -148,13 +117,6 @@ def plan(world):
 
 
 # ---- texts
-
-ESCAPED = re.compile(r'[^ !#-\[\]-~]')
-
-
-def escaped(data):
-    return ESCAPED.sub(lambda found: "\\%02x" % ord(found[0]), data.decode("latin-1"))
-
 
 def world_after_options(world):
     """The lines of a world from its line `far` on."""

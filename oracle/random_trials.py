@@ -1,29 +1,29 @@
 #!/usr/bin/env python3
 """Runs the built mbtrial on random worlds, and compares all that it prints with the rules of docs/RULES.md, read once more.
 
-usage: bench/random-trials.py [PROGRAM] [--planner PROGRAM] [--count N] [--seed S] [--tcp] [--self-test]
-
-PROGRAM is crates/mbtrial/out/mbtrial if it is left out, N 2000, S 1. World k has the seed S + k, so that `--count 1 --seed S` gives
-one world again. Each has both mailboxes, entries of every kind, waiting files, UID gaps, messages that are not fit, and any Sync and
-Expunge that begin a sound world. One attempt is made over it, in which nothing stops. The line of status, the steps, both mailboxes
-and the state have to be what `outcome_model.py` says; it was written from the rules, and has no step in common with the program.
-Then the world that is left is given to mbtrial again, and what that run does is compared likewise. Where mbplan is built (or
---planner names it), its plan of either world has to be that of `plan_model.py`. Each world that differs is told with its seed. At
-the end stands how often each kind of step, fault and world was met; status 1 if a world differs or, of 1000 worlds and more, a kind
-was never met. With --self-test each of some rules is read wrongly in turn, and has to be told by one of these worlds."""
-import argparse
+World k has the seed S + k, so that `--count 1 --seed S` gives one world again. Each has both mailboxes, entries of every kind, waiting
+files, UID gaps, messages that are not fit, and any Sync and Expunge that begin a sound world. One attempt is made over it, in which
+nothing stops. The line of status, the steps, both mailboxes and the state have to be what outcome_model.py says; it was written from the
+rules, and has no step in common with the program. Then the world that is left is given to mbtrial again, and what that run does is
+compared likewise. If mbplan is built, or --planner names it, its plan of either world has to be that of plan_model.py. Each world that
+differs is printed with its seed. At the end it says how often each kind of step, fault and world was met; of 1000 worlds and more each
+kind has to be met. With --self-test each of some rules is read wrongly in turn, which one of these worlds has to show."""
 import os
+import pathlib
 import random
 import subprocess
 import sys
 from collections import Counter
 from unittest.mock import patch
 
-from outcome_model import GREATEST_NEXT, GREATEST_RUN, cells_of, told
-from plan_model import CELLS, LETTERS, MOST, SIX, letters_of, plan, random_keywords, text_of
-from wrong_readings import WRONG
+sys.path.insert(0, str(pathlib.Path(__file__).resolve().parents[1]))
+from oracle.mail import LETTERS, MOST, SIX
+from oracle.outcome_model import GREATEST_NEXT, GREATEST_RUN, cells_of, told
+from oracle.plan_model import CELLS, letters_of, plan, random_keywords, text_of
+from oracle.wrong_readings import WRONG
+from tests.support.places import built, must_run, parser_of
+from tests.support.tally import Tally
 
-TOP = os.path.dirname(os.path.dirname(os.path.abspath(__file__)))
 WORDS = ("None", "Full", "Pull", "Push", "New", "Gone", "Flags", *(way + kind for way, kind in CELLS))
 LINES = (b"Subject: x", b"X-TUID: AQAAAAAAAAAC", b"x-tuid:z", b"X-TUID", b"X-Tuid: ", b" folded", b"", b"", b"text \"q\\", b"\xff\xfe\x80",
          b"a\rb", b"\r", b"\t\x01\x7f")
@@ -118,7 +118,7 @@ def random_world(seed):
 # ---- runs
 
 def told_by_planner(world):
-    """Status and output of mbplan, and what it tells on standard error. It refuses a waiting file for which no UID is left."""
+    """Status and output of mbplan, and what it prints on standard error. It refuses a waiting file for which no UID is left."""
     left = GREATEST_NEXT - world["near_next"]
     if left < len(world["waiting"]):
         line = len(world["keywords"]) + len(world["far"]) + len(world["near"]) + left + 5
@@ -145,15 +145,18 @@ class Runs:
 
     def __init__(self, program, planner, arguments):
         self.program, self.planner, self.arguments = program, planner, arguments
-        self.met, self.differing, self.compared = Counter(), 0, 0
+        self.met, self.tally = Counter(), Tally()
 
-    def differs(self, what, seed, text, wanted, found):
-        self.differing += 1
-        print(f"seed {seed}, {what}: differs\n{text[:4000]}wanted {wanted!r:.4000}\nfound  {found!r:.4000}\n")
+    def is_same(self, what, seed, text, wanted, found):
+        """Counts an output that was compared, and gives whether it is as it has to be."""
+        if found == wanted:
+            self.tally.passes()
+        else:
+            self.tally.fails(f"seed {seed}, {what}: differs\n{text[:4000]}wanted {wanted!r:.4000}\nfound  {found!r:.4000}\n")
+        return found == wanted
 
     def ask(self, command, text):
         ran = subprocess.run(command, input=text.encode(), capture_output=True, check=False, timeout=300)
-        self.compared += 1
         return ran.returncode, ran.stdout.decode(), ran.stderr.decode()
 
     def compare(self, what, seed, world):
@@ -161,14 +164,12 @@ class Runs:
         status, output, after = told(world)
         text = text_of(world) + "tries 1\n"
         found = self.ask([self.program, *self.arguments], text)
-        if found != (status, output, ""):
-            self.differs(what, seed, text, (status, output, ""), found)
+        if not self.is_same(what, seed, text, (status, output, ""), found):
             return None
         self.met.update(kinds_of(world, output, plan(world)[1] if after else []))
         if self.planner:
             wanted, found = told_by_planner(world), self.ask([self.planner], text_of(world))
-            if found != wanted:
-                self.differs(what + ", plan", seed, text_of(world), wanted, found)
+            if not self.is_same(what + ", plan", seed, text_of(world), wanted, found):
                 return None
         return after
 
@@ -183,14 +184,17 @@ class Runs:
 
 
 def self_test(program, arguments, seeds):
-    """How many wrong readings no world tells."""
-    silent = 0
+    """Looks whether a world shows each wrong reading."""
+    tally = Tally()
     for name, (place, word, wrong) in WRONG.items():
         with patch.object(place, word, wrong):
             seed = next((seed for seed in seeds if not is_as_told(program, arguments, random_world(seed))), None)
-        print(f"no seed tells: {name}" if seed is None else f"seed {seed} tells: {name}")
-        silent += seed is None
-    return silent
+        print(f"no seed tells: {name}" if seed is None else f"seed {seed} tells: {name}", flush=True)
+        if seed is None:
+            tally.fails(name)
+        else:
+            tally.passes()
+    tally.end()
 
 
 def is_as_told(program, arguments, world):
@@ -200,38 +204,38 @@ def is_as_told(program, arguments, world):
     return (ran.returncode, ran.stdout.decode()) == (status, output)
 
 
-def built(name):
-    """Where the program of a crate stands once it is built."""
-    return os.path.join(TOP, "crates", name, "out", name)
-
-
-def words_of(description):
-    """The words of a script that runs mbtrial on worlds, each from a seed of its own."""
-    words = argparse.ArgumentParser(description=description)
-    words.add_argument("program", nargs="?", default=built("mbtrial"))
-    words.add_argument("--count", type=int, default=2000)
-    words.add_argument("--seed", type=int, default=1)
-    words.add_argument("--tcp", action="store_true")
+def words_of(text):
+    """The parser of a script that runs mbtrial on worlds, each from a seed of its own."""
+    words = parser_of(text)
+    words.add_argument("program", nargs="?", default=built("mbtrial"), help="the built mbtrial, if it is left out")
+    words.add_argument("--count", type=int, default=2000, metavar="N", help="how many worlds (2000)")
+    words.add_argument("--seed", type=int, default=1, metavar="S")
+    words.add_argument("--tcp", action="store_true", help="handed on to the program: the far mailbox is reached over a loopback connection")
     words.add_argument("--self-test", action="store_true")
     return words
 
 
 def main():
-    words = words_of("Compares mbtrial on random worlds with the rules.")
-    words.add_argument("--planner", default=built("mbplan") if os.access(built("mbplan"), os.X_OK) else None)
+    words = words_of(__doc__)
+    words.add_argument("--planner", metavar="PROGRAM", default=built("mbplan") if os.access(built("mbplan"), os.X_OK) else None,
+                       help="the built mbplan, if it is left out and there")
     asked = words.parse_args()
+    must_run(asked.program)
     if asked.self_test:
-        sys.exit(1 if self_test(asked.program, ["--tcp"] if asked.tcp else [], range(asked.seed, asked.seed + asked.count)) else 0)
+        self_test(asked.program, ["--tcp"] if asked.tcp else [], range(asked.seed, asked.seed + asked.count))
     runs = Runs(asked.program, asked.planner, ["--tcp"] if asked.tcp else [])
     for seed in range(asked.seed, asked.seed + asked.count):
         runs.world(seed)
     print(", ".join(f"{kind} {runs.met[kind]}" for kind in KINDS))
-    print("plans were compared too" if asked.planner else "mbplan is not built: plans were not compared")
-    missing = [kind for kind in KINDS if not runs.met[kind]] if asked.count >= 1000 else []
-    if missing:
-        print(f"never met: {', '.join(missing)}")
-    print(f"{asked.count} worlds from seed {asked.seed}, {runs.compared} outputs compared, {runs.differing} differ")
-    sys.exit(1 if runs.differing or missing else 0)
+    if asked.planner:
+        print("plans were compared too")
+    else:
+        runs.tally.skip("the plans", "mbplan is not built")
+    print(f"{asked.count} worlds from seed {asked.seed}, {runs.tally.passed + runs.tally.failed} outputs compared, {runs.tally.failed} differ")
+    if asked.count >= 1000:
+        missing = [kind for kind in KINDS if not runs.met[kind]]
+        runs.tally.check("each kind was met", not missing, f"never met: {', '.join(missing)}")
+    runs.tally.end()
 
 
 if __name__ == "__main__":

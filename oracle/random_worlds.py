@@ -1,19 +1,18 @@
 #!/usr/bin/env python3
 """Compares mbplan on random small worlds with the rules of docs/RULES.md, read here once more and in another language.
 
-usage: bench/random-worlds.py [PROGRAM [COUNT [START]]]
-
-PROGRAM is bin/mbplan if it is left out, COUNT 1000, START (of the random numbers) 1. It stops at the first world whose
-output differs, and prints it.
-"""
+It ends at the first world whose output differs, and prints it."""
 import os
+import pathlib
 import random
 import subprocess
 import sys
 
-from plan_model import CELLS, LETTERS, letters_of, plan, random_keywords, text_of
-
-TOP = os.path.dirname(os.path.dirname(os.path.abspath(__file__)))
+sys.path.insert(0, str(pathlib.Path(__file__).resolve().parents[1]))
+from oracle.mail import LETTERS
+from oracle.plan_model import CELLS, letters_of, plan, random_keywords, text_of
+from tests.support.places import TOP, parser_of
+from tests.support.tally import Tally, Wrong
 
 
 def random_letters(rng, letters):
@@ -61,19 +60,31 @@ def random_world(rng):
     return world
 
 
-def main():
-    program = sys.argv[1] if len(sys.argv) > 1 else os.path.join(TOP, "bin", "mbplan")
-    count = int(sys.argv[2]) if len(sys.argv) > 2 else 1000
-    rng = random.Random(int(sys.argv[3]) if len(sys.argv) > 3 else 1)
+def compare(tally, program, count, rng):
+    """Plans random worlds, up to the first whose plan differs."""
     for _ in range(count):
         world = random_world(rng)
-        status, lines, told = plan(world)
-        wanted = (status, "".join(line + "\n" for line in lines), "mbplan: %s\n" % told if told else "")
-        ran = subprocess.run([program], input=text_of(world), capture_output=True, text=True)
+        status, lines, fault = plan(world)
+        wanted = (status, "".join(f"{line}\n" for line in lines), f"mbplan: {fault}\n" if fault else "")
+        ran = subprocess.run([program], input=text_of(world), capture_output=True, text=True, check=False)
         found = (ran.returncode, ran.stdout, ran.stderr)
         if found != wanted:
-            sys.exit("%s\nwanted %r\nfound %r" % (text_of(world), wanted, found))
-    print("%d worlds, all alike" % count)
+            raise Wrong(f"{text_of(world)}\nwanted {wanted!r}\nfound {found!r}")
+        tally.passes()
+    print(f"{count} worlds, all alike")
 
 
-main()
+def main():
+    words = parser_of(__doc__)
+    words.add_argument("program", nargs="?", default=os.path.join(TOP, "bin", "mbplan"), help="bin/mbplan, if it is left out")
+    words.add_argument("count", nargs="?", type=int, default=1000, help="how many worlds (1000)")
+    words.add_argument("start", nargs="?", type=int, default=1, help="of the random numbers (1)")
+    words = words.parse_args()
+    tally = Tally()
+    with tally.until_wrong():
+        compare(tally, words.program, words.count, random.Random(words.start))
+    tally.end()
+
+
+if __name__ == "__main__":
+    main()

@@ -5,27 +5,12 @@ which messages stand on each side, with which flags, and which pairs the last ru
 import re
 from dataclasses import dataclass, field
 
-CELLS = frozenset(way + kind for way in ("Pull", "Push") for kind in ("New", "Gone", "Flags"))
-OTHER = {"far": "near", "near": "far"}
+from oracle.mail import OTHER, TYPES, WAYS
+
+CELLS = frozenset(way + kind for way in WAYS for kind in TYPES)
 # For a side whose messages are copied, the direction away from it.
 FROM = {"far": "Pull", "near": "Push"}
 NAME = re.compile(rb"^Message-ID: <(\w+)@soak>\r*$", re.MULTILINE)
-
-
-def lines_of(data):
-    """The lines with their ends, LF for any CRs and LF; the last may have none."""
-    parts = re.sub(rb"\r+\n", b"\n", data).split(b"\n")
-    return [part + b"\n" for part in parts[:-1]] + [part for part in parts[-1:] if part]
-
-
-def content(data):
-    """The bytes of a message without line ends of a store and without mark lines."""
-    kept, in_header = [], True
-    for line in lines_of(data):
-        in_header = in_header and line != b"\n"
-        if not (in_header and line[:7].lower() == b"x-tuid:"):
-            kept.append(line)
-    return b"".join(kept)
 
 
 def name_of(data):

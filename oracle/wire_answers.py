@@ -1,25 +1,30 @@
 #!/usr/bin/env python3
 """What a reader of IMAP lines has to answer, decided slowly and apart from the program: every way to spell is tried.
 
-usage: bench/wire-answers.py examples   prints the examples, which stand behind `script wire` in crates/tests_of_words/stdin
-       bench/wire-answers.py answers    prints them with their answers, as they stand in crates/tests_of_words/stdout
+`examples` prints the examples, which follow `script wire` in crates/tests_of_words/stdin, `answers` prints them with their answers, as in
+crates/tests_of_words/stdout, and `check` looks whether these files have both.
 
 An example is a line: C (a command) or R (a reply), a space, and the bytes as a world has them (docs/FORMATS.md), without
-quotes around. Behind that line stand its answers: to the whole, to each of its beginnings, its places (a line feed outside
+quotes around. Its answers follow that line: to the whole, to each of its beginnings, its places (a line feed outside
 the octets of literals, a NUL among them), and, a line for each byte, to the bytes with that one changed to each of
-CHANGES. With c or r in place of C or R, the whole alone is asked for: so stand the lines of
-real servers, from bench/real-lines.txt. With b, a buffer of replies is asked, to which the bytes come in pieces of 1, 2 and 7
+CHANGES. With c or r instead of C or R, the whole alone is asked for: so are the lines of
+real servers, from oracle/real-lines.txt. With b, a buffer of replies is asked, to which the bytes come in pieces of 1, 2 and 7
 bytes, each size with a line of its own: what it answers, how many bytes it holds, and how many once those that were read are
 dropped.
 
     w N  whole, of N bytes    a N  a literal of N octets is asked for    p  partial
-    s N  a byte that no spelling goes on with, at N    t N  a literal's number passes its limit at N
-"""
+    s N  a byte that no spelling goes on with, at N    t N  a literal's number passes its limit at N"""
 import os
+import pathlib
 import re
 import sys
+from functools import partial
 
-REAL_LINES = os.path.join(os.path.dirname(os.path.abspath(__file__)), "real-lines.txt")
+sys.path.insert(0, str(pathlib.Path(__file__).resolve().parents[1]))
+from oracle.mail import escaped, unescaped
+from tests.support.places import REAL_LINES, TESTS_OF_WORDS, parser_of
+from tests.support.tally import Tally
+
 CHANGES = b"\x00\n\r \"(*0:[\\]{az\x7f\xe9"
 LITERAL_LIMIT, PLUS_LIMIT = 16777238, 4096
 SPECIALS = b'(){%*"\\]'
@@ -323,10 +328,6 @@ BUFFERED = [
 ]
 
 
-def shown(data):
-    return "".join(chr(b) if 32 <= b <= 126 and b not in b'"\\' else f"\\{b:02x}" for b in data)
-
-
 def answers(side, data):
     yield answer(side, data)
     yield ", ".join(answer(side, data[:k]) for k in range(len(data)))
@@ -335,11 +336,14 @@ def answers(side, data):
         yield ", ".join(answer(side, data[:place] + bytes([b]) + data[place + 1:]) for b in CHANGES)
 
 
+def whole_answer(side, data):
+    yield answer(side, data)
+
+
 def read(line):
     """The letter and the bytes of an example's line."""
     letter, _, text = line.rstrip("\n").partition(" ")
-    pieces = text.split("\\")
-    return letter, pieces[0].encode() + b"".join(bytes([int(p[:2], 16)]) + p[2:].encode() for p in pieces[1:])
+    return letter, unescaped(text.encode())
 
 
 def buffered(data):
@@ -371,7 +375,7 @@ def replies(data):
 
 
 def made():
-    """The lines behind the examples, each with its answer."""
+    """The lines after the examples, each with its answer."""
     for line, data in (("listings 4", listing(4)), ("body 50", body(50))):
         yield line, f"{len(data)} bytes"
         for question in ("read all", "feed in pieces of 1000", "feed in pieces of 7"):
@@ -379,26 +383,43 @@ def made():
         yield "line feeds", f"{data.count(10)} line feeds"
 
 
-def main():
-    if len(sys.argv) != 2 or sys.argv[1] not in ("examples", "answers"):
-        sys.exit(__doc__)
+def examples():
+    """Each line, and a call that gives its answers."""
     with open(REAL_LINES, encoding="ascii") as file:
         real = [read(line) for line in file if not line.startswith("#")]
-    lines = [(f"{side} {shown(data)}", side, data) for side, data in EXAMPLES + real]
-    for line, side, data in lines:
-        print(line)
-        if sys.argv[1] == "answers":
-            for told in answers(side, data) if side.isupper() else [answer(side.upper(), data)]:
-                print(f"  {told}")
+    for side, data in EXAMPLES + real:
+        yield f"{side} {escaped(data)}", partial(answers if side.isupper() else whole_answer, side.upper(), data)
     for data in BUFFERED:
-        print(f"b {shown(data)}")
-        if sys.argv[1] == "answers":
-            for told in buffered(data):
-                print(f"  {told}")
+        yield f"b {escaped(data)}", partial(buffered, data)
     for line, told in made():
-        print(line)
-        if sys.argv[1] == "answers":
-            print(f"  {told}")
+        yield line, partial(list, [told])
 
 
-main()
+def transcript(with_answers):
+    """The lines, with their answers if asked."""
+    for line, answers_to in examples():
+        yield line + "\n"
+        if with_answers:
+            yield from (f"  {told}\n" for told in answers_to())
+
+
+def check():
+    """Looks whether the files of crates/tests_of_words have the examples and their answers."""
+    tally = Tally()
+    for name, with_answers in (("stdin", False), ("stdout", True)):
+        with open(os.path.join(TESTS_OF_WORDS, name), encoding="utf-8") as file:
+            tally.check(f"crates/tests_of_words/{name} has {'the answers' if with_answers else 'the examples'}", "".join(transcript(with_answers)) in file.read())
+    tally.end()
+
+
+def main():
+    words = parser_of(__doc__)
+    words.add_argument("what", choices=("examples", "answers", "check"))
+    words = words.parse_args()
+    if words.what == "check":
+        check()
+    sys.stdout.writelines(transcript(words.what == "answers"))
+
+
+if __name__ == "__main__":
+    main()

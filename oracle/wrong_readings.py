@@ -1,7 +1,7 @@
-"""Rules read wrongly: what stands in the place of a name of `outcome_model`, so that random-trials.py can show that it would tell."""
-import outcome_model
-from outcome_model import Ends
-from plan_model import LETTERS
+"""Rules read wrongly: what stands in the place of a name of `outcome_model`, so that random_trials.py can show that it would find it."""
+from oracle import outcome_model
+from oracle.mail import LETTERS
+from oracle.outcome_model import Ends
 
 IS_NEW, COPY_OF, MARK = outcome_model.is_new, outcome_model.copy_of, outcome_model.mark
 FLAGS, HIGHEST, ENTRY = Ends.flags, Ends.highest, Ends.entry

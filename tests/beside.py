@@ -1,21 +1,18 @@
 #!/usr/bin/env python3
-"""Runs mbsync beside another program that renames files in the same Maildir folder, as a mail reader does that marks messages:
+"""Runs mbsync beside another program that renames files in the same Maildir folder, as a mail reader does that marks messages.
 
-    bench/beside.py [--program PROGRAM] [--runs N] [--messages N..] [--seed N]
+Each run is one of mbsync over an INBOX whose messages are on both sides, with 1,000 or 10,000 of them, on a disk and in memory, with
+Expunge None or Both, sometimes with flags that were set at the server. Meanwhile messages are marked as seen, or no longer, by new names:
+one each 1, 5, 10 or 100 milliseconds, a hundred at once now and then, or some at a piece of the reading of `cur` (at_piece.c, which `cc`
+has to build).
 
-PROGRAM is the built mbsync if it is left out. Each run is one of mbsync over an INBOX whose messages are on both sides, with 1,000 or
-10,000 of them, on a disk and in memory, with Expunge None or Both, sometimes with flags that were set at the server. Meanwhile messages
-are marked as seen, or no longer, by new names: one each 1, 5, 10 or 100 milliseconds, a hundred at once now and then, or some at a piece
-of the reading of `cur` (at_piece.c, which `cc` has to build).
-
-Behind each run no message may be gone on either side, none may be marked as deleted, each near one has the mark that the reader gave
-it, and no fault may be told but `stopped` by files that were renamed. Behind a further run, with nothing beside it, both sides have
-these marks and the server's flags. What stands on both sides is read here, from the names of the files and from the server
-(scripted_server.py). The last line is `N runs, M failed`; the status is 1 if one failed."""
-import argparse
+After each run no message may be gone on either side, none may be marked as deleted, each near one has the mark that the reader gave it,
+and no error may be reported but `stopped` by files that were renamed. After a further run, with nothing beside it, both sides have these
+marks and the server's flags. What both sides hold is read here, from the names of the files and from the server (scripted_server.py)."""
 import collections
 import contextlib
 import os
+import pathlib
 import random
 import shutil
 import subprocess
@@ -24,18 +21,19 @@ import tempfile
 import threading
 import time
 
-from edge_scene import Edge
-from maildir_side import NAME
-from scene import Scene, near_text
-from trial_imapd import TOP
+sys.path.insert(0, str(pathlib.Path(__file__).resolve().parents[1]))
+from tests.support.edge_scene import Edge
+from tests.support.maildir_side import NAME
+from tests.support.places import MBSYNC, TOP, must_run, parser_of
+from tests.support.scene import Scene, near_text
+from tests.support.tally import Tally
 
-PROGRAM = os.path.join(TOP, "crates", "mbsync_main", "out", "mbsync_main")
-SOURCE = os.path.join(TOP, "bench", "at_piece.c")
+SOURCE = os.path.join(TOP, "tests", "support", "at_piece.c")
 MEMORY = "/dev/shm"
 CHANNEL = "\n".join(["", "Channel %s", "Far :far:", "Near :near:", "Expunge %s", ""])
 # What may stop a run: files that are renamed while names are read, or before mbsync renames them itself.
 BUSY = ("another program renames files all the time", "it is gone. Run again")
-# How many messages are marked at once, and the least and the greatest pause behind that in seconds.
+# How many messages are marked at once, and the least and the greatest pause after that in seconds.
 PACES = {"each 1 ms": (1, 0.001, 0.001), "each 5 ms": (1, 0.005, 0.005), "each 10 ms": (1, 0.01, 0.01), "each 100 ms": (1, 0.1, 0.1),
          "a hundred at once": (100, 0.01, 0.2)}
 AT_PIECE = "at a piece"
@@ -149,7 +147,7 @@ class Folder:
 
 
 def wrong_lines(told):
-    """What a run tells and must not."""
+    """What a run prints and must not."""
     wrong = [line for line in told[1:] if line.split(" ", 1)[0] in ("gone", "expunge", "drop", "void", "new", "found", "unfit")]
     wrong += [line for line in told[1:] if line.startswith("mbsync: ") and not line.endswith(": stopped")]
     is_busy = told[0] == 1 and any(text in told[-1] for text in BUSY)
@@ -157,7 +155,7 @@ def wrong_lines(told):
 
 
 def unlike(folder):
-    """What is wrong behind a further run, with nothing beside it. Where it has finished the plan of an earlier one, what has changed since
+    """What is wrong after a further run, with nothing beside it. Where it has finished the plan of an earlier one, what has changed since
     then is the work of one more."""
     flagged = {uid for uid, flags in folder.far().items() if "F" in flags}
     told = folder.scene.run("None")
@@ -166,7 +164,7 @@ def unlike(folder):
     wrong = wrong_lines(told) + folder.wrong() + ([] if told[0] == 0 else [f"the further run: {told[-2:]}"])
     near, far = folder.near()[0], folder.far()
     if near != far or {uid for uid, flags in near.items() if "F" in flags} != flagged:
-        wrong.append("the sides differ behind the further run")
+        wrong.append("the sides differ after the further run")
     return wrong
 
 
@@ -178,7 +176,7 @@ def flag_some(folder, rng):
 
 
 def beside(folder, channel, rng, pace):
-    """A run while messages are marked; what it tells, and how long it takes."""
+    """A run while messages are marked; what it prints, and how long it takes."""
     marking = Marking(folder.reader, rng, pace)
     marking.start()
     time.sleep(rng.random() * 0.05)
@@ -190,7 +188,7 @@ def beside(folder, channel, rng, pace):
 
 
 def at_a_piece(folder, channel, rng, helper):
-    """A run in which messages are marked behind a piece of the reading of `cur`; what it tells, and how long it takes."""
+    """A run in which messages are marked after a piece of the reading of `cur`; what it prints, and how long it takes."""
     reader, names = folder.reader, folder.scene.path("names")
     with open(names, "w", encoding="ascii") as file:
         for uid in rng.sample(sorted(reader.names), rng.choice([1, 10, 100])):
@@ -208,13 +206,13 @@ def at_a_piece(folder, channel, rng, helper):
     return told, seconds
 
 
-def built(room):
+def built_helper(room, tally):
     """The program that renames at a piece, or none if it cannot be built."""
     helper = os.path.join(room, "at_piece")
     try:
         subprocess.run(["cc", "-O1", "-o", helper, SOURCE], check=True)
     except (OSError, subprocess.CalledProcessError):
-        print(f"skipped {AT_PIECE}: cc does not build at_piece.c")
+        tally.skip(AT_PIECE, "cc does not build at_piece.c")
         return None
     return helper
 
@@ -223,14 +221,14 @@ class Course:
     """The runs, and what they have come to: for each pace how many there were, how many were stopped, and their seconds."""
 
     def __init__(self, rooms, given):
-        self.rng, self.failed = random.Random(given.seed), 0
-        self.helper = built(rooms[0])
+        self.rng, self.tally = random.Random(given.seed), Tally()
+        self.helper = built_helper(rooms[0], self.tally)
         self.paces = [*PACES, AT_PIECE] if self.helper else [*PACES]
         self.folders = [Folder(it, rooms[-1], count) for it in rooms for count in given.messages]
         self.runs, self.stopped, self.seconds = collections.Counter(), collections.Counter(), collections.Counter()
 
     def run(self, number):
-        """One run, and the further one behind it. Where something is wrong the folder is made anew."""
+        """One run, and the further one after it. Where something is wrong the folder is made anew."""
         place, channel = number % len(self.folders), self.rng.choice(["None", "Both"])
         folder = self.folders[place]
         pace = self.paces[number // len(self.folders) % len(self.paces)]
@@ -245,38 +243,38 @@ class Course:
         self.runs[pace] += 1
         self.stopped[pace] += told[0] != 0
         self.seconds[pace] += seconds
+        self.count(f"run {number}, {folder.count} messages in {folder.room}, Expunge {channel}, {pace}", wrong)
         if wrong:
-            self.tell(f"run {number}, {folder.count} messages in {folder.room}, Expunge {channel}, {pace}", wrong)
             folder.scene.__exit__()
             self.folders[place] = Folder(folder.room, folder.other, folder.count)
 
-    def tell(self, name, wrong):
-        """Tells what is wrong."""
-        self.failed += 1
-        print(f"FAILED  {name}: {wrong[:5]}", flush=True)
+    def count(self, name, wrong):
+        """Counts a check, and prints what is wrong."""
+        if wrong:
+            self.tally.fails(f"{name}: {wrong[:5]}")
+        else:
+            self.tally.passes()
 
     def end(self):
-        """Looks at the bytes of all messages, and tells what the runs have come to."""
+        """Looks at the bytes of all messages, and prints what the runs have come to."""
         for folder in self.folders:
-            if wrong := folder.wrong_bytes():
-                self.tell(f"{folder.count} messages in {folder.room}", wrong)
+            self.count(f"the bytes of {folder.count} messages in {folder.room}", folder.wrong_bytes())
             folder.scene.__exit__()
         for pace, count in self.runs.items():
             print(f"{pace}: {count} runs, {self.stopped[pace]} stopped since files were renamed, {self.seconds[pace] / count:.2f} s each")
-        print(f"{sum(self.runs.values())} runs, {self.failed} failed")
-        sys.exit(1 if self.failed else 0)
+        print(f"{sum(self.runs.values())} runs, and the bytes of {len(self.folders)} folders")
+        self.tally.end()
 
 
 def main():
-    words = argparse.ArgumentParser(description="Runs mbsync beside another program that renames files.")
-    words.add_argument("--program", default=PROGRAM)
+    words = parser_of(__doc__)
+    words.add_argument("--program", default=MBSYNC, help="the built mbsync, if it is left out")
     words.add_argument("--runs", type=int, default=500)
     words.add_argument("--messages", type=int, nargs="+", default=[1000, 10000])
     words.add_argument("--seed", type=int, default=1)
     given = words.parse_args()
     Scene.program = os.path.abspath(given.program)
-    if not os.access(Scene.program, os.X_OK):
-        sys.exit(f"{Scene.program} is not built")
+    must_run(Scene.program)
     with contextlib.ExitStack() as kept:
         places = [it for it in (tempfile.gettempdir(), MEMORY) if os.path.isdir(it)]
         rooms = [kept.enter_context(tempfile.TemporaryDirectory(prefix="beside-", dir=it)) for it in places]

@@ -1,12 +1,11 @@
 #!/usr/bin/env python3
-"""Runs real clients against trial-imapd, and stops at the first wrong answer:
+"""Runs real clients against trial-imapd, and ends at the first wrong answer.
 
-    bench/clients.py [SEED]
-
-curl sends each command by -X and appends a file by -T; without curl this part is left out, and it says so. Then 10,000 random
-and damaged lines are sent by sockets, twenty a connection: the server has to stay, to take at most 64 MB, and to serve the next
-connection. Another SEED gives other lines."""
+curl sends each command by -X and appends a file by -T; without curl this part is skipped, which is printed. Then 10,000 random and damaged
+lines are sent by sockets, twenty a connection: the server has to stay, to take at most 64 MB, and to serve the next connection. Another
+SEED gives other lines."""
 import os
+import pathlib
 import random
 import shutil
 import socket
@@ -14,7 +13,10 @@ import subprocess
 import sys
 import tempfile
 
-from trial_imapd import Server, build, world
+sys.path.insert(0, str(pathlib.Path(__file__).resolve().parents[1]))
+from tests.support.places import parser_of
+from tests.support.tally import Tally, Wrong
+from tests.support.trial_imapd import Server, build, world
 
 MESSAGES = [b"Subject: one\r\n\r\nfirst\r\n", b"Subject: two\r\n\r\nsecond\r\n"]
 MOST_MB = 64
@@ -48,25 +50,27 @@ GOOD = [
 
 
 def curl(server, mailbox, *words):
-    """What curl tells of its commands and of the replies."""
+    """The status of curl, and what it prints of its commands and of the replies."""
     url = f"imap://127.0.0.1:{server.port}/{mailbox}"
     done = subprocess.run(["curl", "--silent", "--verbose", "--user", "u:p", url, *words], capture_output=True, timeout=60, check=False)
     told = done.stderr.decode("latin-1").replace("\r", "") + done.stdout.decode("latin-1").replace("\r", "")
     return done.returncode, told
 
 
-def check_curl(server, folder):
+def check_curl(tally, server, folder):
     for mailbox, command, reply in COMMANDS:
         status, told = curl(server, mailbox, "-X", command)
         answered = any(line.startswith("< A") and " OK" in line for line in told.split("\n"))
         if status not in (0, 56) or not answered or reply not in told:
-            sys.exit(f"curl -X '{command}': status {status}\n{told}")
+            raise Wrong(f"curl -X '{command}': status {status}\n{told}")
+        tally.passes()
     name = os.path.join(folder, "message")
     with open(name, "wb") as file:
         file.write(b"Subject: three\r\n\r\nthird\r\n")
     status, told = curl(server, "INBOX", "-T", name)
     if status != 0 or "[APPENDUID 1 3] done" not in told:
-        sys.exit(f"curl -T: status {status}\n{told}")
+        raise Wrong(f"curl -T: status {status}\n{told}")
+    tally.passes()
     print(f"curl: {len(COMMANDS)} commands by -X and an APPEND by -T are answered")
 
 
@@ -90,7 +94,7 @@ def damaged(rand):
 
 
 def send_lines(server, lines):
-    """What the server tells on a connection of these lines."""
+    """What the server sends on a connection of these lines."""
     stream = socket.create_connection(("127.0.0.1", server.port), timeout=60)
     told = b""
     try:
@@ -106,7 +110,7 @@ def send_lines(server, lines):
     return told
 
 
-def check_random(server, seed):
+def check_random(tally, server, seed):
     rand = random.Random(seed)
     counts = {b" OK ": 0, b" NO ": 0, b" BAD ": 0, b"* BYE too long": 0}
     for _ in range(LINES // LINES_A_CONNECTION):
@@ -115,21 +119,26 @@ def check_random(server, seed):
         for word in counts:
             counts[word] += told.count(word)
     if server.process.poll() is not None:
-        sys.exit(f"seed {seed}: trial-imapd ended: {server.process.stderr.read().decode()}")
+        raise Wrong(f"seed {seed}: trial-imapd ended: {server.process.stderr.read().decode()}")
     if server.peak() > MOST_MB:
-        sys.exit(f"seed {seed}: {server.peak():.0f} MB")
+        raise Wrong(f"seed {seed}: {server.peak():.0f} MB")
     connection = server.connect()
     connection.ask(b"LOGIN u p")
     connection.ask(b"NOOP")
     connection.logout()
+    # The server is still there, it takes little memory, and it serves the next connection.
+    tally.passes(3)
     answers = ", ".join(f"{count} times {word.decode().strip()}" for word, count in counts.items())
     print(f"{LINES} random and damaged lines are answered {answers}; the next connection is served, greatest memory {server.peak():.1f} MB")
 
 
 def main():
+    words = parser_of(__doc__)
+    words.add_argument("seed", nargs="?", type=int, default=1)
+    words = words.parse_args()
     build()
-    seed = int(sys.argv[1]) if len(sys.argv) > 1 else 1
-    with tempfile.TemporaryDirectory() as folder:
+    tally = Tally()
+    with tempfile.TemporaryDirectory() as folder, tally.until_wrong():
         file = os.path.join(folder, "clients.world")
         with open(file, "wb") as text:
             text.write(world(MESSAGES))
@@ -137,12 +146,13 @@ def main():
         try:
             server.connect().logout()
             if shutil.which("curl") is None:
-                print("curl is not installed: its part is left out")
+                tally.skip("the part of curl", "it is not installed")
             else:
-                check_curl(server, folder)
-            check_random(server, seed)
+                check_curl(tally, server, folder)
+            check_random(tally, server, words.seed)
         finally:
             server.stop()
+    tally.end()
 
 
 if __name__ == "__main__":

@@ -1,25 +1,27 @@
 #!/usr/bin/env python3
-"""Kills a run of mbsync at each of its system calls in turn:
-
-    bench/each-kill.py [PROGRAM]
+"""Kills a run of mbsync at each of its system calls in turn.
 
 strace counts the calls of a run, by their names, and then sends the signal where the k-th call of a name begins, for each name that
-changes something or waits for something, and for each k. One run more has to end well, with both sides as they have to be, and a
-further one has nothing to do. Two runs are tried: a first one that makes the near folder, and one with new messages, flags, and
-removals on both sides, with Expunge. PROGRAM is the built mbsync if it is left out. Needs strace."""
+changes something or waits for something, and for each k. One run more has to end well, with both sides as they have to be, and a further
+one has nothing to do. Two runs are tried: a first one that makes the near folder, and one with new messages, flags, and removals on both
+sides, with Expunge. Needs strace."""
 import os
+import pathlib
 import shutil
 import subprocess
 import sys
 import tempfile
 
-from configuration import configured
-from imap_side import KEYWORD_LINES, ImapSide
-from maildir_side import MaildirSide
-from measured import system_calls
-from trial_imapd import TOP, Server, build, world
+sys.path.insert(0, str(pathlib.Path(__file__).resolve().parents[1]))
+from tests.support.configuration import configured
+from tests.support.imap_side import KEYWORD_LINES, ImapSide
+from tests.support.maildir_side import MaildirSide
+from tests.support.measured import system_calls
+from tests.support.messages import subjects
+from tests.support.places import MBSYNC, must_run, parser_of
+from tests.support.tally import Tally
+from tests.support.trial_imapd import Server, build, world
 
-MBSYNC = os.path.join(TOP, "crates", "mbsync_main", "out", "mbsync_main")
 NAMES = ["mkdir", "openat", "close", "read", "write", "rename", "unlink", "fsync", "flock", "getdents64", "connect", "sendto", "recvfrom"]
 CHANNEL = """Channel box
 Far :far:
@@ -31,12 +33,6 @@ Expunge Both
 
 def message(subject):
     return b"Subject: %s\r\n\r\ntext of %s\r\n" % (subject, subject)
-
-
-def subjects(messages):
-    """Subject and flags of messages."""
-    return sorted((next(line[9:].strip().decode() for line in data.split(b"\n") if line.startswith(b"Subject: ")), "".join(sorted(flags)))
-                  for _, flags, data in messages)
 
 
 class Place:
@@ -100,7 +96,7 @@ CHANGED = [("five", "Sk"), ("one", "FRak"), ("six", "Fa")]
 
 
 def killed(place, prepare, name, number, wanted):
-    """What is wrong behind a kill at this call, or none."""
+    """What is wrong after a kill at this call, or none."""
     command = prepare(place)
     kill = ["-e", f"trace={name}", "-e", f"inject={name}:signal=KILL:when={number}"]
     subprocess.run(["strace", "-f", "-qq", "-o", os.devnull, *kill, *command], capture_output=True, check=False, timeout=120)
@@ -113,37 +109,38 @@ def killed(place, prepare, name, number, wanted):
     return None if done.stdout == "box:INBOX\nran\n" else done.stdout + done.stderr
 
 
-def try_each(place, prepare, wanted):
-    """How many kills there were, and how many went wrong."""
-    counts, tried, failed = system_calls(prepare(place)), 0, 0
+def try_each(tally, place, prepare, wanted):
+    """Kills the run at each call."""
+    counts = system_calls(prepare(place))
     if counts is None:
         sys.exit("strace cannot be used")
     for name in NAMES:
         for number in range(1, counts.get(name, 0) + 1):
             told = killed(place, prepare, name, number, wanted)
-            tried += 1
-            if told is not None:
-                failed += 1
-                print(f"FAILED: {prepare.__name__}, killed at {name} {number}: {told}", flush=True)
-    return tried, failed
+            if told is None:
+                tally.passes()
+            else:
+                tally.fails(f"{prepare.__name__}, killed at {name} {number}: {told}")
 
 
 def main():
-    program = sys.argv[1] if len(sys.argv) > 1 else MBSYNC
+    words = parser_of(__doc__)
+    words.add_argument("program", nargs="?", default=MBSYNC, help="the built mbsync, if it is left out")
+    program = words.parse_args().program
+    must_run(program)
     build()
-    if not os.access(program, os.X_OK):
-        sys.exit(f"{program} is not built")
-    failed = 0
+    tally = Tally()
     with tempfile.TemporaryDirectory() as folder:
         place = Place(program, folder)
         try:
             for name, prepare, wanted in (("a first run", before_first_run, FOUR), ("a run with all kinds of steps", before_second_run, CHANGED)):
-                tried, wrong = try_each(place, prepare, wanted)
-                failed += wrong
+                passed, failed = tally.passed, tally.failed
+                try_each(tally, place, prepare, wanted)
+                tried, wrong = tally.passed - passed + tally.failed - failed, tally.failed - failed
                 print(f"{name}: {tried} kills, each at another system call, {wrong} went wrong", flush=True)
         finally:
             place.stop()
-    sys.exit(1 if failed else 0)
+    tally.end()
 
 
 if __name__ == "__main__":

@@ -1,28 +1,27 @@
 #!/usr/bin/env python3
-"""Runs mbsync where something is not as it should be, and tells of each check whether it passed:
+"""Runs mbsync where something is not as it should be, and prints of each check whether it passed.
 
-    bench/edges.py [--program PROGRAM] [NAME..]
-
-PROGRAM is the built mbsync if it is left out. With names only the scenes that have one of them in theirs are played. In each something
-stands in the way: odd names, things that are no files, a mailbox that was removed, a server that was put back to an earlier time or that
-breaks off, a disk that is full. What has to be printed, and what has to stand on both sides then, is written here by hand. The server is
-scripted_server.py. What needs another user or a mount is tried where this is root. The last line is `N passed, M failed`; the status is
-1 if one failed."""
-import argparse
+With names only the scenes that have one of them in theirs are played. In each something is in the way: odd names, things that are no
+files, a mailbox that was removed, a server that was put back to an earlier time or that breaks off, a full disk. What has to be printed,
+and what both sides have to hold then, is written here by hand. The server is scripted_server.py. What needs another user or a mount is
+tried if this is root."""
 import copy
 import os
+import pathlib
 import shutil
 import socket
 import subprocess
+import sys
 
-import server_edges
-import session_edges
-from edge_scene import EARLIER, FOUR, PAGE, QUICK, THREE, Edge, can_mount, disk, far, near, nobody_can_run, stopped
-from scene import ONE, TWO, Scene, Tally, near_text
-from scripted_server import Box
-from trial_imapd import TOP, escaped
+sys.path.insert(0, str(pathlib.Path(__file__).resolve().parents[1]))
+from oracle.mail import escaped
+from tests.scenes import server_edges, session_edges
+from tests.support.edge_scene import EARLIER, FOUR, PAGE, QUICK, THREE, Edge, can_mount, disk, far, near, nobody_can_run, stopped
+from tests.support.places import MBSYNC, must_run, parser_of
+from tests.support.scene import ONE, TWO, Scene, near_text
+from tests.support.scripted_server import Box
+from tests.support.tally import Tally
 
-PROGRAM = os.path.join(TOP, "crates", "mbsync_main", "out", "mbsync_main")
 LEFT_OUT = "  its name is not UTF-8, or is too long to get a UID: rename it, and run again"
 REMOVED = '  it was there at the last run, and is not made anew: the manual page says what to do under "How to recover"'
 BAD_NAME = "the name is too long, or is not UTF-8. Rename it, and run again"
@@ -63,7 +62,7 @@ def odd_names(tally):
         odd = [("new", b"\xff\"\\\n.mail"), ("new", b"l" * 234), ("new", b"m" * 252), ("new", b"n" * 255), ("cur", b"\xc3:2,S")]
         for part, name in odd:
             write_bytes(scene.path("inbox/" + part), name, near_text(FOUR))
-        paths = [scene.path(f"inbox/{part}/") + escaped(name).decode() for part, name in odd]
+        paths = [scene.path(f"inbox/{part}/") + escaped(name) for part, name in odd]
         faults = sorted((f"mbsync: c:INBOX: left out {path}", LEFT_OUT) for path in paths)
         waiting = {os.fsdecode(name.partition(b":")[0]): ("S" if b":" in name else "", near_text(FOUR)) for _, name in odd}
         sides = [{1: ("", near_text(TWO)), 2: ("", near_text(THREE)), 3: ("", near_text(ONE)), **waiting}, far(ONE, TWO, THREE)]
@@ -388,13 +387,12 @@ SCENES = [odd_names, odd_name_with_uid, things_without_uid, things_with_unknown_
 
 
 def main():
-    words = argparse.ArgumentParser(description="Runs mbsync where something is not as it should be.")
-    words.add_argument("--program", default=PROGRAM)
-    words.add_argument("names", nargs="*")
+    words = parser_of(__doc__)
+    words.add_argument("--program", default=MBSYNC, help="the built mbsync, if it is left out")
+    words.add_argument("names", nargs="*", metavar="NAME")
     words = words.parse_args()
     Scene.program = os.path.abspath(words.program)
-    if not os.access(Scene.program, os.X_OK):
-        raise SystemExit(f"{Scene.program} is not built")
+    must_run(Scene.program)
     Tally().play(SCENES, words.names)
 
 

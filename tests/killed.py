@@ -1,25 +1,21 @@
 #!/usr/bin/env python3
-"""Kills mbsync at random moments, and looks whether the next run brings everything to its end:
-
-    bench/killed.py [--program PROGRAM] [--rounds N] [--seed SEED] [--calls]
-    bench/killed.py --server HOST:PORT [--process NAME] [--program PROGRAM] [--rounds N] [--seed SEED]
-    bench/killed.py --self-test
+"""Kills mbsync at random moments, and looks whether the next run brings everything to its end.
 
 A round changes both sides at random (new messages, flags, removals; the far one over raw sockets to trial-imapd, the near one by
 files), starts a run and kills it by `kill -9` at a random moment, sometimes several times, sometimes with messages that come in
 between; then one run has to end well. What both sides hold then, and what the state records, is compared with a model of docs/RULES.md
-that is no code of ours: nothing may be lost, doubled or revived, each flag has to be as the rules say, each byte and each UID as it
-was, and copies have to stand in the order of their sources. Sync and Expunge are chosen anew for each round. A fault is told with its
-round and seed, and ends the script with status 1. PROGRAM is the built mbsync if it is left out; there are 200 rounds. With `--calls`
-a run is killed where a system call begins that is chosen at random, with the help of strace.
+that is no code of mbsync (oracle/run_model.py): nothing may be lost, duplicated or resurrected, each flag has to be as the rules say, each
+byte and each UID as it was, and copies have to be in the order of their sources. Sync and Expunge are chosen anew for each round. A wrong
+round is printed with its seed, and ends the script. With --calls a run is killed where a system call begins that is chosen at random, with
+the help of strace.
 
-With `--server` the far side is the INBOX of a real server, with the user `u` and the password `p`: it is emptied first. With `--process`
-each second kill meets the processes of this name in place of mbsync: those of the server that serve a connection.
+With --server the far side is the INBOX of a real server, with the user `u` and the password `p`: it is emptied first. With --process
+each second kill meets the processes of this name instead of mbsync: those of the server that serve a connection.
 
-`--self-test` tries the judge: on a synchroniser in memory that is right, and on wrong ones, each of which it has to catch."""
-import argparse
+--self-test tries the judge: on a synchroniser in memory that is right, and on wrong ones, each of which it has to catch."""
 import collections
 import os
+import pathlib
 import random
 import re
 import shutil
@@ -30,18 +26,20 @@ import tempfile
 import threading
 import time
 
-from configuration import configured
-from imap_side import KEYWORD_LINES, ImapSide
-from maildir_side import MaildirSide
-from measured import STRACE_ROW
-from real_side import RealSide
-from soak import Soak
-from stand_ins import WRONG, Right
-from trial_imapd import TOP, Server, build, world
+sys.path.insert(0, str(pathlib.Path(__file__).resolve().parents[1]))
+from tests.support.configuration import configured
+from tests.support.imap_side import KEYWORD_LINES, ImapSide
+from tests.support.maildir_side import MaildirSide
+from tests.support.measured import STRACE_ROW
+from tests.support.places import MBSYNC, must_run, parser_of
+from tests.support.real_side import RealSide
+from tests.support.soak import Soak
+from tests.support.stand_ins import WRONG, Right
+from tests.support.tally import Tally
+from tests.support.trial_imapd import Server, build, world
 
-MBSYNC = os.path.join(TOP, "crates", "mbsync_main", "out", "mbsync_main")
 MOST_SECONDS = 120
-# What a run tells whose server was killed.
+# What a run prints whose server was killed.
 SERVER_ENDED = re.compile(r"^mbsync: (soak:INBOX: stopped|cannot open far)$", re.MULTILINE)
 CHANNEL = """Channel soak
 Far :far:
@@ -53,7 +51,7 @@ SyncState *
 
 
 class Seconds:
-    """Kills behind some time."""
+    """Kills after some time."""
 
     def __init__(self):
         self.usual = collections.deque([0.2], maxlen=20)
@@ -61,7 +59,7 @@ class Seconds:
         self.is_servers_turn = False
 
     def run(self, command, share):
-        """The status of a run, which is killed behind this share of the time that three of four runs took of late."""
+        """The status of a run, which is killed after this share of the time that three of four runs took of late."""
         most = MOST_SECONDS if share is None else share * sorted(self.usual)[3 * len(self.usual) // 4]
         start = time.monotonic()
         process = subprocess.Popen(command, stdout=subprocess.PIPE, stderr=subprocess.STDOUT, text=True)
@@ -139,7 +137,7 @@ class Programs:
         return self.near.text(".mbsyncstate")
 
     def attempt(self, words, share, deliver):
-        """Runs the program, and kills it behind this share of what a run usually takes, or not for none. Meanwhile `deliver` is called."""
+        """Runs the program, and kills it after this share of what a run usually takes, or not for none. Meanwhile `deliver` is called."""
         configuration = os.path.join(self.folder, "mbsyncrc")
         with open(configuration, "w", encoding="ascii") as file:
             file.write(configured(self.port, self.folder, CHANNEL % tuple(words)))
@@ -159,12 +157,12 @@ class Programs:
         """How far a killed run has come, by its files."""
         journal = (self.near.text(".mbsyncstate.journal") or "").split("\n")[:-1]
         if self.state() != state:
-            return "behind the new state"
+            return "after the new state"
         if "go" not in journal:
             return "before the plan" if not journal else "in the plan"
         done = sum(line[:2] in ("d ", "v ") for line in journal)
         steps = sum(line[:2] == "s " for line in journal)
-        return "before the first step" if done == 0 and steps else "between steps" if done < steps else "behind the last step"
+        return "before the first step" if done == 0 and steps else "between steps" if done < steps else "after the last step"
 
 
 def soak(place, seed, rounds, is_usual=False):
@@ -180,16 +178,13 @@ def soak(place, seed, rounds, is_usual=False):
 
 
 def self_test(seed, rounds):
-    """Whether the judge lets the right synchroniser pass, and catches each wrong one."""
-    failed = 0
+    """Looks whether the judge lets the right synchroniser pass, and catches each wrong one."""
+    tally = Tally()
     for kind in (Right, *WRONG):
         number, stood, wrong = soak(kind(seed), seed, rounds)
-        is_as_it_should = bool(wrong) == (kind is not Right)
-        failed += not is_as_it_should
         told = f"round {number}: {wrong[0]}" if wrong else f"{number} rounds, nothing wrong, {dict(stood)}"
-        print(f"{'passed' if is_as_it_should else 'FAILED'}: {kind.__name__}: {told}")
-    print(f"{1 + len(WRONG) - failed} passed, {failed} failed")
-    return 1 if failed else 0
+        tally.check(f"{kind.__name__}: {told}", bool(wrong) == (kind is not Right))
+    tally.end()
 
 
 def try_program(program, seed, rounds, moments):
@@ -202,7 +197,7 @@ def try_program(program, seed, rounds, moments):
         server = Server(file, 65535)
         try:
             server.connect().logout()
-            return try_over(Programs(program, folder, server.port, lambda: ImapSide(server.port), moments), seed, rounds)
+            try_over(Programs(program, folder, server.port, lambda: ImapSide(server.port), moments), seed, rounds)
         finally:
             server.stop()
 
@@ -212,45 +207,45 @@ def try_real(program, address, seed, rounds, moments):
     with RealSide(address) as far:
         far.empty()
     with tempfile.TemporaryDirectory() as folder:
-        return try_over(Programs(program, folder, address[1], lambda: RealSide(address), moments), seed, rounds, True)
+        try_over(Programs(program, folder, address[1], lambda: RealSide(address), moments), seed, rounds, True)
 
 
 def try_over(programs, seed, rounds, is_usual=False):
-    """Rounds over these programs; gives the exit status."""
+    """Rounds over these programs, each of which is a check; ends the script."""
+    tally = Tally()
     number, stood, wrong = soak(programs, seed, rounds, is_usual)
     print("killed runs: " + ", ".join(f"{count} {how}" for how, count in stood.most_common()))
-    for line in wrong:
-        print(f"seed {seed}, round {number}: {line}")
+    tally.passes(number - bool(wrong))
     if wrong:
+        tally.fails("\n".join(f"seed {seed}, round {number}: {line}" for line in wrong))
         kept = tempfile.mkdtemp(prefix="killed-")
         subprocess.run(["cp", "-a", programs.folder, kept], check=True)
         print(f"the near side is kept in {kept}")
-    print(f"seed {seed}: {number} rounds, " + ("something is wrong" if wrong else "nothing lost, doubled or revived"))
-    return 1 if wrong else 0
+    print(f"seed {seed}: {number} rounds, " + ("something is wrong" if wrong else "nothing lost, duplicated or resurrected"))
+    tally.end()
 
 
 def main():
-    words = argparse.ArgumentParser()
-    words.add_argument("--program", default=MBSYNC)
+    words = parser_of(__doc__)
+    words.add_argument("--program", default=MBSYNC, help="the built mbsync, if it is left out")
     words.add_argument("--rounds", type=int, default=200)
-    words.add_argument("--seed", type=int, default=int(time.time()))
+    words.add_argument("--seed", type=int, default=int(time.time()), help="the time, if it is left out")
     words.add_argument("--calls", action="store_true")
-    words.add_argument("--server")
-    words.add_argument("--process")
+    words.add_argument("--server", metavar="HOST:PORT")
+    words.add_argument("--process", metavar="NAME")
     words.add_argument("--self-test", action="store_true")
     words = words.parse_args()
     if words.self_test:
-        sys.exit(self_test(words.seed, words.rounds))
-    if not os.access(words.program, os.X_OK):
-        sys.exit(f"{words.program} is not built")
+        self_test(words.seed, words.rounds)
+    must_run(words.program)
     if words.calls and shutil.which("strace") is None:
         sys.exit("strace is not installed")
     if words.server:
         host, port = words.server.rsplit(":", 1)
         moments = EitherEnd(words.process) if words.process else Seconds()
-        sys.exit(try_real(words.program, (host, int(port)), words.seed, words.rounds, moments))
+        try_real(words.program, (host, int(port)), words.seed, words.rounds, moments)
     moments = Calls(random.Random(words.seed)) if words.calls else Seconds()
-    sys.exit(try_program(words.program, words.seed, words.rounds, moments))
+    try_program(words.program, words.seed, words.rounds, moments)
 
 
 if __name__ == "__main__":

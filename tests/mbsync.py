@@ -1,21 +1,22 @@
 #!/usr/bin/env python3
-"""Runs mbsync between trial-imapd and Maildir folders, and tells of each check whether it passed:
+"""Runs mbsync between trial-imapd and Maildir folders, and prints of each check whether it passed.
 
-    bench/mbsync.py [--program PROGRAM] [--server PROGRAM] [NAME..]
-
-PROGRAM is bin/mbsync, and the server's crates/trial_imapd/out/trial_imapd, if they are left out; they are built where they are not
-there. With names only the scenes that have one of them in theirs are played. Each scene has a home folder, a configuration and a
-server of its own; what has to be printed, and what has to stand on both sides, is written here by hand. The last line is
-`N passed, M failed`; the status is 1 if one failed."""
-import argparse
+Both programs are built if they are missing and not named. With names only the scenes that have one of them in theirs are played. Each
+scene has a home folder, a configuration and a server of its own; what has to be printed, and what both sides have to hold, is written
+here by hand."""
 import fcntl
 import os
+import pathlib
 import signal
 import subprocess
+import sys
 import time
 
-import trial_imapd
-from scene import ONE, TWO, Scene, Tally, configuration, mode_of, near_text
+sys.path.insert(0, str(pathlib.Path(__file__).resolve().parents[1]))
+from tests.support import trial_imapd
+from tests.support.places import TOP, parser_of
+from tests.support.scene import ONE, TWO, Scene, configuration, mode_of, near_text
+from tests.support.tally import Tally
 
 LONGEST = "x" * 200 + "/" + "x" * 54
 
@@ -230,7 +231,7 @@ def messages_that_do_not_fit(tally):
     with Scene(ONE) as scene:
         scene.near().add("1.nul", b"Subject: nul\n\na\0b\n", frozenset())
         tally.same("a NUL is not sent", scene.run("c"), [0, "c:INBOX", "new pull 1 -> 2", "unfit near 1", "ran"])
-        tally.same("and is passed over from then on", scene.run("c"), [0, "c:INBOX", "ran"])
+        tally.same("and is skipped from then on", scene.run("c"), [0, "c:INBOX", "ran"])
 
 
 def a_message_that_cannot_be_read(tally):
@@ -270,11 +271,10 @@ SCENES = [first_pull, changes_both_ways, gone, only_what_is_asked, several_boxes
 
 
 def main():
-    top = os.path.dirname(os.path.dirname(os.path.abspath(__file__)))
-    words = argparse.ArgumentParser(description="Runs mbsync between trial-imapd and Maildir folders.")
-    words.add_argument("--program", default=os.path.join(top, "bin", "mbsync"))
-    words.add_argument("--server")
-    words.add_argument("names", nargs="*")
+    words = parser_of(__doc__)
+    words.add_argument("--program", default=os.path.join(TOP, "bin", "mbsync"), help="bin/mbsync, if it is left out")
+    words.add_argument("--server", metavar="PROGRAM", help="the built trial-imapd, if it is left out")
+    words.add_argument("names", nargs="*", metavar="NAME")
     words = words.parse_args()
     if words.server:
         trial_imapd.PROGRAM = words.server

@@ -1,18 +1,20 @@
 #!/usr/bin/env python3
 """Shows that a reply that a buffer lends is not kept over the next bytes that come: such a program does not compile.
 
-    bench/not-compiled.py
-
-It writes a program of a page into a scratch copy of the crates below it. As it stands it has to compile, and to print what its
-reply says; with a `put` between the reply and its use the borrow checker has to refuse it, at that line. The refusal is printed.
-Each of the other calls that change the buffer is tried in place of `put`, too."""
+It writes a program of a page into a scratch copy of the crates below it. As it is it has to compile, and to print what its reply says;
+with a `put` between the reply and its use the borrow checker has to refuse it, at that line. The refusal is printed. Each of the other
+calls that change the buffer is tried instead of `put`, too. Needs `rt`."""
 import os
+import pathlib
 import shutil
 import subprocess
 import sys
 import tempfile
 
-TOP = os.path.dirname(os.path.dirname(os.path.abspath(__file__)))
+sys.path.insert(0, str(pathlib.Path(__file__).resolve().parents[1]))
+from tests.support.places import TOP, crates_below, parser_of, with_those_below
+from tests.support.tally import Tally
+
 CHANGES = ["buffer.put(b\"* 3 EXISTS\\r\\n\")?;", "buffer.step()?;", "buffer.drop_last(1);", "buffer.forget();"]
 PROGRAM = r'''//! Reads a reply where it lies.
 #![tactic(auto)]
@@ -45,21 +47,10 @@ fn told(alloc: Global) -> Result<u32, WireFault> {
 '''
 
 
-def lines():
-    """The line of each crate in crates.txt, and the names behind it."""
-    with open(f"{TOP}/crates.txt", encoding="utf-8") as text:
-        parts = [line.partition("#")[0].partition(":") for line in text]
-    return {name.split()[0]: behind.split() for name, _, behind in parts if name.strip()}
-
-
-def below(crates, name):
-    return {name}.union(*(below(crates, low) for low in crates[name] if low in crates))
-
-
 def copy(room):
     """Copies the sources of the crates below the program; of the program its place alone."""
-    crates = lines()
-    names = sorted(below(crates, "reply_buf"))
+    crates = crates_below()
+    names = sorted(with_those_below(crates, "reply_buf"))
     for name in names:
         shutil.copytree(f"{TOP}/crates/{name}", f"{room}/crates/{name}", ignore=shutil.ignore_patterns("out"))
     os.makedirs(f"{room}/crates/reads/src")
@@ -77,19 +68,24 @@ def tried(room, change):
 
 
 def main():
+    parser_of(__doc__).parse_args()
+    if shutil.which("rt") is None:
+        sys.exit("the command rt of the Rattle kit is not on the PATH")
     line = PROGRAM[:PROGRAM.index("// CHANGE")].count("\n") + 1
+    tally = Tally()
     with tempfile.TemporaryDirectory(prefix="not-compiled-") as room:
         copy(room)
         status, out, said = tried(room, "// Nothing comes between.")
-        if out != "2\n":
-            sys.exit(f"the program is refused without a change, or prints another number: {status} {out}{said}")
+        tally.check("the program without a change compiles, and prints 2", out == "2\n", f"status {status} {out}{said}")
         for change in CHANGES:
             status, out, said = tried(room, change)
             refusals = [it for it in said.splitlines() if f"main.rt:{line}:" in it and "[borrow-" in it]
-            if status == 0 or out or not refusals:
-                sys.exit(f"not refused by the borrow checker: {change}\n{out}{said}")
-            print(f"{change}\n  {refusals[0].partition('main.rt')[2]}")
-    print(f"{len(CHANGES)} of {len(CHANGES)} refused")
+            is_refused = status != 0 and not out and refusals
+            tally.check(f"the borrow checker refuses {change}", is_refused, f"\n{out}{said}")
+            if is_refused:
+                print(f"  {refusals[0].partition('main.rt')[2]}")
+    tally.end()
 
 
-main()
+if __name__ == "__main__":
+    main()

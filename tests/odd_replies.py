@@ -1,26 +1,24 @@
 #!/usr/bin/env python3
-"""Puts replies that mbsync does not ask for, and damaged ones, into its sessions:
+"""Puts replies that mbsync does not ask for, and damaged ones, into its sessions.
 
-    bench/odd_replies.py [--program PROGRAM] [--damaged N] [--seed SEED]
-
-PROGRAM is the built mbsync if it is left out. Each of REPLIES is said before the answer to the list of mailboxes, to that of the messages,
-and to one message: the run has to come to its end, with each message there once. Each of STOPS may end a run, which has to tell that; the
-next run, without it, has to come to its end. Then N lines of real servers (10,000 if it is left out), each damaged at a few places, are
-said in the same places: each run has to end, with little memory. The server is scripted_server.py. The last line is `N passed, M failed`;
-the status is 1 if one failed."""
-import argparse
+Each of REPLIES is sent before the answer to the list of mailboxes, to that of the messages, and to one message: the run has to come to its
+end, with each message there once. Each of STOPS may end a run, which has to report that; the next run, without it, has to come to its end.
+Then lines of real servers, each damaged at a few places, are sent in the same places: each run has to end, with little memory. The server
+is scripted_server.py."""
 import os
+import pathlib
 import random
-import re
+import sys
 
-from edge_scene import Edge, far, near
-from scene import ONE, TWO, Scene, Tally
-from scripted_server import BODY, LISTING
-from server_edges import peak_of
-from trial_imapd import TOP
+sys.path.insert(0, str(pathlib.Path(__file__).resolve().parents[1]))
+from oracle.mail import unescaped
+from tests.scenes.server_edges import peak_of
+from tests.support.edge_scene import Edge, far, near
+from tests.support.places import MBSYNC, REAL_LINES, must_run, parser_of
+from tests.support.scene import ONE, TWO, Scene
+from tests.support.scripted_server import BODY, LISTING
+from tests.support.tally import Tally
 
-PROGRAM = os.path.join(TOP, "crates", "mbsync_main", "out", "mbsync_main")
-REAL_LINES = os.path.join(os.path.dirname(os.path.abspath(__file__)), "real-lines.txt")
 REPLIES = [
     b"* OK still\there\r\n", b"* OK\r\n", b"* OK [\r\n", b"* OK bare\n", b"\r\n", b"* OK spaces behind   \r\n", b"* OK \xff\x00\r\n",
     b"* OK [UNSEEN 1]\r\n", b"* OK [HIGHESTMODSEQ 90060115194045001] ok\r\n", b"* OK [MAILBOXID (e90f7)] ok\r\n",
@@ -81,9 +79,8 @@ def stops(tally):
 
 def real_lines():
     """What the servers say in real-lines.txt."""
-    with open(REAL_LINES, encoding="ascii") as lines:
-        found = [line[2:].rstrip("\n") for line in lines if line.startswith("r ")]
-    return [re.sub(rb"\\([0-9a-f]{2})", lambda it: bytes([int(it[1], 16)]), line.encode()) for line in found]
+    with open(REAL_LINES, "rb") as lines:
+        return [unescaped(line[2:].rstrip(b"\n")) for line in lines if line.startswith(b"r ")]
 
 
 def damaged(line, chance):
@@ -121,14 +118,13 @@ def broken(tally, count, seed):
 
 
 def main():
-    words = argparse.ArgumentParser(description="Puts odd replies into the sessions of mbsync.")
-    words.add_argument("--program", default=PROGRAM)
-    words.add_argument("--damaged", type=int, default=10000)
+    words = parser_of(__doc__)
+    words.add_argument("--program", default=MBSYNC, help="the built mbsync, if it is left out")
+    words.add_argument("--damaged", type=int, default=10000, metavar="N", help="how many damaged lines (10000)")
     words.add_argument("--seed", type=int, default=1)
     words = words.parse_args()
     Scene.program = os.path.abspath(words.program)
-    if not os.access(Scene.program, os.X_OK):
-        raise SystemExit(f"{Scene.program} is not built")
+    must_run(Scene.program)
     tally = Tally()
     odd(tally)
     stops(tally)

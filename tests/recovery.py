@@ -1,23 +1,23 @@
 #!/usr/bin/env python3
-"""Plays the faults of docs/MBSYNC.md, and mends each as that page says:
+"""Plays the faults of docs/MBSYNC.md, and mends each as that page says.
 
-    bench/recovery.py [PROGRAM]
-
-trial-imapd is the far side, a folder made for the run the near one. PROGRAM is the built mbsync if it is left out. The last line is
-`N passed, M failed`."""
+trial-imapd is the far side, a folder made for the run the near one."""
 import fcntl
 import os
+import pathlib
 import re
 import subprocess
 import sys
 import tempfile
 
-from configuration import configured
-from imap_side import ImapSide
-from maildir_side import MaildirSide
-from trial_imapd import TOP, Server, build
+sys.path.insert(0, str(pathlib.Path(__file__).resolve().parents[1]))
+from tests.support.configuration import configured
+from tests.support.imap_side import ImapSide
+from tests.support.maildir_side import MaildirSide
+from tests.support.places import MBSYNC, must_run, parser_of
+from tests.support.tally import Tally
+from tests.support.trial_imapd import Server, build
 
-MBSYNC = os.path.join(TOP, "crates", "mbsync_main", "out", "mbsync_main")
 WORLD = """sync Full
 expunge None
 far %d %d
@@ -32,12 +32,7 @@ Far :far:%s
 Near :near:%s
 Create Near
 """
-RESULTS = []
-
-
-def check(name, is_so, told=""):
-    RESULTS.append(bool(is_so))
-    print(f"{'passed' if is_so else 'FAILED'}: {name}" + ("" if is_so else f": {told}"), flush=True)
+TALLY = Tally()
 
 
 class Place:
@@ -60,7 +55,7 @@ class Place:
         self.server.connect().logout()
 
     def run(self, *words, box=""):
-        """Status, output and what standard error was told first."""
+        """Status, standard output, and the first line of standard error."""
         configuration = os.path.join(self.folder, "mbsyncrc")
         with open(configuration, "w", encoding="ascii") as text:
             text.write(configured(self.server.port, self.folder, CHANNEL % (box, box)))
@@ -69,12 +64,12 @@ class Place:
 
     def fails(self, name, text, box="INBOX"):
         told = self.run(box="" if box == "INBOX" else box)
-        check(name, told[0] == 1 and told[2] == f"mbsync: box:{box}: {text}", told)
+        TALLY.check(name, told[0] == 1 and told[2] == f"mbsync: box:{box}: {text}", told)
 
     def works(self, name, *lines):
         """A run that comes to its end with these lines. One with a void step has status 1."""
         told, status = self.run(), int(any(line.startswith("void ") for line in lines))
-        check(name, told == (status, "".join(line + "\n" for line in ("box:INBOX", *lines)), ""), told)
+        TALLY.check(name, told == (status, "".join(line + "\n" for line in ("box:INBOX", *lines)), ""), told)
 
     def path(self, name):
         return os.path.join(self.near.path, name)
@@ -133,7 +128,7 @@ def one_uid_twice(place):
     place.fails("two files with one UID are told", "store fault near 3")
     command = "ls cur new | grep -o ',U=[0-9]*' | sort | uniq -d"
     listed = subprocess.run(command, shell=True, cwd=place.near.path, capture_output=True, text=True, check=True)
-    check("the page's command finds them", listed.stdout == ",U=2\n", listed.stdout)
+    TALLY.check("the page's command finds them", listed.stdout == ",U=2\n", listed.stdout)
     os.rename(place.path("cur/1.moved,U=2:2,S"), place.path("cur/1.moved:2,S"))
     place.works("without the UID in its name it is a new message", "new push 3 -> 3", "ran")
 
@@ -172,25 +167,24 @@ def locked(place):
         place.fails("a lock that is held is told", "locked")
     place.works("the file alone is no lock", "ran")
     place.fails("a far mailbox that is absent is told", "absent far", "Other")
-    check("and nothing is made", not os.path.exists(os.path.join(place.folder, "Other")))
+    TALLY.check("and nothing is made", not os.path.exists(os.path.join(place.folder, "Other")))
 
 
 def main():
-    program = sys.argv[1] if len(sys.argv) > 1 else MBSYNC
+    words = parser_of(__doc__)
+    words.add_argument("program", nargs="?", default=MBSYNC, help="the built mbsync, if it is left out")
+    program = words.parse_args().program
+    must_run(program)
     build()
-    if not os.access(program, os.X_OK):
-        sys.exit(f"{program} is not built")
     for part in (damaged_journal, damaged_state, meta_file, one_uid_twice, refused_message, start_over, locked):
         with tempfile.TemporaryDirectory() as folder:
             place = Place(program, folder)
-            try:
+            with TALLY.scene(part.__name__):
                 if part is damaged_journal:
                     place.write(".uidvalidity", "7\n0\n")
                 part(place)
-            finally:
-                place.server.stop()
-    print(f"{sum(RESULTS)} passed, {len(RESULTS) - sum(RESULTS)} failed")
-    sys.exit(0 if all(RESULTS) else 1)
+            place.server.stop()
+    TALLY.end()
 
 
 if __name__ == "__main__":

@@ -1,27 +1,28 @@
 #!/usr/bin/env python3
-"""Refuses each allocation of a run in turn, and checks that the output is whole or that want of memory is told.
-
-usage: bench/refused-allocations.py PROGRAM INPUT..
+"""Refuses each allocation of a run in turn, and checks that the output is whole or that `no memory` is reported.
 
 PROGRAM is mbplan with worlds for INPUT, or a program of tests (crates/tests_of_*) with a script of one library: those of
-bench/few-*.txt, or any part of the stdin of its crate from a line `script NAME` on. For tests_of_runs INPUT may be trials too
-(NAME.trial), as bench/few-trials/*, or `worlds`: the nine of bench/stops.py. It is run on each INPUT, once without a refusal and then
+tests/few/*.txt, or any part of the stdin of its crate from a line `script NAME` on. For tests_of_runs INPUT may be trials too
+(NAME.trial), as tests/few/trials/*, or `worlds`: the nine of tests/stops.py. It is run on each INPUT, once without a refusal and then
 with the first allocation refused, with the second, and so on until a run meets no refusal. A run with a refusal has to give the
 unbroken run's output and status, or nothing on standard output, `NAME: no memory` on standard error and status 1. In a script of
-`server`, as bench/few-sessions.txt, a server may answer `no memory` itself: up to there the output has to be the unbroken run's, and
-from there on the server is closed until the next connection. In one of `client`, as bench/few-client-calls.txt, a call may answer
+`server`, as tests/few/sessions.txt, a server may answer `no memory` itself: up to there the output has to be the unbroken run's, and
+from there on the server is closed until the next connection. In one of `client`, as tests/few/client-calls.txt, a call may answer
 `NoMemory`: up to there the case has to be the unbroken run's, from there on its calls are stopped or not made up to the next
-connection, and the other cases are the unbroken run's. A trial may tell want of memory (`fault 8`) and the world as it then stands:
-another run over the same devices has to come to the same end, as `wanting_trials.py` says.
-"""
+connection, and the other cases are the unbroken run's. A trial may report `fault 8` and the world as it then is: another run over the same
+devices has to come to the same end, as tests/support/wanting_trials.py says. Each allocation is a check."""
 import os
+import pathlib
 import subprocess
 import sys
 import tempfile
 from collections import Counter
 
-from stops import WORLDS
-from wanting_trials import Wanting, script_of
+sys.path.insert(0, str(pathlib.Path(__file__).resolve().parents[1]))
+from tests.stops import WORLDS
+from tests.support.places import must_run, parser_of
+from tests.support.tally import Tally
+from tests.support.wanting_trials import Wanting, script_of
 
 SHIM = r"""
 #include <stddef.h>
@@ -43,16 +44,15 @@ void *malloc(size_t n) { return is_refused() ? NULL : __libc_malloc(n); }
 void *realloc(void *p, size_t n) { return is_refused() ? NULL : __libc_realloc(p, n); }
 """
 
-# Lines of a script of `server` behind which there is a connection again, or another server.
+# Lines of a script of `server` after which there is a connection again, or another server.
 TO_CONNECT = (b"case", b"connect", b"server", b"loopback", b"stream")
 
-
-# What stands in a script of `client` before a call.
+# What comes in a script of `client` before a call.
 TALK = (b"S: ", b"C: ", b"says ", b"sends ", b"breaks ", b"repeats ", b"unreachable")
 
 
 def run(program, text, shim, number):
-    """Status, output, told faults, and whether an allocation was refused."""
+    """Status, standard output, standard error, and whether an allocation was refused."""
     reader, writer = os.pipe()
     os.dup2(writer, 198, inheritable=True)
     os.close(writer)
@@ -67,7 +67,7 @@ def run(program, text, shim, number):
 
 
 def goes_on(whole, found):
-    """Whether a server of a script of `server` tells want of memory, goes as before up to there, and is closed until it is connected."""
+    """Whether a server of a script of `server` reports `no memory`, goes as before up to there, and is closed until it is connected."""
     before, told, behind = found[1].partition(b"  no memory\n")
     if not whole[1].startswith(b"script server\n") or found[0] != 0 or found[2] != b"" or not told:
         return False
@@ -94,7 +94,7 @@ def is_stuck(call, answer):
 
 
 def goes_on_calling(whole, found):
-    """Whether a call of a script of `client` tells want of memory, and only those behind it on its connection are stopped."""
+    """Whether a call of a script of `client` reports `NoMemory`, and only those after it on its connection are stopped."""
     if not whole[1].startswith(b"script client\n") or found[0] != 0 or found[2] != b"":
         return False
     before, after = whole[1].split(b"\ncase "), found[1].split(b"\ncase ")
@@ -124,14 +124,13 @@ def inputs_of(name):
     return [(name, text, None)]
 
 
-def check(program, shim, world, text, trial):
-    """How many refused allocations of a run over this input end it wrongly; each is told."""
+def check(tally, program, shim, world, text, trial):
+    """Refuses each allocation of a run over this input."""
     whole = run(program, text, shim, 0)
     wanting = (1, b"", os.path.basename(program).encode() + b": no memory\n", True)
     wants = Wanting(program, trial, whole[1].decode()) if trial else None
     number = 0
     told = 0
-    wrong = 0
     ends = Counter()
     while True:
         number += 1
@@ -140,32 +139,41 @@ def check(program, shim, world, text, trial):
             break
         if found == wanting:
             told += 1
+            tally.passes()
             continue
         if found[:3] == whole[:3] or goes_on(whole, found) or goes_on_calling(whole, found):
+            tally.passes()
             continue
         how = wants.how(found[0], found[1].decode(), found[2].decode()) if wants else None
         if how is None:
-            wrong += 1
-            print(f"{world}: allocation {number} refused: status {found[0]}, {found[1]!r}, {found[2]!r}")
+            tally.fails(f"{world}: allocation {number} refused: status {found[0]}, {found[1]!r}, {found[2]!r}")
         else:
             ends[how] += 1
+            tally.passes()
+    if number == 1:
+        tally.fails(f"{world}: no allocation was met")
     others = "".join(f", {count} {how}" for how, count in sorted(ends.items()))
-    print(f"{world}: {number - 1} allocations, of which {told} when refused end the run{others}")
-    return wrong
+    print(f"{world}: {number - 1} allocations, of which {told} when refused end the run{others}", flush=True)
 
 
 def main():
-    if len(sys.argv) < 3:
-        sys.exit(__doc__.strip())
-    program = os.path.abspath(sys.argv[1])
+    words = parser_of(__doc__)
+    words.add_argument("program", metavar="PROGRAM")
+    words.add_argument("inputs", nargs="+", metavar="INPUT")
+    words = words.parse_args()
+    program = os.path.abspath(words.program)
+    must_run(program)
+    tally = Tally()
     with tempfile.TemporaryDirectory() as folder:
         source, shim = os.path.join(folder, "shim.c"), os.path.join(folder, "shim.so")
         with open(source, "w", encoding="ascii") as file:
             file.write(SHIM)
         subprocess.run(["cc", "-shared", "-fPIC", "-O1", "-o", shim, source], check=True)
-        wrong = sum(check(program, shim, *given) for name in sys.argv[2:] for given in inputs_of(name))
-    if wrong:
-        sys.exit(f"{wrong} refused allocations were not told as they should be")
+        for name in words.inputs:
+            for given in inputs_of(name):
+                check(tally, program, shim, *given)
+    tally.end()
 
 
-main()
+if __name__ == "__main__":
+    main()

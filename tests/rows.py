@@ -1,50 +1,46 @@
 #!/usr/bin/env python3
 """Runs the built mbplan on each world of the script of `plan` in crates/tests_of_words, and compares what it prints.
 
-usage: bench/rows.py [PROGRAM]
-
-PROGRAM is bin/mbplan if it is left out. The program tests_of_words runs the same worlds through the library; this is the way
-through mbplan, its standard input and its exit status. The worlds are those of the script's lines `world`, `line`, `behind` and
-`grow`, and what has to come of them is what stands behind these lines in its expected output. It stops at the first
-world whose output differs.
-"""
+The program tests_of_words runs the same worlds through the library; this is the way through mbplan, its standard input and its exit
+status. The worlds are those of the script's lines `world`, `line`, `behind` and `grow`, and what has to come of them is what follows these
+lines in its expected output. It ends at the first world whose output differs."""
 import os
-import re
+import pathlib
 import subprocess
 import sys
 
-TOP = os.path.dirname(os.path.dirname(os.path.abspath(__file__)))
-CRATE = os.path.join(TOP, "crates", "tests_of_words")
+sys.path.insert(0, str(pathlib.Path(__file__).resolve().parents[1]))
+from oracle.mail import unescaped
+from tests.support.places import TESTS_OF_WORDS, TOP, parser_of
+from tests.support.tally import Tally, Wrong
 
 
-def lines_of(name):
-    """The lines behind `script plan`, up to those of the next library."""
-    with open(os.path.join(CRATE, name), "rb") as file:
+def plan_lines(name):
+    """The lines after `script plan`, up to those of the next library."""
+    with open(os.path.join(TESTS_OF_WORDS, name), "rb") as file:
         _, _, lines = (b"\n" + file.read()).partition(b"\nscript plan\n")
     return lines.partition(b"\nscript ")[0].split(b"\n")
 
 
 def answered():
-    """Each line of the script, with the lines that stand behind it in the expected output."""
-    record = lines_of("stdout")
+    """Each line of the script, with the lines that follow it in the expected output."""
+    record = plan_lines("stdout")
     at = 0
-    for number, line in enumerate(lines_of("stdin"), 1):
+    for number, line in enumerate(plan_lines("stdin"), 1):
         if record[at:at + 1] != [line]:
-            sys.exit(f"rows.py: line {number} of the script is not line {at + 1} of the output")
+            raise Wrong(f"line {number} of the script is not line {at + 1} of the output")
         begin = at = at + 1
         while at < len(record) and record[at].startswith(b"  "):
             at += 1
         yield line, record[begin:at]
     if at < len(record):
-        sys.exit(f"rows.py: line {at + 1} of the output belongs to no line of the script")
+        raise Wrong(f"line {at + 1} of the output belongs to no line of the script")
 
 
 def bytes_of(line):
-    """The bytes behind a line's words: between bars as they are, between quotes escaped."""
+    """The bytes after a line's words: between bars as they are, between quotes escaped."""
     _, _, text = line.partition(b" " + line[-1:])
-    if line.endswith(b'"'):
-        return re.sub(rb"\\([0-9a-f]{2})", lambda found: bytes([int(found[1], 16)]), text[:-1])
-    return text[:-1]
+    return unescaped(text[:-1]) if line.endswith(b'"') else text[:-1]
 
 
 def with_line(world, number, change):
@@ -54,7 +50,7 @@ def with_line(world, number, change):
 
 
 def changed(world, line):
-    """The world that a line of the script runs, and the last world behind that line."""
+    """The world that a line of the script runs, and the last world after that line."""
     words = line.split(b" ")
     if words[0] == b"line":
         return with_line(world, int(words[1]), lambda _: bytes_of(line)), world
@@ -94,19 +90,28 @@ def shown(ran):
     return shown_text(b"", ran.stdout) + shown_text(b"error: ", ran.stderr) + [status]
 
 
-def main():
-    program = sys.argv[1] if len(sys.argv) > 1 else os.path.join(TOP, "bin", "mbplan")
-    count = 0
+def compare(tally, program):
+    """Runs each world, up to the first whose output differs."""
     for world, answer in rows():
-        ran = subprocess.run([program], input=world, capture_output=True, check=False)
-        found = shown(ran)
+        found = shown(subprocess.run([program], input=world, capture_output=True, check=False))
         if found != answer:
-            sys.exit("\n".join(["rows.py: this world (its first bytes)", world[:2000].decode("latin-1"), "wanted:",
-                                *[line.decode() for line in answer], "printed:", *[line.decode() for line in found]]))
-        count += 1
-    if count == 0:
-        sys.exit("rows.py: no world was found")
-    print(f"{count} worlds have their answers")
+            raise Wrong("\n".join(["this world (its first bytes)", world[:2000].decode("latin-1"), "wanted:",
+                                   *[line.decode() for line in answer], "printed:", *[line.decode() for line in found]]))
+        tally.passes()
+    if tally.passed == 0:
+        raise Wrong("no world was found")
+    print(f"{tally.passed} worlds have their answers")
 
 
-main()
+def main():
+    words = parser_of(__doc__)
+    words.add_argument("program", nargs="?", default=os.path.join(TOP, "bin", "mbplan"), help="bin/mbplan, if it is left out")
+    words = words.parse_args()
+    tally = Tally()
+    with tally.until_wrong():
+        compare(tally, words.program)
+    tally.end()
+
+
+if __name__ == "__main__":
+    main()

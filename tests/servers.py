@@ -1,32 +1,30 @@
 #!/usr/bin/env python3
-"""Synchronises an account of a real server with mbsync and with isync, and compares what each has made:
-
-    bench/servers.py HOST:PORT [--user USER] [--password PASSWORD] [--program PROGRAM] [--isync PROGRAM..]
+"""Synchronises an account of a real server with mbsync and with isync, and compares what each has made.
 
 The account is emptied first, and then filled: mailboxes within mailboxes, names with spaces, dots, brackets and letters beyond ASCII, one
 that was renamed, one that cannot be selected, keywords. Both programs pull it into new folders, through a go-between that counts
-connections and commands; then messages, flags and removals go both ways with mbsync; then both run with nothing to do. PROGRAM is the built
-mbsync if it is left out, and isync's is the mbsync of the system (of Debian's package isync).
+connections and commands; then messages, flags and removals go both ways with mbsync; then both run with nothing to do.
 
 It installs nothing. A server to try is cyrus (Debian 13: cyrus-imapd 3.10, which speaks IMAP4rev2). Its settings: altnamespace and
-unixhierarchysep yes, allowplaintext yes, and a user whose INBOX was made with CREATE user/USER by an admin. The last line is `N passed, M
-failed`; the status is 1 if one failed."""
-import argparse
+unixhierarchysep yes, allowplaintext yes, and a user whose INBOX was made with CREATE user/USER by an admin."""
 import imaplib
 import os
+import pathlib
 import re
 import socket
 import subprocess
+import sys
 import tempfile
 import threading
 
-from listening import Listening
-from maildir_side import MaildirSide
-from measured import system_calls
-from scene import Tally
-from trial_imapd import TOP
+sys.path.insert(0, str(pathlib.Path(__file__).resolve().parents[1]))
+from tests.support.configuration import imap_store, maildir_store
+from tests.support.listening import Listening
+from tests.support.maildir_side import MaildirSide
+from tests.support.measured import system_calls
+from tests.support.places import MBSYNC, must_run, parser_of
+from tests.support.tally import Tally
 
-PROGRAM = os.path.join(TOP, "crates", "mbsync_main", "out", "mbsync_main")
 # The names of the mailboxes as the server takes them before IMAP4rev2 is enabled: in modified UTF-7 (RFC 3501, section 5.1.3).
 NAMES = ["INBOX", "Archive", "Archive/2024", "Archive/2024/January", "Archive/2025", "Sent Items", "Drafts", "Junk", "Trash", "Work",
          "Work/Project A", "Work/Project B (old)", "Work/a.b.c", "Lists", "Lists/isync-devel", "R&-D", "x]y", "[Gmail]", "[Gmail]/All Mail",
@@ -35,23 +33,13 @@ NAMES = ["INBOX", "Archive", "Archive/2024", "Archive/2024/January", "Archive/20
 RENAMED = ("To be renamed", "Renamed")
 LISTED = re.compile(rb'\((?P<flags>[^)]*)\) (?:"/"|NIL) (?P<name>"(?:[^"\\]|\\.)*"|[^ ]+)')
 COMMAND = re.compile(rb"^[A-Za-z0-9]+ [A-Za-z]", re.MULTILINE)
-CHANNEL = """IMAPStore far
-Host {host}
-Port {port}
-User {user}
-Pass {password}
-{far}
-MaildirStore near
-Path {folder}/
-Inbox {folder}/INBOX
-{near}
-Channel c
+CHANNEL = """Channel c
 Far :far:
 Near :near:
 Patterns * INBOX
 Create Near
 Expunge Both
-{state}"""
+"""
 
 
 class Counting(Listening):
@@ -177,9 +165,9 @@ class Programs:
         is_isync = name == "isync"
         far, near = ("TLSType None\nAuthMechs LOGIN\nDisableExtension COMPRESS=DEFLATE\n", "SubFolders Verbatim\n") if is_isync else ("", "")
         os.makedirs(folder, exist_ok=True)
+        stores = imap_store(self.between.port, "far", self.words.user, self.words.password, far) + maildir_store(folder, f"{folder}/INBOX", more=near)
         with open(folder + ".rc", "w", encoding="ascii") as file:
-            file.write(CHANNEL.format(host="127.0.0.1", port=self.between.port, user=self.words.user, password=self.words.password,
-                                      folder=folder, far=far, near=near, state="SyncState *\n" if is_isync else ""))
+            file.write(stores + CHANNEL + ("SyncState *\n" if is_isync else ""))
         return [*(self.words.isync if is_isync else [self.words.program]), "-c", folder + ".rc", "c"]
 
     def run(self, name):
@@ -236,13 +224,14 @@ def rest(tally, programs):
 
 
 def main():
-    words = argparse.ArgumentParser(usage="bench/servers.py HOST:PORT [--user USER] [--password PASSWORD]")
-    words.add_argument("server")
+    words = parser_of(__doc__)
+    words.add_argument("server", metavar="HOST:PORT")
     words.add_argument("--user", default="u")
     words.add_argument("--password", default="p")
-    words.add_argument("--program", default=PROGRAM)
-    words.add_argument("--isync", nargs="+", default=["mbsync"])
+    words.add_argument("--program", default=MBSYNC, help="the built mbsync, if it is left out")
+    words.add_argument("--isync", nargs="+", default=["mbsync"], help="the mbsync of the system (of Debian's package isync), if it is left out")
     words = words.parse_args()
+    must_run(words.program)
     tally = Tally()
     with tempfile.TemporaryDirectory() as top:
         programs = Programs(words, top)

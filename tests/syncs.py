@@ -1,23 +1,23 @@
 #!/usr/bin/env python3
 """Looks in which order a run of mbsync makes what it writes outlive a loss of power, as docs/DECISIONS.md says.
 
-usage: bench/syncs.py [PROGRAM]
-
 Three runs over trial-imapd are traced by strace: one that pulls three messages and takes over a file that was left in `new`, one that
-removes a message and changes a flag, and one with nothing to do. PROGRAM is the built mbsync if it is left out. Each order is a line of
-the output; the last line is `N passed, M failed`, and the status is 1 if one failed."""
+removes a message and changes a flag, and one with nothing to do. Each order is a line of the output."""
 import os
+import pathlib
 import re
 import shutil
 import subprocess
 import sys
 import tempfile
 
-from configuration import configured
-from imap_side import ImapSide
-from trial_imapd import TOP, Server, build, world
+sys.path.insert(0, str(pathlib.Path(__file__).resolve().parents[1]))
+from tests.support.configuration import configured
+from tests.support.imap_side import ImapSide
+from tests.support.places import MBSYNC, must_run, parser_of
+from tests.support.tally import Tally
+from tests.support.trial_imapd import Server, build, world
 
-MBSYNC = os.path.join(TOP, "crates", "mbsync_main", "out", "mbsync_main")
 CALLS = "fsync,fdatasync,rename,renameat,renameat2,unlink,unlinkat,write,pwrite64"
 ROW = re.compile(r"^\d+ +(\w+)\((.*)\) += (-?\d+)")
 OPENED = re.compile(r"^\d+<([^>]*)>")
@@ -54,15 +54,6 @@ class Trace:
         return ("sync", path) in self.events[start + 1:end]
 
 
-class Judge:
-    def __init__(self):
-        self.passed = self.failed = 0
-
-    def see(self, name, is_so):
-        self.passed, self.failed = self.passed + bool(is_so), self.failed + (not is_so)
-        print(f"{name}: {'as it must be' if is_so else 'NOT so'}")
-
-
 def in_mailbox(event):
     """A message's file gets its name, another name, or goes."""
     return event[0] in ("rename", "remove") and event[-1].split("/")[0] in ("cur", "new")
@@ -72,26 +63,26 @@ def is_copy(event):
     return event[0] == "rename" and event[1] == "tmp/mbsync.copy"
 
 
-def look(judge, name, trace, copies, changes):
+def look(tally, name, trace, copies, changes):
     plan = trace.places(lambda event: event == ("write", ".mbsyncstate.journal"))[0]
     state = trace.places(lambda event: event == ("rename", ".mbsyncstate.new", ".mbsyncstate"))[0]
     gone = trace.places(lambda event: event == ("remove", ".mbsyncstate.journal"))[-1]
     names = trace.places(in_mailbox)
     made = trace.places(is_copy)
-    judge.see(f"{name}: {copies} copies are made, and {changes} names change", (len(made), len(names)) == (copies, changes))
+    tally.check(f"{name}: {copies} copies are made, and {changes} names change", (len(made), len(names)) == (copies, changes))
     for place in made:
         written = max(it for it in trace.places(lambda event: event == ("write", "tmp/mbsync.copy")) if it < place)
-        judge.see(f"{name}: a copy's bytes are synced before it gets its name", trace.synced("tmp/mbsync.copy", written, place))
+        tally.check(f"{name}: a copy's bytes are synced before it gets its name", trace.synced("tmp/mbsync.copy", written, place))
     folders = ("cur", "new", ".")
     before = max([place for place in names if place < plan], default=-1)
-    judge.see(f"{name}: names that were given are synced before the plan is written", all(trace.synced(it, before, plan) for it in folders))
+    tally.check(f"{name}: names that were given are synced before the plan is written", all(trace.synced(it, before, plan) for it in folders))
     step = min([place for place in names if place > plan], default=state)
-    judge.see(f"{name}: the plan is synced before its first step", trace.synced(".mbsyncstate.journal", plan, step))
+    tally.check(f"{name}: the plan is synced before its first step", trace.synced(".mbsyncstate.journal", plan, step))
     last = max([place for place in names if place < state], default=-1)
-    judge.see(f"{name}: all names are synced before the state is replaced", all(trace.synced(it, last, state) for it in folders))
+    tally.check(f"{name}: all names are synced before the state is replaced", all(trace.synced(it, last, state) for it in folders))
     written = max(trace.places(lambda event: event == ("write", ".mbsyncstate.new")))
-    judge.see(f"{name}: the state's bytes are synced before it gets its name", trace.synced(".mbsyncstate.new", written, state))
-    judge.see(f"{name}: the state's name is synced before the journal goes", trace.synced(".", state, gone))
+    tally.check(f"{name}: the state's bytes are synced before it gets its name", trace.synced(".mbsyncstate.new", written, state))
+    tally.check(f"{name}: the state's name is synced before the journal goes", trace.synced(".", state, gone))
 
 
 def traced(program, rc, box):
@@ -103,7 +94,7 @@ def traced(program, rc, box):
         return Trace(box, log.read().splitlines())
 
 
-def scenes(judge, program, top):
+def scenes(tally, program, top):
     box = os.path.join(os.path.realpath(top), "mail", "INBOX")
     for part in ("cur", "new", "tmp"):
         os.makedirs(os.path.join(box, part))
@@ -117,28 +108,29 @@ def scenes(judge, program, top):
         with open(rc, "w", encoding="ascii") as file:
             file.write(configured(server.port, os.path.dirname(box), CHANNEL))
         server.connect().logout()
-        look(judge, "first run", traced(program, rc, box), copies=3, changes=4)
+        look(tally, "first run", traced(program, rc, box), copies=3, changes=4)
         with ImapSide(server.port) as far:
             far.ask(b"UID STORE 1 +FLAGS.SILENT (\\Seen)")
             far.ask(b"UID STORE 2 +FLAGS.SILENT (\\Deleted)")
             far.ask(b"UID EXPUNGE 2")
-        look(judge, "changes", traced(program, rc, box), copies=0, changes=3)
-        look(judge, "nothing to do", traced(program, rc, box), copies=0, changes=0)
+        look(tally, "changes", traced(program, rc, box), copies=0, changes=3)
+        look(tally, "nothing to do", traced(program, rc, box), copies=0, changes=0)
     finally:
         server.stop()
 
 
 def main():
-    program = sys.argv[1] if len(sys.argv) > 1 else MBSYNC
-    for needed, what in ((shutil.which("strace"), "strace"), (os.access(program, os.X_OK), program)):
-        if not needed:
-            sys.exit(f"{what} is missing")
+    words = parser_of(__doc__)
+    words.add_argument("program", nargs="?", default=MBSYNC, help="the built mbsync, if it is left out")
+    program = words.parse_args().program
+    must_run(program)
+    if shutil.which("strace") is None:
+        sys.exit("strace is not installed")
     build()
-    judge = Judge()
-    with tempfile.TemporaryDirectory() as top:
-        scenes(judge, program, top)
-    print(f"{judge.passed} passed, {judge.failed} failed")
-    sys.exit(1 if judge.failed else 0)
+    tally = Tally()
+    with tempfile.TemporaryDirectory() as top, tally.scene("the three runs"):
+        scenes(tally, program, top)
+    tally.end()
 
 
 if __name__ == "__main__":

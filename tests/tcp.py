@@ -1,26 +1,25 @@
 #!/usr/bin/env python3
-"""Makes the calls of a client over TCP against trial-imapd as a process of its own, and stops at the first wrong answer:
+"""Makes the calls of a client over TCP against trial-imapd as a process of its own, and ends at the first wrong answer.
 
-    bench/tcp.py
-
-tests_of_runs makes them, by lines of a script of `client` (crates/test_client): on a mailbox with 1,000 messages it lists, fetches, seeks marks,
-appends, sets and clears flags and expunges, makes a second mailbox and adds to it, and connects anew in between. Each answer is
-compared with what this script works out. Then a connection of the script's own, without the client, reads both mailboxes, which
-have to hold what the calls leave; and at last the client meets a server that is gone."""
-import subprocess
+tests_of_runs makes them, by lines of a script of `client` (crates/test_client): on a mailbox with 1,000 messages it lists, fetches, seeks
+marks, appends, sets and clears flags and expunges, makes a second mailbox and adds to it, and connects anew in between. Each answer is
+compared with what this script works out. Then a connection of the script's own, without the client, reads both mailboxes, which have to
+hold what the calls leave; and at last the client meets a server that is gone."""
 import os
+import pathlib
 import sys
 import tempfile
 import time
 
-from played import build as build_program
-from played import play as play_lines
-from trial_imapd import Server, build, world
+sys.path.insert(0, str(pathlib.Path(__file__).resolve().parents[1]))
+from oracle.mail import SIX, escaped
+from tests.support import places, played
+from tests.support.tally import Tally, Wrong
+from tests.support.trial_imapd import Server, build, world
 
 NAME = "tests_of_runs"
 MESSAGES = 1000
-# The letters of flags as the client tells them, and their names in the order in which the server tells them.
-LETTERS = "DFPRST"
+# The letters of flags, and their names in the order in which the server has them.
 NAMES = [("R", b"\\Answered"), ("T", b"\\Deleted"), ("D", b"\\Draft"), ("F", b"\\Flagged"), ("S", b"\\Seen"), ("P", b"$Forwarded")]
 SHOWN_MAX, BEGIN = 200, 60
 
@@ -35,10 +34,6 @@ def text_of(n):
     return head + b"0123456789 )\xff\r\n" * (400 if n % 10 == 0 else n % 7)
 
 
-def escaped(text):
-    return "".join(chr(b) if 32 <= b <= 126 and b not in b'"\\' else "\\%02x" % b for b in text)
-
-
 def quoted(text):
     """Bytes as the client shows them."""
     if len(text) <= SHOWN_MAX:
@@ -47,7 +42,7 @@ def quoted(text):
 
 
 def letters(flags):
-    return "".join(letter for letter in LETTERS if letter in flags) or "-"
+    return "".join(letter for letter in SIX if letter in flags) or "-"
 
 
 class Mailbox:
@@ -98,8 +93,10 @@ class Mailbox:
         for place, (uid, (flags, text)) in enumerate(sorted(self.messages.items()), 1):
             names = b" ".join(name for letter, name in NAMES if letter in flags)
             told += b"* %d FETCH (UID %d " % (place, uid)
-            told += b"FLAGS (%s) RFC822.SIZE %d)\r\n" % (names, len(text)) if items == b"FLAGS" \
-                else b"BODY[] {%d}\r\n%s)\r\n" % (len(text), text)
+            if items == b"FLAGS":
+                told += b"FLAGS (%s) RFC822.SIZE %d)\r\n" % (names, len(text))
+            else:
+                told += b"BODY[] {%d}\r\n%s)\r\n" % (len(text), text)
         return told
 
 
@@ -150,7 +147,7 @@ def read_all(script, inbox):
 
 def change_all(script, inbox):
     for n in range(MESSAGES + 1, MESSAGES + 101):
-        script.append(inbox, text_of(n), {"S"} if n % 2 else set(LETTERS))
+        script.append(inbox, text_of(n), {"S"} if n % 2 else set(SIX))
     for uid in range(1, 201):
         script.add_flags(inbox, uid, {"T", "F"} if uid % 2 else {"S", "P"})
     for uid in range(1, 101):
@@ -192,16 +189,18 @@ def calls(inbox, work):
 def play(server, lines):
     """What the client tells of these calls."""
     first = ["case over TCP", f"over tcp 127.0.0.1:{server.port}"]
-    answers, _ = play_lines(NAME, "client", [*first, *lines])
+    answers, _ = played.play(NAME, "client", [*first, *lines])
     return [it for line, told in zip(lines, answers[len(first):]) for it in [line, *(f"  {answer}" for answer in told)]]
 
 
-def compare(found, wanted):
+def compare(tally, found, wanted):
+    """Compares lines of calls and answers up to the first that differs. Each answer is a check."""
     for number, (line, want) in enumerate(zip(found, wanted), 1):
         if line != want:
-            sys.exit(f"line {number}: {line[:300]!r} in place of {want[:300]!r}")
+            raise Wrong(f"line {number}: {line[:300]!r} instead of {want[:300]!r}")
+        tally.passes(line.startswith("  "))
     if len(found) != len(wanted):
-        sys.exit(f"{len(found)} lines in place of {len(wanted)}")
+        raise Wrong(f"{len(found)} lines instead of {len(wanted)}")
 
 
 def told(connection, command):
@@ -213,51 +212,61 @@ def told(connection, command):
     while not data.endswith(end):
         piece = connection.stream.recv(1 << 20)
         if not piece:
-            sys.exit(f"the connection ended before {end!r}: {data[-200:]!r}")
+            raise Wrong(f"the connection ended before {end!r}: {data[-200:]!r}")
         data += piece
     return data[:-len(end)]
 
 
-def check_mailbox(connection, mailbox):
+def check_mailbox(tally, connection, mailbox):
     connection.ask(b"SELECT " + mailbox.name, b"OK [READ-WRITE] done")
     for items, words in ((b"FLAGS", b"(UID FLAGS RFC822.SIZE)"), (b"BODY", b"(UID BODY.PEEK[])")):
         if told(connection, b"UID FETCH 1:* " + words) != mailbox.replies(items):
-            sys.exit(f"{mailbox.name.decode()} does not hold what the calls leave: {items.decode()}")
+            raise Wrong(f"{mailbox.name.decode()} does not hold what the calls leave: {items.decode()}")
+        tally.passes()
 
 
-def check_server(server, mailboxes):
+def check_server(tally, server, mailboxes):
     connection = server.connect()
     connection.ask(b"LOGIN u p")
     for mailbox in mailboxes:
-        check_mailbox(connection, mailbox)
+        check_mailbox(tally, connection, mailbox)
     connection.logout()
 
 
-def main():
-    build()
-    build_program(NAME)
+def check_calls(tally, folder):
+    """Makes the calls, and looks at their answers and at what they leave."""
     inbox = Mailbox(b"INBOX", 1, [text_of(n) for n in range(1, MESSAGES + 1)])
     work = Mailbox(b"Work", 2, [])
-    with tempfile.TemporaryDirectory() as folder:
-        file = os.path.join(folder, "tcp.world")
-        with open(file, "wb") as text:
-            text.write(world([text_of(n) for n in range(1, MESSAGES + 1)]))
-        # One connection is that of this script which waits until the server listens, two are the client's, one reads the mailboxes.
-        server = Server(file, 4)
-        try:
-            server.connect().logout()
-            script = calls(inbox, work)
-            start = time.monotonic()
-            compare(play(server, script.lines), script.told)
-            seconds = time.monotonic() - start
-            check_server(server, [inbox, work])
-            if server.ended() != 0:
-                sys.exit("trial-imapd ends with a fault")
-            compare(play(server, ["open", "open"]), ["open", "  Stopped", "open", "  Stopped"])
-        finally:
-            if server.process.poll() is None:
-                server.stop()
+    file = os.path.join(folder, "tcp.world")
+    with open(file, "wb") as text:
+        text.write(world([text_of(n) for n in range(1, MESSAGES + 1)]))
+    # One connection is that of this script which waits until the server listens, two are the client's, one reads the mailboxes.
+    server = Server(file, 4)
+    try:
+        server.connect().logout()
+        script = calls(inbox, work)
+        start = time.monotonic()
+        compare(tally, play(server, script.lines), script.told)
+        seconds = time.monotonic() - start
+        check_server(tally, server, [inbox, work])
+        if server.ended() != 0:
+            raise Wrong("trial-imapd ends with a fault")
+        tally.passes()
+        compare(tally, play(server, ["open", "open"]), ["open", "  Stopped", "open", "  Stopped"])
+    finally:
+        if server.process.poll() is None:
+            server.stop()
     print(f"{len(script.lines)} calls over TCP are answered as they have to be, in {seconds:.2f} s; both mailboxes hold what they leave")
+
+
+def main():
+    places.parser_of(__doc__).parse_args()
+    build()
+    places.build(NAME)
+    tally = Tally()
+    with tempfile.TemporaryDirectory() as folder, tally.until_wrong():
+        check_calls(tally, folder)
+    tally.end()
 
 
 if __name__ == "__main__":

@@ -1,19 +1,18 @@
 #!/usr/bin/env python3
 """Runs the built mbtrial on trials whose results were written down by hand, and compares what it prints and its exit status.
 
-usage: bench/trials.py [PROGRAM]
-
-PROGRAM is bin/mbtrial if it is left out. Each trial is run twice: with the far mailbox reached in memory, and with `--tcp` over a
-loopback connection. Lines of a text stand here with ` / ` between them. It tells each trial whose result differs, and ends with
-status 1 if there is one.
-"""
+Each trial is run twice: with the far mailbox reached in memory, and with `--tcp` over a loopback connection. Lines of a text are written
+here with ` / ` between them. Each trial whose result differs is printed."""
 import os
+import pathlib
 import subprocess
 import sys
 
-TOP = os.path.dirname(os.path.dirname(os.path.abspath(__file__)))
+sys.path.insert(0, str(pathlib.Path(__file__).resolve().parents[1]))
+from tests.support.places import TOP, parser_of
+from tests.support.tally import Tally
 
-# the first two marks of the trial generator
+# The first two marks of the trial generator.
 MARK = "AQAAAAAAAAAC"
 SECOND_MARK = "AwAAAAAAAAAE"
 PLAIN = "sync Full / expunge None"
@@ -21,7 +20,7 @@ TRIALS = []
 
 
 def trial(name, text, printed, status=0, told=""):
-    """A trial, what is printed, the exit status, and what standard error is told."""
+    """A trial: what is printed, the exit status, and what comes on standard error."""
     TRIALS.append((name, text, printed, status, told))
 
 
@@ -142,30 +141,35 @@ def waiting():
     trial("waiting file, stopped behind its UID was set aside", world + " / tries 2 / stop after folder.replace_meta 1", "settled ran 1 / new push 5 -> 9 / " + left(5))
 
 
-def lines_of(text):
+def unfolded(text):
     return "".join(line + "\n" for line in text.split(" / ")) if text else ""
 
 
-def run(program, arguments, name, text, printed, status, told):
-    """Whether it is as expected."""
-    ran = subprocess.run([program, *arguments], input=lines_of(text).encode(), capture_output=True, check=False)
+def run(tally, program, arguments, name, text, printed, status, told):
+    """Runs a trial, and looks whether its result is the one that was written down."""
+    ran = subprocess.run([program, *arguments], input=unfolded(text).encode(), capture_output=True, check=False)
     found = ran.stdout.decode(), ran.returncode, ran.stderr.decode()
-    wanted = lines_of(printed), status, lines_of(told)
+    wanted = unfolded(printed), status, unfolded(told)
     if found == wanted:
-        return True
-    print(f"{name} {' '.join(arguments)}\n  wanted {wanted}\n  found  {found}")
-    return False
+        tally.passes()
+    else:
+        tally.fails(f"{name} {' '.join(arguments)}\n  wanted {wanted}\n  found  {found}")
 
 
 def main():
-    program = sys.argv[1] if len(sys.argv) > 1 else os.path.join(TOP, "bin", "mbtrial")
+    words = parser_of(__doc__)
+    words.add_argument("program", nargs="?", default=os.path.join(TOP, "bin", "mbtrial"), help="bin/mbtrial, if it is left out")
+    program = words.parse_args().program
     for part in first_pull, flags, gone, push, pull_stopped, waiting:
         part()
-    good = sum(run(program, arguments, *trial) for trial in TRIALS for arguments in ([], ["--tcp"]))
-    usage = run(program, ["--udp"], "other argument", "", "", 2, "mbtrial: usage")
-    print(f"{good} of {2 * len(TRIALS)} runs as expected")
-    return 0 if usage and good == 2 * len(TRIALS) else 1
+    tally = Tally()
+    for each in TRIALS:
+        for arguments in ([], ["--tcp"]):
+            run(tally, program, arguments, *each)
+    print(f"{tally.passed} of {2 * len(TRIALS)} runs as expected")
+    run(tally, program, ["--udp"], "other argument", "", "", 2, "mbtrial: usage")
+    tally.end()
 
 
 if __name__ == "__main__":
-    sys.exit(main())
+    main()

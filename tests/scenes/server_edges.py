@@ -5,10 +5,10 @@ import os
 import subprocess
 import time
 
-from edge_scene import EARLIER, FOUR, THREE, Edge, far, near, stopped
-from measured import peak_so_far
-from scene import ONE, TWO, near_text
-from scripted_server import BODY, HEAD, LISTING, body_told
+from tests.support.edge_scene import EARLIER, FOUR, THREE, Edge, far, near, stopped
+from tests.support.measured import peak_so_far
+from tests.support.scene import ONE, TWO, near_text
+from tests.support.scripted_server import BODY, HEAD, LISTING, body_told
 
 UNREACHED = "the server of IMAPStore far cannot be reached (connection refused): check its Host and Port, and run again"
 ENDED = "the connection to the server of IMAPStore far ended: run again"

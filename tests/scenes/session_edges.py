@@ -1,9 +1,10 @@
 """The scenes of edges.py that tell how often a server is asked, over how many connections, and what a person reads of what it says."""
 import os
 
-from edge_scene import THREE, Edge, far, near
-from scene import FAR_STORE, NEAR_STORE, ONE, TWO, near_text
-from scripted_server import BODY, Box, ScriptedServer
+from tests.support.configuration import imap_store
+from tests.support.edge_scene import THREE, Edge, far, near
+from tests.support.scene import HOME_STORE, ONE, TWO, near_text
+from tests.support.scripted_server import BODY, Box, ScriptedServer
 
 TWENTY = [f"box{number:02}" for number in range(1, 21)]
 # Three channels of one mailbox each: two over one store, and one over another.
@@ -27,7 +28,7 @@ Create Near
 
 def stores_at(*ports):
     """A configuration whose two far stores are at these ports."""
-    return "".join(FAR_STORE % (name, port, "p") for name, port in zip(("far", "other"), ports)) + NEAR_STORE + CHANNELS
+    return "".join(imap_store(port, name) for name, port in zip(("far", "other"), ports)) + HOME_STORE + CHANNELS
 
 
 def asked(server):

@@ -4,9 +4,9 @@ import os
 import subprocess
 import tempfile
 
-from maildir_side import NAME
-from scene import MARK, NOBODY, Scene, near_text
-from scripted_server import ScriptedServer
+from tests.support.maildir_side import NAME
+from tests.support.scene import MARK, NOBODY, Scene, near_text
+from tests.support.scripted_server import ScriptedServer
 
 THREE = b"Subject: three\r\n\r\nThe third.\r\n"
 FOUR = b"Subject: four\r\n\r\nThe fourth.\r\n"

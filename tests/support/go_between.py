@@ -4,7 +4,7 @@ import re
 import socket
 import threading
 
-from listening import Listening
+from tests.support.listening import Listening
 
 ASKED = [
     (re.compile(rb"^(\w+ UID FETCH \S+ )\(UID FLAGS\)\r\n$"), rb"\1(UID FLAGS RFC822.SIZE)\r\n"),

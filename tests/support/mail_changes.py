@@ -1,8 +1,8 @@
-"""Random changes of both sides between runs, as mail programs make them, told to a judge and to the model."""
+"""Random changes of both sides between runs, as mail programs make them, which a judge and the model learn."""
 import random
 
-from imap_side import IMAP_NAMES
-from run_model import CELLS, Options
+from oracle.run_model import CELLS, Options
+from tests.support.imap_side import IMAP_NAMES
 
 LETTERS = "".join(sorted(IMAP_NAMES))
 SYNC_WORDS = {

@@ -1,4 +1,4 @@
-"""What a run of a program costs, for the scripts beside this one."""
+"""What a run of a program costs."""
 import os
 import re
 import shutil

@@ -1,20 +1,9 @@
-"""Plays scripts with the programs of tests (crates/tests_of_*), for the scripts beside this one."""
-import os
+"""Plays scripts with the programs of tests (crates/tests_of_*)."""
 import re
 import subprocess
 import sys
 
-TOP = os.path.dirname(os.path.dirname(os.path.abspath(__file__)))
-
-
-def program(name):
-    """Where the program is built."""
-    return os.path.join(TOP, "crates", name, "out", name)
-
-
-def build(name):
-    """Proves and builds the program, if it is not there yet or is older than its sources."""
-    subprocess.run([os.path.join(TOP, "bin", "launch"), name], stdin=subprocess.DEVNULL, stdout=subprocess.DEVNULL, check=True)
+from tests.support.places import built
 
 
 def text_of(library, lines):
@@ -23,8 +12,8 @@ def text_of(library, lines):
 
 
 def play(name, library, lines, cwd=None):
-    """The answers of each line, and the seconds that each line behind `clock` took. The script has to be played to its end."""
-    done = subprocess.run([program(name)], input=text_of(library, lines), capture_output=True, cwd=cwd, timeout=900, check=False)
+    """The answers of each line, and the seconds that each line after `clock` took. The script has to be played to its end."""
+    done = subprocess.run([built(name)], input=text_of(library, lines), capture_output=True, cwd=cwd, timeout=900, check=False)
     if done.returncode != 0:
         sys.exit(f"{name}: status {done.returncode}: {done.stderr.decode()}")
     found, answers = done.stdout.decode().splitlines()[1:], []

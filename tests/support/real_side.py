@@ -2,7 +2,7 @@
 import imaplib
 import re
 
-from imap_side import IMAP_NAMES, LETTERS, imap_flags
+from tests.support.imap_side import IMAP_NAMES, LETTERS, imap_flags
 
 ROW = re.compile(rb"\d+ \((?=.*\bUID (?P<uid>\d+))(?=.*\bFLAGS \((?P<flags>[^)]*)\))")
 

@@ -1,36 +1,22 @@
-"""Scenes over the built mbsync, for the scripts beside this one: a home folder with a configuration, a server, and the program between."""
+"""Scenes over the built mbsync: a home folder with a configuration, a server, and the program between."""
 import os
 import re
 import shlex
 import shutil
 import subprocess
-import sys
 import tempfile
-import traceback
 
-import trial_imapd
-from imap_side import ImapSide
-from maildir_side import MaildirSide
+from tests.support import trial_imapd
+from tests.support.configuration import imap_store, maildir_store
+from tests.support.imap_side import ImapSide
+from tests.support.maildir_side import MaildirSide
 
 ONE = b"Subject: one\r\n\r\nThe first.\r\n"
 TWO = b"Subject: two\r\n\r\nThe second.\r\n"
 NOBODY = 65534
 MARK = re.compile(rb"\AX-TUID: [A-Za-z0-9_-]{12}\r?\n")
 
-FAR_STORE = """\
-IMAPStore %s
-Host 127.0.0.1
-Port %d
-User u
-Pass %s
-
-"""
-NEAR_STORE = """\
-MaildirStore near
-Path ~/mail/
-Inbox ~/inbox
-
-"""
+HOME_STORE = maildir_store("~/mail", "~/inbox")
 CHANNELS = """\
 Channel c
 Far :far:
@@ -47,7 +33,7 @@ Create %s
 
 def configuration(port, patterns, create="None", password="p"):
     """A configuration with one mailbox in channel `c`, and those of these patterns in `all`."""
-    return FAR_STORE % ("far", port, password) + NEAR_STORE + CHANNELS % (patterns, create)
+    return imap_store(port, password=password) + HOME_STORE + CHANNELS % (patterns, create)
 
 
 class Scene:
@@ -102,7 +88,7 @@ class Scene:
                     os.chown(path, NOBODY, NOBODY)
 
     def run(self, *words, home=True, out=subprocess.PIPE, most=120):
-        """The status of a run, and what it prints: standard output, and behind it standard error. A run that has not ended behind so many
+        """The status of a run, and what it prints: standard output, and then standard error. A run that has not ended after so many
         seconds is killed, and its status is `no end`."""
         process = subprocess.Popen(**self.words(words, home), stdout=out, stderr=subprocess.PIPE)
         try:
@@ -151,46 +137,6 @@ class Scene:
     def texts(self, box="inbox"):
         """The files that belong to a near mailbox, beside its messages."""
         return sorted(name for name in os.listdir(self.path(box)) if name not in ("cur", "new", "tmp"))
-
-
-class Tally:
-    """Counts checks, and tells each."""
-
-    def __init__(self):
-        self.passed = self.failed = self.skipped = 0
-
-    def same(self, what, got, wanted):
-        if got == wanted:
-            self.passed += 1
-            print(f"ok      {what}")
-        else:
-            self.failed += 1
-            print(f"FAILED  {what}\n        wanted {wanted!r}\n        got    {got!r}")
-        sys.stdout.flush()
-
-    def skip(self, what, why):
-        """Tells that something cannot be tried here."""
-        self.skipped += 1
-        print(f"skipped {what}: {why}", flush=True)
-
-    def tell(self, what):
-        """Tells something that is no check."""
-        print(f"told    {what}", flush=True)
-
-    def play(self, scenes, names):
-        """Plays the scenes, or those that have one of these names in theirs; the program ends then."""
-        for scene in scenes:
-            if not names or any(name in scene.__name__ for name in names):
-                try:
-                    scene(self)
-                except Exception:
-                    self.same(f"the scene {scene.__name__} comes to its end", traceback.format_exc(), "")
-        self.end()
-
-    def end(self):
-        """Tells how many checks passed, and ends the program."""
-        print(f"{self.passed} passed, {self.failed} failed" + (f", {self.skipped} skipped" if self.skipped else ""))
-        sys.exit(1 if self.failed else 0)
 
 
 def near_text(message):

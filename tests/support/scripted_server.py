@@ -3,13 +3,12 @@ import re
 import socket
 import threading
 
-from imap_side import IMAP_NAMES, LETTERS
-from listening import Listening
+from tests.support.imap_side import IMAP_NAMES, LETTERS
+from tests.support.listening import Listening
 
 USER, PASSWORD = b"u", b"p"
 COMMAND = re.compile(rb"(\S+) ((?:UID )?\S+) ?(.*)\r\n\Z", re.DOTALL)
 LISTING, BODY, HEAD = b"(UID FLAGS RFC822.SIZE)", b"(UID BODY.PEEK[])", b"(UID BODY.PEEK[]<0.22>)"
-MOST = 2 ** 32 - 1
 
 
 class Box:

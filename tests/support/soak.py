@@ -3,9 +3,9 @@ import random
 from dataclasses import dataclass, field
 from functools import partial
 
-from judge import Judge, verdict
-from mail_changes import Changes, random_options
-from run_model import Course, World, after_kill, after_run, different, with_arrivals
+from oracle.judge import Judge, verdict
+from oracle.run_model import Course, World, after_kill, after_run, different, with_arrivals
+from tests.support.mail_changes import Changes, random_options
 
 MOST_MESSAGES = 30
 MOST_NEW = 8

@@ -1,8 +1,9 @@
 """A synchroniser in memory that is right, and some that are wrong, each in one way: the judge has to tell them apart."""
 import random
 
-from mail_changes import EXPUNGE_WORDS, SYNC_WORDS
-from run_model import OTHER, Options, Pair, World, content, name_of, run
+from oracle.mail import OTHER, content
+from oracle.run_model import Options, Pair, World, name_of, run
+from tests.support.mail_changes import EXPUNGE_WORDS, SYNC_WORDS
 
 
 class Killed(Exception):

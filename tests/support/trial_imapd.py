@@ -1,32 +1,27 @@
 """Starts trial-imapd on a world of its own, for the scripts that talk to it."""
-import os
 import socket
 import subprocess
 import sys
 import time
 
-TOP = os.path.dirname(os.path.dirname(os.path.abspath(__file__)))
-PROGRAM = os.path.join(TOP, "crates", "trial_imapd", "out", "trial_imapd")
+from oracle.mail import escaped
+from tests.support import places
+from tests.support.measured import peak_so_far
+
+PROGRAM = places.built("trial_imapd")
 
 
 def build():
-    """Proves and builds the program, if it is not there yet or is older than its sources."""
-    subprocess.run([os.path.join(TOP, "bin", "trial-imapd"), "-h"], stdout=subprocess.DEVNULL, check=True)
+    """Proves and builds the program, if it is missing or older than its sources."""
+    places.build("trial_imapd", "-h")
 
 
 def world(messages, keywords=()):
     """The text of a world whose far mailbox has these messages, with the UIDs from 1 on, and with these lines of keywords."""
     lines = [b"sync Full", b"expunge None", *(b"keyword " + line.encode() for line in keywords), b"far 1 %d" % (len(messages) + 1)]
     for uid, message in enumerate(messages, 1):
-        lines.append(b'f %d - "%s"' % (uid, escaped(message)))
+        lines.append(b'f %d - "%s"' % (uid, escaped(message).encode()))
     return b"\n".join(lines + [b"near 1 1", b"state 0 0 0 0 0", b"end", b""])
-
-
-def escaped(message):
-    return b"".join(PLAIN[byte] for byte in message)
-
-
-PLAIN = [bytes([b]) if 32 <= b <= 126 and b not in b'"\\' else b"\\%02x" % b for b in range(256)]
 
 
 class Server:
@@ -57,8 +52,7 @@ class Server:
 
     def peak(self):
         """Its greatest memory so far in MB."""
-        with open(f"/proc/{self.process.pid}/status", encoding="ascii") as lines:
-            return next(int(line.split()[1]) for line in lines if line.startswith("VmHWM:")) / 1024
+        return peak_so_far(self.process.pid, 0)
 
     def stop(self):
         self.process.kill()

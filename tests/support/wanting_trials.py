@@ -1,7 +1,7 @@
-"""What the run of a trial may come to in which one allocation is refused, for refused-allocations.py."""
+"""What the run of a trial may come to in which one allocation is refused, for refused_allocations.py."""
 import subprocess
 
-from stops import World, unlike
+from oracle.alike import WorldText, unlike
 
 NO_MEMORY = "8"
 
@@ -31,10 +31,10 @@ class Wanting:
     def __init__(self, program, text, whole):
         self.program = program
         self.options = "".join(text.splitlines(keepends=True)[:2])
-        self.opening = World(text.split("\n"))
+        self.opening = WorldText(text.split("\n"))
         (_, left), = runs_in(whole)
-        self.ended = World(left)
-        self.later = World(self.run_from(left))
+        self.ended = WorldText(left)
+        self.later = WorldText(self.run_from(left))
 
     def run_from(self, lines):
         """What an unbroken run leaves of this world."""
@@ -52,7 +52,7 @@ class Wanting:
         (first, between), (second, left) = runs
         if first[:2] != ["fault", NO_MEMORY] or second[:1] != ["settled"] or not between:
             return None
-        is_replaced = World(between).state[0] == self.ended.state[0]
-        if unlike(self.opening, self.later if is_replaced else self.ended, World(left)) is not None:
+        is_replaced = WorldText(between).state[0] == self.ended.state[0]
+        if unlike(self.opening, self.later if is_replaced else self.ended, WorldText(left)) is not None:
             return None
         return "are told as want of memory behind the new state" if is_replaced else "are told as want of memory"

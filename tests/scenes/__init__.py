@@ -1,0 +1,1 @@
+"""Further scenes of edges.py."""

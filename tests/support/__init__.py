@@ -1,0 +1,1 @@
+"""What the scripts of tests/, oracle/ and bench/ share."""
