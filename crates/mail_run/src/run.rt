@@ -47,7 +47,7 @@ fn start_of<R: Files + Env + Clock + AllocGlobal>(
 
 /// Does what a command line asks for, over the servers and the folders of its configuration (`channels::run::run_config`). The file of the
 /// configuration is that of the command line, or else `.mbsyncrc` in HOME. It gives the exit status: 1 also where a file cannot be read
-/// or the configuration is a bad one, which `err` is told (docs/MBSYNC.md, "Faults").
+/// or the configuration is a bad one, which `err` is told (docs/MBSYNC.md, "What is printed").
 ///
 /// Where there is a terminal, a line of it shows which mailbox is at work, and how many steps of its plan are logged; it is wiped before
 /// anything is written to `out` or `err`.

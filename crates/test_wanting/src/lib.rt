@@ -1,5 +1,5 @@
 //! Runs that end with a fault, and another one over the same devices, which are reopened: over a server, a folder and a shelf in memory
-//! (docs/FORMATS.md, "Trial"). Where an allocation is refused (bench/refused-allocations.py), the fault is want of memory.
+//! (docs/FORMATS.md, "Trial"). Where an allocation is refused (tests/refused_allocations.py), the fault is want of memory.
 //!
 //! | Line | Meaning |
 //! |---|---|

@@ -39,7 +39,7 @@
 //!
 //! A reader answers `w N` for a whole line of so many bytes, `a N` where it waits for so many octets, `p` for the beginning of a
 //! line, `s N` and `t N` where the byte at that place has no meaning or makes a literal too long, and `l` for a line that is too
-//! long. `bench/wire-answers.py` decides these in another way; the lines from `listings` on are there for `bench/wire.py`.
+//! long. `oracle/wire_answers.py` decides these in another way; the lines from `listings` on are there for `bench/wire.py`.
 #![tactic(auto)]
 
 mod buffered;
