@@ -131,12 +131,13 @@ def print_table(clone, used, checks):
     minutes = collections.Counter()
     for check in checks:
         minutes[check.crate, check.kind] += check.seconds / 60
-    print("| Crate | Proof | Tests | Wrong bodies | Together |\n|---|---|---|---|---|")
+    kinds = [kind for kind in KINDS if any(of == kind for _, of in minutes)]
+    print(f"| Crate | {' | '.join(kind.capitalize() for kind in kinds)} | Together |\n|{'---|' * (len(kinds) + 2)}")
     for crate in in_order(clone):
-        parts = [minutes[crate, kind] for kind in KINDS]
+        parts = [minutes[crate, kind] for kind in kinds]
         print(f"| `{crate}` | " + " | ".join(f"{part:.1f}" if part else "" for part in parts) + f" | {sum(parts):.1f} |")
-    sums = [sum(it for (_, kind), it in minutes.items() if kind == wanted) for wanted in KINDS]
-    print(f"| all else | | | | {max(used - sum(sums), 0):.1f} |")
+    sums = [sum(it for (_, of), it in minutes.items() if of == kind) for kind in kinds]
+    print("| all else " + "| " * len(kinds) + f"| {max(used - sum(sums), 0):.1f} |")
     print("| together | " + " | ".join(f"{part:.1f}" for part in sums) + f" | {used:.1f} |")
     return {crate: sum(minutes[crate, kind] for kind in KINDS) for crate in in_order(clone)}
 
