@@ -10,8 +10,8 @@ use Rattle.config.specs.declared.config.Channel.{Channel}
 use Rattle.config.specs.declared.config.Config.{Config}
 use Rattle.config.specs.declared.config.ImapStore.{ImapStore}
 use Rattle.config.specs.declared.config.MaildirStore.{MaildirStore}
-use Rattle.request.specs.declared.request.Request.{Request}
-use Rattle.request.specs.Cells.{line_cells}
+use Rattle.config.specs.declared.request.Request.{Request}
+use Rattle.config.specs.Cells.{line_cells}
 use Rattle.choosing.specs.Boxes.{Tells, boxes_among}
 use Rattle.choosing.specs.Chosen.{chosen_among}
 use Rattle.choosing.specs.Scope.{options_of}

@@ -10,8 +10,8 @@ use Rattle.rules.specs.declared.options.Sides.{Sides}
 use Rattle.config.specs.declared.config.Boxes.{Boxes}
 use Rattle.config.specs.declared.config.Boxes.TheVariants.{Pair, Matching}
 use Rattle.config.specs.declared.config.Config.{Config}
-use Rattle.request.specs.declared.request.Request.{Request}
-use Rattle.request.specs.Cells.{line_cells}
+use Rattle.config.specs.declared.request.Request.{Request}
+use Rattle.config.specs.Cells.{line_cells}
 use Rattle.choosing.specs.Boxes.{Tells, boxes_among}
 use Rattle.choosing.specs.Chosen.{chosen_among}
 use Rattle.choosing.specs.Scope.{options_of}

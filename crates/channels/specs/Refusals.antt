@@ -2,8 +2,8 @@
 use Rattle.std.specs.Prelude.{◌≡◌, ℕ, ◌⊎◌, IsSome, IsErr, List, [], ◌∷◌, ◌++◌, Option, None, Some, Result, Ok, Err, codes}
 use Rattle.std.specs.Io.KnownBytes.{Appends}
 use Rattle.config.specs.declared.config.Config.{Config}
-use Rattle.request.specs.declared.request.Request.{Request}
-use Rattle.request.specs.Cells.{line_cells}
+use Rattle.config.specs.declared.request.Request.{Request}
+use Rattle.config.specs.Cells.{line_cells}
 use Rattle.choosing.specs.Chosen.{unknown_among}
 use Rattle.channels.specs.declared.course.Refusal.{Refusal}
 use Rattle.channels.specs.declared.course.Refusal.TheVariants.{Unknown, SyncWords, NoMemory}

@@ -2,13 +2,13 @@
 
 ghost use Rattle.std.specs.Prelude.{◌≡◌, IfErr, IfOk, IfSome, IsErr, Ok};
 ghost use Rattle.choosing.specs.Chosen.{chosen_among, unknown_among};
-ghost use Rattle.request.specs.Cells.{line_cells};
+ghost use Rattle.config.specs.Cells.{line_cells};
 ghost use Rattle.channels.specs.Refusals.{IsReason, IsRefused, IsUnknown, status_of};
 
 use choosing::chosen::{chosen_places, unknown_name};
+use config::cells::{CellsFault, cells};
 use config::config::Config;
-use request::cells::{CellsFault, cells};
-use request::request::Request;
+use config::request::Request;
 use rules::options::Cells;
 use std::alloc::{AllocError, Global};
 use std::fmt;

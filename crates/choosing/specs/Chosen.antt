@@ -4,8 +4,8 @@ use Rattle.std.specs.List.{filter, find, flat_map, position, range_with_len}
 use Rattle.std.specs.Cmp.Lexicographic.{pointwise}
 use Rattle.config.specs.declared.config.Config.{Config}
 use Rattle.config.specs.declared.config.Group.{Group}
-use Rattle.request.specs.declared.request.Chosen.{Chosen}
-use Rattle.request.specs.declared.request.Chosen.TheVariants.{All, Named}
+use Rattle.config.specs.declared.request.Chosen.{Chosen}
+use Rattle.config.specs.declared.request.Chosen.TheVariants.{All, Named}
 
 -- the place of the channel of this name
 abbrev pub channel_of : Config → List ℕ → Option ℕ

@@ -6,7 +6,7 @@ ghost use Rattle.choosing.specs.Chosen.{channel_of, chosen_among, each_once, gro
 ghost use Rattle.choosing.specs.Places.{with_place, with_places};
 
 use config::config::{Config, Group};
-use request::request::Chosen;
+use config::request::Chosen;
 use std::alloc::{AllocError, Global};
 
 /// The first name that is neither a channel nor a group. It takes no memory.

@@ -3,8 +3,8 @@ use Rattle.std.specs.Prelude.{◌≡◌, ◌≢◌}
 use Rattle.clap.specs.Values.{kind_of}
 use Rattle.clap.specs.declared.error.Error.{Error}
 use Rattle.clap.specs.declared.error.kind.ErrorKind.TheVariants.{OutOfMemory}
-use Rattle.request.specs.declared.cells.CellsFault.{CellsFault}
-use Rattle.request.specs.declared.cells.CellsFault.TheVariants as cells
+use Rattle.config.specs.declared.cells.CellsFault.{CellsFault}
+use Rattle.config.specs.declared.cells.CellsFault.TheVariants as cells
 use Rattle.command_line.specs.declared.fault.UsageFault.{UsageFault}
 use Rattle.command_line.specs.declared.fault.UsageFault.TheVariants.{Line, NoChannel, SyncWords, NoMemory}
 

@@ -11,10 +11,10 @@ use Rattle.clap.specs.Walk.{Row, Text, all_of, first_of}
 use Rattle.clap.specs.declared.parser.matches.ValueSource.{ValueSource}
 use Rattle.clap.specs.declared.parser.matches.ValueSource.TheVariants.{DefaultValue, CommandLine}
 use Rattle.rules.specs.declared.sync_words.SyncWord.{SyncWord}
-use Rattle.request.specs.Cells.{line_cells}
-use Rattle.request.specs.declared.request.Request.{Request}
-use Rattle.request.specs.declared.request.Chosen.{Chosen}
-use Rattle.request.specs.declared.request.Chosen.TheVariants.{All, Named}
+use Rattle.config.specs.Cells.{line_cells}
+use Rattle.config.specs.declared.request.Request.{Request}
+use Rattle.config.specs.declared.request.Chosen.{Chosen}
+use Rattle.config.specs.declared.request.Chosen.TheVariants.{All, Named}
 use Rattle.command_line.specs.SyncFlags.{sync_flags, flag_name, flag_word}
 use Rattle.command_line.specs.Synopsis.{synopsis}
 use Rattle.command_line.specs.declared.fault.UsageFault.{UsageFault}

@@ -1,7 +1,7 @@
 //! Why the words of a command line name no request.
 
 use clap::error::ErrorKind;
-use request::cells::CellsFault;
+use config::cells::CellsFault;
 use std::alloc::{AllocError, AllocFailed};
 use thiserror::Error;
 

@@ -1,5 +1,6 @@
 pub use Rattle.config_words.specs.Places
 pub use Rattle.config_words.specs.Words
+pub mod Cells
 pub mod Lines
 pub mod Readings
 pub mod Names

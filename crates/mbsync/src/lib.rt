@@ -32,7 +32,7 @@ pub use command_line::fault::UsageFault;
 /// Reads the words of a command line.
 pub use command_line::read::read_words;
 /// What a command line asks for.
-pub use request::request::{Chosen, Request};
+pub use config::request::{Chosen, Request};
 
 // ---- Stores and runs
 

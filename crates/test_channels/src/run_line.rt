@@ -1,7 +1,7 @@
 //! What a line `run` asks for.
 
+use config::request::{Chosen, Request};
 use mailcore::side::Direction;
-use request::request::{Chosen, Request};
 use rules::sync_words::{Kind, SyncWord};
 use std::alloc::Global;
 use test_scripts::failure::Failure;

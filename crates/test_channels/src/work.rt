@@ -5,7 +5,7 @@ use crate::failing::Failing;
 use crate::mem_stores::MemStores;
 use channels::run::run_config;
 use config::config::Config;
-use request::request::Request;
+use config::request::Request;
 use std::alloc::Global;
 use test_scripts::failure::Failure;
 use test_scripts::told::Told;

@@ -1,7 +1,7 @@
 //! What is told of requests.
 
-use request::cells::{CellsFault, cells};
-use request::request::{Chosen, Request};
+use config::cells::{CellsFault, cells};
+use config::request::{Chosen, Request};
 use rules::options::{Cells, Directions};
 use std::alloc::Global;
 use test_scripts::failure::Failure;

@@ -4,8 +4,8 @@ use Rattle.rules.specs.SyncWords.{word_text, sync_cells}
 use Rattle.rules.specs.declared.options.Cells.{Cells}
 use Rattle.rules.specs.declared.sync_words.SyncFault.{SyncFault}
 use Rattle.rules.specs.declared.sync_words.SyncWord.{SyncWord}
-use Rattle.request.specs.declared.cells.CellsFault.{CellsFault}
-use Rattle.request.specs.declared.cells.CellsFault.TheVariants.{Refused, NoMemory}
+use Rattle.config.specs.declared.cells.CellsFault.{CellsFault}
+use Rattle.config.specs.declared.cells.CellsFault.TheVariants.{Refused, NoMemory}
 
 -- what the words choose, as words of a configuration do
 abbrev pub word_cells : List SyncWord → Result Cells SyncFault

@@ -1,6 +1,6 @@
 use Rattle.std.proofs.Common.{◌≡◌, map, take}
 use Rattle.rules.specs.SyncWords.{word_text}
-use Rattle.request.proofs.cells.written.Given as goal
+use Rattle.config.proofs.cells.written.Given as goal
 
 -- the words so far stand as they are written
 abbrev pub invariant-loop-word : goal.invariant-loop-word

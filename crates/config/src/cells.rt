@@ -2,7 +2,7 @@
 
 ghost use Rattle.std.specs.Prelude.{◌≡◌, IfOk, IfErr, map};
 ghost use Rattle.rules.specs.SyncWords.{word_text};
-ghost use Rattle.request.specs.Cells.{line_cells, IsRefusal};
+ghost use Rattle.config.specs.Cells.{line_cells, IsRefusal};
 
 use rules::options::Cells;
 use rules::sync_words::{SyncFault, SyncWord, sync_ops};
@@ -22,7 +22,7 @@ pub enum CellsFault {
 
 impl From<AllocError> for CellsFault {
     ghost use Rattle.std.specs.Prelude.{◌≡◌};
-    ghost use Rattle.request.specs.declared.cells.CellsFault.TheVariants.{NoMemory};
+    ghost use Rattle.config.specs.declared.cells.CellsFault.TheVariants.{NoMemory};
 
     ghost from_gives = { λ _ e. e ≡ NoMemory };
 
