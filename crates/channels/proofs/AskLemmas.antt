@@ -6,8 +6,8 @@ use Rattle.std.specs.List.{flat_map, fold}
 use Rattle.rules.specs.declared.options.Options.{Options}
 use Rattle.rules.specs.declared.options.Sides.{Sides}
 use Rattle.config.specs.declared.config.Config.{Config}
-use Rattle.choosing.specs.Scope.{options_of}
-use Rattle.stores.specs.Asked.{Asked, IsJoined, Joined}
+use Rattle.channels.specs.Scope.{options_of}
+use Rattle.channels.specs.Asked.{Asked, IsJoined, Joined}
 use Rattle.channels.specs.declared.verdict.Verdict.{Verdict}
 use Rattle.channels.specs.declared.verdict.Verdict.TheVariants.{Clean, Faulty, Over}
 use Rattle.channels.specs.Asks.{GoesAt, GoesBy, GoesOver, Lists, Settles, Ways, box_asked, boxes_asked}

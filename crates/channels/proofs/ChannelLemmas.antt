@@ -12,10 +12,10 @@ use Rattle.config.specs.declared.config.ImapStore.{ImapStore}
 use Rattle.config.specs.declared.config.MaildirStore.{MaildirStore}
 use Rattle.config.specs.declared.request.Request.{Request}
 use Rattle.config.specs.Cells.{line_cells}
-use Rattle.choosing.specs.Boxes.{Tells, boxes_among}
-use Rattle.choosing.specs.Chosen.{chosen_among}
-use Rattle.choosing.specs.Scope.{options_of}
-use Rattle.stores.specs.Asked.{Asked, Done, Ended, FarListed, IsJoined, IsUnjoined, Joined, NearListed, Place}
+use Rattle.channels.specs.Boxes.{Tells, boxes_among}
+use Rattle.channels.specs.Chosen.{chosen_among}
+use Rattle.channels.specs.Scope.{options_of}
+use Rattle.channels.specs.Asked.{Asked, Done, Ended, FarListed, IsJoined, IsUnjoined, Joined, NearListed, Place}
 use Rattle.channels.specs.declared.verdict.Verdict.{Verdict}
 use Rattle.channels.specs.declared.verdict.Verdict.TheVariants.{Clean, Faulty, Over}
 use Rattle.channels.specs.Asks.{Ways, lists_asked, ways_of}

@@ -4,8 +4,8 @@ use Rattle.std.proofs.lemmas.Grind.{fold-append}
 use Rattle.std.specs.List.{fold}
 use Rattle.mailcore.specs.declared.side.Side.TheVariants.{Far, Near}
 use Rattle.rules.specs.declared.options.Sides.{Sides}
-use Rattle.choosing.specs.Scope.{uncovered}
-use Rattle.stores.specs.Asked.{Asked, FoundNew, Made, Outcome, Done, Failed, Unopened, Place}
+use Rattle.channels.specs.Scope.{uncovered}
+use Rattle.channels.specs.Asked.{Asked, FoundNew, Made, Outcome, Done, Failed, Unopened, Place}
 use Rattle.channels.specs.declared.fault.BoxFault.{BoxFault}
 use Rattle.channels.specs.declared.fault.BoxFault.TheVariants.{Absent, Removed, CannotOpen, Server, Locked, Refused, Stopped, GivenAgain, LeftOut, Run}
 use Rattle.channels.specs.declared.verdict.Verdict.{Verdict}

@@ -1,3 +1,5 @@
+pub mod PlaceLemmas
+pub mod BoxLemmas
 pub mod StreamLemmas
 pub mod AskLemmas
 pub mod CourseLemmas

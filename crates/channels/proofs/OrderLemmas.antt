@@ -3,7 +3,7 @@ use Rattle.std.proofs.Common.{◌≡◌, ℕ, suc, ◌+◌, ◌<◌, Bool, true,
 use Rattle.std.specs.List.{fold}
 use Rattle.rules.specs.declared.options.Options.{Options}
 use Rattle.rules.specs.declared.options.Sides.{Sides}
-use Rattle.stores.specs.Asked.{Asked, Outcome, Done, Place, Ran}
+use Rattle.channels.specs.Asked.{Asked, Outcome, Done, Place, Ran}
 use Rattle.channels.specs.declared.fault.BoxFault.{BoxFault}
 use Rattle.channels.specs.declared.verdict.Verdict.{Verdict}
 use Rattle.channels.specs.declared.verdict.Verdict.TheVariants.{Clean, Faulty, Over}

@@ -3,7 +3,7 @@ use Rattle.std.proofs.Common.{◌≡◌, ℕ, zero, suc, ◌≤◌, List, [], �
 use Rattle.std.proofs.lemmas.Grind.{flat_map-append}
 use Rattle.std.proofs.lemmas.List.{length-take, take_all}
 use Rattle.std.specs.Io.KnownBytes.{Appends}
-use Rattle.stores.specs.declared.notice.Notice.{Notice}
+use Rattle.channels.specs.declared.notice.Notice.{Notice}
 use Rattle.channels.specs.declared.verdict.Verdict.{Verdict}
 use Rattle.channels.specs.declared.verdict.Verdict.TheVariants.{Clean, Faulty, Over}
 use Rattle.channels.specs.Lines.{notice_line}

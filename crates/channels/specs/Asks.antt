@@ -12,10 +12,10 @@ use Rattle.config.specs.declared.config.Boxes.TheVariants.{Pair, Matching}
 use Rattle.config.specs.declared.config.Config.{Config}
 use Rattle.config.specs.declared.request.Request.{Request}
 use Rattle.config.specs.Cells.{line_cells}
-use Rattle.choosing.specs.Boxes.{Tells, boxes_among}
-use Rattle.choosing.specs.Chosen.{chosen_among}
-use Rattle.choosing.specs.Scope.{options_of}
-use Rattle.stores.specs.Asked.{Asked, Done, Ended, FarListed, FoundNew, IsJoined, Joined, Made, NearListed, Place, Ran}
+use Rattle.channels.specs.Boxes.{Tells, boxes_among}
+use Rattle.channels.specs.Chosen.{chosen_among}
+use Rattle.channels.specs.Scope.{options_of}
+use Rattle.channels.specs.Asked.{Asked, Done, Ended, FarListed, FoundNew, IsJoined, Joined, Made, NearListed, Place, Ran}
 use Rattle.channels.specs.declared.verdict.Verdict.{Verdict}
 use Rattle.channels.specs.declared.verdict.Verdict.TheVariants.{Clean}
 use Rattle.channels.specs.Founds.{absent_in}

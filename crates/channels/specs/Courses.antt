@@ -10,10 +10,10 @@ use Rattle.config.specs.declared.config.Boxes.TheVariants.{Pair, Matching}
 use Rattle.config.specs.declared.config.Config.{Config}
 use Rattle.config.specs.declared.request.Request.{Request}
 use Rattle.config.specs.Cells.{line_cells}
-use Rattle.choosing.specs.Boxes.{Tells, boxes_among}
-use Rattle.choosing.specs.Chosen.{chosen_among}
-use Rattle.choosing.specs.Scope.{options_of, uncovered}
-use Rattle.stores.specs.Asked.{Asked, Ended, FarListed, FoundNew, IsJoined, IsUnjoined, Joined, Made, NearListed, Outcome, Done, Failed, Unopened, Place, Ran}
+use Rattle.channels.specs.Boxes.{Tells, boxes_among}
+use Rattle.channels.specs.Chosen.{chosen_among}
+use Rattle.channels.specs.Scope.{options_of, uncovered}
+use Rattle.channels.specs.Asked.{Asked, Ended, FarListed, FoundNew, IsJoined, IsUnjoined, Joined, Made, NearListed, Outcome, Done, Failed, Unopened, Place, Ran}
 use Rattle.channels.specs.declared.verdict.Verdict.{Verdict}
 use Rattle.channels.specs.declared.verdict.Verdict.TheVariants.{Clean, Faulty, Over}
 use Rattle.channels.specs.Asks.{Ways, making, makings, run_attempts, ways_of}

@@ -3,7 +3,7 @@ use Rattle.std.specs.Prelude.{ℕ, List, not}
 use Rattle.config.specs.declared.config.Boxes.{Boxes}
 use Rattle.config.specs.declared.config.Boxes.TheVariants.{Pair, Matching}
 use Rattle.rules.specs.declared.options.Sides.{Sides}
-use Rattle.choosing.specs.Boxes.{stands_in}
+use Rattle.channels.specs.Boxes.{stands_in}
 
 -- the sides whose list lacks a mailbox
 abbrev pub absent_in : (fars nears : List (List ℕ)) (far near : List ℕ) → Sides

@@ -1,3 +1,8 @@
+pub mod Asked
+pub mod Chosen
+pub mod Places
+pub mod Boxes
+pub mod Scope
 pub mod Verdicts
 pub mod Streams
 pub mod Refusals

@@ -1,7 +1,7 @@
 -- The lines that tell which mailbox is listed, or synchronised from now on, and those that tell what is no fault.
 use Rattle.std.specs.Prelude.{ℕ, List, [], ◌∷◌, ◌++◌, codes, string_bytes}
-use Rattle.stores.specs.declared.notice.Notice.{Notice}
-use Rattle.stores.specs.declared.notice.Notice.TheVariants.{Skipped, Alert}
+use Rattle.channels.specs.declared.notice.Notice.{Notice}
+use Rattle.channels.specs.declared.notice.Notice.TheVariants.{Skipped, Alert}
 
 -- the channel's name, a colon, the far mailbox's name, and the end of the line (10)
 abbrev pub box_line : (channel far : List ℕ) → List ℕ

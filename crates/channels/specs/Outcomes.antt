@@ -6,7 +6,7 @@ use Rattle.runner.specs.declared.pass.Pass.TheVariants.{Already, Ran, Finished}
 use Rattle.runner.specs.declared.performed.Performed.{Performed}
 use Rattle.runner.specs.declared.performed.StepResult.{StepResult}
 use Rattle.runner.specs.declared.performed.StepResult.TheVariants.{Made, Found, Void, Plain}
-use Rattle.stores.specs.Asked.{Outcome, Done, Failed, Unopened}
+use Rattle.channels.specs.Asked.{Outcome, Done, Failed, Unopened}
 use Rattle.channels.specs.declared.fault.BoxFault.{BoxFault}
 use Rattle.channels.specs.declared.fault.BoxFault.TheVariants.{Absent, Removed, CannotOpen, Server, Locked, Refused, Stopped, GivenAgain, LeftOut, Run}
 use Rattle.channels.specs.declared.verdict.Verdict.{Verdict}

@@ -4,7 +4,7 @@ use Rattle.std.specs.Io.KnownBytes.{Appends}
 use Rattle.config.specs.declared.config.Config.{Config}
 use Rattle.config.specs.declared.request.Request.{Request}
 use Rattle.config.specs.Cells.{line_cells}
-use Rattle.choosing.specs.Chosen.{unknown_among}
+use Rattle.channels.specs.Chosen.{unknown_among}
 use Rattle.channels.specs.declared.course.Refusal.{Refusal}
 use Rattle.channels.specs.declared.course.Refusal.TheVariants.{Unknown, SyncWords, NoMemory}
 

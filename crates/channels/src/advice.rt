@@ -3,11 +3,11 @@
 use crate::fault::BoxFault;
 use crate::run_advice::{advise_refused, advise_run};
 use crate::server_advice::advise_server;
+use crate::stop_cause::StopCause;
 use device::trouble::Trouble;
 use mailcore::side::Side;
 use std::io;
 use std::io::Write;
-use stores::stop_cause::StopCause;
 
 /// Tells what can be done, where that is known.
 pub(crate) fn advise<E: Write>(err: &mut E, fault: &BoxFault) -> io::Result<()> {

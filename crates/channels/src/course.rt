@@ -1,11 +1,11 @@
 //! What a command line comes to: channels in an order, or why nothing is done.
 
 ghost use Rattle.std.specs.Prelude.{◌≡◌, IfErr, IfOk, IfSome, IsErr, Ok};
-ghost use Rattle.choosing.specs.Chosen.{chosen_among, unknown_among};
+ghost use Rattle.channels.specs.Chosen.{chosen_among, unknown_among};
 ghost use Rattle.config.specs.Cells.{line_cells};
 ghost use Rattle.channels.specs.Refusals.{IsReason, IsRefused, IsUnknown, status_of};
 
-use choosing::chosen::{chosen_places, unknown_name};
+use crate::chosen::{chosen_places, unknown_name};
 use config::cells::{CellsFault, cells};
 use config::config::Config;
 use config::request::Request;

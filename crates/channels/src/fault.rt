@@ -1,14 +1,14 @@
 //! Why a mailbox was not synchronised.
 
 ghost use Rattle.std.specs.Prelude.{◌≡◌};
-ghost use Rattle.stores.specs.Asked.{outcome_of_fault};
+ghost use Rattle.channels.specs.Asked.{outcome_of_fault};
 ghost use Rattle.channels.specs.Outcomes.{outcome_of_box_fault};
 
+use crate::stop_cause::StopCause;
+use crate::store_fault::{ServerFault, StoreFault};
 use mailcore::side::Side;
 use rules::plan::Step;
 use runner::fault::RunFault;
-use stores::fault::{ServerFault, StoreFault};
-use stores::stop_cause::StopCause;
 
 /// Why a mailbox was not synchronised.
 #[derive(Drop)]

@@ -2,22 +2,22 @@
 
 ghost use Rattle.std.specs.Prelude.{◌≡◌, ℕ, Bool, List, false, IfOk, OnErr};
 ghost use Rattle.std.specs.List.{fold};
-ghost use Rattle.stores.specs.Asked.{joined_of};
+ghost use Rattle.channels.specs.Asked.{joined_of};
 ghost use Rattle.channels.specs.Asks.{lists_asked};
 ghost use Rattle.channels.specs.Courses.{Goes, IsUnlisted};
 ghost use Rattle.channels.specs.Founds.{absent_in};
-ghost use Rattle.choosing.specs.Boxes.{Tells, boxes_among};
+ghost use Rattle.channels.specs.Boxes.{Tells, boxes_among};
 
+use crate::boxes::{boxes_among, stands_in};
+use crate::channel_box::ChannelStores;
+use crate::store_fault::ListFault;
+use crate::stores::BoxLists;
 use crate::told_stores::ToldStores;
 use box_patterns::patterns::Patterns;
-use choosing::boxes::{boxes_among, stands_in};
 use mailcore::mailbox_name::MailboxName;
 use rules::options::Sides;
 use std::alloc::{AllocError, Global};
 use std::io::Write;
-use stores::channel_box::ChannelStores;
-use stores::fault::ListFault;
-use stores::stores::BoxLists;
 
 /// The mailboxes of both stores of a channel.
 #[derive(Drop)]

@@ -9,6 +9,7 @@ ghost use Rattle.channels.specs.Asks.{run_attempts};
 ghost use Rattle.channels.specs.Openings.{first_on};
 
 use crate::fault::BoxFault;
+use crate::stores::Work;
 use mailcore::keywords::Keywords;
 use outside::outside::Outside;
 use rand_core::Rng;
@@ -19,7 +20,6 @@ use runner::pass::Pass;
 use runner::progress::Progress;
 use runner::settle::settle;
 use std::alloc::Global;
-use stores::stores::Work;
 
 /// How many attempts a run has, each but the first behind one that met a stop.
 const TRIES: u32 = 3;

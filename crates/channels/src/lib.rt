@@ -1,16 +1,25 @@
-//! The channels of `mbsync`: what becomes of the mailboxes that a command line asks for, over any stores.
+//! The channels of `mbsync`: which ones a command line names, the mailboxes of each, what a run over one may do, and what becomes of them,
+//! over any stores. The stores whose mailboxes are synchronised are traits: what they are asked for, and why they do not answer.
 #![tactic(auto)]
 
 mod advice;
+pub mod boxes;
+pub mod channel_box;
+pub mod chosen;
 mod course;
 mod fault;
 mod finding;
 mod lent;
 mod listing;
+pub mod notice;
 pub mod run;
 mod run_advice;
+pub mod scope;
 mod server_advice;
 mod settling;
+pub mod stop_cause;
+pub mod store_fault;
+pub mod stores;
 mod telling;
 mod told_stores;
 mod verdict;

@@ -3,7 +3,7 @@
 ghost use Rattle.std.specs.Prelude.{◌≡◌, [], false, IfOk, OnOk, string_bytes};
 ghost use Rattle.std.specs.Io.KnownBytes.{Appends};
 ghost use Rattle.std.specs.List.{flat_map};
-ghost use Rattle.stores.specs.Asked.{joined_of};
+ghost use Rattle.channels.specs.Asked.{joined_of};
 ghost use Rattle.channels.specs.declared.verdict.Verdict.TheVariants.{Clean};
 ghost use Rattle.channels.specs.Asks.{Asks, Lists, ListsBoth};
 ghost use Rattle.channels.specs.Courses.{Goes, IsListAsked, IsListedAlone, IsListedAsked, SoFar, listing_verdict};
@@ -11,7 +11,10 @@ ghost use Rattle.channels.specs.Founds.{IsPair};
 ghost use Rattle.channels.specs.Lines.{box_line};
 ghost use Rattle.channels.specs.Streams.{Extends, IsQuiet, Notes};
 
+use crate::channel_box::ChannelStores;
 use crate::finding::Found;
+use crate::store_fault::ListFault;
+use crate::stores::BoxLists;
 use crate::told_stores::ToldStores;
 use crate::verdict::Verdict;
 use box_patterns::patterns::Patterns;
@@ -20,9 +23,6 @@ use mailcore::mailbox_name::MailboxName;
 use std::alloc::Global;
 use std::io;
 use std::io::Write;
-use stores::channel_box::ChannelStores;
-use stores::fault::ListFault;
-use stores::stores::BoxLists;
 
 /// Prints a channel's mailboxes. A channel without patterns opens no store for that.
 #[tactic(auto, using(crate::proofs::StreamLemmas::stream_steps, crate::proofs::StreamLemmas::quiet_steps))]

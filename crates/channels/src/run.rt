@@ -1,19 +1,22 @@
 //! What a command line asks for, over any stores.
 
 ghost use Rattle.std.specs.Prelude.{◌≡◌, ◌≤◌, ◌<◌, true, false, IsSome, IfOk, OnOk};
-ghost use Rattle.choosing.specs.Chosen.{unknown_among};
+ghost use Rattle.channels.specs.Chosen.{unknown_among};
 ghost use Rattle.channels.specs.declared.verdict.Verdict.TheVariants.{Clean};
 ghost use Rattle.channels.specs.Asks.{GoesAll, GoesAt, GoesOver, GoesThrough, ways_of};
 ghost use Rattle.channels.specs.Courses.{Goes, GoesAsFar, GoesUntil, IsLineAsked, IsPlaceAsked, SoFar};
 ghost use Rattle.channels.specs.Refusals.{IsRefused};
 ghost use Rattle.channels.specs.Streams.{Extends, HasNotices, IsQuiet, Notes};
 
+use crate::channel_box::ChannelStores;
 use crate::course::{Course, course_of};
 use crate::listing::list_channel;
+use crate::scope::options_of;
 use crate::settling::{ChannelWork, settle_channel};
+use crate::store_fault::ListFault;
+use crate::stores::Stores;
 use crate::told_stores::ToldStores;
 use crate::verdict::Verdict;
-use choosing::scope::options_of;
 use config::config::Config;
 use config::request::Request;
 use rand_core::Rng;
@@ -21,9 +24,6 @@ use rules::options::Cells;
 use std::alloc::{AllocError, Global};
 use std::io;
 use std::io::Write;
-use stores::channel_box::ChannelStores;
-use stores::fault::ListFault;
-use stores::stores::Stores;
 
 /// A command line and its configuration.
 #[derive(Clone, Copy)]

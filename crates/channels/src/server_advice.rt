@@ -1,8 +1,8 @@
 //! What is told behind a fault of an IMAP server, on a line that begins with two spaces.
 
+use crate::store_fault::ServerFault;
 use std::io;
 use std::io::{ErrorKind, Write};
-use stores::fault::ServerFault;
 
 /// Tells why the server of this IMAP store does not open or ended a run, and what can be done. The password is not told.
 pub(crate) fn advise_server<E: Write>(

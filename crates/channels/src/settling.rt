@@ -2,20 +2,22 @@
 
 ghost use Rattle.std.specs.Prelude.{◌≡◌, ◌∷◌, ◌||◌, [], false, true, is_some, Err, IfOk, IfSome, IsSome, OnOk};
 ghost use Rattle.std.specs.List.{fold, list_any};
-ghost use Rattle.choosing.specs.Scope.{uncovered};
+ghost use Rattle.channels.specs.Scope.{uncovered};
 ghost use Rattle.rules.specs.Options.{covers};
-ghost use Rattle.stores.specs.Asked.{Done, FoundNew, Made, Ran, joined_of, place_of};
+ghost use Rattle.channels.specs.Asked.{Done, FoundNew, Made, Ran, joined_of, place_of};
 ghost use Rattle.channels.specs.declared.verdict.Verdict.TheVariants.{Clean};
 ghost use Rattle.channels.specs.Asks.{Asks, AsksIfClean, Settles, SettlesFound, box_asked, boxes_asked, makings, run_attempts};
 ghost use Rattle.channels.specs.Courses.{Follows, Goes, InOrder, IsBoxAsked, IsChannelAsked, IsFoundAsked, IsNamedAsked, IsRunAsked, Makes, SoFar, asking_if, is_over};
 ghost use Rattle.channels.specs.Outcomes.{IsToldOf, has_void, is_void, outcome_of, outcome_of_pass};
 ghost use Rattle.channels.specs.Streams.{Extends, IsQuiet, Notes};
 
+use crate::channel_box::{ChannelBox, ChannelStores};
 use crate::fault::BoxFault;
 use crate::finding::Found;
+use crate::scope::uncovered;
+use crate::stores::Stores;
 use crate::told_stores::ToldStores;
 use crate::verdict::Verdict;
-use choosing::scope::uncovered;
 use config::config::Boxes;
 use mailcore::mailbox_name::MailboxName;
 use mailcore::side::Side;
@@ -28,8 +30,6 @@ use runner::performed::{Performed, StepResult};
 use std::alloc::Global;
 use std::io;
 use std::io::Write;
-use stores::channel_box::{ChannelBox, ChannelStores};
-use stores::stores::Stores;
 
 /// A channel that is to be synchronised.
 #[derive(Clone, Copy)]

@@ -8,8 +8,11 @@ ghost use Rattle.channels.specs.Outcomes.{outcome_of_box_fault, verdict_of};
 ghost use Rattle.channels.specs.Streams.{Extends, IsTold};
 
 use crate::advice::advise;
+use crate::channel_box::ChannelBox;
 use crate::fault::BoxFault;
+use crate::notice::Notice;
 use crate::server_advice::advise_server;
+use crate::store_fault::ListFault;
 use crate::verdict::Verdict;
 use config::config::Channel;
 use mailcore::mailbox_name::MailboxName;
@@ -18,9 +21,6 @@ use reports::fault_text::FaultText;
 use runner::fault::RunFault;
 use std::io::Write;
 use std::{fmt, io};
-use stores::channel_box::ChannelBox;
-use stores::fault::ListFault;
-use stores::notice::Notice;
 use worlds::plan_lines::side_word;
 
 /// Prints which mailbox is listed, or synchronised from now on.

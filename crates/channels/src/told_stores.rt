@@ -3,15 +3,20 @@
 ghost use Rattle.std.specs.Prelude.{◌≡◌, ◌∷◌, [], false, true, IfOk, OnOk, string_bytes};
 ghost use Rattle.std.specs.Io.KnownBytes.{Appends};
 ghost use Rattle.rules.specs.Options.{covers};
-ghost use Rattle.stores.specs.Asked.{Ended, Failed, FarListed, FoundNew, Made, NearListed, Ran, names_of, outcome_of_making, outcome_of_state, place_of};
+ghost use Rattle.channels.specs.Asked.{Ended, Failed, FarListed, FoundNew, Made, NearListed, Ran, names_of, outcome_of_making, outcome_of_state, place_of};
 ghost use Rattle.channels.specs.declared.verdict.Verdict.TheVariants.{Over};
 ghost use Rattle.channels.specs.Asks.{Asks, run_attempts};
 ghost use Rattle.channels.specs.Lines.{box_line};
 ghost use Rattle.channels.specs.Outcomes.{outcome_of_box_fault, outcome_of_run, verdict_of};
 ghost use Rattle.channels.specs.Streams.{Extends, HasNotices, IsTold, Notes};
 
+use crate::channel_box::ChannelBox;
 use crate::fault::BoxFault;
 use crate::lent::RunOnce;
+use crate::notice::Notice;
+use crate::stop_cause::StopCause;
+use crate::store_fault::{ListFault, StoreFault};
+use crate::stores::{BoxLists, Stores};
 use crate::telling;
 use crate::verdict::Verdict;
 use config::config::{Channel, ImapStore, MaildirStore};
@@ -24,11 +29,6 @@ use runner::pass::Pass;
 use std::alloc::Global;
 use std::io;
 use std::io::Write;
-use stores::channel_box::ChannelBox;
-use stores::fault::{ListFault, StoreFault};
-use stores::notice::Notice;
-use stores::stop_cause::StopCause;
-use stores::stores::{BoxLists, Stores};
 
 /// The stores of a run and its streams, as one. Each call of the stores goes through it, and each write. A store may be asked only where
 /// no write has failed before (`going`): so nothing is listed, made or run behind a failed write.

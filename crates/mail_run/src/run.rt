@@ -6,6 +6,7 @@ use crate::shown_stores::ShownStores;
 use crate::sources::{open_config, read_fresh, read_home, read_seed};
 use chacha_generator::generator;
 use channels::run::run_config;
+use channels::stores::Stores;
 use config::config::Config;
 use config::request::Request;
 use mail_stores::mail_stores::MailStores;
@@ -17,7 +18,6 @@ use std::io::Write;
 use std::net::Net;
 use std::num::NonZeroU32;
 use std::rt::{Clock, Env, Files};
-use stores::stores::Stores;
 
 /// What a run reads before it begins.
 #[derive(Drop)]

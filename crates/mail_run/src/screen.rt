@@ -1,10 +1,10 @@
 //! The line on a terminal that tells which mailbox is at work, and how far its run is.
 
+use channels::channel_box::ChannelBox;
 use runner::progress::Progress;
 use std::cell::Cell;
 use std::io;
 use std::io::Write;
-use stores::channel_box::ChannelBox;
 
 /// Takes the cursor to the first column, and clears the line from there on (ECMA-48, CR and EL).
 const WIPE: &str = "\r\x1b[K";

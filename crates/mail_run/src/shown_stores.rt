@@ -1,15 +1,15 @@
 //! Stores of which a terminal tells which mailbox is at work.
 
 use crate::screen::Screen;
+use channels::channel_box::ChannelBox;
+use channels::notice::Notice;
+use channels::stop_cause::StopCause;
+use channels::store_fault::{ListFault, StoreFault};
+use channels::stores::{BoxLists, Stores, Work};
 use config::config::{ImapStore, MaildirStore};
 use mailcore::mailbox_name::MailboxName;
 use mailcore::side::Side;
 use std::io::Write;
-use stores::channel_box::ChannelBox;
-use stores::fault::{ListFault, StoreFault};
-use stores::notice::Notice;
-use stores::stop_cause::StopCause;
-use stores::stores::{BoxLists, Stores, Work};
 
 /// Stores, and the line on a terminal that shows which of their mailboxes is at work.
 #[derive(Drop)]

@@ -4,6 +4,7 @@ ghost use Rattle.std.specs.Prelude.{◌≡◌};
 
 use book::shelf::Shelf;
 use both::sides::Sides;
+use channels::stores::Work;
 use far_side::logged_in::LoggedIn;
 use guarded::guard::Guard;
 use guarded::guarded_outside::GuardedOutside;
@@ -14,7 +15,6 @@ use near_places::lock::Lock;
 use runner::progress::Progress;
 use std::alloc::Global;
 use std::num::NonZeroU32;
-use stores::stores::Work;
 
 /// Both sides of a mailbox, with the guard of the runs over them.
 #[derive(Drop)]

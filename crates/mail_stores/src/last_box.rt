@@ -2,11 +2,11 @@
 
 use crate::notes::Notes;
 use book::disk_shelf::ShelfStop;
+use channels::stop_cause::StopCause;
 use guarded::objection::Objection;
 use maildir::disk_stop::{DiskStop, Part};
 use maildir::folder::FileName;
 use std::alloc::{AllocError, Global};
-use stores::stop_cause::StopCause;
 use texts::escape::push_escaped;
 
 /// What is known of the mailbox that was open last, as it is told.

@@ -13,6 +13,11 @@ use crate::server::{AskFault, RealLink, is_word};
 use crate::sessions::Sessions;
 use crate::told::{list_fault, lock_fault, make_fault, unlisted, unreached};
 use both::sides::Sides;
+use channels::channel_box::ChannelBox;
+use channels::notice::Notice;
+use channels::stop_cause::StopCause;
+use channels::store_fault::{ListFault, StoreFault};
+use channels::stores::{BoxLists, Stores, Work};
 use config::config::{ImapStore, MaildirStore};
 use far_side::far_side::FarSide;
 use far_side::logged_in::LoggedIn;
@@ -30,11 +35,6 @@ use std::fs::File;
 use std::net::Net;
 use std::num::NonZeroU32;
 use std::rt::{Clock, Files};
-use stores::channel_box::ChannelBox;
-use stores::fault::{ListFault, StoreFault};
-use stores::notice::Notice;
-use stores::stop_cause::StopCause;
-use stores::stores::{BoxLists, Stores, Work};
 
 /// The stores of a configuration: mailboxes at IMAP servers, and folders of a disk.
 ///

@@ -2,13 +2,13 @@
 
 use crate::noted_link::{LinkEnd, NotedEnd};
 use crate::server::AskFault;
+use channels::store_fault::ServerFault;
 use imap_client::tcp_link::Unreached;
 use imap_link::fault::FarFault;
 use link_face::words::Words;
 use std::alloc::{AllocError, Global};
 use std::cell::Cell;
 use std::rc::Rc;
-use stores::fault::ServerFault;
 
 /// What is noted of servers while they are asked. What is asked notes it, and the stores tell it.
 #[derive(Drop)]

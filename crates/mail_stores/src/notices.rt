@@ -1,9 +1,9 @@
 //! What is told beside faults: mailboxes that are left out, and what a server says to its users.
 
 use crate::asked::{Asked, escaped};
+use channels::notice::Notice;
 use link_face::words::Words;
 use std::alloc::{AllocError, Global};
-use stores::notice::Notice;
 
 /// What is to be told beside faults.
 #[derive(Drop)]

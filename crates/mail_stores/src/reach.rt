@@ -6,6 +6,7 @@ use crate::notes::Notes;
 use crate::server::{AskFault, RealLink, link_to, log_in};
 use book::disk_shelf::{DiskShelf, name_of};
 use book::shelf;
+use channels::channel_box::ChannelBox;
 use config::config::{ImapStore, MaildirStore};
 use device::DeviceFault;
 use far_side::account::Account;
@@ -23,7 +24,6 @@ use std::io::ErrorKind;
 use std::net::Net;
 use std::num::NonZeroU32;
 use std::rt::{Clock, Files};
-use stores::channel_box::ChannelBox;
 
 /// What is open of a mailbox at a server and of one in a folder, whose book lies in that folder too. A look into the folder says whether a
 /// run is to go on.

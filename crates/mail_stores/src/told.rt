@@ -1,5 +1,6 @@
 //! How the faults of places and servers are told of stores.
 
+use channels::store_fault::{ListFault, ServerFault, StoreFault};
 use config::config::ImapStore;
 use imap_link::fault::FarFault;
 use mailcore::side::Side;
@@ -7,7 +8,6 @@ use near_places::lock::LockFault;
 use near_places::refusal::Refusal;
 use runner::fault::RunFault;
 use std::alloc::Global;
-use stores::fault::{ListFault, ServerFault, StoreFault};
 
 /// A near store that is not listed.
 pub(crate) fn list_fault(refusal: Refusal) -> ListFault {

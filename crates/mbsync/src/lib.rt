@@ -37,7 +37,7 @@ pub use config::request::{Chosen, Request};
 // ---- Stores and runs
 
 /// The stores that channels are synchronised over, as traits.
-pub use stores::stores::{BoxLists, Stores};
+pub use channels::stores::{BoxLists, Stores};
 /// The real stores: servers over TCP and folders of a disk.
 pub use mail_stores::mail_stores::MailStores;
 /// Who is told how far a run over the real stores is, as a trait.

@@ -1,9 +1,9 @@
 //! What stores in memory tell beside faults.
 
 use crate::facts::Facts;
+use channels::notice::Notice;
 use std::alloc::{AllocError, Global};
 use std::mem;
-use stores::notice::Notice;
 
 /// What is to be told beside faults, and what a server said last.
 #[derive(Drop)]

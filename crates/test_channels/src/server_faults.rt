@@ -1,9 +1,9 @@
 //! The faults of servers and of mailboxes, as the lines of a case name them.
 
+use channels::store_fault::ServerFault;
 use mailcore::side::Side;
 use runner::fault::RunFault;
 use std::io::ErrorKind;
-use stores::fault::ServerFault;
 
 /// Why a server does not open, by its word.
 pub(crate) fn server_fault(word: &str) -> Option<ServerFault> {

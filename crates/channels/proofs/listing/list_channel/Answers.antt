@@ -1,7 +1,7 @@
 use Rattle.std.proofs.Common.{◌≡◌, arith, refl}
 use Rattle.std.proofs.lemmas.Grind.{common_steps}
 use Rattle.std.proofs.lemmas.Result.{err_from_is_err_and}
-use Rattle.stores.specs.Asked.{joined_of}
+use Rattle.channels.specs.Asked.{joined_of}
 use Rattle.channels.specs.declared.verdict.Verdict.TheVariants.{Clean, Over}
 use Rattle.channels.specs.Courses.{IsListAsked}
 use Rattle.channels.proofs.ChannelLemmas.{Goes-pair_listed, SoFar-lists}

@@ -1,5 +1,5 @@
 use Rattle.std.proofs.lemmas.Result.{err_from_is_err_and}
-use Rattle.stores.specs.Asked.{joined_of}
+use Rattle.channels.specs.Asked.{joined_of}
 use Rattle.channels.specs.Courses.{IsListedAlone, listing_verdict}
 use Rattle.channels.proofs.ChannelLemmas.{Goes-alone, Goes-unlisted, listing_verdict-faulty}
 use Rattle.channels.proofs.listing.matching.Goals as goal

@@ -1,6 +1,6 @@
 use Rattle.std.proofs.Common.{arith}
 use Rattle.std.proofs.lemmas.Grind.{common_steps}
-use Rattle.stores.specs.Asked.{joined_of}
+use Rattle.channels.specs.Asked.{joined_of}
 use Rattle.channels.specs.Asks.{ways_of}
 use Rattle.channels.proofs.AskLemmas.{IfOk-listed, IfOk-settled}
 use Rattle.channels.proofs.ChannelLemmas.{SoFar-place_listed, SoFar-place_settled, SoFar-place_unsettled, SoFar-unjoined}

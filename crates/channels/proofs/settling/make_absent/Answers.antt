@@ -1,8 +1,8 @@
 use Rattle.std.proofs.Common.{◌≡◌, false, is_some, refl, ap, sym, ◌∙◌, arith}
 use Rattle.std.proofs.lemmas.Grind.{common_steps}
 use Rattle.std.proofs.lemmas.Result.{err_from_is_err_and}
-use Rattle.choosing.specs.Scope.{uncovered}
-use Rattle.stores.specs.Asked.{place_of}
+use Rattle.channels.specs.Scope.{uncovered}
+use Rattle.channels.specs.Asked.{place_of}
 use Rattle.channels.specs.Outcomes.{outcome_of}
 use Rattle.channels.proofs.CourseLemmas.{Makes-near, Makes-no_far, Makes-old, Makes-uncovered, OnOk-makings}
 use Rattle.channels.proofs.settling.make_absent.Goals as goal

@@ -2,7 +2,7 @@ use Rattle.std.proofs.Common.{◌≡◌, Err, arith}
 use Rattle.std.proofs.lemmas.Grind.{common_steps}
 use Rattle.channels.proofs.StreamLemmas.{HasNotices-from, IfOk-before}
 use Rattle.std.proofs.lemmas.Result.{err_from_is_err_and}
-use Rattle.stores.specs.Asked.{Done, place_of}
+use Rattle.channels.specs.Asked.{Done, place_of}
 use Rattle.channels.specs.Outcomes.{outcome_of_box_fault}
 use Rattle.channels.proofs.CourseLemmas.{Makes-same}
 use Rattle.channels.proofs.OrderLemmas.{Begun-unrun, SoFar-ran, SoFar-unmade}

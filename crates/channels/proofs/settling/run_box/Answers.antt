@@ -2,7 +2,7 @@ use Rattle.std.proofs.Common.{◌≡◌, arith, ap, ◌∙◌}
 use Rattle.std.proofs.lemmas.Grind.{common_steps}
 use Rattle.channels.proofs.StreamLemmas.{IsQuiet-both, IsQuiet-from, stream_steps}
 use Rattle.std.proofs.lemmas.Result.{err_from_is_err_and}
-use Rattle.stores.specs.Asked.{Asked, Ran, place_of}
+use Rattle.channels.specs.Asked.{Asked, Ran, place_of}
 use Rattle.channels.specs.Asks.{run_attempts}
 use Rattle.channels.specs.Outcomes.{has_void, outcome_of_box_fault, outcome_of_pass}
 use Rattle.channels.proofs.CourseLemmas.{IsToldOf-behind, was_done}

@@ -1,5 +1,5 @@
 use Rattle.std.proofs.lemmas.Result.{err_from_is_err_and}
-use Rattle.stores.specs.Asked.{place_of}
+use Rattle.channels.specs.Asked.{place_of}
 use Rattle.channels.specs.Courses.{IsBoxAsked}
 use Rattle.channels.proofs.CourseLemmas.{Begun-all, Goes-same}
 use Rattle.channels.proofs.StreamLemmas.{IsQuiet-behind}

@@ -2,7 +2,7 @@ use Rattle.std.proofs.Common.{◌≡◌, ◌+◌, drop, arith, refl, sym, ◌∙
 use Rattle.std.proofs.lemmas.Grind.{common_steps}
 use Rattle.channels.proofs.StreamLemmas.{IsQuiet-both, quiet_steps, stream_steps}
 use Rattle.std.proofs.lemmas.Result.{err_from_is_err_and}
-use Rattle.stores.specs.Asked.{joined_of}
+use Rattle.channels.specs.Asked.{joined_of}
 use Rattle.channels.specs.declared.verdict.Verdict.TheVariants.{Over}
 use Rattle.channels.specs.Courses.{Begun, IsNamedAsked, is_over}
 use Rattle.channels.proofs.ChannelLemmas.{Goes-named, IsNamedAsked-possible}

@@ -1,5 +1,5 @@
 use Rattle.std.specs.Prelude.{◌≡◌, false, take, drop}
-use Rattle.stores.specs.Asked.{joined_of}
+use Rattle.channels.specs.Asked.{joined_of}
 use Rattle.channels.specs.Asks.{AsksIfClean, boxes_asked}
 use Rattle.channels.specs.Courses.{Goes, IsNamedAsked, is_over}
 use Rattle.channels.specs.declared.verdict.Verdict.TheVariants.{Over}

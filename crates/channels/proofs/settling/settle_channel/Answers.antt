@@ -2,7 +2,7 @@ use Rattle.std.proofs.Common.{◌≡◌, Err, arith, ◌∙◌}
 use Rattle.std.proofs.lemmas.Grind.{common_steps}
 use Rattle.channels.proofs.StreamLemmas.{HasNotices-from, IfOk-before}
 use Rattle.std.proofs.lemmas.Result.{err_from_is_err_and}
-use Rattle.stores.specs.Asked.{joined_of}
+use Rattle.channels.specs.Asked.{joined_of}
 use Rattle.channels.specs.Courses.{IsFoundAsked}
 use Rattle.channels.proofs.ChannelLemmas.{Begun-possible, IsFoundAsked-possible, SoFar-listed, SoFar-unlisted}
 use Rattle.channels.proofs.settling.settle_channel.Goals as goal

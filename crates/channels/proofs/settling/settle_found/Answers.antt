@@ -1,5 +1,5 @@
 use Rattle.std.proofs.Common.{◌∙◌}
-use Rattle.stores.specs.Asked.{joined_of}
+use Rattle.channels.specs.Asked.{joined_of}
 use Rattle.channels.proofs.ChannelLemmas.{SoFar-matching, SoFar-pair, SoFar-unnamed}
 use Rattle.channels.proofs.settling.settle_found.Goals as goal
 

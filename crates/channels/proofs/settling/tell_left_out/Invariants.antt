@@ -1,5 +1,5 @@
 use Rattle.std.specs.Prelude.{◌≡◌, false}
-use Rattle.stores.specs.Asked.{Done}
+use Rattle.channels.specs.Asked.{Done}
 use Rattle.channels.specs.Outcomes.{IsToldOf}
 use Rattle.channels.specs.Streams.{IsQuiet}
 use Rattle.channels.proofs.settling.tell_left_out.Given as goal

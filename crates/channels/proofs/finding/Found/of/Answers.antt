@@ -1,5 +1,5 @@
 use Rattle.std.proofs.lemmas.Result.{err_from_is_err_and}
-use Rattle.stores.specs.Asked.{joined_of}
+use Rattle.channels.specs.Asked.{joined_of}
 use Rattle.channels.proofs.ChannelLemmas.{Goes-no_far, Goes-no_near}
 use Rattle.channels.proofs.finding.Found.of.Goals as goal
 

@@ -1,0 +1,46 @@
+//! The mailboxes of a channel, with the stores that they are in.
+
+ghost use Rattle.std.specs.Prelude.{MatchOption};
+ghost use Rattle.channels.specs.Asked.{IsJoined, IsUnjoined, joined_of};
+
+use config::config::{Channel, Config, ImapStore, MaildirStore};
+use mailcore::mailbox_name::MailboxName;
+
+/// A channel and its stores.
+#[derive(Clone, Copy)]
+pub struct ChannelStores<'a> {
+    /// The channel.
+    pub channel: &'a Channel,
+    /// The far store.
+    pub far_store: &'a ImapStore,
+    /// The near store.
+    pub near_store: &'a MaildirStore,
+}
+
+impl<'a> ChannelStores<'a> {
+    /// The channel of this place, or none if it or a store of it is not in the configuration.
+    #[tactic(auto, using(std::proofs::lemmas::Option::gets))]
+    pub fn at(config: &'a Config, place: usize) -> Option<Self>
+        ensures { MatchOption result (IsUnjoined config.now place) (λ of. IsJoined config.now place (joined_of of)) }
+    {
+        let channel = config.channels.get(place)?;
+        let far_store = config.imap_stores.get(channel.far)?;
+        let near_store = config.maildir_stores.get(channel.near)?;
+        Some(ChannelStores {
+            channel,
+            far_store,
+            near_store,
+        })
+    }
+}
+
+/// A mailbox of a channel.
+#[derive(Clone, Copy)]
+pub struct ChannelBox<'a> {
+    /// The channel and its stores.
+    pub of: ChannelStores<'a>,
+    /// The mailbox's name on the far side, by which it is told of.
+    pub far: &'a MailboxName,
+    /// Its name on the near side. It is another one only where the channel has no patterns.
+    pub near: &'a MailboxName,
+}

@@ -1,0 +1,22 @@
+//! What stopped a run, where it is known.
+
+use crate::store_fault::ServerFault;
+use device::trouble::Trouble;
+
+/// What stopped a run.
+#[derive(Drop)]
+pub enum StopCause {
+    /// The server of the IMAP store of this name: `Unreached`, `Ended`, `NoAnswer` or `Dismissed`.
+    Server(String, ServerFault),
+    /// The system said this of what stands at this path.
+    Disk(String, Trouble),
+    /// The server of the IMAP store of this name is to give UIDs of a mailbox from the first number on, and has given the second one before:
+    /// the mailbox was put back to an earlier time.
+    Anew(String, u32, u32),
+    /// A near message that the plan took to be removed is there, at this path.
+    Standing(String),
+    /// The server of the IMAP store of this name lists the message of this UID, and does not give it.
+    Withheld(String, u32),
+    /// This UID was given to a copy, and an entry of the state has it already. The run ends with `bad state 0`.
+    GivenAgain(u32),
+}

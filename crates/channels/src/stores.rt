@@ -1,0 +1,112 @@
+//! The stores that channels are synchronised over.
+
+ghost use Rattle.std.specs.Prelude.{◌≡◌, ℕ, true};
+ghost use Rattle.rules.specs.Options.{covers};
+ghost use Rattle.rules.specs.declared.options.Options.{Options};
+ghost use Rattle.channels.specs.Asked.{Asked, Ended, FarListed, FoundNew, Made, NearListed, Outcome, Ran, names_of, outcome_by, outcome_of_making, outcome_of_state, place_of};
+
+use crate::channel_box::ChannelBox;
+use crate::notice::Notice;
+use crate::stop_cause::StopCause;
+use crate::store_fault::{ListFault, StoreFault};
+use config::config::{ImapStore, MaildirStore};
+use mailcore::keywords::Keywords;
+use mailcore::mailbox_name::MailboxName;
+use mailcore::side::Side;
+use outside::outside::Outside;
+use runner::progress::Progress;
+
+/// Stores whose mailboxes can be listed, and nothing else: through this trait no mailbox is made or synchronised.
+///
+/// A record grows with each thing that they are asked for. Which record it is, an implementer says; what is proved over any stores holds
+/// for every one, the list of all that was asked among them.
+pub trait BoxLists {
+    /// A record of what stores are asked for.
+    ghost Record: { Type 0 };
+
+    /// The record behind one thing more.
+    ghost noted: { Record → Asked → Record };
+
+    /// The record of what these stores were asked for.
+    ghost asked: { Self → Record };
+
+    /// The names of the mailboxes of a far store, INBOX among them if it is there. Names beyond the limits are left out, and noted: 1 to
+    /// 255 printable ASCII characters without `* % " \`, and no empty part, `.` or `..` between slashes.
+    fn far_boxes(&mut self, store: &ImapStore) -> Result<Vec<MailboxName>, ListFault>
+        ensures { asked self.new ≡ noted (asked self.old) (FarListed store.now (names_of result)) };
+
+    /// The names of the mailboxes of a near store, INBOX among them if it is there, within the same limits.
+    fn near_boxes(&mut self, store: &MaildirStore) -> Result<Vec<MailboxName>, ListFault>
+        ensures { asked self.new ≡ noted (asked self.old) (NearListed store.now (names_of result)) };
+
+    /// What is to be told beside faults of the calls before. Each is told once, and each mailbox that is left out once in a run. Where
+    /// memory is wanting, some may be missing.
+    fn notices(&mut self) -> Vec<Notice>
+        ensures { asked self.new ≡ asked self.old };
+
+    /// What the server that was asked last said in its last NO, BAD or BYE, or the front of what it sent where that is no answer: one
+    /// line of at most 200 bytes, of which those that are no plain characters stand as a backslash and two digits. It is told once. None:
+    /// it said nothing, or memory is wanting.
+    fn server_words(&mut self) -> Option<String>
+        ensures { asked self.new ≡ asked self.old };
+}
+
+/// What is done over a mailbox while it is open.
+pub trait Work {
+    /// What it comes to.
+    type Answer;
+
+    /// What it may do to the mailbox.
+    ghost options: { Self → Options };
+
+    /// In up to how many attempts.
+    ghost attempts: { Self → ℕ };
+
+    /// How it ended.
+    ghost ends: { Self.Answer → Outcome };
+
+    /// The map by which keywords have a letter in it.
+    fn keywords(&self) -> &Keywords
+        ensures { result.now ≡ (options self.now).keywords };
+
+    /// Does it, over both sides of the mailbox and its state, and tells how far it is. Both sides go by its map of keywords.
+    fn over<O: Outside, P: Progress>(self, outside: &mut O, progress: &P) -> Self::Answer
+        requires map { O.keywords outside.old ≡ (options self).keywords };
+}
+
+/// Stores whose mailboxes can be synchronised.
+pub trait Stores: BoxLists {
+    /// Whether the near folder of a mailbox has the state of a former run.
+    fn has_state(&mut self, place: ChannelBox<'_>) -> Result<bool, StoreFault>
+        ensures { Self.asked self.new ≡ Self.noted (Self.asked self.old) (FoundNew (place_of place.entry) (outcome_of_state result)) };
+
+    /// Makes this side of a mailbox, which is absent there. Only a side that the channel's Create covers is made.
+    ///
+    /// Behind a fault it is not known whether it was made: a server may have made it, and its answer was lost. The other side is as it
+    /// was, made or not, since no call of these removes a mailbox.
+    fn make(&mut self, side: Side, place: ChannelBox<'_>) -> Result<(), StoreFault>
+        requires { covers place.of.channel.now.create side ≡ true }
+        ensures { Self.asked self.new ≡ Self.noted (Self.asked self.old) (Made side (place_of place.entry) (outcome_of_making result)) };
+
+    /// Opens both sides of a mailbox, and does this over them. Its lock is held as long.
+    fn work_over<W: Work + Drop>(
+        &mut self,
+        place: ChannelBox<'_>,
+        work: W,
+    ) -> Result<W::Answer, StoreFault>
+        ensures { Self.asked self.new ≡ Self.noted (Self.asked self.old)
+            (Ran (place_of place.entry) (W.options work) (W.attempts work) (outcome_by W.ends result)) };
+
+    /// What stopped the run over the mailbox that was opened last, if it was stopped and this is known. It is told once.
+    fn stop_cause(&mut self) -> Option<StopCause>
+        ensures { Self.asked self.new ≡ Self.asked self.old };
+
+    /// The paths of the near files that the run over the mailbox that was opened last left out: they wait for a UID, and their names are no
+    /// UTF-8, or too long with one. They are told once. Where memory is wanting, some may be missing.
+    fn left_out(&mut self) -> Vec<String>
+        ensures { Self.asked self.new ≡ Self.asked self.old };
+
+    /// Ends what stands at servers: nothing more is asked.
+    fn end(&mut self)
+        ensures { Self.asked self.new ≡ Self.noted (Self.asked self.old) Ended };
+}

@@ -1,2 +1,0 @@
-pub mod PlaceLemmas
-pub mod BoxLemmas

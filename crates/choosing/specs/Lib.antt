@@ -1,4 +1,0 @@
-pub mod Chosen
-pub mod Places
-pub mod Boxes
-pub mod Scope
