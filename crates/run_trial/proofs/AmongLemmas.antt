@@ -10,7 +10,7 @@ use Rattle.book.specs.MemShelves.{files_of}
 use Rattle.book.specs.Shelves.{Files}
 use Rattle.mem_link.specs.declared.arrivals.Arrival.{Arrival}
 use Rattle.mem_link.specs.Others.{BearAsSaid}
-use Rattle.trial.specs.declared.arrival.FarArrival.{FarArrival}
+use Rattle.run_trial.specs.declared.arrival.FarArrival.{FarArrival}
 use Rattle.run_trial.specs.declared.setting.Setting.{Setting}
 use Rattle.run_trial.specs.Settings.{device_at, device_in}
 use Rattle.rules.specs.declared.options.Options.{Options}
@@ -23,7 +23,7 @@ use Rattle.underway.specs.Conditions.{IsOver, Underway}
 use Rattle.alike_laws.specs.Beginnings.{opening_of}
 use Rattle.runner.specs.declared.fault.RunFault.{RunFault}
 use Rattle.runner.specs.Faults.{LeavesRun}
-use Rattle.trial.specs.Openings.{AreOurs}
+use Rattle.run_trial.specs.Openings.{AreOurs}
 use Rattle.run_trial.specs.Among.{IsOverAmong, arrival_of}
 use Rattle.imap_link.specs.Sending.{anybody}
 

@@ -1,3 +1,10 @@
+pub mod DigitLemmas
+pub mod NamedFiles
+pub mod FolderLemmas
+pub mod ShelfLemmas
+pub mod WorldLemmas
+pub mod PutFiles
+pub mod UnmarkedLemmas
 pub mod RunLemmas
 pub mod MemoryLemmas
 pub mod AmongLemmas

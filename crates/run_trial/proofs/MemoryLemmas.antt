@@ -31,12 +31,12 @@ use Rattle.underway.specs.Endings.{IsDone}
 use Rattle.alike_laws.specs.Beginnings.{Begins, HoldsWorld}
 use Rattle.runner.specs.declared.fault.RunFault.{RunFault}
 use Rattle.runner.specs.Attempts.{HasNoNext, TellsNoNext}
-use Rattle.trial.specs.declared.trial.Trial.{Trial}
-use Rattle.trial.specs.Shelves.{shelf_of}
-use Rattle.trial.specs.Worlds.{FitsWords, IsNamed, device_of, world_of}
-use Rattle.trial.proofs.FolderLemmas.{folder_holds}
-use Rattle.trial.proofs.ShelfLemmas.{shelf_holds}
-use Rattle.trial.proofs.WorldLemmas.{few_files, near_in_range}
+use Rattle.run_trial.specs.declared.trial.Trial.{Trial}
+use Rattle.run_trial.specs.Shelves.{shelf_of}
+use Rattle.run_trial.specs.Worlds.{FitsWords, IsNamed, device_of, world_of}
+use Rattle.run_trial.proofs.FolderLemmas.{folder_holds}
+use Rattle.run_trial.proofs.ShelfLemmas.{shelf_holds}
+use Rattle.run_trial.proofs.WorldLemmas.{few_files, near_in_range}
 use Rattle.run_trial.specs.declared.setting.Setting.{Setting}
 use Rattle.run_trial.specs.Settings.{IsSettingOf, device_at, device_in}
 

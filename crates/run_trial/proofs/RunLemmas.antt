@@ -18,7 +18,7 @@ use Rattle.runner.specs.declared.pass.Settled.{Settled}
 use Rattle.runner.specs.Attempts.{AtOpening, FromOpening, MetStops}
 use Rattle.runner.specs.Faults.{LeavesRun}
 use Rattle.runner.specs.Settled.{CountsAttempts, IsSettled, IsUnsettled}
-use Rattle.trial.specs.Openings.{AreOurs, trial_stream}
+use Rattle.run_trial.specs.Openings.{AreOurs, trial_stream}
 
 module _ (ours : List ℕ → Bool) (alone : Bool) (w : World) (options : Options) where
   asked : AreOurs ours → IsAsked ours (opening_of w options) options trial_stream

@@ -16,9 +16,9 @@ use Rattle.underway.specs.Conditions.{IsOver, Underway}
 use Rattle.alike_laws.specs.Beginnings.{opening_of}
 use Rattle.runner.specs.declared.fault.RunFault.{RunFault}
 use Rattle.runner.specs.Faults.{LeavesRun}
-use Rattle.trial.specs.declared.arrival.FarArrival.{FarArrival}
-use Rattle.trial.specs.declared.stop.Command.{Command}
-use Rattle.trial.specs.declared.stop.Command.TheVariants as trial
+use Rattle.run_trial.specs.declared.arrival.FarArrival.{FarArrival}
+use Rattle.run_trial.specs.declared.stop.Command.{Command}
+use Rattle.run_trial.specs.declared.stop.Command.TheVariants as trial
 use Rattle.run_trial.specs.declared.setting.Setting.{Setting}
 
 -- ---- what comes

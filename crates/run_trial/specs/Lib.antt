@@ -1,3 +1,10 @@
+pub mod Reports
+pub mod Openings
+pub mod Folders
+pub mod Shelves
+pub mod Worlds
+pub mod Laws
+pub mod Calls
 pub mod Statuses
 pub mod Settings
 pub mod Among

@@ -12,10 +12,10 @@ use Rattle.near_box.specs.Mailboxes.{near_of}
 use Rattle.far_side.specs.Chosen.{box_at}
 use Rattle.outside.specs.Devices.{Device}
 use Rattle.pair.specs.Parts.{device_with}
-use Rattle.trial.specs.declared.trial.Trial.{Trial}
-use Rattle.trial.specs.Folders.{folder_of}
-use Rattle.trial.specs.Shelves.{shelf_of}
-use Rattle.trial.specs.Worlds.{store_of, waiting_of}
+use Rattle.run_trial.specs.declared.trial.Trial.{Trial}
+use Rattle.run_trial.specs.Folders.{folder_of}
+use Rattle.run_trial.specs.Shelves.{shelf_of}
+use Rattle.run_trial.specs.Worlds.{store_of, waiting_of}
 use Rattle.run_trial.specs.declared.setting.Setting.{Setting}
 
 -- a server's mailboxes where this one is its INBOX, and it has no other

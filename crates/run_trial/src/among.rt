@@ -12,20 +12,20 @@ ghost use Rattle.maildir.specs.MemFolders.{stored_in};
 ghost use Rattle.book.specs.MemShelves.{files_of};
 ghost use Rattle.pair.specs.Pairs.{seen_of};
 ghost use Rattle.alike_laws.specs.Beginnings.{Begins};
-ghost use Rattle.trial.specs.Worlds.{IsNamed, device_of, world_of};
+ghost use Rattle.run_trial.specs.Worlds.{IsNamed, device_of, world_of};
 ghost use Rattle.run_trial.specs.Among.{IsOverAmong, LeavesAmong};
 ghost use Rattle.run_trial.specs.Settings.{device_at};
 
 use crate::devices::{Run, settle_all, together};
 use crate::failure::Failure;
 use crate::setting::setting_of;
+use crate::trial::Trial;
 use crate::visited::{NearSetting, VisitedSetting, visited};
 use maildir::visited_folder::VisitedFolder;
 use mem_link::mem_link::MemLink;
 use mem_link::visited_link::VisitedLink;
 use runner::fault::RunFault;
 use std::alloc::Global;
-use trial::trial::Trial;
 
 /// Makes the run of a trial to which others add messages, and gives its outside beside what it came to.
 ///

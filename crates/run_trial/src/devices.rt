@@ -12,11 +12,14 @@ ghost use Rattle.underway.specs.Endings.{IsDone};
 ghost use Rattle.alike_laws.specs.Beginnings.{Begins, opening_of};
 ghost use Rattle.runner.specs.Attempts.{HasNoNext, MetStops};
 ghost use Rattle.runner.specs.Faults.{LeavesRun};
-ghost use Rattle.trial.specs.Openings.{AreOurs};
+ghost use Rattle.run_trial.specs.Openings.{AreOurs};
 ghost use Rattle.run_trial.specs.Settings.{device_at};
 
+use crate::attempts::settle_trial;
 use crate::failure::Failure;
+use crate::folder::contents_of;
 use crate::server::{TrialLink, account_of};
+use crate::shelf::state_in;
 use book::mem_shelf::MemShelf;
 use book::shelf::Shelf;
 use both::both::Both;
@@ -34,9 +37,6 @@ use runner::fault::RunFault;
 use runner::pass::Settled;
 use std::alloc::Global;
 use std::num::NonZeroU32;
-use trial::attempts::settle_trial;
-use trial::folder::contents_of;
-use trial::shelf::state_in;
 use written_worlds::write::{WrittenMailbox, WrittenWorld, write_parts};
 
 /// Makes one run over an outside whose shelf holds this state, by the map of its options, and gives it back beside what the run came to.

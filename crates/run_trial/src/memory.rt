@@ -9,18 +9,18 @@ ghost use Rattle.pair.specs.Pairs.{seen_of};
 ghost use Rattle.underway.specs.Endings.{IsDone};
 ghost use Rattle.alike_laws.specs.Beginnings.{Begins};
 ghost use Rattle.runner.specs.Attempts.{HasNoNext, TellsNoNext};
-ghost use Rattle.trial.specs.Worlds.{IsNamed, device_of, world_of};
+ghost use Rattle.run_trial.specs.Worlds.{IsNamed, device_of, world_of};
 ghost use Rattle.run_trial.specs.Memory.{LeavesWorld};
 ghost use Rattle.run_trial.specs.Settings.{device_in};
 
 use crate::devices::{Run, settle_all, together};
 use crate::failure::Failure;
 use crate::setting::{FarSetting, Setting, setting_of};
+use crate::trial::Trial;
 use maildir::mem_folder::MemFolder;
 use mem_link::mem_link::MemLink;
 use runner::fault::RunFault;
 use std::alloc::Global;
-use trial::trial::Trial;
 
 /// Makes the run of a trial to which others add no message, and gives its outside beside what it came to. If its lines say that some
 /// come, they do not.

@@ -7,8 +7,11 @@ use crate::among::run_among;
 use crate::devices::{Devices, settle_all, together};
 use crate::failure::Failure;
 use crate::memory::run_in_memory;
+use crate::read::read_trial;
+use crate::report::Ending;
 use crate::server::TrialLink;
 use crate::setting::setting_of;
+use crate::trial::Trial;
 use crate::visited::{NearSetting, VisitedSetting, visited};
 use link_face::face_link::FaceLink;
 use link_face::words::Words;
@@ -23,9 +26,6 @@ use std::io;
 use std::io::{Read, Write};
 use std::net::Net;
 use std::rc::Rc;
-use trial::read::read_trial;
-use trial::report::Ending;
-use trial::trial::Trial;
 
 /// What a program is asked for by its arguments.
 #[derive(Clone, Copy, PartialEq, Eq)]

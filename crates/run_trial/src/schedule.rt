@@ -3,11 +3,11 @@
 ghost use Rattle.std.specs.Prelude.{◌≡◌};
 ghost use Rattle.run_trial.specs.Among.{name_of};
 
+use crate::stop::{Command, Cut, LinkStop};
 use device::schedule::{Moment, Stop};
 use mem_link::command::{CommandName, Nth};
 use mem_link::schedule as link;
 use std::alloc::{AllocError, Global};
-use trial::stop::{Command, Cut, LinkStop};
 
 /// The schedule of these stops, where the replies to the APPENDs of these numbers come without APPENDUID.
 pub(crate) fn schedule_of(

@@ -3,12 +3,17 @@
 ghost use Rattle.std.specs.Prelude.{◌≡◌, IfOk};
 ghost use Rattle.imap_client.specs.Seen.{HasMap};
 ghost use Rattle.imap_server.specs.Boxes.{AreServed};
-ghost use Rattle.trial.specs.Worlds.{FitsWords, world_of};
+ghost use Rattle.run_trial.specs.Worlds.{FitsWords, world_of};
 ghost use Rattle.run_trial.specs.Settings.{IsSettingOf, inbox_of};
 
+use crate::arrival::Arrivals;
 use crate::failure::Failure;
+use crate::folder::folder_with;
 use crate::schedule::schedule_of;
 use crate::server::server_with;
+use crate::shelf::shelf_with;
+use crate::stop::LinkStop;
+use crate::trial::{Course, Trial};
 use book::mem_shelf::MemShelf;
 use imap_server::server::Server;
 use mailcore::keywords::Keywords;
@@ -18,11 +23,6 @@ use mem_link::schedule::Schedule;
 use rules::options::Options;
 use rules::state::SyncState;
 use std::alloc::Global;
-use trial::arrival::Arrivals;
-use trial::folder::folder_with;
-use trial::shelf::shelf_with;
-use trial::stop::LinkStop;
-use trial::trial::{Course, Trial};
 use worlds::world::World;
 
 /// What the run of a trial is made over, before there is a link to the server.

@@ -6,6 +6,7 @@ ghost use Rattle.maildir.specs.MemFolders.{stored_in};
 ghost use Rattle.book.specs.MemShelves.{files_of};
 ghost use Rattle.run_trial.specs.Among.{AreKept, arrival_of};
 
+use crate::arrival::FarArrival;
 use crate::schedule::name_of;
 use crate::server::MAILBOX;
 use crate::setting::{FarSetting, Setting};
@@ -19,7 +20,6 @@ use mem_link::command::Nth;
 use rules::options::Options;
 use rules::state::SyncState;
 use std::alloc::{AllocError, Global};
-use trial::arrival::FarArrival;
 
 /// What the run of a trial is made over in which others add messages, before there is a link to the server.
 #[derive(Drop)]

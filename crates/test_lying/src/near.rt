@@ -7,14 +7,14 @@ use mailcore::mailbox::Mailbox;
 use mailcore::mailbox_name::MailboxName;
 use maildir::mem_folder::MemFolder;
 use rules::state::SyncState;
+use run_trial::folder::folder_with;
+use run_trial::shelf::shelf_with;
 use std::alloc::Global;
 use sync_state::fault::BookFault;
 use test_scripts::failure::Failure;
 use test_scripts::mail::read_message;
 use test_scripts::told::Told;
 use test_scripts::words::Words;
-use trial::folder::folder_with;
-use trial::shelf::shelf_with;
 
 /// What stands near.
 #[derive(Drop)]

@@ -14,13 +14,13 @@ use reports::answer::answer_word;
 use reports::performed::PerformedLine;
 use rules::options;
 use rules::options::{Cells, Directions, Options};
+use run_trial::attempts::settle_trial;
 use runner::fault::RunFault;
 use runner::pass::{Pass, Settled};
 use runner::performed::Performed;
 use std::alloc::{AllocError, Global};
 use std::num::NonZeroU32;
 use test_scripts::told::Told;
-use trial::attempts::settle_trial;
 use worlds::plan_lines::side_word;
 
 /// Everything is propagated, and nothing is expunged. Only the six flags have a name.

@@ -4,10 +4,10 @@ use book::mem_shelf::ShelfCall;
 use device::schedule::{Moment, Stop};
 use mailcore::side::Side;
 use mem_mailbox::box_condition::{BoxCall, BoxCondition};
+use run_trial::stop::Halt;
 use std::alloc::Global;
 use test_scripts::failure::Failure;
 use test_scripts::words::Words;
-use trial::stop::Halt;
 
 /// A call that a script can stop.
 #[derive(Clone, Copy)]

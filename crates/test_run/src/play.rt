@@ -3,13 +3,13 @@
 use crate::calls::Schedule;
 use crate::stage::{Stage, left_in, stage_of};
 use book::shelf::File;
+use run_trial::report::Ending;
 use std::alloc::Global;
 use test_scripts::failure::Failure;
 use test_scripts::play::{Player, play_all};
 use test_scripts::script::Script;
 use test_scripts::told::Told;
 use test_scripts::words::Words;
-use trial::report::Ending;
 
 /// Plays the runs of a script.
 pub fn run(rt: &HostRuntime, script: &mut Script<'_>) -> Result<(), Failure> {

@@ -5,9 +5,12 @@ ghost use Rattle.std.specs.Prelude.{◌≡◌};
 use mem_link::mem_link::MemLink;
 use outside::outside::Outside;
 use rules::options::Options;
+use run_trial::attempts::settle_trial;
 use run_trial::devices::Devices;
 use run_trial::failure::Failure as TrialFailure;
 use run_trial::memory::run_in_memory;
+use run_trial::read::read_trial;
+use run_trial::report::Ending;
 use runner::fault::RunFault;
 use runner::pass::Settled;
 use std::alloc::Global;
@@ -16,9 +19,6 @@ use test_scripts::play::{Player, play_all};
 use test_scripts::script::Script;
 use test_scripts::told::Told;
 use test_scripts::words::Words;
-use trial::attempts::settle_trial;
-use trial::read::read_trial;
-use trial::report::Ending;
 
 /// Plays the trials of a script.
 pub fn run(rt: &HostRuntime, script: &mut Script<'_>) -> Result<(), Failure> {

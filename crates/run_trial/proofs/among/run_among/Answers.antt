@@ -6,8 +6,8 @@ use Rattle.outside.specs.Devices.{Device}
 use Rattle.pair.specs.Pairs.{seen_of}
 use Rattle.rules.specs.declared.options.Options.{Options}
 use Rattle.rules.specs.World.{World}
-use Rattle.trial.specs.declared.arrival.Arrivals.{Arrivals}
-use Rattle.trial.specs.Worlds.{FitsWords, device_of, world_of}
+use Rattle.run_trial.specs.declared.arrival.Arrivals.{Arrivals}
+use Rattle.run_trial.specs.Worlds.{FitsWords, device_of, world_of}
 use Rattle.run_trial.specs.declared.setting.FarSetting.{FarSetting}
 use Rattle.run_trial.specs.Among.{IsOverAmong, LeavesAmong}
 use Rattle.run_trial.proofs.AmongLemmas.{bear_none, device_kept}

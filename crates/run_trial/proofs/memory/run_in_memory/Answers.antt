@@ -5,7 +5,7 @@ use Rattle.pair.specs.Pairs.{seen_of}
 use Rattle.rules.specs.declared.options.Options.{Options}
 use Rattle.rules.specs.World.{World}
 use Rattle.underway.specs.Endings.{IsDone}
-use Rattle.trial.specs.Worlds.{FitsWords, device_of, world_of}
+use Rattle.run_trial.specs.Worlds.{FitsWords, device_of, world_of}
 use Rattle.run_trial.specs.Memory.{LeavesWorld}
 use Rattle.run_trial.specs.Settings.{device_in}
 use Rattle.run_trial.proofs.MemoryLemmas.{done_where, greatest_where, holds_world, stands}

@@ -1,4 +1,4 @@
-use Rattle.trial.specs.Openings.{no_opening}
+use Rattle.run_trial.specs.Openings.{no_opening}
 use Rattle.test_wanting.proofs.play.settle_over.Given as goal
 
 abbrev pub ghost-settle_trial : goal.ghost-settle_trial

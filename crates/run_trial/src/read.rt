@@ -1,0 +1,142 @@
+//! How a trial is read from its text (docs/FORMATS.md, "Trial").
+
+ghost use Rattle.std.specs.Prelude.{◌≡◌, ◌+◌, ◌≤◌, ◌<◌, IfErr, IfOk};
+ghost use Rattle.worlds.specs.Lines.{IsOf, IsUpTo, line_count, line_ends};
+ghost use Rattle.run_trial.specs.Worlds.{IsNamed, world_of};
+
+use crate::arrival::Arrivals;
+use crate::count::read_ordinal;
+use crate::stop::{DeviceStop, Stops, read_cut, read_stop};
+use crate::trial::{Course, Trial};
+use mailcore::keywords::Keywords;
+use std::alloc::Global;
+use worlds::fault::WorldFault;
+use worlds::line::{Line, Lines};
+use worlds::read::take_world;
+use worlds::read_mailbox::read_bytes;
+use worlds::world::Waiting;
+
+/// The trial that a text gives. `Line`: after this line no valid trial is possible, or one is, and the text ends too early, and this is
+/// the line after its last whole one.
+pub fn read_trial(alloc: Global, text: &[u8]) -> Result<Trial, WorldFault>
+    ensures named { IfOk result (λ trial. IsNamed trial.world.options.keywords (world_of trial.world)) }
+    ensures fault { IfErr result (IsUpTo (line_ends text.now + 1)) }
+{
+    let mut lines = Lines::new(text);
+    let world = take_world(alloc, Waiting::Kept, &mut lines)?;
+    match read_course(alloc, &world.options.keywords, &mut lines) {
+        Ok(course) => Ok(Trial { world, course }),
+        Err(fault) => Err(fault),
+    }
+}
+
+/// What the lines behind a world's say, up to the end of the text.
+fn read_course(
+    alloc: Global,
+    keywords: &Keywords,
+    lines: &mut Lines<'_>,
+) -> Result<Course, WorldFault>
+    ensures fault { IfErr result (IsUpTo (line_count lines.old + 1)) }
+{
+    let mut course = Course {
+        tries: take_tries(lines)?,
+        journal: None,
+        stops: Stops::new(alloc),
+        mutes: Vec::new(alloc),
+        arrivals: Arrivals::new(alloc),
+    };
+    match take_course(alloc, keywords, &mut course, lines) {
+        Ok(()) => Ok(course),
+        Err(fault) => Err(fault),
+    }
+}
+
+/// The number of the line `tries`: how many attempts a run has.
+pub fn take_tries(lines: &mut Lines<'_>) -> Result<u32, WorldFault>
+    ensures positive { IfOk result (λ tries. 0 < tries) }
+    ensures count { line_count lines.new ≤ line_count lines.old }
+    ensures fault { IfErr result (IsUpTo (line_count lines.old + 1)) }
+{
+    let line = lines.take(b"tries ")?;
+    match read_ordinal(line.text) {
+        // No run meets so many stops.
+        Some(tries) => Ok(u32::try_from(tries).unwrap_or(u32::MAX)),
+        None => Err(line.fault()),
+    }
+}
+
+/// Adds what the next lines say, which are the last ones.
+fn take_course(
+    alloc: Global,
+    keywords: &Keywords,
+    course: &mut Course,
+    lines: &mut Lines<'_>,
+) -> Result<(), WorldFault>
+    ensures fault { IfErr result (IsUpTo (line_count lines.old + 1)) }
+{
+    while let Some(line) = lines.take_if(b"") {
+        add_line(alloc, keywords, course, line)?;
+    }
+    if lines.rest.is_empty() {
+        Ok(())
+    } else {
+        Err(lines.fault())
+    }
+}
+
+/// Adds what a line says: the journal, what others add, an APPEND without APPENDUID, or a stop.
+fn add_line(
+    alloc: Global,
+    keywords: &Keywords,
+    course: &mut Course,
+    line: Line<'_>,
+) -> Result<(), WorldFault>
+    ensures { IfErr result (IsOf line.entry.number) }
+{
+    if let Some(text) = line.text.strip_prefix(b"journal ") {
+        return add_journal(alloc, course, text, line);
+    }
+    if let Some(text) = line.text.strip_prefix(b"arrive ") {
+        return course.arrivals.add(alloc, text, keywords, line);
+    }
+    if let Some(text) = line.text.strip_prefix(b"mute ") {
+        return add_mute(course, text, line);
+    }
+    match stop_of(line.text) {
+        Some(stop) => Ok(course.stops.push(stop)?),
+        None => Err(line.fault()),
+    }
+}
+
+/// Adds the journal. A trial has one at most.
+fn add_journal(
+    alloc: Global,
+    course: &mut Course,
+    text: &[u8],
+    line: Line<'_>,
+) -> Result<(), WorldFault>
+    ensures { IfErr result (IsOf line.entry.number) }
+{
+    if course.journal.is_some() {
+        return Err(line.fault());
+    }
+    course.journal = Some(read_bytes(alloc, text, line)?);
+    Ok(())
+}
+
+/// Adds the number of an APPEND whose reply comes without APPENDUID.
+fn add_mute(course: &mut Course, text: &[u8], line: Line<'_>) -> Result<(), WorldFault>
+    ensures { IfErr result (IsOf line.entry.number) }
+{
+    match read_ordinal(text) {
+        Some(number) => Ok(course.mutes.push(number)?),
+        None => Err(line.fault()),
+    }
+}
+
+fn stop_of(text: &[u8]) -> Option<DeviceStop> {
+    if let Some(text) = text.strip_prefix(b"stop ") {
+        return read_stop(text);
+    }
+    read_cut(text.strip_prefix(b"cut ")?)
+}

@@ -1,0 +1,13 @@
+//! Laws of this crate's definitions, each shown by a function that does nothing.
+
+ghost use Rattle.run_trial.specs.Laws as law;
+
+/// The folder of a trial holds its near mailbox.
+pub fn folder_holds_its_mailbox()
+    ensures { law.FolderHolds }
+{}
+
+/// The shelf of a trial holds its state, and no journal where the trial has none.
+pub fn shelf_holds_its_state()
+    ensures { law.ShelfHolds }
+{}

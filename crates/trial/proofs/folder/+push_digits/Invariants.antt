@@ -1,4 +1,0 @@
-use Rattle.trial.proofs.folder.+push_digits.Given as goal
-
-abbrev pub decreases-push_digits : goal.decreases-push_digits
-decreases-push_digits l = l.count
