@@ -18,9 +18,8 @@ from tests.support.imap_side import KEYWORD_LINES, ImapSide
 from tests.support.maildir_side import MaildirSide
 from tests.support.measured import system_calls
 from tests.support.messages import subjects
-from tests.support.places import MBSYNC, must_run, parser_of
 from tests.support.tally import Tally
-from tests.support.trial_imapd import Server, build, world
+from tests.support.trial_imapd import Server, program_over, world
 
 NAMES = ["mkdir", "openat", "close", "read", "write", "rename", "unlink", "fsync", "flock", "getdents64", "connect", "sendto", "recvfrom"]
 CHANNEL = """Channel box
@@ -124,11 +123,7 @@ def try_each(tally, place, prepare, wanted):
 
 
 def main():
-    words = parser_of(__doc__)
-    words.add_argument("program", nargs="?", default=MBSYNC, help="the built mbsync, if it is left out")
-    program = words.parse_args().program
-    must_run(program)
-    build()
+    program = program_over(__doc__)
     tally = Tally()
     with tempfile.TemporaryDirectory() as folder:
         place = Place(program, folder)

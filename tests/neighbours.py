@@ -17,9 +17,9 @@ from tests.support.go_between import GoBetween
 from tests.support.imap_side import ImapSide
 from tests.support.maildir_side import MaildirSide
 from tests.support.messages import subjects
-from tests.support.places import MBSYNC, TOP, must_run, parser_of
+from tests.support.places import TOP
 from tests.support.tally import Tally
-from tests.support.trial_imapd import Server, build, world
+from tests.support.trial_imapd import Server, program_over, world
 
 ISYNC = "/usr/bin/mbsync"
 SUBJECTS = [b"one", b"two", b"three"]
@@ -123,11 +123,7 @@ def with_server(part, program):
 
 
 def main():
-    words = parser_of(__doc__)
-    words.add_argument("program", nargs="?", default=MBSYNC, help="the built mbsync, if it is left out")
-    program = words.parse_args().program
-    must_run(program)
-    build()
+    program = program_over(__doc__)
     if os.access(ISYNC, os.X_OK):
         with_server(move_from_isync, program)
     else:

@@ -14,9 +14,8 @@ sys.path.insert(0, str(pathlib.Path(__file__).resolve().parents[1]))
 from tests.support.configuration import configured
 from tests.support.imap_side import ImapSide
 from tests.support.maildir_side import MaildirSide
-from tests.support.places import MBSYNC, must_run, parser_of
 from tests.support.tally import Tally
-from tests.support.trial_imapd import Server, build
+from tests.support.trial_imapd import Server, program_over
 
 WORLD = """sync Full
 expunge None
@@ -171,11 +170,7 @@ def locked(place):
 
 
 def main():
-    words = parser_of(__doc__)
-    words.add_argument("program", nargs="?", default=MBSYNC, help="the built mbsync, if it is left out")
-    program = words.parse_args().program
-    must_run(program)
-    build()
+    program = program_over(__doc__)
     for part in (damaged_journal, damaged_state, meta_file, one_uid_twice, refused_message, start_over, locked):
         with tempfile.TemporaryDirectory() as folder:
             place = Place(program, folder)

@@ -14,9 +14,8 @@ import tempfile
 sys.path.insert(0, str(pathlib.Path(__file__).resolve().parents[1]))
 from tests.support.configuration import configured
 from tests.support.imap_side import ImapSide
-from tests.support.places import MBSYNC, must_run, parser_of
 from tests.support.tally import Tally
-from tests.support.trial_imapd import Server, build, world
+from tests.support.trial_imapd import Server, program_over, world
 
 CALLS = "fsync,fdatasync,rename,renameat,renameat2,unlink,unlinkat,write,pwrite64"
 ROW = re.compile(r"^\d+ +(\w+)\((.*)\) += (-?\d+)")
@@ -120,13 +119,9 @@ def scenes(tally, program, top):
 
 
 def main():
-    words = parser_of(__doc__)
-    words.add_argument("program", nargs="?", default=MBSYNC, help="the built mbsync, if it is left out")
-    program = words.parse_args().program
-    must_run(program)
+    program = program_over(__doc__)
     if shutil.which("strace") is None:
         sys.exit("strace is not installed")
-    build()
     tally = Tally()
     with tempfile.TemporaryDirectory() as top, tally.scene("the three runs"):
         scenes(tally, program, top)

@@ -16,6 +16,16 @@ def build():
     places.build("trial_imapd", "-h")
 
 
+def program_over(text):
+    """The mbsync that a script tries, which its words name, with trial-imapd built. The help begins with the text of the script."""
+    words = places.parser_of(text)
+    words.add_argument("program", nargs="?", default=places.MBSYNC, help="the built mbsync, if it is left out")
+    program = words.parse_args().program
+    places.must_run(program)
+    build()
+    return program
+
+
 def world(messages, keywords=()):
     """The text of a world whose far mailbox has these messages, with the UIDs from 1 on, and with these lines of keywords."""
     lines = [b"sync Full", b"expunge None", *(b"keyword " + line.encode() for line in keywords), b"far 1 %d" % (len(messages) + 1)]
