@@ -21,7 +21,7 @@ use Rattle.imap_link.specs.declared.fault.FarFault.{FarFault}
 use Rattle.imap_link.specs.declared.fault.FarFault.TheVariants as far
 use Rattle.imap_link.specs.Exchanges.{Restarts}
 use Rattle.imap_link.specs.Outcomes.{Outcome, Never as Unrefused}
-use Rattle.exchange_laws.specs.Ends.{MayHave}
+use Rattle.imap_session.specs.Ends.{MayHave}
 use Rattle.imap_session.specs.Mailboxes.{FarMailbox, mailbox_at}
 use Rattle.imap_session.specs.Servers.{Server, is_before_login, is_logged_in}
 use Rattle.imap_answers.specs.Listings.{ListsFrom, next_above}

@@ -13,7 +13,7 @@ use Rattle.imap_link.specs.declared.fault.FarFault.{FarFault}
 use Rattle.imap_link.specs.declared.fault.FarFault.TheVariants as far
 use Rattle.imap_link.specs.Outcomes.{Outcome, Never as Unrefused}
 use Rattle.imap_session.specs.Servers.{Server, with_selected}
-use Rattle.exchange_laws.specs.Ends.{MayHave}
+use Rattle.imap_session.specs.Ends.{MayHave}
 use Rattle.imap_client.specs.Appending as appending
 use Rattle.imap_client.specs.Boxes.{Becomes}
 use Rattle.imap_client.specs.Seen.{seen_through}

@@ -22,7 +22,7 @@ use Rattle.mailbox.specs.Arrivals.{Arrives}
 use Rattle.imap_session.specs.Mailboxes.{FarMailbox, mailbox_at}
 use Rattle.imap_session.specs.Servers.{Server}
 use Rattle.imap_session.specs.Visits.{AllGain, Gains, Visits}
-use Rattle.session_laws.proofs.Visiting.{visits_follow}
+use Rattle.law_session.proofs.Visiting.{visits_follow}
 use Rattle.imap_client.proofs.Visited.{MayGain, gains_at}
 use Rattle.imap_client.specs.Seen.{seen_message, seen_through}
 use Rattle.far_side.proofs.SeenThrough.{map-append, uids_seen}

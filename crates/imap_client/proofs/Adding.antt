@@ -20,7 +20,7 @@ use Rattle.imap_session.specs.Answering.{done_with}
 use Rattle.imap_session.specs.AppendCommand.{grown, AppendsUnder, NoneLeft, AppendsAt, AppendsIf}
 use Rattle.imap_session.specs.Heard.{AreHeardAs, AreReplies, IsHeardAs}
 use Rattle.imap_session.specs.Steps.{Step}
-use Rattle.exchange_laws.specs.Ends.{MayHave}
+use Rattle.imap_session.specs.Ends.{MayHave}
 use Rattle.imap_link.specs.declared.fault.FarFault.{FarFault}
 use Rattle.imap_link.specs.declared.fault.FarFault.TheVariants as faults
 use Rattle.imap_link.specs.UsedReplies.{answer_alone, is_used}

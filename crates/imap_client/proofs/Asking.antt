@@ -6,7 +6,7 @@ use Rattle.wire_tokens.specs.Room.{most_item, most_set}
 use Rattle.wire_tokens.proofs.FlagTexts.{set_names_few}
 use Rattle.imap_client.specs.declared.call.Call.{Call}
 use Rattle.imap_client.specs.declared.call.Call.TheVariants as calls
-use Rattle.exchange_laws.specs.Ends.{is_logout}
+use Rattle.imap_session.specs.Ends.{is_logout}
 use Rattle.imap_client.specs.Requests.{IsPlain}
 use Rattle.imap_client.specs.Calls.{request_of, CanAsk, each_one}
 

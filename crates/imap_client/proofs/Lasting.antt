@@ -18,7 +18,7 @@ use Rattle.imap_session.specs.MailboxCommands.{creates_at, is_name, makes, next_
 use Rattle.imap_session.specs.AppendCommand.{AppendsAt, AppendsIf}
 use Rattle.imap_session.specs.MessageCommands.{fetches_in, stores_in, expunges_in}
 use Rattle.imap_session.specs.Steps.{StepOf}
-use Rattle.exchange_laws.specs.Ends.{MayHave, is_logout}
+use Rattle.imap_session.specs.Ends.{MayHave, is_logout}
 use Rattle.imap_link.specs.declared.fault.FarFault.{FarFault}
 use Rattle.imap_link.specs.declared.fault.FarFault.TheVariants as faults
 use Rattle.imap_link.specs.Exchanges.{Performs}

@@ -15,7 +15,7 @@ use Rattle.imap_session.specs.Visits.{AllGain, Among}
 use Rattle.imap_session.specs.Answering.{Gives, done, refused_with, out_of_place}
 use Rattle.imap_session.specs.SessionCommands.{REV2, lets_in, logs_in}
 use Rattle.imap_session.specs.Heard.{AreHeardAs, AreReplies, IsHeardAs}
-use Rattle.exchange_laws.proofs.HeardAs.{reads_same}
+use Rattle.law_session.proofs.HeardAs.{reads_same}
 use Rattle.imap_link.specs.declared.fault.FarFault.{FarFault}
 use Rattle.imap_link.specs.declared.fault.FarFault.TheVariants as faults
 use Rattle.imap_link.specs.UsedReplies.{answer_alone, abilities_read, is_used}

@@ -3,7 +3,7 @@ use Rattle.std.proofs.Common.{◌≡◌, ℕ, List, subst, Result, Ok, Err, ◌�
 use Rattle.imap_commands.specs.declared.command.Command.{Command}
 use Rattle.imap_replies.specs.declared.word.Status.{Status}
 use Rattle.imap_session.specs.Lines.{Line}
-use Rattle.exchange_laws.specs.Ends.{ends_of}
+use Rattle.imap_session.specs.Ends.{ends_of}
 use Rattle.imap_link.specs.declared.fault.FarFault.{FarFault}
 use Rattle.imap_link.specs.declared.fault.FarFault.TheVariants as faults
 use Rattle.imap_link.specs.declared.wire.Told.{Told}

@@ -9,8 +9,8 @@ use Rattle.imap_session.specs.Mailboxes.{FarMailbox, same_name, mailbox_at}
 use Rattle.imap_session.specs.Servers.{Condition, NotAuthenticated, Authenticated, Selected, LoggedOut, Server, is_over, Quiet, told, selected, selected_in}
 use Rattle.imap_session.specs.Lines.{Line, told_server}
 use Rattle.imap_session.specs.Visits.{Gains, AllGain, Visits, Among}
-use Rattle.session_laws.proofs.Visiting.{nobody_visits, visits_follow}
-use Rattle.exchange_laws.specs.Ends.{ends_of}
+use Rattle.law_session.proofs.Visiting.{nobody_visits, visits_follow}
+use Rattle.imap_session.specs.Ends.{ends_of}
 use Rattle.imap_link.specs.declared.fault.FarFault.{FarFault}
 use Rattle.imap_link.specs.declared.fault.FarFault.TheVariants as faults
 use Rattle.imap_link.specs.Sending.{visited}

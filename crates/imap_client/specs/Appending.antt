@@ -20,7 +20,7 @@ use Rattle.imap_session.specs.AppendCommand.{MayGive}
 use Rattle.imap_session.specs.Portions.{goes_in}
 use Rattle.imap_session.specs.Servers.{Server, Quiet}
 use Rattle.imap_session.specs.Lines.{Line, told_server}
-use Rattle.exchange_laws.specs.Ends.{ends_of, IsAt, IsText, AsksAtEnd, is_logout}
+use Rattle.imap_session.specs.Ends.{ends_of, IsAt, IsText, AsksAtEnd, is_logout}
 use Rattle.imap_link.specs.declared.fault.FarFault.{FarFault}
 use Rattle.imap_link.specs.UsedReplies.{answer_alone, uses_of}
 use Rattle.imap_link.specs.Exchanges.{Performs}

@@ -6,7 +6,7 @@ use Rattle.imap_replies.specs.declared.reply.Reply.{Reply}
 use Rattle.imap_replies.specs.declared.word.Status.{Status}
 use Rattle.imap_replies.specs.declared.word.Status.TheVariants as statuses
 use Rattle.imap_session.specs.Servers.{Server}
-use Rattle.exchange_laws.specs.Ends.{MayHave}
+use Rattle.imap_session.specs.Ends.{MayHave}
 use Rattle.imap_link.specs.declared.fault.FarFault.{FarFault}
 use Rattle.imap_link.specs.declared.fault.FarFault.TheVariants.{Stopped, Refused, Protocol, TooLong, NoRev2, ReadOnly, NoMemory}
 use Rattle.imap_link.specs.Exchanges.{Performs, Replied}

@@ -2,7 +2,7 @@
 use Rattle.std.specs.Prelude.{◌≡◌, Bool, true, false, [], ◌∷◌}
 use Rattle.imap_session.specs.Servers.{is_over}
 use Rattle.imap_session.specs.Unread.{Kept, Whole, Dropping}
-use Rattle.exchange_laws.specs.Ends.{Ends}
+use Rattle.imap_session.specs.Ends.{Ends}
 
 abbrev pub keeps_none : Kept → Bool
 keeps_none (Whole []) = true

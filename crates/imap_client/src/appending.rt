@@ -12,7 +12,7 @@ ghost use Rattle.imap_session.specs.Heard.{AreReplies};
 ghost use Rattle.imap_session.specs.Mailboxes.{FarMailbox};
 ghost use Rattle.imap_session.specs.Servers.{selected};
 ghost use Rattle.imap_session.specs.Visits.{Among};
-ghost use Rattle.exchange_laws.specs.Ends.{ends_of};
+ghost use Rattle.imap_session.specs.Ends.{ends_of};
 ghost use Rattle.imap_link.specs.Buffers.{IsAnswerText};
 ghost use Rattle.imap_link.specs.Outcomes.{Outcome};
 ghost use Rattle.imap_link.specs.Sinks.{any_replies};

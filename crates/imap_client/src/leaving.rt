@@ -2,7 +2,7 @@
 
 ghost use Rattle.std.specs.Prelude.{◌≡◌, true, false, IfOk, IfErr, Ok, Err};
 ghost use Rattle.imap_commands.specs.declared.command.Request.TheVariants as requests;
-ghost use Rattle.exchange_laws.specs.Ends.{ends_of};
+ghost use Rattle.imap_session.specs.Ends.{ends_of};
 ghost use Rattle.imap_session.specs.Visits.{Among};
 ghost use Rattle.imap_link.specs.Outcomes.{Outcome, Never};
 ghost use Rattle.imap_client.specs.Leaving.{Leaves, LeftSo, LeavesSo};

@@ -2,7 +2,7 @@
 
 ghost use Rattle.std.specs.Prelude.{◌≡◌, ◌≤◌, ◌⊎◌, ◌+◌, ◌++◌, [], true, false, IfOk, IfErr, OnOk, OnErr, IsErrOf};
 ghost use Rattle.imap_replies.specs.declared.word.Status.TheVariants as statuses;
-ghost use Rattle.exchange_laws.specs.Ends.{ends_of, is_logout};
+ghost use Rattle.imap_session.specs.Ends.{ends_of, is_logout};
 ghost use Rattle.reply_buf.specs.Buffers.{empty};
 ghost use Rattle.imap_client.specs.Stillness.{IsStill};
 ghost use Rattle.imap_link.specs.Buffers.{IsAnswerText};

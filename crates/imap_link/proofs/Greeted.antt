@@ -7,8 +7,8 @@ use Rattle.imap_replies.specs.declared.reply.Reply.TheVariants.{Notice}
 use Rattle.imap_session.specs.Servers.{Server, Quiet, told}
 use Rattle.imap_session.specs.Heard.{AreReplies}
 use Rattle.imap_session.specs.Lines.{Line, told_server, Starts}
-use Rattle.exchange_laws.specs.Ends.{Ends, ends_of, IsIdle, Hears}
-use Rattle.exchange_laws.proofs.Greeted.{greeted}
+use Rattle.imap_session.specs.Ends.{Ends, ends_of, IsIdle, Hears}
+use Rattle.law_session.proofs.Greeted.{greeted}
 use Rattle.imap_link.specs.declared.kind.Kind.{Kind}
 use Rattle.imap_link.specs.declared.kind.Kind.TheVariants.{Hello, Bye}
 use Rattle.imap_link.specs.ReplyKinds.{kind_of}

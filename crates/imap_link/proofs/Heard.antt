@@ -5,7 +5,7 @@ use Rattle.std.proofs.Transfers.{drop-appended}
 use Rattle.wire_reader.specs.declared.answer.WireFault.{WireFault}
 use Rattle.imap_replies.specs.declared.reply.Reply.{Reply}
 use Rattle.imap_session.specs.Lines.{Line}
-use Rattle.exchange_laws.specs.Ends.{Ends, ends_of}
+use Rattle.imap_session.specs.Ends.{Ends, ends_of}
 use Rattle.reply_buf.specs.Buffers.{Buffer, reads}
 use Rattle.reply_buf.specs.Fronts.{Spells, IsWhole}
 use Rattle.imap_link.specs.Buffers.{WholeRead, GoesOn, Keeps}

@@ -8,8 +8,8 @@ use Rattle.imap_replies.specs.declared.reply.Reply.{Reply}
 use Rattle.imap_replies.specs.declared.reply.Reply.TheVariants.{Continue, Tagged, Notice, Capability, Enabled, List as Listed, Flags, Exists, Expunge, Fetch, Other, OtherNumbered}
 use Rattle.imap_session.specs.Heard.{is_passed, tag_of, AreUntagged, AreReplies}
 use Rattle.imap_session.specs.Lines.{Line}
-use Rattle.exchange_laws.specs.Ends.{Ends, ends_of, Hears}
-use Rattle.exchange_laws.proofs.Others.{quiet-trans}
+use Rattle.imap_session.specs.Ends.{Ends, ends_of, Hears}
+use Rattle.law_session.proofs.Others.{quiet-trans}
 use Rattle.reply_buf.specs.Buffers.{Buffer, drops_last}
 use Rattle.imap_link.specs.declared.kind.Kind.{Kind}
 use Rattle.imap_link.specs.declared.kind.Kind.TheVariants.{Mine}

@@ -13,9 +13,9 @@ use Rattle.imap_session.specs.Mailboxes.{FarMailbox}
 use Rattle.imap_session.specs.Servers.{Server, selected, exists_of, news, told}
 use Rattle.imap_session.specs.Steps.{Step}
 use Rattle.imap_session.specs.Heard.{IsHeardAs, AreHeardAs}
-use Rattle.exchange_laws.specs.Ends.{Did, DidSo, DidCommand, MayHave}
-use Rattle.exchange_laws.proofs.HeardAs.{reads_same}
-use Rattle.exchange_laws.proofs.Telling.{step_keeps}
+use Rattle.imap_session.specs.Ends.{Did, DidSo, DidCommand, MayHave}
+use Rattle.law_session.proofs.HeardAs.{reads_same}
+use Rattle.law_session.proofs.Telling.{step_keeps}
 use Rattle.imap_link.specs.declared.uses.Uses.{Uses}
 use Rattle.imap_link.specs.UsedReplies.{is_used}
 use Rattle.imap_link.specs.Exchanges.{Performs, PerformsSo}

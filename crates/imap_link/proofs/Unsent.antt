@@ -4,7 +4,7 @@ use Rattle.visitors.specs.Visitors.{Visitors}
 use Rattle.imap_session.specs.Serving.{End, FeedsSome, ServesSome}
 use Rattle.imap_session.specs.Servers.{Server}
 use Rattle.imap_session.specs.Lines.{Line}
-use Rattle.session_laws.proofs.Visiting.{nobody_visits}
+use Rattle.law_session.proofs.Visiting.{nobody_visits}
 use Rattle.imap_link.specs.Sending.{SomeThen}
 
 serves_none : (s : Server) (stream : List ℕ) → ServesSome s stream s

@@ -6,7 +6,7 @@ use Rattle.imap_session.specs.Portions.{goes_in}
 use Rattle.imap_session.specs.Unread.{Holds}
 use Rattle.imap_session.specs.Lines.{Line, told_server}
 use Rattle.imap_session.specs.Visits.{Visits, Among}
-use Rattle.exchange_laws.specs.Ends.{ends_of, IsAt}
+use Rattle.imap_session.specs.Ends.{ends_of, IsAt}
 use Rattle.imap_link.specs.Sending.{AfterVisits, visited}
 
 -- what was on the way stays

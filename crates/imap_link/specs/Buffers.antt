@@ -4,7 +4,7 @@ use Rattle.imap_replies.specs.declared.word.Status.{Status}
 use Rattle.imap_replies.specs.declared.reply.Reply.{Reply}
 use Rattle.imap_session.specs.Heard.{AreUntagged, AreReplies}
 use Rattle.imap_session.specs.Lines.{Stays}
-use Rattle.exchange_laws.specs.Ends.{Ends}
+use Rattle.imap_session.specs.Ends.{Ends}
 use Rattle.reply_buf.specs.Fronts.{Spells, NoneWhole}
 use Rattle.reply_buf.specs.Buffers.{Buffer, held_in}
 use Rattle.imap_link.specs.declared.kind.Kind.{Kind}

@@ -8,7 +8,7 @@ use Rattle.imap_session.specs.Steps.{Step}
 use Rattle.imap_session.specs.Portions.{goes_in}
 use Rattle.imap_session.specs.Heard.{AreReplies, AreHeardAs}
 use Rattle.imap_session.specs.Lines.{Line, told_server}
-use Rattle.exchange_laws.specs.Ends.{ends_of, IsAt, IsIdle, IsText, AsksAtEnd, MayHave, is_logout}
+use Rattle.imap_session.specs.Ends.{ends_of, IsAt, IsIdle, IsText, AsksAtEnd, MayHave, is_logout}
 use Rattle.imap_link.specs.declared.fault.FarFault.{FarFault}
 use Rattle.imap_link.specs.declared.fault.FarFault.TheVariants.{Stopped, Refused, Protocol, TooLong, NoRev2, ReadOnly, NoMemory}
 use Rattle.imap_link.specs.declared.wire.Told.{Told}

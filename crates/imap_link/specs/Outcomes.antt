@@ -1,7 +1,7 @@
 -- How a call ends.
 use Rattle.std.specs.Prelude.{Result, Ok, Err}
 use Rattle.imap_session.specs.Servers.{Server}
-use Rattle.exchange_laws.specs.Ends.{MayHave}
+use Rattle.imap_session.specs.Ends.{MayHave}
 use Rattle.imap_link.specs.declared.fault.FarFault.{FarFault}
 use Rattle.imap_link.specs.declared.fault.FarFault.TheVariants.{Stopped, Refused, Protocol, TooLong, NoRev2, ReadOnly, NoMemory}
 

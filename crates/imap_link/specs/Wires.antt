@@ -1,7 +1,7 @@
 -- Both ends of a connection, as a wire has heard it.
 use Rattle.std.specs.Prelude.{ℕ}
 use Rattle.imap_session.specs.Lines.{Line}
-use Rattle.exchange_laws.specs.Ends.{Ends, ends_of}
+use Rattle.imap_session.specs.Ends.{Ends, ends_of}
 use Rattle.imap_link.specs.declared.wire.Wire.{Wire}
 use Rattle.imap_link.specs.Buffers.{WholeRead, GoesOn}
 

@@ -6,7 +6,7 @@ ghost use Rattle.wire_reader.specs.Spelling.{crlf};
 ghost use Rattle.imap_replies.specs.declared.reply.Reply.{Reply};
 ghost use Rattle.imap_session.specs.Servers.{Quiet};
 ghost use Rattle.imap_session.specs.Lines.{told_server};
-ghost use Rattle.exchange_laws.specs.Ends.{IsIdle};
+ghost use Rattle.imap_session.specs.Ends.{IsIdle};
 ghost use Rattle.reply_buf.specs.Buffers.{held_in, drops_last};
 ghost use Rattle.reply_buf.specs.Fronts.{IsFaulty};
 ghost use Rattle.imap_link.specs.Faults.{IsStop, IsHearing};

@@ -10,8 +10,8 @@ use Rattle.imap_session.specs.Mailboxes.{FarMailbox}
 use Rattle.imap_session.specs.MailboxCommands.{is_name}
 use Rattle.imap_session.specs.Servers.{Server}
 use Rattle.imap_session.specs.Heard.{AreReplies}
-use Rattle.session_laws.specs.Short.{is_short, AreNamed}
-use Rattle.session_laws.proofs.ShortReplies.{short_fits}
+use Rattle.law_session.specs.Short.{is_short, AreNamed}
+use Rattle.law_session.proofs.ShortReplies.{short_fits}
 use Rattle.imap_session.specs.Serving.{Feeds, FeedsSome}
 use Rattle.imap_server.specs.declared.unread.Unread.{Unread}
 use Rattle.imap_messages.specs.Boxes.{IsServed, AreServed}

@@ -14,6 +14,7 @@ pub mod Unread
 pub mod Serving
 pub mod Heard
 pub mod Lines
+pub mod Ends
 pub mod Arrivals
 pub mod Visits
 pub mod SessionExamples

@@ -9,7 +9,7 @@ use Rattle.imap_session.specs.Visits.{Visits}
 use Rattle.imap_session.specs.Servers.{Server}
 use Rattle.imap_session.specs.Serving.{FeedsSome}
 use Rattle.imap_session.specs.Lines.{Line, Sends}
-use Rattle.session_laws.proofs.Visiting.{arrival_visits, nobody_visits}
+use Rattle.law_session.proofs.Visiting.{arrival_visits, nobody_visits}
 use Rattle.mem_link.specs.declared.arrivals.Arrival.{Arrival}
 use Rattle.mem_link.specs.Others.{BearAsSaid}
 use Rattle.imap_link.specs.Sending.{nobody, visited, SendsThen, SomeThen}

@@ -1,5 +1,5 @@
 use Rattle.std.proofs.Common.{◌∙◌, refl}
-use Rattle.session_laws.proofs.Visiting.{nobody_visits, visits_follow}
+use Rattle.law_session.proofs.Visiting.{nobody_visits, visits_follow}
 use Rattle.visitors.specs.Visitors.{others_with}
 use Rattle.mem_link.specs.MemLinks.{line_of}
 use Rattle.mem_link.proofs.Visiting.{as_said, line_after}

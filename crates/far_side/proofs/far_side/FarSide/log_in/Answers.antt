@@ -1,6 +1,6 @@
 use Rattle.std.proofs.Common.{refl}
 use Rattle.imap_client.specs.Sessions.{server_of}
-use Rattle.session_laws.proofs.Visiting.{nobody_visits}
+use Rattle.law_session.proofs.Visiting.{nobody_visits}
 use Rattle.far_side.proofs.far_side.FarSide.log_in.Goals as goal
 
 pub returns-in-LoggedIn-clause-outcome : goal.returns-in-LoggedIn-clause-outcome

@@ -2,7 +2,7 @@ use Rattle.std.proofs.Common.{ℕ, refl}
 use Rattle.imap_client.specs.Sessions.{server_of, state_of}
 use Rattle.imap_link.specs.Outcomes.{Outcome, Never}
 use Rattle.imap_session.specs.Visits.{Among}
-use Rattle.session_laws.proofs.Visiting.{nobody_visits}
+use Rattle.law_session.proofs.Visiting.{nobody_visits}
 use Rattle.far_side.specs.Chosen.{KeepsMailboxes, Misses, TellsValidity}
 use Rattle.far_side.specs.FarStops.{Ends}
 use Rattle.far_side.proofs.Joined.{err_so, handed}

@@ -1,6 +1,6 @@
 use Rattle.std.proofs.Common.{◌≡◌, false, sym, subst}
 use Rattle.imap_commands.specs.declared.command.Request.{Request}
-use Rattle.exchange_laws.specs.Ends.{is_logout}
+use Rattle.imap_session.specs.Ends.{is_logout}
 use Rattle.imap_client.specs.Requests.{IsPlain}
 use Rattle.imap_client.proofs.Asking.{asked_plain, asked_stays}
 use Rattle.std.proofs.Common.{◌∙◌, ◌+◌, ap, inl, refl, Err}

@@ -6,7 +6,7 @@ use Rattle.imap_session.specs.Visits.{Among}
 use Rattle.imap_client.specs.Exchanged.{command_at, AnsweredSo}
 use Rattle.imap_commands.specs.declared.command.Command.{Command}
 use Rattle.imap_session.specs.Servers.{is_logged_in}
-use Rattle.exchange_laws.specs.Ends.{is_logout}
+use Rattle.imap_session.specs.Ends.{is_logout}
 use Rattle.imap_client.specs.Logins.{StaysIn}
 use Rattle.imap_client.specs.Seen.{KeepsMap}
 use Rattle.imap_client.proofs.Lasting.{answered_so}

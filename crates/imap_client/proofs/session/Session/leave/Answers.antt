@@ -3,7 +3,7 @@ use Rattle.std.proofs.lemmas.Result.{err_from_is_err_and}
 use Rattle.imap_commands.specs.Writing.{Written}
 use Rattle.imap_replies.specs.declared.word.Status.TheVariants as statuses
 use Rattle.imap_session.specs.Lines.{told_server}
-use Rattle.exchange_laws.specs.Ends.{ends_of}
+use Rattle.imap_session.specs.Ends.{ends_of}
 use Rattle.imap_link.specs.declared.fault.FarFault.{FarFault}
 use Rattle.imap_replies.specs.declared.word.Status.{Status}
 use Rattle.imap_link.specs.Outcomes.{Outcome, Never}

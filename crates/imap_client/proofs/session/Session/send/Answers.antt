@@ -4,7 +4,7 @@ use Rattle.imap_commands.specs.Writing.{Written}
 use Rattle.imap_session.specs.Lines.{told_server}
 use Rattle.imap_session.specs.Servers.{told}
 use Rattle.imap_link.proofs.Visited.{at_then, both_told}
-use Rattle.exchange_laws.specs.Ends.{ends_of}
+use Rattle.imap_session.specs.Ends.{ends_of}
 use Rattle.imap_link.specs.declared.fault.FarFault.{FarFault}
 use Rattle.imap_replies.specs.declared.word.Status.{Status}
 use Rattle.imap_client.specs.States.{SentSo}

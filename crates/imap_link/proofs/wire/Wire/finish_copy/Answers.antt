@@ -4,7 +4,7 @@ use Rattle.mailcore.specs.CopyPieces.{text_left}
 use Rattle.wire_reader.specs.Spelling.{crlf}
 use Rattle.imap_replies.specs.declared.word.Status.{Status}
 use Rattle.imap_session.specs.Lines.{Line}
-use Rattle.exchange_laws.specs.Ends.{ends_of}
+use Rattle.imap_session.specs.Ends.{ends_of}
 use Rattle.reply_buf.specs.Buffers.{Buffer}
 use Rattle.imap_link.specs.declared.fault.FarFault.{FarFault}
 use Rattle.imap_link.specs.declared.fault.FarFault.TheVariants.{Protocol}

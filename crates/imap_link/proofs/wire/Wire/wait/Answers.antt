@@ -1,7 +1,7 @@
 use Rattle.std.proofs.Common.{◌≡◌, ◌⊎◌, ◌++◌, ◌∷◌, [], inl, inr, ◌∙◌, ap, subst, length, ℕ, List}
 use Rattle.std.proofs.lemmas.Result.{err_from_is_err_and}
 use Rattle.imap_replies.specs.declared.reply.Reply.{Reply}
-use Rattle.exchange_laws.specs.Ends.{Ends, ends_of}
+use Rattle.imap_session.specs.Ends.{Ends, ends_of}
 use Rattle.reply_buf.specs.Fronts.{IsFaulty}
 use Rattle.imap_link.specs.declared.kind.Kind.{Kind}
 use Rattle.imap_link.specs.declared.kind.Kind.TheVariants.{Bye, Go, Mine, Stray}

@@ -1,6 +1,6 @@
 use Rattle.std.proofs.Common.{◌≡◌, ◌≤◌, length}
 use Rattle.std.specs.Prelude.{max}
-use Rattle.exchange_laws.specs.Ends.{ends_of}
+use Rattle.imap_session.specs.Ends.{ends_of}
 use Rattle.imap_link.specs.Buffers.{Passed, GoesOn}
 use Rattle.imap_link.proofs.wire.Wire.wait.Given as goal
 

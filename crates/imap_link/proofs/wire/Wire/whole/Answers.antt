@@ -1,7 +1,7 @@
 use Rattle.std.proofs.Common.{arith, refl, subst, Ok, Result}
 use Rattle.wire_reader.specs.declared.answer.Read.{Read}
 use Rattle.wire_reader.specs.declared.answer.WireFault.{WireFault}
-use Rattle.exchange_laws.specs.Ends.{ends_of}
+use Rattle.imap_session.specs.Ends.{ends_of}
 use Rattle.reply_buf.specs.Fronts.{Looks}
 use Rattle.reply_buf.specs.Buffers.{Moves}
 use Rattle.imap_link.proofs.Kept.{keeps-refl}

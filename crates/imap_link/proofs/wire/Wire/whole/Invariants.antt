@@ -1,6 +1,6 @@
 use Rattle.std.proofs.Common.{◌≡◌, ◌++◌, ℕ, List, length}
 use Rattle.std.specs.Prelude.{max}
-use Rattle.exchange_laws.specs.Ends.{ends_of}
+use Rattle.imap_session.specs.Ends.{ends_of}
 use Rattle.imap_link.specs.Buffers.{Keeps, OneMore}
 use Rattle.imap_link.proofs.wire.Wire.whole.Given as goal
 

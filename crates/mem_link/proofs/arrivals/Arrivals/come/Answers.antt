@@ -1,5 +1,5 @@
 use Rattle.std.proofs.Common.{List, subst, sym}
-use Rattle.session_laws.proofs.Visiting.{nobody_visits}
+use Rattle.law_session.proofs.Visiting.{nobody_visits}
 use Rattle.visitors.specs.Visitors.{others_with}
 use Rattle.mem_link.specs.declared.arrivals.Arrival.{Arrival}
 use Rattle.mem_link.specs.Others.{BearAsSaid}

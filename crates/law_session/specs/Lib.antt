@@ -1,0 +1,4 @@
+pub mod SessionLaws
+pub mod Short
+pub mod VisitLaws
+pub mod ExchangeLaws
