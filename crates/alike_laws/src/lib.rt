@@ -1,5 +1,6 @@
-//! Laws that show that the words of a run mean what they say, each shown by a function that does nothing: what worlds have in common
-//! that are alike, and what a device says that a run is underway on.
+//! Laws which show that the definitions of "alike" (`rules`) and "underway" mean what we want, for whoever doubts them. For
+//! example: alike worlds have as many messages, a device on which a run is underway has one plan or none, and a message that
+//! others add during a run is left to the next one.
 #![tactic(auto)]
 
 ghost use Rattle.alike_laws.specs.Beginnings as beginning;

@@ -1,5 +1,6 @@
-//! The words of a line of a configuration (docs/FORMATS.md, "Configuration"): its keyword, the arguments behind it, what
-//! they say, and the faults of a line.
+//! What a single line of the configuration says (docs/FORMATS.md, "Configuration"), or which error it has; `config` puts lines
+//! together. For example, `Port 1143` is the keyword `Port` with a number, `Port x` has wrong arguments, and `Porte 1` begins with
+//! an unknown keyword.
 #![tactic(auto)]
 
 pub mod fault;

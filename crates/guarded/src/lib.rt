@@ -1,6 +1,6 @@
-//! What is looked at once more before a run goes on: whether a message that the plan takes to be removed is there, whether a far message
-//! that was not found is listed, and whether the far mailbox was put back to an earlier time. An outside over an outside, which passes each
-//! call on, and stops where the run is not to go on.
+//! An `Outside` around another one, for `mail_stores`: it passes calls on, but interrupts the run if the mailboxes turn out not to
+//! be as the run takes them to be. For example, a plan takes a near message to be removed whose file is still there, or the far
+//! mailbox was restored from an older backup and would give UIDs a second time.
 #![tactic(auto)]
 
 mod begin_if;

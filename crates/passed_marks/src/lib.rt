@@ -1,4 +1,6 @@
-//! Which marks a search for a copy went past, so that a search for another mark goes on behind them.
+//! `PassedMarks`: the marks of the messages that a search for a copy has already read, kept by both kinds of mailbox (`near_box`,
+//! `imap_client`). A search for another mark then reads only the messages after these; else a resumed run would read the same
+//! messages once for each copy.
 #![tactic(auto)]
 
 mod passed_marks;

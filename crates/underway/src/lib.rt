@@ -1,5 +1,6 @@
-//! Where a run may stand, in `specs/`: without a plan, with one, or done. In `proofs/` how each call, and what others add, moves it, as
-//! lemmas for the crate above. Here laws, each shown by a function that does nothing.
+//! The states that a run can be in, defined in `specs/` for the contracts of `runner`: no plan yet, a plan that is carried out to
+//! some step, or over. Lemmas in `proofs/` say how calls and messages that others add lead from one to the next; the laws here
+//! say what a reader expects, for example that a run stays underway whatever others add.
 #![tactic(auto)]
 
 ghost use Rattle.underway.specs.Laws as law;
