@@ -8,8 +8,11 @@ pub mod KnownFlags
 pub mod KnownLemmas
 pub mod LineLemmas
 pub mod MarkText
+pub mod MailboxNameLemmas
 pub mod OperationLemmas
 pub mod PairLemmas
+pub mod PatternLemmas
+pub mod PatternRowLemmas
 pub mod RiseLemmas
 pub mod Rising
 pub mod SparedLemmas

@@ -12,7 +12,10 @@ pub mod Listed
 pub mod Mark
 pub mod Rise
 pub mod Operations
+pub mod MailboxNames
+pub mod MailboxPatterns
 pub mod Mailboxes
+pub mod PatternRows
 pub mod Ranges
 pub mod Sides
 pub mod Spared

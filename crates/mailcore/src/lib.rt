@@ -15,6 +15,7 @@ pub mod laws;
 pub mod listing;
 pub mod mailbox;
 pub mod mailbox_name;
+pub mod mailbox_pattern;
 pub mod marks;
 pub mod octets;
 pub mod side;

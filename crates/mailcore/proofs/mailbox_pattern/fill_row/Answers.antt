@@ -1,6 +1,6 @@
 use Rattle.std.proofs.Common.{◌≡◌, ◌+◌, ◌-◌, ◌<◌, length, drop, arith}
-use Rattle.box_patterns.proofs.MatchingLemmas.{row_first, row_more, row_of_all}
-use Rattle.box_patterns.proofs.matching.fill_row.Goals as goal
+use Rattle.mailcore.proofs.PatternRowLemmas.{row_first, row_more, row_of_all}
+use Rattle.mailcore.proofs.mailbox_pattern.fill_row.Goals as goal
 
 pub loop-done-init : goal.loop-done-init
 loop-done-init c = λ j h. row_first c.args.pattern.now c.args.name.now j c.put_end.new.row (omega arith) c.put_end.ensures

@@ -1,22 +1,17 @@
-//! Whether a pattern matches a name, without taking memory.
+//! Whether a pattern matches the name of a mailbox (RFC 9051, section 6.3.9.1).
 
-ghost use Rattle.std.specs.Prelude.{◌≡◌, ◌↔◌, ◌+◌, ◌∷◌, [], ℕ, List, length, IsTrue, ◌≤◌};
-ghost use Rattle.box_patterns.specs.Patterns.{IsMatched};
-ghost use Rattle.box_patterns.specs.Matching.{IsRow, matches, reaches, reaches_end};
+ghost use Rattle.std.specs.Prelude.{◌≡◌, ◌↔◌, ◌+◌, ◌∷◌, [], ℕ, List, length, IsTrue};
+ghost use Rattle.mailcore.specs.MailboxPatterns.{IsMatched, matches};
+ghost use Rattle.mailcore.specs.PatternRows.{IsRow, reaches, reaches_end};
 
-/// The greatest number of bytes of a pattern.
-pub const PATTERN_MAX: usize = 1024;
-
-/// How many ends a pattern has at most, the empty one among them.
-const ENDS_MAX: usize = 1025;
-
-/// Whether the pattern matches the name, in time that grows with the product of their lengths.
-pub(crate) fn is_match(pattern: &[u8], name: &[u8]) -> bool
-    requires { length pattern.now ≤ PATTERN_MAX }
-    ensures { IsTrue result ↔ IsMatched pattern.now name.now }
+/// Whether the pattern matches the name: `*` stands for any characters, none included, `%` for the same without `/`, any other for
+/// itself. It takes time that grows with the product of their lengths, and `row` as room to work in, which is one longer than the
+/// pattern, whatever it has.
+pub fn matches(pattern: &[u8], name: &[u8], row: &mut [bool]) -> bool
+    requires { length row.old ≡ length pattern.now + 1 }
+    ensures matched { IsTrue result ↔ IsMatched pattern.now name.now }
+    ensures computed { result ≡ matches pattern.now name.now }
 {
-    let mut ends = [false; ENDS_MAX];
-    let row = &mut ends[..=pattern.len()];
     fill_row(pattern, name, row);
     row[0]
 }

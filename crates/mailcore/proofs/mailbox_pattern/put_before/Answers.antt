@@ -1,6 +1,6 @@
 use Rattle.std.proofs.Common.{◌≡◌, ◌+◌, ◌-◌, length, refl, arith}
-use Rattle.box_patterns.proofs.MatchingLemmas.{made_first, made_more, made_all}
-use Rattle.box_patterns.proofs.matching.put_before.Goals as goal
+use Rattle.mailcore.proofs.PatternRowLemmas.{made_first, made_more, made_all}
+use Rattle.mailcore.proofs.mailbox_pattern.put_before.Goals as goal
 
 pub loop-done-init : goal.loop-done-init
 loop-done-init c = λ cs is. made_first c.args.pattern.now c.args.c cs _ c.args.row.now is refl

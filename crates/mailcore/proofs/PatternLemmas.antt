@@ -4,9 +4,9 @@ use Rattle.std.specs.Prelude.{All, IsTrue, MatchBool, slice_index_or}
 use Rattle.std.specs.List.{list_any, concat}
 use Rattle.std.proofs.lemmas.Bool.{cases_Bool, or_cases, or_left, or_right, eqb-true, eqb-false, ne_eqb, eq-eqb, false≢true}
 use Rattle.std.proofs.lemmas.List.Elements.{All-nil, All-cons, All-head, All-tail}
-use Rattle.box_patterns.specs.Patterns.{StandForEach, IsMatched}
-use Rattle.box_patterns.specs.Matching.{IsRow, matches, behind_any, behind_level, behind_same}
-use Rattle.box_patterns.proofs.MatchingLemmas.{first_of_row}
+use Rattle.mailcore.specs.MailboxPatterns.{StandForEach, IsMatched, matches, behind_any, behind_level, behind_same}
+use Rattle.mailcore.specs.PatternRows.{IsRow}
+use Rattle.mailcore.proofs.PatternRowLemmas.{first_of_row}
 
 -- ---- a name in two parts, of which the second passes a test
 

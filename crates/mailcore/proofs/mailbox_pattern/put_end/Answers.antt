@@ -1,6 +1,6 @@
 use Rattle.std.proofs.Common.{◌≡◌, ◌+◌, ◌-◌, length, refl, arith}
-use Rattle.box_patterns.proofs.MatchingLemmas.{end_first, end_more, end_all}
-use Rattle.box_patterns.proofs.matching.put_end.Goals as goal
+use Rattle.mailcore.proofs.PatternRowLemmas.{end_first, end_more, end_all}
+use Rattle.mailcore.proofs.mailbox_pattern.put_end.Goals as goal
 
 pub loop-done-init : goal.loop-done-init
 loop-done-init c = end_first c.args.pattern.now c.args.row.now c.requires

@@ -5,7 +5,8 @@ use Rattle.std.specs.List.{list_any}
 use Rattle.std.proofs.lemmas.Bool.{cases_Bool}
 use Rattle.std.proofs.lemmas.Bool.Decides.{nat_tests}
 use Rattle.std.proofs.lemmas.List.{at_drop_more, get_or-set_same, get_or-set_other, length-set}
-use Rattle.box_patterns.specs.Matching.{IsRow, matches, behind_any, behind_level, behind_same, reaches, reaches_end}
+use Rattle.mailcore.specs.MailboxPatterns.{matches, behind_any, behind_level, behind_same}
+use Rattle.mailcore.specs.PatternRows.{IsRow, reaches, reaches_end}
 
 -- ---- one character more, at a character of the name and behind it
 
