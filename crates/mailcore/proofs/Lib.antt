@@ -18,3 +18,4 @@ pub mod Rising
 pub mod SparedLemmas
 pub mod KeywordLemmas
 pub mod KeywordMaps
+pub mod FlagWords

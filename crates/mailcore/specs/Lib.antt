@@ -20,3 +20,4 @@ pub mod Ranges
 pub mod Sides
 pub mod Spared
 pub mod Stores
+pub mod Words

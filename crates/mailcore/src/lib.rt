@@ -22,3 +22,4 @@ pub mod side;
 pub mod spared;
 pub mod tuid;
 pub mod uid;
+pub mod words;

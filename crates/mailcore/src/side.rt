@@ -1,7 +1,10 @@
 //! The two sides of a pair of mailboxes, and the directions between them.
 
-ghost use Rattle.std.specs.Prelude.{◌≡◌};
+ghost use Rattle.std.specs.Prelude.{◌≡◌, ◌≢◌, IfSome, IfNone};
 ghost use Rattle.mailcore.specs.Sides.{other, source, target, towards};
+ghost use Rattle.mailcore.specs.Words.{direction_word, side_word};
+
+use std::fmt;
 
 /// A side of a pair of mailboxes.
 #[derive(Clone, Copy, Debug, PartialEq, Eq)]
@@ -31,6 +34,41 @@ impl Side {
             Side::Far => Direction::Push,
             Side::Near => Direction::Pull,
         }
+    }
+
+    /// Its word in texts and on printed lines (docs/FORMATS.md).
+    pub fn as_str(self) -> &'static str
+        ensures { result.now ≡ side_word self }
+    {
+        match self {
+            Side::Far => "far",
+            Side::Near => "near",
+        }
+    }
+
+    /// The side with this word, or none if no side has it.
+    pub fn from_word(word: &[u8]) -> Option<Side>
+        ensures some { IfSome result (λ side. side_word side ≡ word.now) }
+        ensures none { IfNone result ((side : Side) → side_word side ≢ word.now) }
+    {
+        if word == b"far".as_slice() {
+            Some(Side::Far)
+        } else if word == b"near".as_slice() {
+            Some(Side::Near)
+        } else {
+            None
+        }
+    }
+}
+
+/// Its word.
+impl fmt::Display for Side {
+    ghost use Rattle.std.specs.Prelude.{Some};
+
+    ghost output = { λ side. Some (side_word side) };
+
+    fn fmt<W: fmt::Write>(&self, f: &mut fmt::Formatter<W>) -> fmt::Result {
+        f.write_str(self.as_str())
     }
 }
 
@@ -62,6 +100,41 @@ impl Direction {
             Direction::Pull => Side::Near,
             Direction::Push => Side::Far,
         }
+    }
+
+    /// Its word in texts and on printed lines (docs/FORMATS.md).
+    pub fn as_str(self) -> &'static str
+        ensures { result.now ≡ direction_word self }
+    {
+        match self {
+            Direction::Pull => "pull",
+            Direction::Push => "push",
+        }
+    }
+
+    /// The direction with this word, or none if no direction has it.
+    pub fn from_word(word: &[u8]) -> Option<Direction>
+        ensures some { IfSome result (λ direction. direction_word direction ≡ word.now) }
+        ensures none { IfNone result ((direction : Direction) → direction_word direction ≢ word.now) }
+    {
+        if word == b"pull".as_slice() {
+            Some(Direction::Pull)
+        } else if word == b"push".as_slice() {
+            Some(Direction::Push)
+        } else {
+            None
+        }
+    }
+}
+
+/// Its word.
+impl fmt::Display for Direction {
+    ghost use Rattle.std.specs.Prelude.{Some};
+
+    ghost output = { λ direction. Some (direction_word direction) };
+
+    fn fmt<W: fmt::Write>(&self, f: &mut fmt::Formatter<W>) -> fmt::Result {
+        f.write_str(self.as_str())
     }
 }
 
