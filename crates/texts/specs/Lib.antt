@@ -1,2 +1,4 @@
+pub mod Cut
 pub mod Escape
+pub mod Lines
 pub mod Number

@@ -1,7 +1,7 @@
 //! Numbers in texts: decimal, without sign or leading zero.
 
 ghost use Rattle.std.specs.Prelude.{◌≡◌, ◌≤◌, ◌++◌, ℕ, Some, IfSome, OnOk, OnErr, decimal};
-ghost use Rattle.texts.specs.Number.{has_sign_or_leading_zero};
+ghost use Rattle.texts.specs.Number.{has_sign_or_leading_zero, number_of};
 
 use fast_float::parse_u64;
 use itoa::Buffer;
@@ -21,8 +21,9 @@ pub fn read_number(bytes: &[u8], limit: u64) -> Option<u64>
     if number <= limit { Some(number) } else { None }
 }
 
-/// The same of a number of 32 bits.
+/// The number of 32 bits that `bytes` spell, or none if they spell no number up to `limit`.
 pub fn read_u32(bytes: &[u8], limit: u32) -> Option<u32>
+    ensures value { result ≡ number_of limit bytes.now }
     ensures spelled { IfSome result (λ n. (decimal n ≡ bytes.now) × (n ≤ limit)) }
     ensures each { (n : ℕ) → n ≤ limit → decimal n ≡ bytes.now → result ≡ Some n }
 {
