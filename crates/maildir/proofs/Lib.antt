@@ -1,12 +1,10 @@
 pub mod AddedLemmas
-pub mod CutLemmas
 pub mod FileLemmas
 pub mod GainLemmas
 pub mod IndexLemmas
 pub mod LetterLemmas
 pub mod MetaLemmas
 pub mod NameLemmas
-pub mod NumberLemmas
 pub mod PermutedLemmas
 pub mod PlaceLemmas
 pub mod SlotLemmas

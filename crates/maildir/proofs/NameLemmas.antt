@@ -12,9 +12,9 @@ use Rattle.std.specs.Char.{digit_value}
 use Rattle.std.proofs.lemmas.Grind.{common_steps}
 use Rattle.std.proofs.lemmas.List.{take-append-drop}
 use Rattle.std.proofs.lemmas.List.Elements.{All-nil, All-cons, All-append}
-use Rattle.maildir.specs.Cut.{Sides, cut_first, cut_last}
+use Rattle.texts.specs.Cut.{Sides, cut_first, cut_last}
 use Rattle.maildir.specs.Names.{NameParts, NameText, EndsInUid, IsUidOf, has_letters, letters_text, uid_text, is_uid, is_base, are_letters, uid_of, uid_behind, uid_at_end, with_letters, if_base, name_before, letters_behind, letters_at_end, name_of_parts, name_of, is_base_byte, COLON, COMMA}
-use Rattle.maildir.proofs.CutLemmas.{Lacks, Joins, JoinsLast, cut_first-joins, cut_last-joins, cut_first-lacks, cut_first-append, cut_last-append}
+use Rattle.texts.proofs.CutLemmas.{Lacks, Joins, JoinsLast, cut_first-joins, cut_last-joins, cut_first-lacks, cut_first-append, cut_last-append}
 
 -- ---- UIDs
 

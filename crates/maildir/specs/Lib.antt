@@ -1,4 +1,3 @@
-pub mod Cut
 pub mod DiskFolders
 pub mod FlaggedNames
 pub mod FolderCalls
@@ -11,6 +10,5 @@ pub mod MemFolders
 pub mod Metas
 pub mod NameIndexes
 pub mod Names
-pub mod Number
 pub mod Slots
 pub mod VisitedFolders

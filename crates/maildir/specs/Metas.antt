@@ -1,7 +1,7 @@
 -- The text of a mailbox's meta file.
 use Rattle.std.specs.Prelude.{◌≡◌, ℕ, ◌+◌, ◌-◌, ◌^◌, Bool, ◌&&◌, nat_lt, IsTrue, List, [], ◌∷◌, ◌++◌, decimal, Option, None, Some, if◌then◌else◌}
-use Rattle.maildir.specs.Cut.{Sides, cut_first}
-use Rattle.maildir.specs.Number.{number_of}
+use Rattle.texts.specs.Cut.{Sides, cut_first}
+use Rattle.texts.specs.Number.{number_of}
 use Rattle.maildir.specs.declared.meta.Meta.{Meta}
 
 -- ---- how it is spelled
@@ -22,6 +22,10 @@ pub record MetaText (meta : Meta) (text : List ℕ) : Type 0 where
 
 -- ---- how it is read
 
+-- the number below 2 ^ 32 with this decimal text
+abbrev pub u32_of : List ℕ → Option ℕ
+u32_of digits = number_of 4294967295 digits
+
 abbrev pub meta_of_numbers : Option ℕ → Option ℕ → Option Meta
 meta_of_numbers (Some validity) (Some highest) =
     if nat_lt 0 validity && nat_lt (highest + 1) (2 ^ 32) then Some (record { validity = validity; next = highest + 1 }) else None
@@ -30,7 +34,7 @@ meta_of_numbers None highest = None
 
 abbrev pub meta_of_lines : List ℕ → Option Sides → Option Meta
 meta_of_lines first None = None
-meta_of_lines first (Some (second, [])) = meta_of_numbers (number_of first) (number_of second)
+meta_of_lines first (Some (second, [])) = meta_of_numbers (u32_of first) (u32_of second)
 meta_of_lines first (Some (second, b ∷ rest)) = None
 
 abbrev pub meta_behind : Option Sides → Option Meta

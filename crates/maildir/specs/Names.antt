@@ -4,7 +4,7 @@ use Rattle.std.specs.List.{list_all, list_any, starts_with}
 use Rattle.std.specs.Option.{option_map, option_and_then, option_copied}
 use Rattle.std.specs.Str.Parse.{digits_value}
 use Rattle.std.specs.Cmp.Lexicographic.{pointwise}
-use Rattle.maildir.specs.Cut.{Sides, cut_first, cut_last}
+use Rattle.texts.specs.Cut.{Sides, cut_first, cut_last}
 use Rattle.maildir.specs.declared.name.Name.{Name}
 
 -- what a name says: a base, a UID or none, and the letters behind `:2,`, if that stands there

@@ -2,7 +2,6 @@
 #![tactic(auto)]
 
 mod changes;
-mod cut;
 pub mod disk_folder;
 pub mod disk_stop;
 mod entries;
@@ -17,7 +16,6 @@ pub mod mem_folder;
 pub mod meta;
 pub mod name;
 mod name_index;
-mod number;
 pub mod standing;
 mod sure_names;
 pub mod visited_folder;

@@ -2,9 +2,9 @@
 
 ghost use Rattle.std.specs.Prelude.{◌≡◌, ◌<◌, IfOk, IfSome};
 
-use crate::cut::cut;
-use crate::number::{push_number, read_u32};
 use std::alloc::{AllocError, Global};
+use texts::cut::cut;
+use texts::number::{push_number, read_u32};
 
 /// The validity of a mailbox and the next UID that it gives.
 #[derive(Clone, Copy, PartialEq, Eq)]
@@ -16,8 +16,7 @@ pub struct Meta {
 }
 
 impl Meta {
-    ghost use Rattle.maildir.specs.Metas.{meta_of, meta_of_numbers, meta_text};
-    ghost use Rattle.maildir.specs.Number.{number_of};
+    ghost use Rattle.maildir.specs.Metas.{meta_of, meta_of_numbers, meta_text, u32_of};
 
     /// What the text of a meta file says, or none if it is not spelled so. It takes no memory.
     pub fn read(text: &[u8]) -> Option<Meta>
@@ -35,11 +34,11 @@ impl Meta {
 
     /// What the two lines of a meta file say.
     fn of_lines(first: &[u8], second: &[u8]) -> Option<Meta>
-        ensures value { result ≡ meta_of_numbers (number_of first.now) (number_of second.now) }
+        ensures value { result ≡ meta_of_numbers (u32_of first.now) (u32_of second.now) }
         ensures next { IfSome result (λ meta. 0 < meta.next) }
     {
-        let validity = read_u32(first)?;
-        let highest = read_u32(second)?;
+        let validity = read_u32(first, u32::MAX)?;
+        let highest = read_u32(second, u32::MAX)?;
         if validity > 0 && highest < u32::MAX {
             Some(Meta {
                 validity,
@@ -57,9 +56,9 @@ impl Meta {
         ensures { IfOk result (λ text. text.items ≡ meta_text self) }
     {
         let mut text = Vec::new(alloc);
-        push_number(&mut text, self.validity)?;
+        push_number(&mut text, u64::from(self.validity))?;
         text.extend_from_slice(b"\n")?;
-        push_number(&mut text, self.next.saturating_sub(1))?;
+        push_number(&mut text, u64::from(self.next.saturating_sub(1)))?;
         text.extend_from_slice(b"\n")?;
         Ok(text)
     }

@@ -6,10 +6,10 @@ ghost use Rattle.std.specs.Option.{option_map, option_copied};
 ghost use Rattle.maildir.specs.Names.{name_of, name_text, parts_of, uid_of, uid_at_end, letters_at_end, name_before, if_base, is_base};
 ghost use Rattle.maildir.specs.Names.{is_base_byte, is_below, are_letters};
 
-use crate::cut::{cut, cut_at_last};
-use crate::number::{push_number, read_u32};
 use mailcore::uid::Uid;
 use std::alloc::{AllocError, Global};
+use texts::cut::{cut, cut_at_last};
+use texts::number::{push_number, read_u32};
 
 /// What the name of a file says: a base, then `,U=` and a UID or nothing, then `:2,` and letters or nothing.
 ///
@@ -55,7 +55,7 @@ pub fn spell(
     let mut text = Vec::from_slice(alloc, base)?;
     if let Some(uid) = uid {
         text.extend_from_slice(b",U=")?;
-        push_number(&mut text, uid.get())?;
+        push_number(&mut text, u64::from(uid.get()))?;
     }
     if let Some(letters) = letters {
         text.extend_from_slice(b":2,")?;
@@ -121,7 +121,7 @@ fn split_uid(text: &[u8]) -> Option<(&[u8], Uid)>
 fn read_uid(digits: &[u8]) -> Option<Uid>
     ensures { result ≡ uid_of digits.now }
 {
-    Uid::new(read_u32(digits)?)
+    Uid::new(read_u32(digits, u32::MAX)?)
 }
 
 /// The letters behind `2,`.

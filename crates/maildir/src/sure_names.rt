@@ -5,7 +5,6 @@
 //! same, and older than the disk's notion of time is fine, nothing was renamed meanwhile.
 
 use crate::changes::{Changes, grain, now};
-use crate::cut::cut;
 use crate::folder::FileName;
 use crate::found_names::FoundNames;
 use device::disk::Disk;
@@ -13,6 +12,7 @@ use std::alloc::Global;
 use std::io::ErrorKind;
 use std::rt::{Clock, Files};
 use std::{io, thread};
+use texts::cut::cut;
 
 /// How often the names are read at most.
 const READINGS: u32 = 10;

@@ -13,7 +13,7 @@ use Rattle.maildir.specs.Letters.{letters_with, flags_in}
 use Rattle.maildir.specs.Names.{NameParts, has_letters, is_base, is_base_byte, is_uid, name_of, name_text, uid_in, is_waiting, lacks_uid}
 use Rattle.maildir.specs.FlaggedNames.{letters_in, flags_by_name}
 use Rattle.near_box.specs.NearEffects.{copy_base, copy_name, name_admitted}
-use Rattle.maildir.proofs.CutLemmas.{Lacks}
+use Rattle.texts.proofs.CutLemmas.{Lacks}
 use Rattle.maildir.proofs.LetterLemmas.{letters_with-rise, flags_in-with}
 use Rattle.maildir.proofs.NameLemmas.{decimal_lacks, name_is_spelled, spelled_is_read, uid_is_small}
 

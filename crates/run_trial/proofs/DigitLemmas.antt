@@ -11,7 +11,7 @@ use Rattle.std.proofs.lemmas.List.Elements.{All-nil, All-cons, All-append}
 use Rattle.std.proofs.lemmas.List.Folds.{list_all-append}
 use Rattle.std.proofs.lemmas.Nat.{div-add-mod', div_below, mod_below}
 use Rattle.maildir.specs.Names.{is_base, is_base_byte}
-use Rattle.maildir.proofs.CutLemmas.{Lacks}
+use Rattle.texts.proofs.CutLemmas.{Lacks}
 use Rattle.run_trial.specs.Folders.{digits, waiting_base}
 
 -- ---- the order
