@@ -16,8 +16,9 @@ use Rattle.sync_state.specs.declared.version.Version.{Version}
 use Rattle.sync_state.specs.Cuts.{Lacks, SameCut, same_cut, no_cut}
 use Rattle.sync_state.specs.Versions.{StepLetters, NoteLetters}
 use Rattle.sync_state.specs.JournalReading.{IsStepIn, IsNoteIn}
-use Rattle.sync_state.specs.Words.{flags_word, direction_word, side_word}
-use Rattle.sync_state.specs.WordLaws.{direction-injective, direction-lacks, side_word-injective, side_word-lacks, side-injective, side-lacks, flags-injective, flags-lack, letters-lack}
+use Rattle.mailcore.specs.Words.{flags_word, direction_word, side_word}
+use Rattle.mailcore.proofs.FlagWords.{flags_word-injective}
+use Rattle.sync_state.specs.WordLaws.{direction-injective, direction-lacks, side_word-injective, side_word-lacks, side-injective, side-lacks, flags-lack, letters-lack}
 use Rattle.sync_state.specs.NumberLaws.{uid-injective, uid-lacks}
 use Rattle.sync_state.specs.JournalText.{IsStep, IsNote, step_line, note_line, log_line, step_place, note_place, change, FitsStep, LogsNew, LogsOther}
 
@@ -87,7 +88,7 @@ step_known (step.New d u w m) (step.New d' u' w' m') fa fb e =
     let v = same_cut 32 (flags_word w) (flags_word w') m m' (flags-lack w) (flags-lack w') t.behind in
     let same_d = direction-injective d d' s.front in
     let same_u = uid-injective u u' fa.0 fb.0 t.front in
-    let same_w = flags-injective w w' fa.1 fb.1 v.front in
+    let same_w = flags_word-injective w w' fa.1 fb.1 v.front in
     let same_m = v.behind in cc
 step_known (step.Gone d f n) (step.Gone d' f' n') fa fb e =
     let s = same_cut 32 (direction_word d) (direction_word d') (decimal f ++ 32 ∷ decimal n) (decimal f' ++ 32 ∷ decimal n')
@@ -131,7 +132,7 @@ note_known (note.Record f n w) (note.Record f' n' w') fa fb e =
     let t = same_cut 32 (decimal n) (decimal n') (flags_word w) (flags_word w') (uid-lacks n fa.1) (uid-lacks n' fb.1) s.behind in
     let same_f = uid-injective f f' fa.0 fb.0 s.front in
     let same_n = uid-injective n n' fa.1 fb.1 t.front in
-    let same_w = flags-injective w w' fa.2 fb.2 t.behind in cc
+    let same_w = flags_word-injective w w' fa.2 fb.2 t.behind in cc
 note_known (note.Drop f n) (note.Drop f' n') fa fb e =
     let s = same_cut 32 (decimal (unwrap_or f 0)) (decimal (unwrap_or f' 0)) (decimal (unwrap_or n 0)) (decimal (unwrap_or n' 0)) (side-lacks f fa.0) (side-lacks f' fb.0) (ap (λ (z : List ℕ). drop 7 z) e) in
     let same_f = side-injective f f' fa.0 fb.0 s.front in

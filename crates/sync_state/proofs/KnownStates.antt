@@ -10,7 +10,8 @@ use Rattle.rules.specs.Entries.{uid_of}
 use Rattle.sync_state.specs.declared.version.Version.{Version}
 use Rattle.sync_state.specs.declared.version.Version.TheVariants.{One, Two}
 use Rattle.sync_state.specs.Cuts.{same_cut}
-use Rattle.sync_state.specs.Words.{IsPositive, flags_word}
+use Rattle.mailcore.specs.Words.{flags_word}
+use Rattle.sync_state.specs.Words.{IsPositive}
 use Rattle.sync_state.specs.WordLaws.{decimal-lacks, version-injective}
 use Rattle.sync_state.specs.Lines.{lines_text, OneLine}
 use Rattle.sync_state.specs.StateText.{state_title, run_line, far_line, near_line, entry_line, end_line, state_lines, IsHighest, IsEntry, HasText, IsStateText, StateText}

@@ -24,7 +24,8 @@ use Rattle.sync_state.specs.declared.version.Version.{Version}
 use Rattle.sync_state.specs.declared.version.Version.TheVariants.{One, Two}
 use Rattle.sync_state.specs.declared.journal.Logged.{Logged}
 use Rattle.sync_state.specs.declared.journal.Logged.TheVariants.{Copied, Done, Void}
-use Rattle.sync_state.specs.Words.{IsUid, IsUidOrNone, flags_word, direction_word, side_word}
+use Rattle.mailcore.specs.Words.{flags_word, direction_word, side_word}
+use Rattle.sync_state.specs.Words.{IsUid, IsUidOrNone}
 use Rattle.sync_state.specs.WordLaws.{decimal-lacks, letters-lack}
 use Rattle.sync_state.specs.Lines.{OneLine}
 use Rattle.sync_state.specs.StateText.{run_line}

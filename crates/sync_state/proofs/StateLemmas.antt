@@ -22,8 +22,10 @@ use Rattle.sync_state.specs.declared.fault.BookFault.{BookFault}
 use Rattle.sync_state.specs.declared.fault.BookFault.TheVariants.{Stopped, BadState, BadJournal, NoMemory}
 use Rattle.sync_state.specs.Faults.{TellsState}
 use Rattle.sync_state.specs.Cuts.{same_cut}
-use Rattle.sync_state.specs.Words.{IsPositive, IsRun, IsUidOrNone, flags_word, version_word}
-use Rattle.sync_state.specs.WordLaws.{side-injective, side-lacks, flags-injective, version-injective}
+use Rattle.mailcore.specs.Words.{flags_word}
+use Rattle.sync_state.specs.Words.{IsPositive, IsRun, IsUidOrNone, version_word}
+use Rattle.mailcore.proofs.FlagWords.{flags_word-injective}
+use Rattle.sync_state.specs.WordLaws.{side-injective, side-lacks, version-injective}
 use Rattle.sync_state.specs.Versions.{HasLetters}
 use Rattle.sync_state.specs.Lines.{lines_text, OneLine, AreLines, IsBadLine, HasLine, HasNoLine}
 use Rattle.sync_state.specs.StateText.{state_title, run_line, far_line, near_line, entry_line, end_line, state_lines, IsHighest, IsEntry, HasText, StateText, StateLines}
@@ -177,7 +179,7 @@ entry_line-injective v a b fa fb e =
     entry_from a b (record {
       far = side-injective a.far b.far fa.far fb.far s.front;
       near = side-injective a.near b.near fa.near fb.near t.front;
-      flags = flags-injective a.flags b.flags (letters_within v a.flags fa.flags) (letters_within v b.flags fb.flags) t.behind;
+      flags = flags_word-injective a.flags b.flags (letters_within v a.flags fa.flags) (letters_within v b.flags fb.flags) t.behind;
     })
 
 pub no_end : (e : Entry) → entry_line e ≢ end_line

@@ -17,7 +17,8 @@ use Rattle.sync_state.specs.declared.journal.Logged.{Logged}
 use Rattle.sync_state.specs.declared.journal.Logged.TheVariants.{Copied, Done, Void}
 use Rattle.sync_state.specs.declared.words.Plus.{Plus}
 use Rattle.sync_state.specs.declared.words.Minus.{Minus}
-use Rattle.sync_state.specs.Words.{IsUid, IsUidOrNone, flags_word, direction_word, side_word}
+use Rattle.mailcore.specs.Words.{flags_word, direction_word, side_word}
+use Rattle.sync_state.specs.Words.{IsUid, IsUidOrNone}
 use Rattle.sync_state.specs.Cuts.{same_cut}
 use Rattle.sync_state.specs.WordLaws.{decimal-lacks}
 use Rattle.sync_state.specs.JournalText.{IsStep, IsNote, LogsNew, step_line, note_line, log_line}

@@ -13,7 +13,8 @@ use Rattle.sync_state.specs.declared.journal.Logged.{Logged}
 use Rattle.sync_state.specs.declared.journal.Logged.TheVariants.{Copied, Done, Void}
 use Rattle.sync_state.specs.declared.journal.Journal.{Journal}
 use Rattle.sync_state.specs.declared.version.Version.{Version}
-use Rattle.sync_state.specs.Words.{IsUid, flags_word, version_word, direction_word, side_word}
+use Rattle.mailcore.specs.Words.{flags_word, direction_word, side_word}
+use Rattle.sync_state.specs.Words.{IsUid, version_word}
 use Rattle.sync_state.specs.Versions.{HasWords}
 use Rattle.sync_state.specs.Lines.{OneLine, AreLines, Begins}
 use Rattle.sync_state.specs.StateText.{run_line}

@@ -6,7 +6,8 @@ use Rattle.rules.specs.declared.state.SyncState.{SyncState}
 use Rattle.rules.specs.Entries.{ArePairs, uid_of}
 pub use Rattle.rules.specs.Plans.{IsHighest}
 use Rattle.sync_state.specs.declared.version.Version.{Version}
-use Rattle.sync_state.specs.Words.{IsPositive, IsRun, IsUidOrNone, flags_word, version_word}
+use Rattle.mailcore.specs.Words.{flags_word}
+use Rattle.sync_state.specs.Words.{IsPositive, IsRun, IsUidOrNone, version_word}
 use Rattle.sync_state.specs.Versions.{HasLetters}
 use Rattle.sync_state.specs.Lines.{lines_text}
 

@@ -2,7 +2,7 @@
 use Rattle.std.specs.Prelude.{ℕ, zero, suc, ◌+◌, ◌<◌, ◌^◌, ◌%◌, ◌≡◌, ◌≢◌, nat_le, Bool, true, false, cond, ◌==◌, List, [], ◌∷◌, Option, Some, None, unwrap_or, codes, decimal, refl, get_or, not}
 use Rattle.std.specs.List.{list_all}
 use Rattle.std.proofs.Common.{sym, ap, ◌∙◌, subst, arith}
-use Rattle.std.proofs.lemmas.Bool.{false≢true, eqb-true, leb-true}
+use Rattle.std.proofs.lemmas.Bool.{false≢true, leb-true}
 use Rattle.std.proofs.lemmas.Fmt.{decimal_by_steps, decimal_injective}
 use Rattle.std.proofs.lemmas.List.Elements.{All-cons, All-head, All-push, All-tail, All-weaker}
 use Rattle.std.proofs.lemmas.List.Sums.{AllPass-from_list_all}
@@ -13,11 +13,11 @@ use Rattle.mailcore.specs.declared.side.Side.TheVariants.{Far, Near}
 use Rattle.mailcore.specs.FlagSet.{has, FLAGS}
 use Rattle.mailcore.specs.FlagNames.{LETTERS, letters_from, letters_of}
 use Rattle.mailcore.specs.Mark.{IsMark}
-use Rattle.mailcore.proofs.FlagLetters.{set_from_letters}
 use Rattle.sync_state.specs.declared.version.Version.{Version}
 use Rattle.sync_state.specs.declared.version.Version.TheVariants.{One, Two}
 use Rattle.sync_state.specs.Cuts.{Lacks}
-use Rattle.sync_state.specs.Words.{IsUidOrNone, flags_word, version_word, direction_word, side_word}
+use Rattle.mailcore.specs.Words.{flags_word, direction_word, side_word}
+use Rattle.sync_state.specs.Words.{IsUidOrNone, version_word}
 
 -- ---- numbers
 
@@ -54,34 +54,6 @@ flags-lack flags = elim (flags == 0) as (λ b. Lacks 32 (cond b (codes "-") (let
   | true ↦ lacks_one 32 45 (λ e. absurd (omega (arith, e)))
   | false ↦ letters-lack 32 (omega arith) flags
 ]
-
--- no flag has no letter, and that alone
-pub no_letters : letters_of 0 ≡ []
-unfolding letters_of
-no_letters = refl
-
-pub letters_none : (flags : ℕ) → flags < 2 ^ FLAGS → letters_of flags ≡ [] → flags ≡ 0
-letters_none flags fits none = set_from_letters flags 0 fits (omega arith) (none ∙ sym no_letters)
-
-dash_is_no_letters : (flags : ℕ) → codes "-" ≢ letters_of flags
-dash_is_no_letters flags e =
-    let lacks : Lacks 45 (codes "-") = subst (λ (x : List ℕ). Lacks 45 x) (sym e) (letters-lack 45 (omega arith) flags) in
-    lacks 0 0 (omega arith) refl
-
--- a word is not empty
-pub some_word : (flags : ℕ) → flags < 2 ^ FLAGS → flags_word flags ≢ []
-some_word flags fits e = by_test (flags == 0) refl e where
-  by_test : (b : Bool) → (flags == 0) ≡ b → cond b (codes "-") (letters_of flags) ≢ []
-  by_test true is none = cc
-  by_test false is none = let zero_is : flags ≡ 0 = letters_none flags fits none in let wrong : false ≡ true = sym is ∙ ap (λ n. n == 0) zero_is in false≢true wrong
-
-pub flags-injective : (a b : ℕ) → a < 2 ^ FLAGS → b < 2 ^ FLAGS → flags_word a ≡ flags_word b → a ≡ b
-flags-injective a b fa fb e = by_tests (a == 0) (b == 0) refl refl e where
-  by_tests : (x y : Bool) → (a == 0) ≡ x → (b == 0) ≡ y → cond x (codes "-") (letters_of a) ≡ cond y (codes "-") (letters_of b) → a ≡ b
-  by_tests true true ia ib h = let p : a ≡ 0 = eqb-true a 0 ia in let q : b ≡ 0 = eqb-true b 0 ib in p ∙ sym q
-  by_tests true false ia ib h = absurd (dash_is_no_letters b h)
-  by_tests false true ia ib h = absurd (dash_is_no_letters a (sym h))
-  by_tests false false ia ib h = set_from_letters a b fa fb h
 
 pub flags-word-lacks : (flags : ℕ) → flags < 2 ^ FLAGS → Lacks 32 (flags_word flags)
 flags-word-lacks flags fits = flags-lack flags

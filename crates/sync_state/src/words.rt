@@ -4,19 +4,18 @@ ghost use Rattle.std.specs.Prelude.{◌≡◌, ◌≢◌, ◌<◌, ◌^◌, ◌+
 ghost use Rattle.mailcore.specs.FlagNames.{letters_of};
 ghost use Rattle.mailcore.specs.FlagSet.{FLAGS};
 ghost use Rattle.mailcore.specs.Mark.{IsMark};
+ghost use Rattle.mailcore.specs.Words.{flags_word, direction_word, side_word};
 ghost use Rattle.sync_state.specs.Adding.{Adds};
-ghost use Rattle.sync_state.specs.Words.{IsUid, IsPositive, IsRun, IsUidOrNone, flags_word, direction_word, side_word};
+ghost use Rattle.sync_state.specs.Words.{IsUid, IsPositive, IsRun, IsUidOrNone};
 
 use crate::fields::{Fields, Word};
 use mailcore::flags::Flags;
 use mailcore::side::{Direction, Side};
 use mailcore::tuid::Tuid;
 use mailcore::uid::Uid;
+use mailcore::words::{read_flags, read_highest, read_positive, read_side_uid, read_uid};
 use std::alloc::AllocError;
-use texts::number::{push_number, read_number, read_u32};
-
-/// The greatest UID.
-const LAST_UID: u32 = u32::MAX - 1;
+use texts::number::{push_number, read_number};
 
 /// A UIDVALIDITY or UIDNEXT, 1 to 4294967295.
 #[derive(Clone, Copy)]
@@ -32,10 +31,7 @@ impl Fields for Positive {
     ghost injective = { positive-injective };
 
     fn read(text: &[u8]) -> Option<Positive> {
-        match read_u32(text, u32::MAX)? {
-            0 => None,
-            number => Some(Positive(number)),
-        }
+        Some(Positive(read_positive(text)?))
     }
 
     fn push_to(self, text: &mut Vec<u8>) -> Result<(), AllocError> {
@@ -64,7 +60,7 @@ impl Fields for Highest {
     ghost injective = { highest-injective };
 
     fn read(text: &[u8]) -> Option<Highest> {
-        Some(Highest(read_u32(text, LAST_UID)?))
+        Some(Highest(read_highest(text)?))
     }
 
     fn push_to(self, text: &mut Vec<u8>) -> Result<(), AllocError> {
@@ -141,7 +137,7 @@ impl Fields for Uid {
     ghost injective = { uid-injective };
 
     fn read(text: &[u8]) -> Option<Uid> {
-        Uid::new(read_u32(text, LAST_UID)?)
+        read_uid(text)
     }
 
     fn push_to(self, text: &mut Vec<u8>) -> Result<(), AllocError> {
@@ -167,7 +163,7 @@ impl Fields for Option<Uid> {
     ghost injective = { side-injective };
 
     fn read(text: &[u8]) -> Option<Option<Uid>> {
-        Some(Uid::new(read_u32(text, LAST_UID)?))
+        read_side_uid(text)
     }
 
     fn push_to(self, text: &mut Vec<u8>) -> Result<(), AllocError> {
@@ -183,24 +179,16 @@ impl Word for Option<Uid> {
 
 /// Flags: their letters in the order of ASCII, or `-` for none.
 impl Fields for Flags {
-    ghost use Rattle.sync_state.specs.WordLaws.{flags-injective};
+    ghost use Rattle.mailcore.proofs.FlagWords.{flags_word-injective};
 
     ghost fits = { λ flags. flags < 2 ^ FLAGS };
 
     ghost spelling = { flags_word };
 
-    ghost injective = { flags-injective };
+    ghost injective = { flags_word-injective };
 
-    #[tactic(auto, using(crate::specs::WordLaws::no_letters, crate::specs::WordLaws::letters_none))]
     fn read(text: &[u8]) -> Option<Flags> {
-        if text == b"-".as_slice() {
-            return Some(Flags::none());
-        }
-        // No letters are no word.
-        if text.is_empty() {
-            return None;
-        }
-        Flags::from_letters(text)
+        read_flags(text)
     }
 
     fn push_to(self, text: &mut Vec<u8>) -> Result<(), AllocError> {
@@ -257,20 +245,11 @@ impl Fields for Direction {
     ghost injective = { direction-fits-injective };
 
     fn read(text: &[u8]) -> Option<Direction> {
-        if text == b"pull".as_slice() {
-            Some(Direction::Pull)
-        } else if text == b"push".as_slice() {
-            Some(Direction::Push)
-        } else {
-            None
-        }
+        Direction::from_word(text)
     }
 
     fn push_to(self, text: &mut Vec<u8>) -> Result<(), AllocError> {
-        match self {
-            Direction::Pull => text.extend_from_slice(b"pull"),
-            Direction::Push => text.extend_from_slice(b"push"),
-        }
+        text.extend_from_slice(self.as_str().as_bytes())
     }
 }
 
@@ -291,20 +270,11 @@ impl Fields for Side {
     ghost injective = { side-fits-injective };
 
     fn read(text: &[u8]) -> Option<Side> {
-        if text == b"far".as_slice() {
-            Some(Side::Far)
-        } else if text == b"near".as_slice() {
-            Some(Side::Near)
-        } else {
-            None
-        }
+        Side::from_word(text)
     }
 
     fn push_to(self, text: &mut Vec<u8>) -> Result<(), AllocError> {
-        match self {
-            Side::Far => text.extend_from_slice(b"far"),
-            Side::Near => text.extend_from_slice(b"near"),
-        }
+        text.extend_from_slice(self.as_str().as_bytes())
     }
 }
 
@@ -367,7 +337,7 @@ impl Fields for Minus {
 }
 
 /// The flags with these letters, of which there is one at least, behind a sign.
-#[tactic(auto, using(crate::specs::WordLaws::no_letters, crate::specs::WordLaws::letters_none))]
+#[tactic(auto, using(mailcore::proofs::FlagWords::no_letters, mailcore::proofs::FlagWords::letters_none))]
 fn read_letters(text: &[u8], sign: u8) -> Option<Flags>
     ensures some { IfSome result (λ flags. (flags < 2 ^ FLAGS) × (flags ≢ 0) × (text.now ≡ sign ∷ letters_of flags)) }
     ensures none { IfNone result ((flags : ℕ) → flags < 2 ^ FLAGS → flags ≢ 0 → text.now ≢ sign ∷ letters_of flags) }
