@@ -3,9 +3,9 @@ use Rattle.std.specs.Prelude.{◌≡◌, true, List, map, All}
 use Rattle.mailcore.specs.declared.mailbox.Mailbox.{Mailbox}
 use Rattle.mailcore.specs.Ranges.{IsInRange}
 use Rattle.mailcore.specs.Stores.{Store, IsStore}
+use Rattle.mailcore.specs.MailboxNames.{is_mailbox_name}
 use Rattle.wire_strings.specs.Literals.{IsLiteral}
 use Rattle.imap_session.specs.Mailboxes.{FarMailbox}
-use Rattle.imap_session.specs.MailboxCommands.{is_name}
 
 abbrev pub store_of : Mailbox → Store
 store_of m = record { validity = m.validity; next = m.next; messages = m.messages }
@@ -19,7 +19,7 @@ all_of mailboxes = map far_of mailboxes
 -- What a server can tell of: a name within the limits, UIDs that rise below the next one, numbers in their ranges, and
 -- messages that are octets of a literal.
 pub record IsServed (m : FarMailbox) : Type 0 where
-  pub name : is_name m.name ≡ true
+  pub name : is_mailbox_name m.name ≡ true
   pub store : IsStore m.store
   pub range : IsInRange m.store
   pub bodies : All (λ x. IsLiteral x.bytes) m.store.messages

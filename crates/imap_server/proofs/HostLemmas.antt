@@ -4,10 +4,10 @@ use Rattle.std.specs.List.{list_all}
 use Rattle.std.specs.Option.{option_map}
 use Rattle.std.proofs.lemmas.Bool.{and_parts}
 use Rattle.std.proofs.lemmas.List.Elements.{All-weaker}
+use Rattle.mailcore.specs.MailboxNames.{is_mailbox_name}
 use Rattle.imap_replies.specs.declared.reply.Reply.{Reply}
 use Rattle.imap_replies.proofs.WrittenReplies.{written_spelled}
 use Rattle.imap_session.specs.Mailboxes.{FarMailbox}
-use Rattle.imap_session.specs.MailboxCommands.{is_name}
 use Rattle.imap_session.specs.Servers.{Server}
 use Rattle.imap_session.specs.Heard.{AreReplies}
 use Rattle.law_session.specs.Short.{is_short, AreNamed}
@@ -63,4 +63,4 @@ module _ (old : Host) (server : Server) (unread taken : Option Unread) (lost : B
   }
 
 pub are_named : (mailboxes : List FarMailbox) → AreServed mailboxes → AreNamed mailboxes
-are_named mailboxes are = All-weaker (λ (m : FarMailbox). IsServed m) (λ (m : FarMailbox). is_name m.name ≡ true) (λ m is. is.name) mailboxes are
+are_named mailboxes are = All-weaker (λ (m : FarMailbox). IsServed m) (λ (m : FarMailbox). is_mailbox_name m.name ≡ true) (λ m is. is.name) mailboxes are

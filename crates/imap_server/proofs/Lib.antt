@@ -6,7 +6,6 @@ pub mod FetchLemmas
 pub mod ReachLemmas
 pub mod AppendLemmas
 pub mod ExpungeLemmas
-pub mod MatchingLemmas
 pub mod OrderLemmas
 pub mod ListLemmas
 pub mod UpToPlaces

@@ -1,15 +1,14 @@
 -- A LIST reply for a name within the limits.
-use Rattle.std.proofs.Common.{◌≡◌, ℕ, Bool, true, false, ◌&&◌, List, [], ◌∷◌, ◌++◌, length, codes, refl, sym, ◌∙◌, ap, append_assoc, cond, arith, ◌<◌, zero, suc}
-use Rattle.std.specs.Prelude.{nat_le, ◌==◌, slice_index}
-use Rattle.std.specs.List.{list_all, flat_map, slice_split}
-use Rattle.std.specs.Str.{IsAscii}
+use Rattle.std.proofs.Common.{◌≡◌, ℕ, Bool, true, false, ◌&&◌, List, [], ◌∷◌, ◌++◌, length, codes, refl, sym, ◌∙◌, ap, append_assoc, cond, arith}
+use Rattle.std.specs.List.{list_all, flat_map}
 use Rattle.std.proofs.lemmas.Bool.{and_parts}
 use Rattle.std.proofs.lemmas.Bool.Decides.{nat_tests}
 use Rattle.wire_strings.specs.Texts.{is_text}
 use Rattle.wire_strings.specs.Quotes.{is_special, escaped, IsRaw}
 use Rattle.imap_replies.specs.Replies.{WrittenReply}
 use Rattle.imap_session.specs.Answering.{listed}
-use Rattle.imap_session.specs.MailboxCommands.{is_name_byte, is_part, is_name}
+use Rattle.mailcore.proofs.MailboxNameLemmas.{name_bytes}
+use Rattle.mailcore.specs.MailboxNames.{is_name_byte, is_mailbox_name}
 use Rattle.imap_server.specs.Writing.{Wrote}
 use Rattle.imap_server.proofs.WritingLemmas.{wrote_one}
 
@@ -31,12 +30,7 @@ no_escape (b ∷ bs) h =
     ap (λ (l : List ℕ). b ∷ l) (no_escape bs ((and_parts (is_name_byte b) (list_all is_name_byte bs) h).1))
     ∙ ap (λ (x : Bool). cond x (92 ∷ b ∷ []) (b ∷ []) ++ flat_map escaped bs) (sym plain)
 
-name_bytes : (name : List ℕ) → is_name name ≡ true → list_all is_name_byte name ≡ true
-name_bytes name h =
-    let front = (and_parts (nat_le (length name) 255 && list_all is_name_byte name) (list_all is_part (slice_split (λ b. b == 47) name)) h).0 in
-    (and_parts (nat_le (length name) 255) (list_all is_name_byte name) front).1
-
-pub name_is_raw : (name : List ℕ) → is_name name ≡ true → IsRaw name
+pub name_is_raw : (name : List ℕ) → is_mailbox_name name ≡ true → IsRaw name
 name_is_raw name h =
     let bytes = name_bytes name h in
     record { value = name; of = record { is = no_escape name bytes; each = all_text name bytes } }
@@ -92,7 +86,7 @@ listed_written name raw = record {
   };
 }
 
-pub listed_wrote : (name old x y new : List ℕ) → is_name name ≡ true → x ≡ old ++ codes "* LIST () \"/\" \"" → y ≡ x ++ name → new ≡ y ++ codes "\"\r\n"
+pub listed_wrote : (name old x y new : List ℕ) → is_mailbox_name name ≡ true → x ≡ old ++ codes "* LIST () \"/\" \"" → y ≡ x ++ name → new ≡ y ++ codes "\"\r\n"
     → Wrote (listed name ∷ []) old new
 listed_wrote name old x y new is e f g = wrote_one (listed name) old new (record {
   text = codes "* LIST () \"/\" \"" ++ (name ++ codes "\"\r\n");
@@ -100,17 +94,3 @@ listed_wrote name old x y new is e f g = wrote_one (listed name) old new (record
       ∙ append_assoc (old ++ codes "* LIST () \"/\" \"") name (codes "\"\r\n") ∙ append_assoc old (codes "* LIST () \"/\" \"") (name ++ codes "\"\r\n");
   spelled = listed_written name (name_is_raw name is);
 })
-
--- ---- a name is ASCII
-
-below : (b : ℕ) → is_name_byte b ≡ true → b < 128
-below b h = grind (arith, nat_tests)
-
-all_below : (name : List ℕ) → list_all is_name_byte name ≡ true → (i : ℕ) → slice_index name i < 128
-all_below [] h i = omega arith
-all_below (b ∷ bs) h zero = below b ((and_parts (is_name_byte b) (list_all is_name_byte bs) h).0)
-all_below (b ∷ bs) h (suc i) = all_below bs ((and_parts (is_name_byte b) (list_all is_name_byte bs) h).1) i
-
-pub name_is_ascii : (name : List ℕ) → is_name name ≡ true → IsAscii name
-name_is_ascii name h =
-    all_below name (name_bytes name h)

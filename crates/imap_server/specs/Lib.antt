@@ -3,7 +3,6 @@ pub mod Places
 pub mod Services
 pub mod Writing
 pub mod Selection
-pub mod Matching
 pub mod Dropping
 pub mod Unreads
 pub mod Taking

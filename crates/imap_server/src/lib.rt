@@ -10,7 +10,6 @@ mod fault;
 mod line;
 mod list_command;
 mod mailbox_commands;
-mod matching;
 mod message_commands;
 mod news;
 mod reading;

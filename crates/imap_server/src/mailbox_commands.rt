@@ -1,9 +1,9 @@
 //! CREATE and SELECT (RFC 9051, sections 6.3.4 and 6.3.2).
 
-ghost use Rattle.std.specs.Prelude.{◌≡◌, ◌<◌, ◌≤◌, ◌==◌, ◌∷◌, [], true, length, OnOk, IfOk, IfSome, IfNone};
-ghost use Rattle.std.specs.List.{list_all, slice_split};
+ghost use Rattle.std.specs.Prelude.{◌≡◌, ◌<◌, ◌≤◌, ◌∷◌, [], true, length, OnOk, IfOk, IfSome, IfNone};
+ghost use Rattle.mailcore.specs.MailboxNames.{is_mailbox_name};
 ghost use Rattle.imap_session.specs.Answering.{listed};
-ghost use Rattle.imap_session.specs.MailboxCommands.{is_name_byte, is_part, is_name, next_validity, empty_mailbox, closes, opening};
+ghost use Rattle.imap_session.specs.MailboxCommands.{next_validity, empty_mailbox, closes, opening};
 ghost use Rattle.imap_messages.specs.Boxes.{far_of, all_of, IsServed};
 ghost use Rattle.imap_server.specs.Services.{condition_of};
 ghost use Rattle.imap_server.specs.Writing.{Wrote};
@@ -18,7 +18,7 @@ use imap_replies::reply::Reply;
 use imap_replies::response::Code;
 use mailcore::keywords::Keywords;
 use mailcore::mailbox::Mailbox;
-use mailcore::mailbox_name::MailboxName;
+use mailcore::mailbox_name::{MailboxName, is_mailbox_name};
 use std::alloc::{AllocError, Global};
 use wire_strings::text::Text;
 use wire_tokens::flag_list::FlagList;
@@ -57,7 +57,7 @@ impl Service {
         ensures ok { OnOk result (Answered (creates_at None self.old tag name.now) out.old.items out.new.items self.new) }
         ensures err { OnErr result (self.new ≡ self.old) }
     {
-        if !is_name(name) {
+        if !is_mailbox_name(name) {
             say_no(tag, b"name", out)?;
             return Ok(());
         }
@@ -165,45 +165,13 @@ pub(crate) fn number(n: u32) -> NonZero
 
 /// Writes `* LIST () "/" "name"`. Where memory runs out, a part may be written.
 pub(crate) fn say_listed(name: &[u8], out: &mut Vec<u8>) -> Result<(), AllocError>
-    requires { is_name name.now ≡ true }
+    requires { is_mailbox_name name.now ≡ true }
     ensures { OnOk result (Wrote (listed name.now ∷ []) out.old.items out.new.items) }
 {
     out.extend_from_slice(b"* LIST () \"/\" \"")?;
     out.extend_from_slice(name)?;
     out.extend_from_slice(b"\"\r\n")?;
     Ok(())
-}
-
-/// Whether this is a name within the limits.
-pub(crate) fn is_name(name: &[u8]) -> bool
-    ensures { result ≡ is_name name.now }
-{
-    name.len() <= 255 && all_name_bytes(name) && all_parts(name)
-}
-
-fn all_name_bytes(name: &[u8]) -> bool
-    ensures { result ≡ list_all is_name_byte name.now }
-{
-    name.iter().all(|b| is_name_byte(*b))
-}
-
-/// Whether each part between slashes may stand in a name.
-fn all_parts(name: &[u8]) -> bool
-    ensures { result ≡ list_all is_part (slice_split (λ b. b == 47) name.now) }
-{
-    name.split(|b| *b == b'/').all(|part| is_part(part))
-}
-
-fn is_name_byte(b: u8) -> bool
-    ensures { result ≡ is_name_byte b }
-{
-    32 <= b && b <= 126 && !(b == b'*' || b == b'%' || b == b'"' || b == b'\\')
-}
-
-fn is_part(part: &[u8]) -> bool
-    ensures { result ≡ is_part part.now }
-{
-    0 < part.len() && !(part == b".".as_slice() || part == b"..".as_slice())
 }
 
 /// The UIDVALIDITY of the next mailbox, or none where none is left.
@@ -217,16 +185,13 @@ fn next_validity(mailboxes: &[Mailbox]) -> Option<u32>
 
 /// A mailbox without messages.
 fn empty_mailbox(alloc: Global, name: &[u8], validity: u32) -> Result<Mailbox, AllocError>
-    requires name { is_name name.now ≡ true }
+    requires name { is_mailbox_name name.now ≡ true }
     requires validity { 0 < validity }
     ensures new { IfOk result (λ m. far_of m ≡ empty_mailbox name.now validity) }
     ensures served { IfOk result (λ m. IsServed (far_of m)) }
 {
-    match str::from_utf8(name) {
-        Ok(text) => {
-            let name = MailboxName::from_string(String::from_str(alloc, text)?);
-            Ok(Mailbox::new(alloc, name, validity, 1))
-        }
-        Err(_) => unreachable!(),
+    match MailboxName::from_bytes(alloc, name)? {
+        Some(name) => Ok(Mailbox::new(alloc, name, validity, 1)),
+        None => unreachable!(),
     }
 }

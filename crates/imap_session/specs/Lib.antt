@@ -2,7 +2,6 @@ pub mod Mailboxes
 pub mod NamedMessages
 pub mod Servers
 pub mod Answering
-pub mod Patterns
 pub mod NameOrder
 pub mod SessionCommands
 pub mod MailboxCommands

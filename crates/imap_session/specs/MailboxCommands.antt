@@ -1,16 +1,15 @@
 -- LIST, CREATE, SELECT (RFC 9051, sections 6.3.9, 6.3.4 and 6.3.2).
-use Rattle.std.specs.Prelude.{ℕ, ◌+◌, max, Bool, ◌&&◌, ◌||◌, not, ◌==◌, nat_eq, nat_le, nat_lt, List, [], ◌∷◌, ◌++◌, length, map, filter, fold, codes, Option, None, Some, if◌then◌else◌}
-use Rattle.std.specs.List.{list_all, slice_split}
-use Rattle.std.specs.Cmp.Lexicographic.{pointwise}
+use Rattle.std.specs.Prelude.{ℕ, ◌+◌, max, nat_le, List, [], ◌∷◌, ◌++◌, length, map, filter, fold, codes, Option, None, Some, if◌then◌else◌}
 use Rattle.mailcore.specs.declared.keywords.Keyword.{Keyword}
 use Rattle.mailcore.specs.KeywordNames.{known_set, names_of}
+use Rattle.mailcore.specs.MailboxNames.{is_mailbox_name}
+use Rattle.mailcore.specs.MailboxPatterns.{matches}
 use Rattle.imap_replies.specs.declared.response.Code.TheVariants as codes_of
 use Rattle.imap_replies.specs.declared.reply.Reply.{Reply}
 use Rattle.imap_replies.specs.declared.reply.Reply.TheVariants.{Flags, Exists}
 use Rattle.imap_session.specs.Mailboxes.{FarMailbox, mailbox_at}
 use Rattle.imap_session.specs.Servers.{Condition, NotAuthenticated, Authenticated, Selected, LoggedOut, Server, is_logged_in}
 use Rattle.imap_session.specs.Answering.{Answer, done, done_with, refused, refused_with, note, listed, only, out_of_place, word_code}
-use Rattle.imap_session.specs.Patterns.{matches}
 use Rattle.imap_session.specs.NameOrder.{in_order}
 
 -- ---- LIST
@@ -26,18 +25,6 @@ lists s tag pattern =
     else out_of_place s tag
 
 -- ---- CREATE
-
--- printable ASCII, and none of `*`, `%`, `"` and `\`
-abbrev pub is_name_byte : ℕ → Bool
-is_name_byte b = nat_le 32 b && nat_le b 126 && not (b == 42 || b == 37 || b == 34 || b == 92)
-
--- between slashes: not empty, and neither `.` nor `..`
-abbrev pub is_part : List ℕ → Bool
-is_part part = nat_lt 0 (length part) && not (pointwise nat_eq part (codes ".") || pointwise nat_eq part (codes ".."))
-
--- a name within the limits: 1 to 255 bytes
-abbrev pub is_name : List ℕ → Bool
-is_name name = nat_le (length name) 255 && list_all is_name_byte name && list_all is_part (slice_split (λ b. b == 47) name)
 
 -- above the greatest that there is; 1 if there is none
 abbrev pub next_validity : List FarMailbox → ℕ
@@ -55,7 +42,7 @@ makes s tag name validity =
 abbrev pub creates_at : Option FarMailbox → Server → (tag name : List ℕ) → Answer
 creates_at (Some m) s tag name = only s (refused_with tag (codes "ALREADYEXISTS") (codes "exists"))
 creates_at None s tag name =
-    if is_name name then makes s tag name (next_validity s.mailboxes) else only s (refused tag (codes "name"))
+    if is_mailbox_name name then makes s tag name (next_validity s.mailboxes) else only s (refused tag (codes "name"))
 
 abbrev pub creates : Server → (tag name : List ℕ) → Answer
 creates s tag name = if is_logged_in s.condition then creates_at (mailbox_at name s.mailboxes) s tag name else out_of_place s tag

@@ -14,5 +14,5 @@ returns c =
     c.args.out.now.items c.say.new.out.items c.say-2.new.out.items c.say_listed.new.out.items c.say_note.new.out.items c.say_note-2.new.out.items c.say_note-3.new.out.items c.say_done_with.new.out.items
     (c.names.ensures ∙ all) (c.permanent.ensures ∙ c.names-2.ensures ∙ all) c.count_of.ensures.count c.number.ensures c.number-2.ensures
     c.in_ok-say.ensures c.in_ok-say-2.ensures
-    (subst (λ (l : List ℕ). Wrote (listed l ∷ []) c.say-2.new.out.items c.say_listed.new.out.items) (c.as_bytes.ensures.value ∙ c.as_str.ensures) c.in_ok-say_listed.ensures)
+    (subst (λ (l : List ℕ). Wrote (listed l ∷ []) c.say-2.new.out.items c.say_listed.new.out.items) (c.as_bytes.ensures.value ∙ c.as_str.ensures.text) c.in_ok-say_listed.ensures)
     c.in_ok-say_note.ensures c.in_ok-say_note-2.ensures c.in_ok-say_note-3.ensures c.in_ok-say_done_with.ensures
