@@ -5,9 +5,10 @@ use Rattle.std.specs.Cmp.Lexicographic.{pointwise}
 use Rattle.std.proofs.lemmas.Bool.{not-true, not_from_false}
 use Rattle.std.proofs.lemmas.List.Elements.{All-nil, All-cons, All-head, All-tail, All-push}
 use Rattle.std.proofs.lemmas.List.{append_assoc, take_more}
-use Rattle.box_patterns.specs.Patterns.{IsMatched, SpeaksOf, IsChosen, is_negated, pattern_of}
+use Rattle.mailcore.specs.MailboxPatterns.{IsMatched}
+use Rattle.mailcore.proofs.PatternLemmas.{computed_is_matched}
+use Rattle.box_patterns.specs.Patterns.{SpeaksOf, IsChosen, is_negated, pattern_of}
 use Rattle.std.proofs.lemmas.Slice.Eq.{bytes_eq-Decides}
-use Rattle.box_patterns.proofs.MatchedLemmas.{computed_is_matched}
 
 -- ---- the last element of a list that is cut at a word
 

@@ -1,3 +1,1 @@
-pub mod MatchingLemmas
-pub mod MatchedLemmas
 pub mod ChosenLemmas

@@ -1,23 +1,6 @@
--- Patterns of mailbox names, and which names a list of them chooses.
-use Rattle.std.specs.Prelude.{ℕ, ◌≡◌, ◌≢◌, ◌==◌, Bool, false, List, [], ◌∷◌, ◌++◌, All, MatchBool, codes, if◌then◌else◌}
-use Rattle.std.specs.List.{concat}
-
--- what a character of a pattern may stand for: `*` (42) for any characters, `%` (37) for any without `/` (47), another for itself
-abbrev pub StandsFor : (character : ℕ) (part : List ℕ) → Type 0
-StandsFor p part = MatchBool (p == 42) (Unit {0}) (MatchBool (p == 37) (All (λ c. c ≢ 47) part) (part ≡ p ∷ []))
-
--- one part for each character of a pattern, which that character may stand for
-abbrev pub StandForEach : (pattern : List ℕ) (parts : List (List ℕ)) → Type 0
-StandForEach [] [] = Unit {0}
-StandForEach [] (part ∷ parts) = ⊥
-StandForEach (p ∷ ps) [] = ⊥
-StandForEach (p ∷ ps) (part ∷ parts) = StandsFor p part × StandForEach ps parts
-
--- a pattern matches a name that can be cut into such parts
-pub record IsMatched (pattern name : List ℕ) : Type 0 where
-  pub parts : List (List ℕ)
-  pub stand : StandForEach pattern parts
-  pub whole : concat parts ≡ name
+-- Which names the words of Patterns choose.
+use Rattle.std.specs.Prelude.{ℕ, ◌≡◌, ◌==◌, Bool, false, List, [], ◌∷◌, ◌++◌, All, codes, if◌then◌else◌}
+use Rattle.mailcore.specs.MailboxPatterns.{IsMatched}
 
 -- the pattern of a word, without the `!` (33) that may stand before it
 abbrev pub pattern_of : (word : List ℕ) → List ℕ

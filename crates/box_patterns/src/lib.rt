@@ -1,6 +1,4 @@
-//! The names of mailboxes, and the patterns that choose among them (docs/FORMATS.md, "Patterns").
+//! The words of a configuration that choose among the mailboxes of two stores (docs/FORMATS.md, "Patterns").
 #![tactic(auto)]
 
-pub mod box_name;
-mod matching;
 pub mod patterns;

@@ -1,12 +1,18 @@
 //! Patterns: the words that choose the mailboxes of a channel (docs/FORMATS.md, "Patterns").
 
 ghost use Rattle.std.specs.Prelude.{◌≡◌, ◌↔◌, ◌≤◌, ◌<◌, ◌++◌, [], ◌∷◌, length, IsTrue, MatchOption, OnOk, OnErr, string_bytes};
+ghost use Rattle.mailcore.specs.MailboxPatterns.{IsMatched};
 ghost use Rattle.box_patterns.specs.Patterns.{IsChosen, SpeaksOf, is_negated, pattern_of};
 
-use crate::matching;
-use crate::matching::PATTERN_MAX;
+use mailcore::mailbox_pattern;
 use std::alloc::{AllocError, Global};
 use std::marker::Model;
+
+/// The greatest number of bytes of a pattern.
+pub const PATTERN_MAX: usize = 1024;
+
+/// The room that the matcher wants for such a pattern.
+const ROOM: usize = 1025;
 
 /// The mailbox that no pattern matches but its own name.
 const INBOX: &[u8] = b"INBOX";
@@ -113,8 +119,17 @@ fn speaks_of(word: &[u8], name: &[u8]) -> bool
     if name == INBOX {
         pattern == INBOX
     } else {
-        matching::is_match(pattern, name)
+        is_match(pattern, name)
     }
+}
+
+/// Whether the pattern matches the name, without taking memory.
+fn is_match(pattern: &[u8], name: &[u8]) -> bool
+    requires { length pattern.now ≤ PATTERN_MAX }
+    ensures { IsTrue result ↔ IsMatched pattern.now name.now }
+{
+    let mut room = [false; ROOM];
+    mailbox_pattern::matches(pattern, name, &mut room[..=pattern.len()])
 }
 
 /// The pattern of a word.

@@ -6,7 +6,7 @@ ghost use Rattle.link_face.specs.Listing.{IsNearName};
 use crate::head::behind_space;
 use crate::names::to_near;
 use crate::token::{Token, read_list, read_token};
-use box_patterns::box_name::is_box_name;
+use mailcore::mailbox_name::is_mailbox_name;
 use std::alloc::{AllocError, Global};
 use wire_strings::line_text::all_text;
 use wire_strings::string_writing::write_quoted;
@@ -79,7 +79,7 @@ impl<'a> Listed<'a> {
             return Ok(None);
         }
         if let Some(name) = self.near_name(alloc)?
-            && is_box_name(&name)
+            && is_mailbox_name(&name)
         {
             return Ok(None);
         }
