@@ -2,9 +2,9 @@
 use Rattle.std.specs.Prelude.{ℕ, ◌≡◌, ◌+◌, ◌==◌, nat_eq, nat_lt, nat_le, Bool, true, false, ◌&&◌, List, [], ◌∷◌, map, length, take, drop, position, Option, Some, None, is_some, option_map, Result, Ok, Err, codes, bytes_eq, decimal, string_bytes, if◌then◌else◌}
 use Rattle.std.specs.List.{list_all, ends_with}
 use Rattle.std.specs.Str.Parse.{digits_value}
-use Rattle.box_patterns.specs.BoxNames.{is_box_name}
 use Rattle.mailcore.specs.declared.keywords.Keyword as mail
 use Rattle.mailcore.specs.KeywordNames.{is_keyword_letter, is_keyword_name}
+use Rattle.mailcore.specs.MailboxNames.{is_mailbox_name}
 use Rattle.rules.specs.declared.options.Cells.{Cells}
 use Rattle.rules.specs.declared.options.Sides.{Sides}
 use Rattle.rules.specs.declared.sync_words.SyncFault.{SyncFault}
@@ -59,7 +59,7 @@ parts_of (b ∷ text) = if b == 58 then option_map (λ k. (take k text, drop (k 
 -- an empty BOX names no mailbox
 abbrev pub box_of : List ℕ → Option (Option (List ℕ))
 box_of [] = Some None
-box_of (b ∷ name) = if is_box_name (b ∷ name) then Some (Some (b ∷ name)) else None
+box_of (b ∷ name) = if is_mailbox_name (b ∷ name) then Some (Some (b ∷ name)) else None
 
 abbrev pub place_from : Option (List ℕ × List ℕ) → Option (List ℕ × Option (List ℕ))
 place_from None = None

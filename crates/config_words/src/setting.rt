@@ -10,7 +10,6 @@ ghost use Rattle.config_words.specs.declared.keyword.Place.TheVariants.{Group as
 
 use crate::fault::FaultKind;
 use crate::keyword::Keyword;
-use box_patterns::box_name::is_box_name;
 use box_patterns::patterns::Pattern;
 use mailcore::keywords::is_keyword_name;
 use mailcore::mailbox_name::MailboxName;
@@ -216,11 +215,11 @@ fn read_box(alloc: Global, name: &str) -> Result<Option<MailboxName>, FaultKind>
     ensures means { Gives (λ b. b) (box_of name.now) result }
 {
     if name.is_empty() {
-        Ok(None)
-    } else if is_box_name(name.as_bytes()) {
-        Ok(Some(MailboxName::from_string(String::from_str(alloc, name)?)))
-    } else {
-        Err(FaultKind::WrongArguments)
+        return Ok(None);
+    }
+    match MailboxName::from_bytes(alloc, name.as_bytes())? {
+        Some(name) => Ok(Some(name)),
+        None => Err(FaultKind::WrongArguments),
     }
 }
 
