@@ -3,6 +3,5 @@ pub mod Unread
 pub mod Listed
 pub mod BodyTold
 pub mod Placed
-pub mod NameLemmas
 pub mod HeardSame
 pub mod Permitted

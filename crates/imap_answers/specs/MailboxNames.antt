@@ -1,17 +1,15 @@
 -- The names of a server's mailboxes, as LIST tells them (RFC 9051, sections 6.3.9 and 7.3.1).
-use Rattle.std.specs.Prelude.{◌≡◌, ℕ, List, [], ◌∷◌, ◌++◌, map, filter, Option, None, Some, if◌then◌else◌}
+use Rattle.std.specs.Prelude.{◌≡◌, ℕ, List, [], ◌∷◌, ◌++◌, map, filter, Option, None, Some}
 use Rattle.std.specs.List.{fold}
+use Rattle.mailcore.specs.MailboxNames.{is_mailbox_name, within_limits}
 use Rattle.wire_strings.specs.Quotes.{unescaped}
 use Rattle.wire_strings.specs.Strings.{value_of}
 use Rattle.imap_replies.specs.declared.reply.Reply.{Reply}
 use Rattle.imap_replies.specs.declared.reply.Reply.TheVariants.{List as Listed}
-use Rattle.imap_session.specs.MailboxCommands.{is_name, names_matched}
+use Rattle.imap_session.specs.MailboxCommands.{names_matched}
 use Rattle.imap_session.specs.Servers.{Server}
 
--- a name within the limits; others are passed over
-abbrev pub within_limits : List ℕ → Option (List ℕ)
-within_limits name = if is_name name then Some name else None
-
+-- a name within the limits; others are skipped
 abbrev pub name_told : Reply → Option (List ℕ)
 name_told (Listed attributes delimiter name) = within_limits (value_of name)
 name_told _ = None
@@ -29,7 +27,7 @@ names_in replies = fold names_more [] replies
 -- Those of its names that are within the limits, in the order of their bytes. A name stands between quotes as it is, so
 -- that it is read without its backslashes; a name within the limits has none.
 abbrev pub names_of : Server → List (List ℕ)
-names_of s = filter is_name (map unescaped (names_matched (42 ∷ []) s.mailboxes))
+names_of s = filter is_mailbox_name (map unescaped (names_matched (42 ∷ []) s.mailboxes))
 
 -- these are told, and nothing changed
 abbrev pub TellsNames : List (List ℕ) → Server → Server → Type 0
