@@ -6,12 +6,12 @@ use Rattle.sync_state.proofs.keyword_lines.take_keyword.Goals as goal
 
 pub returns-in_default-keyword_of : goal.returns-in_default-keyword_of
 returns-in_default-keyword_of c =
-    let parts = c.in-Some.ensures in
+    let parts = c.in-Some.ensures.sides in
     (no_such_line c.args.keywords.now c.args.lines.now.rest.now c.in-Some.line.now c.in-Some.rest.now parts.0 parts.1 (λ k m. c.in_default-keyword_of.ensures.none k), refl, refl)
 
 pub returns-then-not-is_above : goal.returns-then-not-is_above
 returns-then-not-is_above c =
-    let parts = c.in-Some.ensures in
+    let parts = c.in-Some.ensures.sides in
     let k : Keyword = record { letter = c.in-Some-keyword_of.letter; name = c.in-Some-keyword_of.name.now } in (
       no_such_line c.args.keywords.now c.args.lines.now.rest.now c.in-Some.line.now c.in-Some.rest.now parts.0 parts.1
           (not_above c.args.keywords.now k c.in-Some.line.now c.in-Some-keyword_of.ensures.some c.if-not-is_above.ensures),
@@ -21,7 +21,7 @@ returns-then-not-is_above c =
 
 pub returns-in_default-fault : goal.returns-in_default-fault
 returns-in_default-fault c =
-    let parts = c.in-Some.ensures in
+    let parts = c.in-Some.ensures.sides in
     let k : Keyword = record { letter = c.in-Some-keyword_of.letter; name = c.in-Some-keyword_of.name.now } in
     let told = c.in-Err.ensures.refused in
     elim told.1 [
@@ -36,7 +36,7 @@ returns-in_default-fault c =
 
 pub returns : goal.returns
 returns c =
-    let parts = c.in-Some.ensures in
+    let parts = c.in-Some.ensures.sides in
     let is = c.in-Some-keyword_of.ensures.some in
     let k : Keyword = record { letter = c.in-Some-keyword_of.letter; name = c.in-Some-keyword_of.name.now } in (
       record {
