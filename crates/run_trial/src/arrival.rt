@@ -15,8 +15,8 @@ use mailcore::octets::Octets;
 use mailcore::side::Side;
 use maildir::visited_folder::Arrival;
 use std::alloc::Global;
+use texts::lines::Line;
 use worlds::fault::WorldFault;
-use worlds::line::Line;
 use worlds::read_mailbox::{is_far, read_bytes};
 use worlds::words::{read_named, split_word};
 
@@ -96,7 +96,7 @@ impl Arrivals {
         ensures { IfErr result (IsOf line.entry.number) }
     {
         let Some(coming) = Coming::read(text, keywords) else {
-            return Err(line.fault());
+            return Err(WorldFault::of(line));
         };
         let bytes = read_bytes(alloc, coming.text, line)?;
         match coming.side {
@@ -114,10 +114,10 @@ impl Arrivals {
         ensures { IfErr result (IsOf line.entry.number) }
     {
         let Some(command) = command_of(coming.call) else {
-            return Err(line.fault());
+            return Err(WorldFault::of(line));
         };
         if !is_far(&bytes) {
-            return Err(line.fault());
+            return Err(WorldFault::of(line));
         }
         Ok(
             self.far.push(FarArrival {
@@ -141,7 +141,7 @@ impl Arrivals {
         ensures { IfErr result (IsOf line.entry.number) }
     {
         let Some(call) = folder_call_of(coming.call) else {
-            return Err(line.fault());
+            return Err(WorldFault::of(line));
         };
         let number = self.near.len().saturating_add(1);
         let name = arrival_name(alloc, number, coming.flags, keywords)?;

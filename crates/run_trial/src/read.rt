@@ -1,7 +1,8 @@
 //! How a trial is read from its text (docs/FORMATS.md, "Trial").
 
 ghost use Rattle.std.specs.Prelude.{◌≡◌, ◌+◌, ◌≤◌, ◌<◌, IfErr, IfOk};
-ghost use Rattle.worlds.specs.Lines.{IsOf, IsUpTo, line_count, line_ends};
+ghost use Rattle.worlds.specs.Lines.{IsOf, IsUpTo};
+ghost use Rattle.texts.specs.Lines.{line_count, line_ends};
 ghost use Rattle.run_trial.specs.Worlds.{IsNamed, world_of};
 
 use crate::arrival::Arrivals;
@@ -10,8 +11,9 @@ use crate::stop::{DeviceStop, Stops, read_cut, read_stop};
 use crate::trial::{Course, Trial};
 use mailcore::keywords::Keywords;
 use std::alloc::Global;
+use texts::lines::{Line, Lines};
 use worlds::fault::WorldFault;
-use worlds::line::{Line, Lines};
+use worlds::line::take_line;
 use worlds::read::take_world;
 use worlds::read_mailbox::read_bytes;
 use worlds::world::Waiting;
@@ -57,11 +59,11 @@ pub fn take_tries(lines: &mut Lines<'_>) -> Result<u32, WorldFault>
     ensures count { line_count lines.new ≤ line_count lines.old }
     ensures fault { IfErr result (IsUpTo (line_count lines.old + 1)) }
 {
-    let line = lines.take(b"tries ")?;
+    let line = take_line(lines, b"tries ")?;
     match read_ordinal(line.text) {
         // No run meets so many stops.
         Some(tries) => Ok(u32::try_from(tries).unwrap_or(u32::MAX)),
-        None => Err(line.fault()),
+        None => Err(WorldFault::of(line)),
     }
 }
 
@@ -80,7 +82,7 @@ fn take_course(
     if lines.rest.is_empty() {
         Ok(())
     } else {
-        Err(lines.fault())
+        Err(WorldFault::of_next(lines))
     }
 }
 
@@ -104,7 +106,7 @@ fn add_line(
     }
     match stop_of(line.text) {
         Some(stop) => Ok(course.stops.push(stop)?),
-        None => Err(line.fault()),
+        None => Err(WorldFault::of(line)),
     }
 }
 
@@ -118,7 +120,7 @@ fn add_journal(
     ensures { IfErr result (IsOf line.entry.number) }
 {
     if course.journal.is_some() {
-        return Err(line.fault());
+        return Err(WorldFault::of(line));
     }
     course.journal = Some(read_bytes(alloc, text, line)?);
     Ok(())
@@ -130,7 +132,7 @@ fn add_mute(course: &mut Course, text: &[u8], line: Line<'_>) -> Result<(), Worl
 {
     match read_ordinal(text) {
         Some(number) => Ok(course.mutes.push(number)?),
-        None => Err(line.fault()),
+        None => Err(WorldFault::of(line)),
     }
 }
 

@@ -14,7 +14,7 @@ use Rattle.mailcore.specs.declared.keywords.KeywordFault.TheVariants.{BadLetter,
 use Rattle.mailcore.specs.KeywordNames.{IsMap, has_name, is_keyword_letter, is_keyword_name, is_like, keyword_refused, with_keyword}
 use Rattle.mailcore.proofs.KeywordMaps.{map_with}
 use Rattle.worlds.specs.Keywords.{Adds, HasNoNext, keyword_lines, keyword_text}
-use Rattle.worlds.specs.Lines.{IsLine}
+use Rattle.texts.specs.Lines.{IsLine}
 
 -- ---- a list with one element more at its end
 

@@ -4,7 +4,7 @@ use Rattle.mailcore.specs.declared.keywords.Keyword.{Keyword}
 use Rattle.mailcore.specs.KeywordNames.{IsMap}
 use Rattle.worlds.specs.declared.fault.WorldFault.{WorldFault}
 use Rattle.worlds.specs.declared.fault.WorldFault.TheVariants.{Line, NoMemory}
-use Rattle.worlds.specs.Lines.{IsLine}
+use Rattle.texts.specs.Lines.{IsLine}
 
 -- what stands in a keyword's line behind the word `keyword `: its letter, a space and its name
 abbrev pub keyword_text : Keyword → List ℕ

@@ -1,6 +1,9 @@
 //! The faults of a world's text.
 
+ghost use Rattle.std.specs.Prelude.{◌≡◌, ◌+◌};
+
 use std::alloc::{AllocError, AllocFailed};
+use texts::lines::{Line, Lines};
 use thiserror::Error;
 
 /// Why a text was not read as a world.
@@ -13,6 +16,22 @@ pub enum WorldFault {
     /// Memory ran out.
     #[error("no memory")]
     NoMemory,
+}
+
+impl WorldFault {
+    /// That this line is a bad one.
+    pub fn of(line: Line<'_>) -> WorldFault
+        ensures { result ≡ WorldFault.Line line.entry.number }
+    {
+        WorldFault::Line(line.number)
+    }
+
+    /// That the next line is a bad one, or is missing.
+    pub fn of_next(lines: &Lines<'_>) -> WorldFault
+        ensures { result ≡ WorldFault.Line (lines.now.taken + 1) }
+    {
+        WorldFault::Line(lines.taken + 1)
+    }
 }
 
 impl From<AllocError> for WorldFault {

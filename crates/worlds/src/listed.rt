@@ -5,11 +5,12 @@ ghost use Rattle.mailcore.specs.Content.{fit};
 ghost use Rattle.mailcore.specs.KeywordNames.{IsWithin};
 ghost use Rattle.worlds.specs.Admission.{item_under};
 ghost use Rattle.worlds.specs.Keywords.{IsHead};
-ghost use Rattle.worlds.specs.Lines.{IsOf, IsUpTo, line_count, line_ends};
+ghost use Rattle.worlds.specs.Lines.{IsOf, IsUpTo};
+ghost use Rattle.texts.specs.Lines.{line_count, line_ends};
 ghost use Rattle.worlds.specs.Worlds.{AreListedNamed};
 
 use crate::fault::WorldFault;
-use crate::line::{Line, Lines};
+use crate::line::{pushed, take_line};
 use crate::read::{read_end, read_nothing};
 use crate::read_mailbox::{
     is_far, line_starts, read_bytes_into, read_numbers, split_file, split_message,
@@ -26,6 +27,7 @@ use mailcore::uid::Uid;
 use rules::options::Options;
 use rules::state::SyncState;
 use std::alloc::Global;
+use texts::lines::{Line, Lines};
 
 /// A world as `World` is, with what its mailboxes list. Each near file that waited has its UID.
 #[derive(Drop)]
@@ -92,15 +94,15 @@ fn read_listing(
     ensures fault { IfErr result (IsUpTo (line_count lines.old + 1)) }
 {
     let (mailbox_start, message_start) = line_starts(side);
-    let line = lines.take(mailbox_start)?;
-    let (validity, next) = read_numbers(line.text).ok_or(line.fault())?;
+    let line = take_line(lines, mailbox_start)?;
+    let (validity, next) = read_numbers(line.text).ok_or(WorldFault::of(line))?;
     let mut items = Items::new(alloc);
     while let Some(line) = lines.take_if(message_start) {
         let item = read_item(side, keywords, bytes, line)?;
         if item.uid.get() >= next {
-            return Err(line.fault());
+            return Err(WorldFault::of(line));
         }
-        line.pushed(items.push(item))?;
+        pushed(line, items.push(item))?;
     }
     Ok(Listing {
         validity,
@@ -121,11 +123,11 @@ fn read_item(
     ensures fault { IfErr result (IsOf line.entry.number) }
 {
     let Some((uid, flags, text)) = split_message(line.text, keywords) else {
-        return Err(line.fault());
+        return Err(WorldFault::of(line));
     };
     read_bytes_into(bytes, text, line)?;
     if side == Side::Far && !is_far(bytes) {
-        return Err(line.fault());
+        return Err(WorldFault::of(line));
     }
     Ok(Item {
         uid,
@@ -147,10 +149,10 @@ fn admit_waiting(
 {
     while let Some(line) = lines.take_if(b"w ") {
         let Some((flags, text)) = split_file(line.text, keywords) else {
-            return Err(line.fault());
+            return Err(WorldFault::of(line));
         };
         read_bytes_into(bytes, text, line)?;
-        line.pushed(admit(near, flags, fit(Side::Near, bytes)))?;
+        pushed(line, admit(near, flags, fit(Side::Near, bytes)))?;
     }
     Ok(())
 }

@@ -2,11 +2,12 @@
 
 ghost use Rattle.std.specs.Prelude.{◌≡◌, ◌≢◌, ◌+◌, ◌≤◌, ℕ, List, [], IfErr, IfOk, OnErr, map};
 ghost use Rattle.worlds.specs.Keywords.{IsHead};
-ghost use Rattle.worlds.specs.Lines.{IsUpTo, line_count, line_ends};
+ghost use Rattle.worlds.specs.Lines.{IsUpTo};
+ghost use Rattle.texts.specs.Lines.{line_count, line_ends};
 ghost use Rattle.worlds.specs.Worlds.{AreNamed, IsNamed, waiting_of, world_of};
 
 use crate::fault::WorldFault;
-use crate::line::Lines;
+use crate::line::take_line;
 use crate::read_mailbox::{read_mailbox, read_waiting};
 use crate::read_options::read_options;
 use crate::read_state::read_state;
@@ -15,6 +16,7 @@ use mailcore::keywords::Keywords;
 use mailcore::mailbox::Mailbox;
 use mailcore::side::Side;
 use std::alloc::Global;
+use texts::lines::Lines;
 
 /// The world that a text gives. Behind its line `end` nothing may stand.
 pub fn read_world(alloc: Global, text: &[u8], waiting: Waiting) -> Result<World, WorldFault>
@@ -36,7 +38,7 @@ pub(crate) fn read_nothing(lines: &Lines<'_>) -> Result<(), WorldFault>
     if lines.rest.is_empty() {
         Ok(())
     } else {
-        Err(lines.fault())
+        Err(WorldFault::of_next(lines))
     }
 }
 
@@ -86,10 +88,10 @@ pub(crate) fn read_end(lines: &mut Lines<'_>) -> Result<(), WorldFault>
     ensures count { line_count lines.new ≤ line_count lines.old }
     ensures fault { IfErr result (IsUpTo (line_count lines.old + 1)) }
 {
-    let line = lines.take(b"end")?;
+    let line = take_line(lines, b"end")?;
     if line.text.is_empty() {
         Ok(())
     } else {
-        Err(line.fault())
+        Err(WorldFault::of(line))
     }
 }

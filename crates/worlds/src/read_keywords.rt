@@ -3,12 +3,13 @@
 ghost use Rattle.std.specs.Prelude.{◌≡◌, ◌+◌, ◌≤◌, IfErr, IfOk, OnOk, nat_lt};
 ghost use Rattle.std.specs.List.{list_all};
 ghost use Rattle.worlds.specs.Keywords.{Adds, Gives, IsOfBadNext, IsOfFirstBad};
-ghost use Rattle.worlds.specs.Lines.{IsUpTo, line_count};
+ghost use Rattle.worlds.specs.Lines.{IsUpTo};
+ghost use Rattle.texts.specs.Lines.{line_count};
 
 use crate::fault::WorldFault;
-use crate::line::{Line, Lines};
 use mailcore::keywords::{Keyword, KeywordFault, Keywords};
 use std::alloc::Global;
+use texts::lines::{Line, Lines};
 
 /// The map that the next lines give, each a letter and its name. `Line`: behind the lines before it, this one gives no map.
 pub fn read_keywords(alloc: Global, lines: &mut Lines<'_>) -> Result<Keywords, WorldFault>
@@ -30,15 +31,15 @@ fn add_keyword(keywords: &mut Keywords, line: Line<'_>) -> Result<(), WorldFault
     ensures bad { IfErr result (IsOfBadNext keywords.old line.entry.text.now line.entry.number) }
 {
     let [letter, b' ', name @ ..] = line.text else {
-        return Err(line.fault());
+        return Err(WorldFault::of(line));
     };
     if !are_below(keywords.as_slice(), *letter) {
-        return Err(line.fault());
+        return Err(WorldFault::of(line));
     }
     match keywords.add(*letter, name) {
         Ok(()) => Ok(()),
         Err(KeywordFault::NoMemory) => Err(WorldFault::NoMemory),
-        Err(_) => Err(line.fault()),
+        Err(_) => Err(WorldFault::of(line)),
     }
 }
 

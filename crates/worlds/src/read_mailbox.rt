@@ -2,12 +2,13 @@
 
 ghost use Rattle.std.specs.Prelude.{◌≡◌, ◌+◌, ◌<◌, ◌≤◌, ◌^◌, ◌++◌, [], ◌∷◌, IfErr, IfOk, IfSome, IsErrOf, OnOk, map};
 ghost use Rattle.mailcore.specs.KeywordNames.{IsWithin};
-ghost use Rattle.worlds.specs.Lines.{IsOf, IsUpTo, line_count};
+ghost use Rattle.worlds.specs.Lines.{IsOf, IsUpTo};
+ghost use Rattle.texts.specs.Lines.{line_count};
 ghost use Rattle.worlds.specs.Admission.{message_of};
 ghost use Rattle.worlds.specs.Worlds.{AreNamed, waiting_of};
 
 use crate::fault::WorldFault;
-use crate::line::{Line, Lines};
+use crate::line::{pushed, take_line};
 use crate::words::{read_named, read_positive, read_uid, split_word};
 use crate::world::{Waiting, WaitingFile};
 use mailcore::fault::PushFault;
@@ -22,6 +23,7 @@ use memchr::memchr;
 use std::alloc::Global;
 use texts::escape::unescape_into;
 use texts::fault::EscapeFault;
+use texts::lines::{Line, Lines};
 
 /// The greatest number of bytes of a far message: 16777216 and a mark line of 22.
 pub const FAR_BYTES_MAX: usize = 16_777_238;
@@ -38,13 +40,13 @@ pub fn read_mailbox(
     ensures fault { IfErr result (IsUpTo (line_count lines.old + 1)) }
 {
     let (mailbox_start, message_start) = line_starts(side);
-    let line = lines.take(mailbox_start)?;
-    let (validity, next) = read_numbers(line.text).ok_or(line.fault())?;
+    let line = take_line(lines, mailbox_start)?;
+    let (validity, next) = read_numbers(line.text).ok_or(WorldFault::of(line))?;
     let name = MailboxName::inbox(alloc)?;
     let mut mailbox = Mailbox::new(alloc, name, validity, next);
     while let Some(line) = lines.take_if(message_start) {
         let message = read_message(alloc, side, keywords, line)?;
-        line.pushed(mailbox.push(message))?;
+        pushed(line, mailbox.push(message))?;
     }
     Ok(mailbox)
 }
@@ -73,11 +75,11 @@ fn read_message(
     ensures fault { IfErr result (IsOf line.entry.number) }
 {
     let Some((uid, flags, text)) = split_message(line.text, keywords) else {
-        return Err(line.fault());
+        return Err(WorldFault::of(line));
     };
     let bytes = read_bytes(alloc, text, line)?;
     if side == Side::Far && !is_far(&bytes) {
-        return Err(line.fault());
+        return Err(WorldFault::of(line));
     }
     Ok(Message {
         uid,
@@ -121,11 +123,11 @@ pub(crate) fn read_bytes_into(
     ensures { IfErr result (IsOf line.entry.number) }
 {
     let [b'"', escaped @ .., b'"'] = text else {
-        return Err(line.fault());
+        return Err(WorldFault::of(line));
     };
     match unescape_into(bytes, escaped) {
         Ok(()) => Ok(()),
-        Err(EscapeFault::NotEscaped) => Err(line.fault()),
+        Err(EscapeFault::NotEscaped) => Err(WorldFault::of(line)),
         Err(EscapeFault::NoMemory) => Err(WorldFault::NoMemory),
     }
 }
@@ -148,7 +150,7 @@ pub fn read_waiting(
         let file = read_waiting_file(alloc, keywords, line)?;
         match waiting {
             Waiting::Kept => kept.push(file)?,
-            Waiting::Admitted => line.pushed(admit(near, file))?,
+            Waiting::Admitted => pushed(line, admit(near, file))?,
         }
     }
     Ok(kept)
@@ -163,7 +165,7 @@ fn read_waiting_file(
     ensures fault { IfErr result (IsOf line.entry.number) }
 {
     let Some((flags, text)) = split_file(line.text, keywords) else {
-        return Err(line.fault());
+        return Err(WorldFault::of(line));
     };
     let bytes = read_bytes(alloc, text, line)?;
     Ok(WaitingFile {

@@ -2,14 +2,16 @@
 
 ghost use Rattle.std.specs.Prelude.{◌≡◌, ◌+◌, ◌≤◌, IfErr, IfOk};
 ghost use Rattle.worlds.specs.Keywords.{IsHead};
-ghost use Rattle.worlds.specs.Lines.{IsOf, IsUpTo, line_count, line_ends};
+ghost use Rattle.worlds.specs.Lines.{IsOf, IsUpTo};
+ghost use Rattle.texts.specs.Lines.{line_count, line_ends};
 
 use crate::fault::WorldFault;
-use crate::line::Lines;
+use crate::line::take_line;
 use crate::read_keywords::read_keywords;
 use rules::options::{Cells, Options, Sides};
 use rules::sync_words::sync_ops;
 use std::alloc::{AllocError, Global};
+use texts::lines::Lines;
 
 /// What the run may do, from the next two lines and the keyword lines behind them.
 pub fn read_options(alloc: Global, lines: &mut Lines<'_>) -> Result<Options, WorldFault>
@@ -17,10 +19,10 @@ pub fn read_options(alloc: Global, lines: &mut Lines<'_>) -> Result<Options, Wor
     ensures count { line_count lines.new ≤ line_count lines.old }
     ensures fault { IfErr result (IsUpTo (line_count lines.old + 1)) }
 {
-    let line = lines.take(b"sync ")?;
-    let cells = read_cells(alloc, line.text)?.ok_or(line.fault())?;
-    let line = lines.take(b"expunge ")?;
-    let expunge = read_sides(line.text).ok_or(line.fault())?;
+    let line = take_line(lines, b"sync ")?;
+    let cells = read_cells(alloc, line.text)?.ok_or(WorldFault::of(line))?;
+    let line = take_line(lines, b"expunge ")?;
+    let expunge = read_sides(line.text).ok_or(WorldFault::of(line))?;
     let keywords = read_keywords(alloc, lines)?;
     Ok(Options {
         cells,

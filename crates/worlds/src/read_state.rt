@@ -1,14 +1,16 @@
 //! The lines `state` and `e` of a world.
 
 ghost use Rattle.std.specs.Prelude.{◌≡◌, ◌+◌, ◌≤◌, IfErr};
-ghost use Rattle.worlds.specs.Lines.{IsOf, IsUpTo, line_count, line_ends};
+ghost use Rattle.worlds.specs.Lines.{IsOf, IsUpTo};
+ghost use Rattle.texts.specs.Lines.{line_count, line_ends};
 
 use crate::fault::WorldFault;
-use crate::line::{Line, Lines};
+use crate::line::{pushed, take_line};
 use crate::words::{LAST_UID, read_flags, read_side, split_word};
 use rules::entry::{Entries, Entry};
 use rules::state::SyncState;
 use std::alloc::Global;
+use texts::lines::{Line, Lines};
 use texts::number::{read_number, read_u32};
 
 /// What the last run recorded, from the next lines.
@@ -16,8 +18,8 @@ pub fn read_state(alloc: Global, lines: &mut Lines<'_>) -> Result<SyncState, Wor
     ensures count { line_count lines.new ≤ line_count lines.old }
     ensures fault { IfErr result (IsUpTo (line_count lines.old + 1)) }
 {
-    let line = lines.take(b"state ")?;
-    let mut state = read_numbers(alloc, line.text).ok_or(line.fault())?;
+    let line = take_line(lines, b"state ")?;
+    let mut state = read_numbers(alloc, line.text).ok_or(WorldFault::of(line))?;
     if state.run > 0 {
         read_entries(&mut state.entries, lines)?;
     }
@@ -71,9 +73,9 @@ fn push_entry(entries: &mut Entries, line: Line<'_>) -> Result<(), WorldFault>
     ensures { IfErr result (IsOf line.entry.number) }
 {
     let Some(entry) = read_entry(line.text) else {
-        return Err(line.fault());
+        return Err(WorldFault::of(line));
     };
-    line.pushed(entries.push(entry))
+    pushed(line, entries.push(entry))
 }
 
 /// The entry of a line. Its flags may be such as have no name now.

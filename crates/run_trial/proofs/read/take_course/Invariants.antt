@@ -1,5 +1,5 @@
 use Rattle.std.proofs.Common.{◌≤◌, length}
-use Rattle.worlds.specs.Lines.{line_count}
+use Rattle.texts.specs.Lines.{line_count}
 use Rattle.run_trial.proofs.read.take_course.Given as goal
 
 abbrev pub invariant-loop-line : goal.invariant-loop-line

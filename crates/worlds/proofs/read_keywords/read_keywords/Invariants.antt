@@ -1,7 +1,7 @@
 use Rattle.std.proofs.Common.{◌≡◌, ◌+◌, ◌≤◌, length}
 use Rattle.mailcore.specs.KeywordNames.{IsMap}
 use Rattle.worlds.specs.Keywords.{keyword_lines}
-use Rattle.worlds.specs.Lines.{line_count}
+use Rattle.texts.specs.Lines.{line_count}
 use Rattle.worlds.proofs.read_keywords.read_keywords.Given as goal
 
 abbrev pub invariant-loop-line : goal.invariant-loop-line

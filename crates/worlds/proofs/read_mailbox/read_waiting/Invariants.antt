@@ -1,5 +1,5 @@
 use Rattle.std.proofs.Common.{◌≤◌, [], length, map}
-use Rattle.worlds.specs.Lines.{line_count}
+use Rattle.texts.specs.Lines.{line_count}
 use Rattle.worlds.specs.Worlds.{AreNamed, waiting_of}
 use Rattle.worlds.proofs.read_mailbox.read_waiting.Given as goal
 
