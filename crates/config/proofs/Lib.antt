@@ -1,4 +1,3 @@
-pub mod LineLemmas
 pub mod KeywordLemmas
 pub mod NameLemmas
 pub mod GroupLemmas

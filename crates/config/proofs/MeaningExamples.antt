@@ -7,7 +7,8 @@ use Rattle.config_words.specs.Meanings.{SectionIs, GroupIs, HostIs, PortIs, User
 use Rattle.config.specs.Configurations.{Meaning, Part, Parts, meaning_of, outside}
 use Rattle.config.specs.Sections.{ChannelMeaning, GroupMeaning, ImapMeaning, MaildirMeaning, everything, neither}
 use Rattle.config_words.specs.declared.fault.FaultKind.TheVariants.{KeywordGiven}
-use Rattle.config.specs.Standing.{faults_again, lines_of}
+use Rattle.config.specs.Standing.{faults_again}
+use Rattle.texts.specs.Lines.{lines_of}
 
 -- an empty BOX names no mailbox; STORE goes up to the next colon
 empty_box : said keyword.Near (codes ":n:" ∷ []) ≡ Some (NearIs (codes "n") None)

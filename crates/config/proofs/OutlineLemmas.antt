@@ -13,28 +13,7 @@ use Rattle.config_words.specs.declared.fault.FaultKind.TheVariants.{NoMemory}
 use Rattle.config_words.specs.Faults.{number_of}
 use Rattle.config_words.specs.Faults.{precedes}
 use Rattle.config.specs.Outlines.{IsToldOf, Tells, earlier, is_repeat}
-use Rattle.config.specs.Standing.{lines_of, no_lines, outlined, put_before}
-
--- ---- lines
-
-in_line : (b : ℕ) (bs : List ℕ) → b ≢ 10 → lines_of (b ∷ bs) ≡ put_before b (lines_of bs)
-in_line b bs other = ap (λ (t : Bool). cond t ([] ∷ lines_of bs) (put_before b (lines_of bs))) (ne_eqb b 10 other)
-
-pub first_line : (line rest : List ℕ) → All (λ b. b ≢ 10) line → lines_of (line ++ 10 ∷ rest) ≡ line ∷ lines_of rest
-first_line [] rest none = refl
-first_line (b ∷ line) rest none =
-    in_line b (line ++ 10 ∷ rest) (All-head (λ (x : ℕ). x ≢ 10) b line none)
-    ∙ ap (put_before b) (first_line line rest (All-tail (λ (x : ℕ). x ≢ 10) b line none))
-
-pub last_line : (b : ℕ) (line : List ℕ) → All (λ x. x ≢ 10) (b ∷ line) → lines_of (b ∷ line) ≡ (b ∷ line) ∷ []
-last_line b [] none = in_line b [] (All-head (λ (x : ℕ). x ≢ 10) b [] none)
-last_line b (c ∷ line) none =
-    in_line b (c ∷ line) (All-head (λ (x : ℕ). x ≢ 10) b (c ∷ line) none)
-    ∙ ap (put_before b) (last_line c line (All-tail (λ (x : ℕ). x ≢ 10) b (c ∷ line) none))
-
-pub only_line : (text : List ℕ) → All (λ x. x ≢ 10) text → 0 < length text → lines_of text ≡ text ∷ []
-only_line [] none some = absurd (omega arith)
-only_line (b ∷ line) none some = last_line b line none
+use Rattle.config.specs.Standing.{no_lines, outlined}
 
 -- one line more of all
 pub one_taken : (all : List (List ℕ)) (k : ℕ) (line : List ℕ) (rest : List (List ℕ)) → drop k all ≡ line ∷ rest → take (k + 1) all ≡ take k all ++ line ∷ []

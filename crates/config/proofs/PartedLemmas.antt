@@ -11,7 +11,7 @@ use Rattle.config.specs.Drafts.{place_of}
 use Rattle.config.specs.declared.reading.Reading.{Reading}
 use Rattle.config.specs.Accepted.{AcceptsAll, IsWhole}
 use Rattle.config.specs.Meant.{IsDrawn, IsMeant, Knows, TookLine}
-use Rattle.config.specs.Standing.{lines_of}
+use Rattle.texts.specs.Lines.{lines_of}
 use Rattle.config.proofs.OutlineLemmas.{all_taken, one_left, one_taken}
 use Rattle.config.specs.Configurations.{Means, Parts, channel_names, ended, ended_if, meaning_of, no_parts, parted, parted_words, placed}
 use Rattle.config.specs.Views.{Shows, View, view, ended_view}

@@ -10,7 +10,8 @@ use Rattle.config.specs.declared.reading.Reading.{Reading}
 use Rattle.config.specs.Drafts.{IsTaken, standing_of}
 use Rattle.config.specs.Outlines.{IsBehindWords, IsOutlined, IsToldOf, Tells, earlier, is_repeat}
 use Rattle.config_words.specs.Places.{closed}
-use Rattle.config.specs.Standing.{Outline, Standing, behind_line, behind_words, line_again, faults_again, lines_of, no_lines, outlined, standing_at, with_fault, words_again}
+use Rattle.config.specs.Standing.{Outline, Standing, behind_line, behind_words, line_again, faults_again, no_lines, outlined, standing_at, with_fault, words_again}
+use Rattle.texts.specs.Lines.{lines_of}
 use Rattle.config_words.specs.Words.{is_blank, words_of}
 use Rattle.config.proofs.OutlineLemmas.{all_taken, one_left, outlined_more, tells_again, tells_other}
 

@@ -7,7 +7,7 @@ use Rattle.config_words.specs.Meanings.{Said, SyncIs}
 use Rattle.config_words.specs.Words.{arguments_of, is_blank, is_plain, words_of}
 use Rattle.config.specs.Configurations.{Parts, no_parts, parted}
 use Rattle.config.specs.Sections.{line_said}
-use Rattle.config.specs.Standing.{lines_of}
+use Rattle.texts.specs.Lines.{lines_of}
 
 -- whether a word is a keyword that may stand at a place
 abbrev pub fits_named : Place → Option Keyword → Bool

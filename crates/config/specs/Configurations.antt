@@ -11,7 +11,7 @@ use Rattle.config_words.specs.Meanings.{Said}
 use Rattle.config_words.specs.Places.{is_section, opened}
 use Rattle.config_words.specs.Words.{is_blank, words_of}
 use Rattle.config.specs.Sections.{ChannelMeaning, GroupMeaning, ImapMeaning, MaildirMeaning, channel_of, group_of, imap_store_of, line_said, maildir_store_of, place_among, title_in}
-use Rattle.config.specs.Standing.{lines_of}
+use Rattle.texts.specs.Lines.{lines_of}
 
 -- ---- the sections of a text
 

@@ -16,6 +16,7 @@ use Rattle.config_words.specs.Places.{opened, closed}
 use Rattle.config_words.specs.Settings.{name_given}
 use Rattle.config_words.specs.Words.{arguments_of, is_blank, is_plain, words_of}
 use Rattle.config.specs.Sections.{keyword_in, line_said}
+use Rattle.texts.specs.Lines.{lines_of}
 
 -- IMAP stores and Maildir stores have their names apart; channels and groups share theirs. Keywords are given before any section, or in
 -- the channel that is open
@@ -126,15 +127,6 @@ abbrev pub line_again : List ℕ → Standing → Option FaultKind
 line_again line s = if is_blank line then None else words_again (words_of line) s
 
 -- ---- a whole text
-
--- its lines; an LF (10) ends a line, and so does the end of the text
-abbrev pub put_before : ℕ → List (List ℕ) → List (List ℕ)
-put_before b [] = (b ∷ []) ∷ []
-put_before b (line ∷ lines) = (b ∷ line) ∷ lines
-
-abbrev pub lines_of : List ℕ → List (List ℕ)
-lines_of [] = []
-lines_of (b ∷ bs) = if b == 10 then [] ∷ lines_of bs else put_before b (lines_of bs)
 
 -- how many lines there are so far, what is known behind them, and the faults of those that say again what stands above them
 pub record Outline : Type 0 where

@@ -6,7 +6,6 @@ pub mod config;
 mod draft;
 mod first;
 mod group;
-mod line;
 mod names;
 pub mod read;
 mod reading;

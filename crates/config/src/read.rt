@@ -1,17 +1,18 @@
 //! How a configuration is read from its text (docs/FORMATS.md, "Configuration").
 
-ghost use Rattle.std.specs.Prelude.{◌≡◌, ◌≢◌, [], IfErr, IfOk, MatchResult, OnOk};
+ghost use Rattle.std.specs.Prelude.{◌≡◌, ◌≢◌, [], length, IfErr, IfOk, MatchResult, OnOk};
 ghost use Rattle.config.specs.Accepted.{IsWhole};
 ghost use Rattle.config.specs.Configurations.{Means, text_meaning};
-ghost use Rattle.config.specs.Lines.{IsUpTo, line_count};
+ghost use Rattle.config.specs.Lines.{IsUpTo};
 ghost use Rattle.config.specs.Outlines.{IsToldOf};
 ghost use Rattle.config.specs.Standing.{faults_again};
+ghost use Rattle.texts.specs.Lines.{lines_of};
 
 use crate::config::Config;
-use crate::line::Lines;
 use crate::reading::Reading;
 use config_words::fault::{ConfigFault, FaultKind};
 use std::alloc::Global;
+use texts::lines::Lines;
 
 /// The configuration that a text gives. The fault names the first faulty line and what is wrong with it, and of several
 /// faults of that line the one with the lowest number. `NoMemory` comes in place of any answer where memory ran out.
@@ -21,7 +22,7 @@ use std::alloc::Global;
 /// comes before it is told. A configuration has just the stores, the channels and the groups that the lines say, and each
 /// group just its channels; and no line is passed over but empty ones and comments.
 pub fn read_config(alloc: Global, text: &[u8]) -> Result<Config, ConfigFault>
-    ensures lines { IfErr result (IsUpTo (line_count text.now)) }
+    ensures lines { IfErr result (IsUpTo (length (lines_of text.now))) }
     ensures again { MatchResult result (λ config. faults_again text.now ≡ [])
         (λ fault. fault.kind ≢ FaultKind.NoMemory → IsToldOf (faults_again text.now) fault) }
     ensures means { IfOk result (Means (text_meaning text.now)) }
@@ -29,7 +30,7 @@ pub fn read_config(alloc: Global, text: &[u8]) -> Result<Config, ConfigFault>
 {
     let mut reading = Reading::new(alloc);
     let mut lines = Lines::new(text);
-    while let Some(line) = lines.take() {
+    while let Some(line) = lines.next_or_last() {
         match reading.read(line) {
             Ok(()) => {}
             Err(_) => return Err(no_memory(line.number)),

@@ -14,10 +14,10 @@ ghost use Rattle.config.specs.Standing.{Outline, no_lines, outlined, standing_at
 use crate::config::Config;
 use crate::draft::Draft;
 use crate::first::first_of;
-use crate::line::Line;
 use config_words::fault::{ConfigFault, FaultKind};
 use config_words::words::LineKind;
 use std::alloc::{AllocError, Global};
+use texts::lines::Line;
 
 /// What is known of the lines so far.
 #[derive(Drop)]

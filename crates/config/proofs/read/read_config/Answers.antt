@@ -1,7 +1,7 @@
-use Rattle.std.proofs.Common.{◌∙◌, ℕ, List, ap, arith, subst, sym}
-use Rattle.config.specs.Lines.{line_count}
+use Rattle.std.proofs.Common.{◌∙◌, ℕ, List, length, ap, arith, subst, sym}
 use Rattle.config.specs.Readings.{IsRead}
-use Rattle.config.specs.Standing.{faults_again, lines_of}
+use Rattle.config.specs.Standing.{faults_again}
+use Rattle.texts.specs.Lines.{lines_of}
 use Rattle.std.specs.Prelude.{fold}
 use Rattle.config.specs.Configurations.{no_parts, parted}
 use Rattle.config.proofs.PartedLemmas.{all_accepted, all_parted, first_parted, more_parted}
@@ -11,7 +11,7 @@ use Rattle.config.proofs.read.read_config.Goals as goal
 pub loop-line-init : goal.loop-line-init
 loop-line-init c = (
   subst (λ (n : ℕ). IsRead n c.new-reading.result) (sym c.new-lines.ensures.0) c.new-reading.ensures.read,
-  omega (arith, c.new-lines.ensures.0, ap (λ (t : List ℕ). line_count t) c.new-lines.ensures.1),
+  omega (arith, c.new-lines.ensures.0, ap (λ (t : List ℕ). length (lines_of t)) c.new-lines.ensures.1),
   first_so_far c.args.text.now c.new-lines.result.rest.now c.new-lines.result.taken c.new-reading.result c.new-lines.ensures.0 c.new-lines.ensures.1
       c.new-reading.ensures.outlined,
   first_parted c.args.text.now c.new-lines.result.rest.now c.new-lines.result.taken c.new-reading.result c.new-lines.ensures.0 c.new-lines.ensures.1
@@ -20,13 +20,13 @@ loop-line-init c = (
 
 pub loop-line-preserved : goal.loop-line-preserved
 loop-line-preserved c = (
-  subst (λ (n : ℕ). IsRead n c.read.new.self) (c.in-Some.ensures.number.0 ∙ sym c.in-Some.ensures.number.1) c.in-Ok.ensures.read,
-  c.in-Some.ensures.count ∙ c.loop-line.invariant.1,
-  more_so_far c.args.text.now c.loop-line.lines.taken c.take.new.self.taken c.in-Some.line.number c.in-Some.line.text.now c.loop-line.lines.rest.now
-      c.take.new.self.rest.now c.loop-line.reading c.read.new.self c.loop-line.invariant.2 c.in-Some.ensures.number.1 c.in-Some.ensures.number.0
+  subst (λ (n : ℕ). IsRead n c.read.new.self) (c.in-Some.ensures.taken.0 ∙ sym c.in-Some.ensures.taken.1) c.in-Ok.ensures.read,
+  omega (arith, ap length c.in-Some.ensures.line, c.in-Some.ensures.taken.1, c.loop-line.invariant.1),
+  more_so_far c.args.text.now c.loop-line.lines.taken c.next_or_last.new.self.taken c.in-Some.line.number c.in-Some.line.text.now c.loop-line.lines.rest.now
+      c.next_or_last.new.self.rest.now c.loop-line.reading c.read.new.self c.loop-line.invariant.2 c.in-Some.ensures.taken.1 c.in-Some.ensures.taken.0
       c.in-Some.ensures.line c.in-Ok.ensures.outlined,
-  more_parted c.args.text.now c.loop-line.lines.taken c.take.new.self.taken c.in-Some.line.text.now c.loop-line.lines.rest.now c.take.new.self.rest.now
-      c.loop-line.reading c.read.new.self c.loop-line.invariant.3 c.in-Some.ensures.number.1 c.in-Some.ensures.line c.in-Ok.ensures.meant c.in-Ok.ensures.took,
+  more_parted c.args.text.now c.loop-line.lines.taken c.next_or_last.new.self.taken c.in-Some.line.text.now c.loop-line.lines.rest.now c.next_or_last.new.self.rest.now
+      c.loop-line.reading c.read.new.self c.loop-line.invariant.3 c.in-Some.ensures.taken.1 c.in-Some.ensures.line c.in-Ok.ensures.meant c.in-Ok.ensures.took,
 )
 
 pub returns-in-Ok-finish-clause-again : goal.returns-in-Ok-finish-clause-again
