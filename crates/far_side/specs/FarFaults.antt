@@ -4,15 +4,16 @@ use Rattle.imap_link.specs.declared.fault.FarFault.{FarFault}
 use Rattle.imap_link.specs.declared.fault.FarFault.TheVariants as far
 use Rattle.mailbox.specs.declared.fault.BoxFault.{BoxFault}
 use Rattle.mailbox.specs.declared.fault.BoxFault.TheVariants.{Stopped, Refused, Own, NoMemory}
+use Rattle.mailbox.specs.FaultNumbers.{FAR_UNKNOWN_ANSWER, FAR_TOO_LONG, FAR_NO_REV2, FAR_READ_ONLY}
 
--- those that are its own have the numbers 3 to 6
+-- those that are its own have numbers
 abbrev pub told : FarFault → BoxFault
 told far.Stopped = Stopped
 told far.Refused = Refused
-told far.Protocol = Own 3
-told far.TooLong = Own 4
-told far.NoRev2 = Own 5
-told far.ReadOnly = Own 6
+told far.Protocol = Own FAR_UNKNOWN_ANSWER
+told far.TooLong = Own FAR_TOO_LONG
+told far.NoRev2 = Own FAR_NO_REV2
+told far.ReadOnly = Own FAR_READ_ONLY
 told far.NoMemory = NoMemory
 
 abbrev pub told_by : {T : Type 0} → Result T FarFault → Result T BoxFault

@@ -6,4 +6,4 @@ mod entering;
 pub mod far_side;
 pub mod logged_in;
 mod stage;
-mod told;
+pub mod told;

@@ -5,18 +5,19 @@ ghost use Rattle.far_side.specs.FarFaults.{told, told_by};
 
 use imap_link::fault::FarFault;
 use mailbox::fault::BoxFault;
+use mailbox::fault_number::{FAR_NO_REV2, FAR_READ_ONLY, FAR_TOO_LONG, FAR_UNKNOWN_ANSWER};
 
-/// How a fault of the far box is told: those that are its own have the numbers 3 to 6.
-pub(crate) fn told(fault: FarFault) -> BoxFault
+/// How a fault of the far mailbox is reported: those that are its own by their numbers.
+pub fn told(fault: FarFault) -> BoxFault
     ensures { result ≡ told fault }
 {
     match fault {
         FarFault::Stopped => BoxFault::Stopped,
         FarFault::Refused => BoxFault::Refused,
-        FarFault::Protocol => BoxFault::Own(3),
-        FarFault::TooLong => BoxFault::Own(4),
-        FarFault::NoRev2 => BoxFault::Own(5),
-        FarFault::ReadOnly => BoxFault::Own(6),
+        FarFault::Protocol => BoxFault::Own(FAR_UNKNOWN_ANSWER),
+        FarFault::TooLong => BoxFault::Own(FAR_TOO_LONG),
+        FarFault::NoRev2 => BoxFault::Own(FAR_NO_REV2),
+        FarFault::ReadOnly => BoxFault::Own(FAR_READ_ONLY),
         FarFault::NoMemory => BoxFault::NoMemory,
     }
 }

@@ -2,7 +2,10 @@
 
 use channels::store_fault::{ListFault, ServerFault, StoreFault};
 use config::config::ImapStore;
+use far_side::told::told;
 use imap_link::fault::FarFault;
+use mailbox::fault::BoxFault;
+use mailbox::fault_number::FAR_REFUSED;
 use mailcore::side::Side;
 use near_places::lock::LockFault;
 use near_places::refusal::Refusal;
@@ -51,14 +54,11 @@ pub(crate) fn unreached(alloc: Global, store: &ImapStore, why: Option<ServerFaul
 
 /// A far mailbox that is not made: a fault of the far box by its number.
 pub(crate) fn make_fault(fault: FarFault) -> StoreFault {
-    let fault = match fault {
-        FarFault::Stopped => RunFault::Stopped,
-        FarFault::Refused => RunFault::StoreFault(Side::Far, 2),
-        FarFault::Protocol => RunFault::StoreFault(Side::Far, 3),
-        FarFault::TooLong => RunFault::StoreFault(Side::Far, 4),
-        FarFault::NoRev2 => RunFault::StoreFault(Side::Far, 5),
-        FarFault::ReadOnly => RunFault::StoreFault(Side::Far, 6),
-        FarFault::NoMemory => RunFault::NoMemory,
+    let fault = match told(fault) {
+        BoxFault::Stopped => RunFault::Stopped,
+        BoxFault::Refused => RunFault::StoreFault(Side::Far, FAR_REFUSED),
+        BoxFault::Own(number) => RunFault::StoreFault(Side::Far, number),
+        BoxFault::NoMemory => RunFault::NoMemory,
     };
     StoreFault::Box(fault)
 }

@@ -10,6 +10,7 @@ use crate::box_condition::{BoxCall, BoxCondition};
 use crate::kind::{Kind, OfFar, OfNear};
 use crate::mem_store::{MemStore, name_flags};
 use mailbox::fault::BoxFault;
+use mailbox::fault_number::NEAR_UIDS_EXHAUSTED;
 use mailbox::mailbox::Mailbox;
 use mailcore::copy_pieces::CopyPieces;
 use mailcore::flags::Flags;
@@ -150,7 +151,7 @@ fn is_full(side: Side) -> BoxFault
 {
     match side {
         Side::Far => BoxFault::Refused,
-        Side::Near => BoxFault::Own(5),
+        Side::Near => BoxFault::Own(NEAR_UIDS_EXHAUSTED),
     }
 }
 

@@ -4,14 +4,15 @@ use Rattle.near_box.specs.declared.near_fault.NearFault.{NearFault}
 use Rattle.near_box.specs.declared.near_fault.NearFault.TheVariants as near
 use Rattle.mailbox.specs.declared.fault.BoxFault.{BoxFault}
 use Rattle.mailbox.specs.declared.fault.BoxFault.TheVariants.{Stopped, Own, NoMemory}
+use Rattle.mailbox.specs.FaultNumbers.{NEAR_ABSENT, NEAR_TWO_WITH_ONE_UID, NEAR_BAD_META, NEAR_UIDS_EXHAUSTED}
 
--- those that are its own have the numbers 2 to 5
+-- those that are its own have numbers
 abbrev pub told : NearFault → BoxFault
 told near.Stopped = Stopped
-told near.Absent = Own 2
-told near.TwoWithOneUid = Own 3
-told near.BadMeta = Own 4
-told near.UidsExhausted = Own 5
+told near.Absent = Own NEAR_ABSENT
+told near.TwoWithOneUid = Own NEAR_TWO_WITH_ONE_UID
+told near.BadMeta = Own NEAR_BAD_META
+told near.UidsExhausted = Own NEAR_UIDS_EXHAUSTED
 told near.NoMemory = NoMemory
 
 abbrev pub told_by : {T : Type 0} → Result T NearFault → Result T BoxFault

@@ -12,6 +12,7 @@ use Rattle.mailcore.specs.Mailboxes.{Mailbox}
 use Rattle.near_box.specs.Mailboxes.{near_of}
 use Rattle.near_box.specs.NearCalls.{stops_of}
 use Rattle.near_box.specs.NearContracts.{TellsWhy}
+use Rattle.mailbox.specs.FaultNumbers.{NEAR_ABSENT, NEAR_TWO_WITH_ONE_UID, NEAR_BAD_META}
 use Rattle.mailbox.specs.declared.fault.BoxFault.{BoxFault}
 use Rattle.mailbox.specs.declared.fault.BoxFault.TheVariants.{Stopped, Refused, Own, NoMemory}
 use Rattle.mailbox.specs.Arrivals.{Arrives}
@@ -42,7 +43,7 @@ module _ {F : Type 0} {folders : folder.Ghosts F} where
   Unfit side Refused = ⊥
   Unfit side (Own number) =
       let why = TellsWhy (non_zero_u32_get side.fresh) (stored_in side.near) in
-      ((number ≡ 2) × why Absent) ⊎ (((number ≡ 3) × why TwoWithOneUid) ⊎ ((number ≡ 4) × why BadMeta))
+      ((number ≡ NEAR_ABSENT) × why Absent) ⊎ (((number ≡ NEAR_TWO_WITH_ONE_UID) × why TwoWithOneUid) ⊎ ((number ≡ NEAR_BAD_META) × why BadMeta))
   Unfit side NoMemory = ⊥
 
   -- a call: others may have added files to the folder, and the other end, which is the folder, ends nothing

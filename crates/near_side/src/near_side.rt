@@ -2,6 +2,7 @@
 
 ghost use Rattle.std.specs.Prelude.{◌≡◌, ◌+◌, true, false, length, IfErr, IfOk, IsErrOf, OnOk};
 ghost use Rattle.std.specs.Int.NonZero.{non_zero_u32_get};
+ghost use Rattle.mailbox.specs.FaultNumbers.{NEAR_UIDS_EXHAUSTED};
 
 use crate::told::{told, told_by};
 use mailbox::fault::BoxFault;
@@ -145,7 +146,7 @@ impl<F: Folder + Drop> Mailbox for NearSide<F> {
         requires copy { IsCopyText Near (text_left copy) }
         ensures keywords { self.new.near.keywords ≡ self.old.near.keywords }
         ensures open { self.new.is_open ≡ true }
-        ensures full { F.is_honest ≡ true → IsFull 1 (seen_of self.old).stored → IsErrOf result (BoxFault.Own 5) }
+        ensures full { F.is_honest ≡ true → IsFull 1 (seen_of self.old).stored → IsErrOf result (BoxFault.Own NEAR_UIDS_EXHAUSTED) }
         ensures call { Calls (NoRoom Near (λ _. 1)) (Appends Near (text_left copy.entry) (kept self.old.near.keywords flags)) SetsAside self.old self.new result }
     {
         match self.near.append_copy(copy, flags) {
@@ -172,7 +173,7 @@ impl<F: Folder + Drop> Mailbox for NearSide<F> {
         ensures keywords { self.new.near.keywords ≡ self.old.near.keywords }
         ensures open { self.new.is_open ≡ true }
         ensures full { F.is_honest ≡ true → (let b = (seen_of self.old).stored in IsFull (length b.waiting) b)
-            → IsErrOf result (BoxFault.Own 5) }
+            → IsErrOf result (BoxFault.Own NEAR_UIDS_EXHAUSTED) }
         ensures call { CallsAdmit self.old self.new result }
     {
         told_by(self.near.admit())
