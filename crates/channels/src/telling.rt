@@ -17,11 +17,9 @@ use crate::verdict::Verdict;
 use config::config::Channel;
 use mailcore::mailbox_name::MailboxName;
 use mailcore::side::Side;
-use reports::fault_text::FaultText;
 use runner::fault::RunFault;
 use std::io::Write;
 use std::{fmt, io};
-use worlds::plan_lines::side_word;
 
 /// Prints which mailbox is listed, or synchronised from now on.
 pub(crate) fn print_box<O: Write>(
@@ -124,18 +122,16 @@ struct BoxFaultText<'a>(&'a BoxFault);
 impl fmt::Display for BoxFaultText<'_> {
     fn fmt<W: fmt::Write>(&self, f: &mut fmt::Formatter<W>) -> fmt::Result {
         match self.0 {
-            BoxFault::Absent(side) | BoxFault::Removed(side) => {
-                write!(f, "absent {}", side_word(*side))
-            }
+            BoxFault::Absent(side) | BoxFault::Removed(side) => write!(f, "absent {side}"),
             BoxFault::CannotOpen(name) | BoxFault::Server(name, _) => {
                 write!(f, "cannot open {name}")
             }
             BoxFault::Locked => f.write_str("locked"),
             BoxFault::Refused(number, _) => write!(f, "refused step {number}"),
-            BoxFault::Stopped(_) => write!(f, "{}", FaultText(RunFault::Stopped)),
-            BoxFault::GivenAgain(_) => write!(f, "{}", FaultText(RunFault::BadState(0))),
+            BoxFault::Stopped(_) => write!(f, "{}", RunFault::Stopped),
+            BoxFault::GivenAgain(_) => write!(f, "{}", RunFault::BadState(0)),
             BoxFault::LeftOut(path) => write!(f, "left out {path}"),
-            BoxFault::Run(fault) => write!(f, "{}", FaultText(*fault)),
+            BoxFault::Run(fault) => write!(f, "{fault}"),
         }
     }
 }

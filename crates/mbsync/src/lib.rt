@@ -59,9 +59,8 @@ pub use runner::settle::settle;
 
 // ---- What is told of a run
 
-/// The text of an answer, of a performed step, and of a fault.
+/// The text of an answer and of a performed step; a `RunFault` prints itself.
 pub use reports::answer::answer_text;
-pub use reports::fault_text::FaultText;
 pub use reports::performed::PerformedLine;
 
 // ---- The programs

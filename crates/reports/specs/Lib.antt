@@ -1,2 +1,1 @@
-pub mod FaultTexts
 pub mod Answers

@@ -1,6 +1,5 @@
-//! What the programs print of a run: what became of its steps, and why it was not finished.
+//! What the programs print of a run: what became of its steps, and what it answers.
 #![tactic(auto)]
 
 pub mod answer;
-pub mod fault_text;
 pub mod performed;

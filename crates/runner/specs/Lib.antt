@@ -1,4 +1,5 @@
 pub mod Faults
+pub mod FaultTexts
 pub mod Parts
 pub mod Going
 pub mod Before

@@ -3,42 +3,59 @@
 ghost use Rattle.std.specs.Prelude.{◌≡◌};
 ghost use Rattle.runner.specs.Faults as spec;
 
+use mailbox::fault_number::FAR_REFUSED;
 use mailcore::side::Side;
 use outside::fault::OutsideFault;
-use thiserror::Error;
+use std::error::Error;
+use std::fmt;
 
 /// Why a run was not finished. After each it can be taken up again, once the outside was reopened.
-#[derive(Clone, Copy, Debug, PartialEq, Eq, Error)]
+#[derive(Clone, Copy, Debug, PartialEq, Eq)]
 pub enum RunFault {
     /// A call was stopped.
-    #[error("stopped")]
     Stopped,
     /// The far mailbox said no to the step of this number, counted from 1.
-    #[error("refused step {0}")]
     Refused(usize),
     /// The UIDVALIDITY of this side's mailbox is not the one that the journal or else the state names.
-    #[error("validity changed {0:?}")]
     ValidityChanged(Side),
     /// The state is not spelled so, from this line on. Line 0: the run's number is not the next one, or the UID of a copy is taken.
-    #[error("bad state {0}")]
     BadState(usize),
     /// The journal is bad, from this line on.
-    #[error("bad journal {0}")]
     BadJournal(usize),
     /// Another fault of this side's box, by its number. Number 2 of the far box is also told where it said no to a call that performs no
     /// step, and number 3 where a copy was made whose UID was not told, and no message bears its mark.
-    #[error("store fault {0:?} {1}")]
     StoreFault(Side, u8),
     /// 64 marks in a row had been drawn already.
-    #[error("marks repeat")]
     MarksRepeat,
     /// A growth was refused.
-    #[error("no memory")]
     NoMemory,
     /// A plan of this run is pending, and by its map keywords have other letters than by the one handed in.
-    #[error("keywords changed")]
     KeywordsChanged,
 }
+
+/// A fault as `mbsync` prints it, without an end of line (docs/FORMATS.md, "Lines of `mbsync`").
+impl fmt::Display for RunFault {
+    ghost use Rattle.std.specs.Prelude.{Some};
+    ghost use Rattle.runner.specs.FaultTexts.{fault_text};
+
+    ghost output = { λ fault. Some (fault_text fault) };
+
+    fn fmt<W: fmt::Write>(&self, f: &mut fmt::Formatter<W>) -> fmt::Result {
+        match *self {
+            RunFault::Stopped => f.write_str("stopped"),
+            RunFault::Refused(step) => write!(f, "refused step {step}"),
+            RunFault::ValidityChanged(side) => write!(f, "validity changed {side}"),
+            RunFault::BadState(line) => write!(f, "bad state {line}"),
+            RunFault::BadJournal(line) => write!(f, "bad journal {line}"),
+            RunFault::StoreFault(side, number) => write!(f, "store fault {side} {number}"),
+            RunFault::MarksRepeat => f.write_str("marks repeat"),
+            RunFault::NoMemory => f.write_str("no memory"),
+            RunFault::KeywordsChanged => f.write_str("keywords changed"),
+        }
+    }
+}
+
+impl Error for RunFault {}
 
 /// How a fault of the outside is told while no step is performed.
 pub(crate) fn call_fault(fault: OutsideFault) -> RunFault
@@ -46,7 +63,7 @@ pub(crate) fn call_fault(fault: OutsideFault) -> RunFault
 {
     match fault {
         OutsideFault::Stopped => RunFault::Stopped,
-        OutsideFault::Refused => RunFault::StoreFault(Side::Far, 2),
+        OutsideFault::Refused => RunFault::StoreFault(Side::Far, FAR_REFUSED),
         OutsideFault::Box(side, number) => RunFault::StoreFault(side, number),
         OutsideFault::BadState(line) => RunFault::BadState(line),
         OutsideFault::BadJournal(line) => RunFault::BadJournal(line),

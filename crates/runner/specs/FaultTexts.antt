@@ -1,9 +1,9 @@
--- How `mbsync` tells why a run was not finished.
+-- How `mbsync` prints why a run was not finished.
 use Rattle.std.specs.Prelude.{ℕ, List, ◌++◌, codes}
 use Rattle.std.specs.Fmt.{decimal}
 use Rattle.runner.specs.declared.fault.RunFault.{RunFault}
 use Rattle.runner.specs.declared.fault.RunFault.TheVariants.{Stopped, Refused, ValidityChanged, BadState, BadJournal, StoreFault, MarksRepeat, NoMemory, KeywordsChanged}
-use Rattle.worlds.specs.Words.{side_word}
+use Rattle.mailcore.specs.Words.{side_word}
 
 abbrev pub fault_text : RunFault → List ℕ
 fault_text Stopped = codes "stopped"
