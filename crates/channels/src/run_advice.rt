@@ -1,11 +1,12 @@
 //! What is told behind a fault of a run, on a line that begins with two spaces.
 
+use mailbox::fault_number;
 use mailcore::side::{Direction, Side};
+use plan_lines::StepLine;
 use rules::plan::Step;
 use runner::fault::RunFault;
 use std::io;
 use std::io::Write;
-use worlds::plan_lines::StepLine;
 
 /// Tells what a fault of a run means, and where the manual page says what to do.
 pub(crate) fn advise_run<E: Write>(err: &mut E, fault: RunFault) -> io::Result<()> {
@@ -78,20 +79,22 @@ fn changed_validity(side: Side) -> &'static str {
 /// What a fault of a side's mailbox means, by its number.
 fn store_fault(side: Side, number: u8) -> &'static str {
     match (side, number) {
-        (Side::Far, 2) =>
+        (Side::Far, fault_number::FAR_REFUSED) =>
             "the server refused a command that is not about a message, such as SELECT or CREATE",
-        (Side::Far, 3) => "mbsync does not understand the server's answer",
-        (Side::Far, 4) => "the server's answer is too long",
-        (Side::Far, 5) => "the server does not offer IMAP4rev2, which mbsync needs",
-        (Side::Far, 6) =>
+        (Side::Far, fault_number::FAR_UNKNOWN_ANSWER) =>
+            "mbsync does not understand the server's answer",
+        (Side::Far, fault_number::FAR_TOO_LONG) => "the server's answer is too long",
+        (Side::Far, fault_number::FAR_NO_REV2) =>
+            "the server does not offer IMAP4rev2, which mbsync needs",
+        (Side::Far, fault_number::FAR_READ_ONLY) =>
             "the mailbox is read-only, or the server does not store one of its flags or keywords",
-        (Side::Near, 2) => "cur, new or tmp is missing",
-        (Side::Near, 3) =>
+        (Side::Near, fault_number::NEAR_ABSENT) => "cur, new or tmp is missing",
+        (Side::Near, fault_number::NEAR_TWO_WITH_ONE_UID) =>
             "two files have one UID: the manual page says how to find them under \"How to recover\"",
-        (Side::Near, 4) => {
+        (Side::Near, fault_number::NEAR_BAD_META) => {
             ".uidvalidity is damaged, too low, or missing beside files with UIDs: the manual page says what to do under \"How to recover\""
         }
-        (Side::Near, 5) => "no UID is left",
+        (Side::Near, fault_number::NEAR_UIDS_EXHAUSTED) => "no UID is left",
         _ => "the mailbox has another fault",
     }
 }

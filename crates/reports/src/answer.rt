@@ -6,10 +6,10 @@ ghost use Rattle.reports.specs.Answers.{answer_word};
 use crate::performed::PerformedLine;
 use mailcore::side::Side;
 use mailcore::uid::Uid;
+use plan_lines::UnfitLine;
 use runner::pass::Pass;
 use runner::performed::Performed;
 use std::alloc::{AllocError, Global};
-use worlds::plan_lines::UnfitLine;
 
 /// How an answer is told.
 pub fn answer_word(pass: &Pass) -> &'static str

@@ -1,9 +1,9 @@
 //! The lines of what became of a run's steps (docs/FORMATS.md, "Performed lines").
 
+use plan_lines::StepLine;
 use rules::plan::Step;
 use runner::performed::{Performed, StepResult};
 use std::fmt;
-use worlds::plan_lines::{StepLine, direction_word};
 
 /// A step that was performed, as a line without its end.
 #[derive(Clone, Copy)]
@@ -36,7 +36,6 @@ impl fmt::Display for SourceLine<'_> {
         let word = self.0;
         match *self.1 {
             Step::New { direction, uid, .. } => {
-                let direction = direction_word(direction);
                 let uid = uid.get();
                 write!(f, "{word} {direction} {uid}")
             }

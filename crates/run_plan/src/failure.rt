@@ -10,7 +10,6 @@ use std::io;
 use std::io::ErrorKind;
 use thiserror::Error;
 use worlds::fault::WorldFault;
-use worlds::plan_lines::side_word;
 
 /// Why there is no plan, as the program tells it.
 #[derive(Clone, Copy, Debug, PartialEq, Eq, Error)]
@@ -21,7 +20,7 @@ pub(crate) enum Failure {
     Input,
     #[error("world line {0}")]
     World(usize),
-    #[error("validity changed {}", side_word(*.0))]
+    #[error("validity changed {0}")]
     ValidityChanged(Side),
     #[error("marks repeat")]
     MarksRepeat,

@@ -21,7 +21,6 @@ use runner::performed::Performed;
 use std::alloc::{AllocError, Global};
 use std::num::NonZeroU32;
 use test_scripts::told::Told;
-use worlds::plan_lines::side_word;
 
 /// Everything is propagated, and nothing is expunged. Only the six flags have a name.
 fn everything(alloc: Global) -> Options
@@ -133,7 +132,7 @@ fn tell_fault(told: &mut Told, fault: RunFault) {
 fn tell_side(told: &mut Told, name: &str, side: Side) {
     told.text(name);
     told.text(" ");
-    told.text(side_word(side));
+    told.text(side.as_str());
 }
 
 fn tell_number(told: &mut Told, name: &str, number: u64) {

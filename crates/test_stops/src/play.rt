@@ -10,7 +10,6 @@ use test_scripts::play::{Player, play_all};
 use test_scripts::script::Script;
 use test_scripts::told::Told;
 use test_scripts::words::Words;
-use worlds::plan_lines::side_word;
 use worlds::world::World;
 
 /// Plays the stopped runs of a script.
@@ -133,7 +132,7 @@ fn sweep_over(
 
 fn tell(told: &mut Told, unlike: Unlike) {
     if let Some(side) = unlike.side() {
-        told.text(side_word(side));
+        told.text(side.as_str());
         told.text(": ");
     }
     told.text(unlike.text());

@@ -3,12 +3,12 @@
 use crate::alike::{Ends, Unlike, alike};
 use crate::stop::{APPEND, CALLS, Halt, Moment};
 use crate::world::{end_of, world_of};
+use mailcore::side::Side;
 use run_trial::run::{Request, run_trial};
 use std::alloc::Global;
 use test_scripts::failure::Failure;
 use test_scripts::told::Told;
 use texts::cut::cut;
-use worlds::plan_lines::side_word;
 use worlds::world::World;
 
 /// No run of a world here makes so many calls of one name.
@@ -79,7 +79,7 @@ impl<'a> Sweep<'a> {
             return Ok(false);
         }
         if let Some(unlike) = self.unlike(run)? {
-            tell(told, stops, unlike.side().map(side_word), unlike.text());
+            tell(told, stops, unlike.side().map(Side::as_str), unlike.text());
         }
         let is_met = run.stops == Some(count);
         if is_met {

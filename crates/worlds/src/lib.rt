@@ -1,10 +1,9 @@
-//! Worlds, the texts that hold two mailboxes and a state: how they are read, and how the lines of a plan are written.
+//! Worlds, the texts that hold two mailboxes and a state, and how they are read.
 #![tactic(auto)]
 
 pub mod fault;
 pub mod line;
 pub mod listed;
-pub mod plan_lines;
 pub mod read;
 mod read_keywords;
 pub mod read_mailbox;

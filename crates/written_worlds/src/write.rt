@@ -9,11 +9,11 @@ use mailcore::keywords::{Keyword, Keywords};
 use mailcore::mailbox::{Mailbox, Message};
 use mailcore::octets::Octets;
 use mailcore::side::Side;
+use plan_lines::FlagsWord;
 use rules::options::{Cells, Options, Sides};
 use rules::state::SyncState;
 use std::alloc::AllocError;
 use texts::escape::push_escaped;
-use worlds::plan_lines::{FlagsWord, side_word};
 use worlds::world::{WaitingFile, World};
 
 /// Adds the text of a world.
@@ -147,13 +147,7 @@ fn write_mailbox(
         Side::Far => 'f',
         Side::Near => 'n',
     };
-    writeln!(
-        text,
-        "{} {} {}",
-        side_word(side),
-        mailbox.validity,
-        mailbox.next
-    )?;
+    writeln!(text, "{side} {} {}", mailbox.validity, mailbox.next)?;
     for message in mailbox.messages {
         let uid = message.uid.get();
         write!(text, "{letter} {uid} {} ", FlagsWord(message.flags))?;

@@ -1,34 +1,13 @@
-//! The lines of a plan: steps, notes and unfit messages as they are printed (docs/FORMATS.md, "Plan lines").
-
-ghost use Rattle.std.specs.Prelude.{◌≡◌};
-ghost use Rattle.worlds.specs.Words.{direction_word, side_word};
+//! The lines of a plan as they are printed: a step that a run performs, a note that it records, and a message that cannot be copied
+//! (docs/FORMATS.md, "Plan lines"). `mbplan` prints the lines of a whole plan, and `mbsync` those of the steps that it performs.
+#![tactic(auto)]
 
 use itoa::Buffer;
 use mailcore::flags::Flags;
-use mailcore::side::{Direction, Side};
+use mailcore::side::Side;
 use mailcore::uid::Uid;
 use rules::plan::{Note, Step};
 use std::fmt;
-
-/// How a direction is written.
-pub fn direction_word(direction: Direction) -> &'static str
-    ensures { result.now ≡ direction_word direction }
-{
-    match direction {
-        Direction::Pull => "pull",
-        Direction::Push => "push",
-    }
-}
-
-/// How a side is written.
-pub fn side_word(side: Side) -> &'static str
-    ensures { result.now ≡ side_word side }
-{
-    match side {
-        Side::Far => "far",
-        Side::Near => "near",
-    }
-}
 
 /// A step as a line without its end. A plan has one for each step: written part by part, and its numbers by `itoa`, it takes
 /// a fifth less than by `write!`.
@@ -40,7 +19,7 @@ impl fmt::Display for StepLine<'_> {
         match *self.0 {
             Step::New { direction, uid, .. } => {
                 f.write_str("new ")?;
-                f.write_str(direction_word(direction))?;
+                f.write_str(direction.as_str())?;
                 write_number(f, uid.get())
             }
             Step::Gone {
@@ -49,7 +28,7 @@ impl fmt::Display for StepLine<'_> {
                 near,
             } => {
                 f.write_str("gone ")?;
-                f.write_str(direction_word(direction))?;
+                f.write_str(direction.as_str())?;
                 write_pair(f, far.get(), near.get())
             }
             Step::Flags {
@@ -60,14 +39,14 @@ impl fmt::Display for StepLine<'_> {
                 cleared,
             } => {
                 f.write_str("flags ")?;
-                f.write_str(direction_word(direction))?;
+                f.write_str(direction.as_str())?;
                 write_pair(f, far.get(), near.get())?;
                 write_change(f, " +", set)?;
                 write_change(f, " -", cleared)
             }
             Step::Expunge { side, uid } => {
                 f.write_str("expunge ")?;
-                f.write_str(side_word(side))?;
+                f.write_str(side.as_str())?;
                 write_number(f, uid.get())
             }
         }
@@ -104,7 +83,7 @@ pub struct UnfitLine(pub Side, pub Uid);
 impl fmt::Display for UnfitLine {
     fn fmt<W: fmt::Write>(&self, f: &mut fmt::Formatter<W>) -> fmt::Result {
         f.write_str("unfit ")?;
-        f.write_str(side_word(self.0))?;
+        f.write_str(self.0.as_str())?;
         write_number(f, self.1.get())
     }
 }
