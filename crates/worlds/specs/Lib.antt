@@ -2,5 +2,4 @@ pub mod Admission
 pub mod Keywords
 pub mod Lines
 pub mod Trial
-pub mod Words
 pub mod Worlds

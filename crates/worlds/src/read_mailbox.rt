@@ -9,7 +9,7 @@ ghost use Rattle.worlds.specs.Worlds.{AreNamed, waiting_of};
 
 use crate::fault::WorldFault;
 use crate::line::{pushed, take_line};
-use crate::words::{read_named, read_positive, read_uid, split_word};
+use crate::words::{read_named, split_word};
 use crate::world::{Waiting, WaitingFile};
 use mailcore::fault::PushFault;
 use mailcore::flags::Flags;
@@ -19,6 +19,7 @@ use mailcore::mailbox_name::MailboxName;
 use mailcore::octets::Octets;
 use mailcore::side::Side;
 use mailcore::uid::Uid;
+use mailcore::words::{read_positive, read_uid};
 use memchr::memchr;
 use std::alloc::Global;
 use texts::escape::unescape_into;

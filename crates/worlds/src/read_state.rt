@@ -6,7 +6,8 @@ ghost use Rattle.texts.specs.Lines.{line_count, line_ends};
 
 use crate::fault::WorldFault;
 use crate::line::{pushed, take_line};
-use crate::words::{LAST_UID, read_flags, read_side, split_word};
+use crate::words::split_word;
+use mailcore::words::{read_flags, read_highest, read_side_uid};
 use rules::entry::{Entries, Entry};
 use rules::state::SyncState;
 use std::alloc::Global;
@@ -36,8 +37,8 @@ fn read_numbers(alloc: Global, text: &[u8]) -> Option<SyncState> {
         run: read_number(run, u64::MAX)?,
         far_validity: read_u32(far_validity, u32::MAX)?,
         near_validity: read_u32(near_validity, u32::MAX)?,
-        max_pulled: read_u32(max_pulled, LAST_UID)?,
-        max_pushed: read_u32(max_pushed, LAST_UID)?,
+        max_pulled: read_highest(max_pulled)?,
+        max_pushed: read_highest(max_pushed)?,
         entries: Entries::new(alloc),
     };
     if has_valid_numbers(&state) {
@@ -83,8 +84,8 @@ fn read_entry(text: &[u8]) -> Option<Entry> {
     let (far, text) = split_word(text)?;
     let (near, flags) = split_word(text)?;
     Some(Entry {
-        far: read_side(far)?,
-        near: read_side(near)?,
+        far: read_side_uid(far)?,
+        near: read_side_uid(near)?,
         flags: read_flags(flags)?,
     })
 }
