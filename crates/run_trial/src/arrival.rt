@@ -166,13 +166,8 @@ impl<'a> Coming<'a> {
         if moment != b"before".as_slice() {
             return None;
         }
-        let side = match side {
-            b"far" => Side::Far,
-            b"near" => Side::Near,
-            _ => return None,
-        };
         Some(Coming {
-            side,
+            side: Side::from_word(side)?,
             call,
             number: read_ordinal(number)?,
             flags: read_named(flags, keywords)?,

@@ -107,10 +107,9 @@ impl<'a> Words<'a> {
 
     /// `far` or `near`; far where the word is neither.
     pub fn side(&mut self) -> Side {
-        match self.word() {
-            "far" => Side::Far,
-            "near" => Side::Near,
-            _ => {
+        match Side::from_word(self.word().as_bytes()) {
+            Some(side) => side,
+            None => {
                 self.is_bad = true;
                 Side::Far
             }
