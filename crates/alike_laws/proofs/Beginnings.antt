@@ -8,7 +8,7 @@ use Rattle.alike_laws.specs.Beginnings.{WorldIsUnplanned}
 use Rattle.alike_laws.proofs.Runs.{grows_none}
 
 pub world_is_unplanned : WorldIsUnplanned
-world_is_unplanned alone w options d held sound = record {
+world_is_unplanned ours alone w options d held sound = record {
   pending = Missing;
   idle = tt;
   files = held.files;

@@ -61,7 +61,7 @@ one_state ours others alone quiet opening other d a b =
     sym a.grows.state ∙ known.0 ∙ b.grows.state
 
 pub planned_or_not : PlannedOrNot
-planned_or_not ours alone quiet opening other d a u =
+planned_or_not ours others alone quiet opening other d a u =
     let p = a.holds in
     let known = book_known d.files a.world.state other.world.state (with_log p.version p.plan p.log p.is_torn) u.pending (plan_files ours alone a.world opening.options d p) u.files in
     subst IsIdle (sym known.1) u.idle

@@ -1,5 +1,5 @@
 -- A run that begins with the world that a device holds, in a law that a function of `src/lib.rt` shows.
-use Rattle.std.specs.Prelude.{◌≡◌, ◌<◌, ◌+◌, ◌^◌, Bool, List}
+use Rattle.std.specs.Prelude.{◌≡◌, ◌<◌, ◌+◌, ◌^◌, ℕ, Bool, List}
 use Rattle.rules.specs.declared.options.Options.{Options}
 use Rattle.rules.specs.Opening.{IsOpening}
 use Rattle.rules.specs.World.{World}
@@ -21,11 +21,11 @@ pub record Begins (w : World) (d : Device) : Type 0 where
   pub room : w.state.run + 1 < 2 ^ 64
 
 -- the opening of a run that begins with this world: the options of the call are those of its plan
-abbrev pub opening_of : World → Options → Opening
-opening_of w options = record { world = w; options = options; called = options }
+abbrev pub opening_of : (ours : List ℕ → Bool) (alone : Bool) → World → Options → Opening ours alone
+opening_of ours alone w options = record { world = w; options = options; called = options }
 
 -- such a run has no plan yet
 abbrev pub WorldIsUnplanned : Type 0
 WorldIsUnplanned =
-    (alone : Bool) (w : World) (options : Options) (d : Device) →
-    HoldsWorld w d → IsOpening w → Unplanned alone (opening_of w options) d
+    (ours : List ℕ → Bool) (alone : Bool) (w : World) (options : Options) (d : Device) →
+    HoldsWorld w d → IsOpening w → Unplanned (opening_of ours alone w options) d

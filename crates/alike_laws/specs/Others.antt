@@ -39,27 +39,27 @@ pub record IsLeft (side : Side) (uid : ℕ) (state : SyncState) : Type 0 where
 -- behind a run that is over each message that others added is left, where the UIDs of both mailboxes stand in order
 abbrev pub OthersAreLeft : Type 0
 OthersAreLeft =
-    (ours : List ℕ → Bool) (alone : Bool) (opening : Opening) (d : Device) (over : IsOver ours alone opening d) →
+    (ours : List ℕ → Bool) (alone : Bool) (opening : Opening ours alone) (d : Device) (over : IsOver opening d) →
     IsInOrder (world_at d over.holds.state) → (side : Side) (m : Message) →
     IsOthers over.world over.holds.marks side (next_world d over.holds.state) m → IsLeft side m.uid over.holds.state
 
 -- no call of the run was to change or to remove a message that others added behind its listings
 abbrev pub OthersAreSpared : Type 0
 OthersAreSpared =
-    (ours : List ℕ → Bool) (alone : Bool) (opening : Opening) (d : Device) (over : IsOver ours alone opening d) (side : Side) (m : Message) →
+    (ours : List ℕ → Bool) (alone : Bool) (opening : Opening ours alone) (d : Device) (over : IsOver opening d) (side : Side) (m : Message) →
     is_own over.world over.holds.marks side m.uid m.bytes ≡ false → AreOthers d.named side m.uid
 
 -- So each that stood on a device while the run was at work stands there once it is over, with its flags and bytes under its UID. How a device
 -- goes on each call says, each attempt, and all of them.
 abbrev pub OthersStay : Type 0
 OthersStay =
-    (ours : List ℕ → Bool) (alone : Bool) (opening : Opening) (d d' : Device) → GoesOn d d' → (over : IsOver ours alone opening d') (side : Side) (m : Message) →
+    (ours : List ℕ → Bool) (alone : Bool) (opening : Opening ours alone) (d d' : Device) → GoesOn d d' → (over : IsOver opening d') (side : Side) (m : Message) →
     Contains (box d side).messages m → is_own over.world over.holds.marks side m.uid m.bytes ≡ false → Contains (box d' side).messages m
 
 -- so the next plan copies each that is fit, where its direction copies new messages, unless it is marked as deleted and Expunge covers its side
 abbrev pub OthersAreCopiedNext : Type 0
 OthersAreCopiedNext =
-    (ours : List ℕ → Bool) (alone : Bool) (opening : Opening) (d : Device) (over : IsOver ours alone opening d) →
+    (ours : List ℕ → Bool) (alone : Bool) (opening : Opening ours alone) (d : Device) (over : IsOver opening d) →
     IsInOrder (world_at d over.holds.state) → (options : Options) (direction : Direction) (m : Message) →
     IsOthers over.world over.holds.marks (source direction) (next_world d over.holds.state) m →
     goes options.cells.new direction ≡ true → fit (source direction) m.bytes ≡ true →

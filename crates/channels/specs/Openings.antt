@@ -1,5 +1,5 @@
 -- An opening of a run.
-use Rattle.std.specs.Prelude.{[]}
+use Rattle.std.specs.Prelude.{ℕ, Bool, List, []}
 use Rattle.rules.specs.declared.options.Options.{Options}
 use Rattle.rules.specs.declared.state.SyncState.{SyncState}
 use Rattle.outside.specs.Devices.{Device}
@@ -9,5 +9,5 @@ abbrev pub no_state : SyncState
 no_state = record { run = 0; far_validity = 0; near_validity = 0; max_pulled = 0; max_pushed = 0; entries = [] }
 
 -- a first run on this device
-abbrev pub first_on : Device → Options → Opening
-first_on d options = record { world = world_at d no_state; options = options; called = options }
+abbrev pub first_on : (ours : List ℕ → Bool) (alone : Bool) → Device → Options → Opening ours alone
+first_on ours alone d options = record { world = world_at d no_state; options = options; called = options }

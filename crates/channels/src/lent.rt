@@ -3,7 +3,7 @@
 ghost use Rattle.std.specs.Prelude.{◌≡◌, Err, OnOk};
 ghost use Rattle.underway.specs.Conditions.{IsOver};
 ghost use Rattle.underway.specs.Openings.{Opening};
-ghost use Rattle.runner.specs.Answers.{IsAsked};
+ghost use Rattle.runner.specs.Answers.{Inputs};
 ghost use Rattle.runner.specs.Attempts.{AtOpening, FromOpening, MetStops};
 ghost use Rattle.channels.specs.Asks.{run_attempts};
 ghost use Rattle.channels.specs.Openings.{first_on};
@@ -53,10 +53,10 @@ impl<R: Rng> Work for RunOnce<'_, R> {
 
     fn over<O: Outside, P: Progress>(self, outside: &mut O, progress: &P) -> Result<Pass, BoxFault>
         requires map { O.keywords outside.old ≡ self.options.now.keywords }
-        ensures done { OnOk result (FromOpening (O.honest outside.new) O.ours O.alone
-            (first_on (O.seen outside.old).device self.entry.options.now) self.entry.options.now (R.stream self.entry.rng.now)
+        ensures done { OnOk result (FromOpening (O.honest outside.new)
+            (first_on O.ours O.alone (O.seen outside.old).device self.entry.options.now) self.entry.options.now (R.stream self.entry.rng.now)
             (O.seen outside.old).device
-            (IsOver O.ours O.alone (first_on (O.seen outside.old).device self.entry.options.now) (O.seen outside.new).device)) }
+            (IsOver (first_on O.ours O.alone (O.seen outside.old).device self.entry.options.now) (O.seen outside.new).device)) }
         ensures stopped { result ≡ Err (BoxFault.Run RunFault.Stopped) → MetStops run_attempts (O.seen outside.old) (O.seen outside.new) }
     {
         settle_lent(self.alloc, outside, self.options, self.rng, progress)
@@ -72,10 +72,10 @@ fn settle_lent<O: Outside, R: Rng, P: Progress>(
     rng: &mut R,
     progress: &P,
 ) -> Result<Pass, BoxFault>
-    ghost opening: { Opening }
+    ghost opening: { Opening O.ours O.alone }
     requires map { O.keywords outside.old ≡ options.now.keywords }
-    ensures done { OnOk result (O.honest outside.new → IsAsked O.ours opening options.now (R.stream rng.old)
-        → AtOpening O.ours O.alone opening (O.seen outside.old).device → IsOver O.ours O.alone opening (O.seen outside.new).device) }
+    ensures done { OnOk result (O.honest outside.new → Inputs opening options.now (R.stream rng.old)
+        → AtOpening opening (O.seen outside.old).device → IsOver opening (O.seen outside.new).device) }
     ensures stopped { result ≡ Err (BoxFault.Run RunFault.Stopped) → MetStops run_attempts (O.seen outside.old) (O.seen outside.new) }
 {
     match settle(alloc, outside, options, TRIES, rng, progress) {

@@ -10,7 +10,7 @@ use Rattle.mailcore.specs.declared.side.Direction.TheVariants.{Pull, Push}
 use Rattle.mailcore.specs.Sides.{source}
 use Rattle.rules.specs.Scene.{Scene}
 use Rattle.rules.specs.Called.{is_unfit, would_be_new}
-use Rattle.planner.specs.Written.{all_unfit}
+use Rattle.planner.specs.Listed.{all_unfit}
 
 not_unfit : (b fit : Bool) → fit ≡ true → (b && not fit) ≡ false
 not_unfit true fit is = ap not is

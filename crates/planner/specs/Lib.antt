@@ -1,4 +1,5 @@
 pub mod Seen
+pub mod Listed
 pub mod Written
 pub mod Index
 pub mod Merging

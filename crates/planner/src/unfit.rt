@@ -7,7 +7,7 @@ ghost use Rattle.rules.specs.Scene.{scene};
 ghost use Rattle.planner.specs.Scenes.{IsMet};
 ghost use Rattle.rules.specs.Called.{is_unfit};
 ghost use Rattle.planner.specs.Seen.{seen};
-ghost use Rattle.planner.specs.Written.{unfit_uids, all_unfit};
+ghost use Rattle.planner.specs.Listed.{unfit_uids, all_unfit};
 
 use crate::bounds::{few_entries, few_items};
 use crate::lists::Lists;

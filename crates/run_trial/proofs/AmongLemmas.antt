@@ -34,12 +34,12 @@ module _ (marks : ℕ) (none : marks ≡ 0) where
   pub are_ours : AreOurs (ours marks)
   are_ours mark = subst (λ (n : ℕ). ours n mark ≡ true) (sym none) refl
 
-  pub over_among : {T : Type 0} (w : World) (options : Options) (d : Device) (r : Result T RunFault) → OnOk r (IsOver (ours marks) false (opening_of w options) d) → OnOk r (IsOverAmong w options d)
-  over_among w options d r = subst (λ (n : ℕ). OnOk r (IsOver (ours n) false (opening_of w options) d)) none
+  pub over_among : {T : Type 0} (w : World) (options : Options) (d : Device) (r : Result T RunFault) → OnOk r (IsOver (opening_of (ours marks) false w options) d) → OnOk r (IsOverAmong w options d)
+  over_among w options d r = subst (λ (n : ℕ). OnOk r (IsOver (opening_of (ours n) false w options) d)) none
 
-  pub left_among : {T : Type 0} (w : World) (options : Options) (old new : Seen) (r : Result T RunFault) → IfErr r (λ fault. LeavesRun (Underway (ours marks) false (opening_of w options)) fault old new)
-      → IfErr r (λ fault. LeavesRun (Underway anybody.ours anybody.alone (opening_of w options)) fault old new)
-  left_among w options old new r = subst (λ (n : ℕ). IfErr r (λ fault. LeavesRun (Underway (ours n) false (opening_of w options)) fault old new)) none
+  pub left_among : {T : Type 0} (w : World) (options : Options) (old new : Seen) (r : Result T RunFault) → IfErr r (λ fault. LeavesRun (Underway (opening_of (ours marks) false w options)) fault old new)
+      → IfErr r (λ fault. LeavesRun (Underway (opening_of anybody.ours anybody.alone w options)) fault old new)
+  left_among w options old new r = subst (λ (n : ℕ). IfErr r (λ fault. LeavesRun (Underway (opening_of (ours n) false w options)) fault old new)) none
 
 -- ---- what is taken over of a setting
 

@@ -12,7 +12,7 @@ use Rattle.underway.specs.Openings.{world_at}
 use Rattle.alike_laws.specs.Beginnings.{Begins, opening_of}
 use Rattle.alike_laws.proofs.Beginnings.{world_is_unplanned}
 use Rattle.runner.specs.declared.fault.RunFault.{RunFault}
-use Rattle.runner.specs.Answers.{IsAsked}
+use Rattle.runner.specs.Answers.{Inputs}
 use Rattle.runner.specs.declared.fault.RunFault.TheVariants as run
 use Rattle.runner.specs.declared.pass.Settled.{Settled}
 use Rattle.runner.specs.Attempts.{AtOpening, FromOpening, MetStops}
@@ -21,27 +21,27 @@ use Rattle.runner.specs.Settled.{CountsAttempts, IsSettled, IsUnsettled}
 use Rattle.run_trial.specs.Openings.{AreOurs, trial_stream}
 
 module _ (ours : List ℕ → Bool) (alone : Bool) (w : World) (options : Options) where
-  asked : AreOurs ours → IsAsked ours (opening_of w options) options trial_stream
+  asked : AreOurs ours → Inputs (opening_of ours alone w options) options trial_stream
   asked are = record { called = refl; are_ours = λ pairs count marks draws k d within. are (get_or marks k d) }
 
-  at_opening : (d : Device) → Begins w d → AtOpening ours alone (opening_of w options) d
-  at_opening d begins = record { room = begins.room; open_run = inl (world_is_unplanned alone w options d begins.held begins.sound) }
+  at_opening : (d : Device) → Begins w d → AtOpening (opening_of ours alone w options) d
+  at_opening d begins = record { room = begins.room; open_run = inl (world_is_unplanned ours alone w options d begins.held begins.sound) }
 
   pub done_from : (honest : Type 0) (old new : Seen) (r : Result Settled RunFault)
-      → IfOk r (λ settled. FromOpening honest ours alone (opening_of w options) options trial_stream old.device (IsSettled ours alone (opening_of w options) options trial_stream settled old new))
+      → IfOk r (λ settled. FromOpening honest (opening_of ours alone w options) options trial_stream old.device (IsSettled (opening_of ours alone w options) options trial_stream settled old new))
       → honest → alone ≡ true → AreOurs ours → Begins w old.device → OnOk r (IsDone w options new.device)
   done_from honest old new (Ok settled) from kept nobody are begins = (from kept (asked are) (at_opening old.device begins)).alike nobody begins.sound
   done_from honest old new (Err fault) from kept nobody are begins = tt
 
   pub over_from : (honest : Type 0) (old new : Seen) (r : Result Settled RunFault)
-      → IfOk r (λ settled. FromOpening honest ours alone (opening_of w options) options trial_stream old.device (IsSettled ours alone (opening_of w options) options trial_stream settled old new))
-      → honest → AreOurs ours → Begins w old.device → OnOk r (IsOver ours alone (opening_of w options) new.device)
+      → IfOk r (λ settled. FromOpening honest (opening_of ours alone w options) options trial_stream old.device (IsSettled (opening_of ours alone w options) options trial_stream settled old new))
+      → honest → AreOurs ours → Begins w old.device → OnOk r (IsOver (opening_of ours alone w options) new.device)
   over_from honest old new (Ok settled) from kept are begins = (from kept (asked are) (at_opening old.device begins)).over
   over_from honest old new (Err fault) from kept are begins = tt
 
   pub left_from : {T : Type 0} (honest : Type 0) (tries : ℕ) (old new : Seen) (r : Result T RunFault)
-      → IfErr r (λ fault. FromOpening honest ours alone (opening_of w options) options trial_stream old.device (IsUnsettled ours alone (opening_of w options) tries trial_stream fault old new))
-      → honest → AreOurs ours → Begins w old.device → IfErr r (λ fault. LeavesRun (Underway ours alone (opening_of w options)) fault old new)
+      → IfErr r (λ fault. FromOpening honest (opening_of ours alone w options) options trial_stream old.device (IsUnsettled (opening_of ours alone w options) tries trial_stream fault old new))
+      → honest → AreOurs ours → Begins w old.device → IfErr r (λ fault. LeavesRun (Underway (opening_of ours alone w options)) fault old new)
   left_from honest tries old new (Ok settled) from kept are begins = tt
   left_from honest tries old new (Err fault) from kept are begins = (from kept (asked are) (at_opening old.device begins)).left
 
@@ -61,12 +61,12 @@ module _ (ours : List ℕ → Bool) (alone : Bool) (w : World) (options : Option
       subst (λ (x : World). Begins x old → OnOk r (IsDone x options new)) (named_so state old same begins) so begins
 
   pub over_of : {T : Type 0} (state : SyncState) (old new : Device) (r : Result T RunFault) → w.state ≡ state → Begins w old
-      → (Begins (world_at old state) old → OnOk r (IsOver ours alone (opening_of (world_at old state) options) new)) → OnOk r (IsOver ours alone (opening_of w options) new)
+      → (Begins (world_at old state) old → OnOk r (IsOver (opening_of ours alone (world_at old state) options) new)) → OnOk r (IsOver (opening_of ours alone w options) new)
   over_of state old new r same begins so =
-      subst (λ (x : World). Begins x old → OnOk r (IsOver ours alone (opening_of x options) new)) (named_so state old same begins) so begins
+      subst (λ (x : World). Begins x old → OnOk r (IsOver (opening_of ours alone x options) new)) (named_so state old same begins) so begins
 
   pub left_of : {T : Type 0} (state : SyncState) (old new : Seen) (r : Result T RunFault) → w.state ≡ state → Begins w old.device
-      → (Begins (world_at old.device state) old.device → IfErr r (λ fault. LeavesRun (Underway ours alone (opening_of (world_at old.device state) options)) fault old new))
-      → IfErr r (λ fault. LeavesRun (Underway ours alone (opening_of w options)) fault old new)
+      → (Begins (world_at old.device state) old.device → IfErr r (λ fault. LeavesRun (Underway (opening_of ours alone (world_at old.device state) options)) fault old new))
+      → IfErr r (λ fault. LeavesRun (Underway (opening_of ours alone w options)) fault old new)
   left_of state old new r same begins so =
-      subst (λ (x : World). Begins x old.device → IfErr r (λ fault. LeavesRun (Underway ours alone (opening_of x options)) fault old new)) (named_so state old.device same begins) so begins
+      subst (λ (x : World). Begins x old.device → IfErr r (λ fault. LeavesRun (Underway (opening_of ours alone x options)) fault old new)) (named_so state old.device same begins) so begins

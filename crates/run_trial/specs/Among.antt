@@ -46,8 +46,8 @@ AreKept setting shelf state = (files_of shelf ≡ files_of setting.shelf) × (st
 
 -- the run that began with this world is over, whatever others added under no mark
 abbrev pub IsOverAmong : World → Options → Device → Type 0
-IsOverAmong w options d = IsOver anybody.ours anybody.alone (opening_of w options) d
+IsOverAmong w options d = IsOver (opening_of anybody.ours anybody.alone w options) d
 
 -- the run that began with this world, on this device, is underway still
 abbrev pub LeavesAmong : World → Options → Device → RunFault → Seen → Type 0
-LeavesAmong w options d fault new = LeavesRun (Underway anybody.ours anybody.alone (opening_of w options)) fault (seen_with d untouched) new
+LeavesAmong w options d fault new = LeavesRun (Underway (opening_of anybody.ours anybody.alone w options)) fault (seen_with d untouched) new

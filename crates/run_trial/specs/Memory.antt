@@ -12,4 +12,4 @@ use Rattle.runner.specs.Faults.{LeavesRun}
 
 -- the run that began with this world, on this device, is underway still
 abbrev pub LeavesWorld : World → Options → Device → RunFault → Seen → Type 0
-LeavesWorld w options d fault new = LeavesRun (Underway nobody.ours nobody.alone (opening_of w options)) fault (seen_with d untouched) new
+LeavesWorld w options d fault new = LeavesRun (Underway (opening_of nobody.ours nobody.alone w options)) fault (seen_with d untouched) new

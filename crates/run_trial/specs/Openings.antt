@@ -19,7 +19,7 @@ abbrev pub no_state : SyncState
 no_state = record { run = 0; far_validity = 0; near_validity = 0; max_pulled = 0; max_pushed = 0; entries = [] }
 
 -- an opening with nothing in it, under a map, for who says nothing of one
-abbrev pub no_opening : Options → Opening
+abbrev pub no_opening : {ours : List ℕ → Bool} {alone : Bool} → Options → Opening ours alone
 no_opening options =
     record { world = record { far = no_messages; near = no_messages; waiting = []; state = no_state }; options = options; called = options }
 

@@ -25,22 +25,22 @@ pub fn settle_trial<O: Outside>(
     options: &Options,
     tries: u32,
 ) -> Result<Settled, RunFault>
-    ghost opening: { Opening }
+    ghost opening: { Opening O.ours O.alone }
     requires map { O.keywords outside.old ≡ options.now.keywords }
     ensures was_honest { O.honest outside.new → O.honest outside.old }
     ensures keywords { O.keywords outside.new ≡ O.keywords outside.old }
 
     // From an opening: an answer leaves the run over, and tells what the last attempt answered; a fault leaves the run underway.
-    ensures done { IfOk result (λ settled. FromOpening (O.honest outside.new) O.ours O.alone opening options.now trial_stream
+    ensures done { IfOk result (λ settled. FromOpening (O.honest outside.new) opening options.now trial_stream
         (O.seen outside.old).device
-        (IsSettled O.ours O.alone opening options.now trial_stream settled (O.seen outside.old) (O.seen outside.new))) }
-    ensures left { IfErr result (λ fault. FromOpening (O.honest outside.new) O.ours O.alone opening options.now trial_stream
+        (IsSettled opening options.now trial_stream settled (O.seen outside.old) (O.seen outside.new))) }
+    ensures left { IfErr result (λ fault. FromOpening (O.honest outside.new) opening options.now trial_stream
         (O.seen outside.old).device
-        (IsUnsettled O.ours O.alone opening tries trial_stream fault (O.seen outside.old) (O.seen outside.new))) }
+        (IsUnsettled opening tries trial_stream fault (O.seen outside.old) (O.seen outside.new))) }
     ensures results { IfOk result (λ settled. O.honest outside.new → HasResults settled.last (O.seen outside.new).device) }
 
     // A fault that is no stop has its reason, and behind the greatest run number there is no other.
-    ensures caused { IfErr result (λ fault. (after : Stream) × HasReason (O.honest outside.new) O.ours O.alone opening options.now trial_stream
+    ensures caused { IfErr result (λ fault. (after : Stream) × HasReason (O.honest outside.new) opening options.now trial_stream
         after fault (O.seen outside.old) (O.seen outside.new)) }
     ensures greatest { HasNoNext (O.honest outside.new) O.alone (O.seen outside.old).device (O.seen outside.new).device result }
 

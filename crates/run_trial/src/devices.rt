@@ -56,9 +56,9 @@ pub fn settle_all<O: Outside>(
     ensures done { (start : World) → start.state ≡ state.now → O.honest result.0 → O.alone ≡ true → AreOurs O.ours
         → Begins start (O.seen outside).device → OnOk result.1 (IsDone start options.now (O.seen result.0).device) }
     ensures over { (start : World) → start.state ≡ state.now → O.honest result.0 → AreOurs O.ours → Begins start (O.seen outside).device
-        → OnOk result.1 (IsOver O.ours O.alone (opening_of start options.now) (O.seen result.0).device) }
+        → OnOk result.1 (IsOver (opening_of O.ours O.alone start options.now) (O.seen result.0).device) }
     ensures left { (start : World) → start.state ≡ state.now → O.honest result.0 → AreOurs O.ours → Begins start (O.seen outside).device
-        → IfErr result.1 (λ fault. LeavesRun (Underway O.ours O.alone (opening_of start options.now)) fault (O.seen outside) (O.seen result.0)) }
+        → IfErr result.1 (λ fault. LeavesRun (Underway (opening_of O.ours O.alone start options.now)) fault (O.seen outside) (O.seen result.0)) }
     ensures keywords { O.keywords result.0 ≡ O.keywords outside }
     ensures greatest { HasNoNext (O.honest result.0) O.alone (O.seen outside).device (O.seen result.0).device result.1 }
     ensures stopped { IsErrOf result.1 RunFault.Stopped → MetStops tries (O.seen outside) (O.seen result.0) }
@@ -79,9 +79,9 @@ fn settle_from<O: Outside>(
     ensures done { O.honest result.0 → O.alone ≡ true → AreOurs O.ours → Begins start (O.seen outside).device
         → OnOk result.1 (IsDone start options.now (O.seen result.0).device) }
     ensures over { O.honest result.0 → AreOurs O.ours → Begins start (O.seen outside).device
-        → OnOk result.1 (IsOver O.ours O.alone (opening_of start options.now) (O.seen result.0).device) }
+        → OnOk result.1 (IsOver (opening_of O.ours O.alone start options.now) (O.seen result.0).device) }
     ensures left { O.honest result.0 → AreOurs O.ours → Begins start (O.seen outside).device
-        → IfErr result.1 (λ fault. LeavesRun (Underway O.ours O.alone (opening_of start options.now)) fault (O.seen outside) (O.seen result.0)) }
+        → IfErr result.1 (λ fault. LeavesRun (Underway (opening_of O.ours O.alone start options.now)) fault (O.seen outside) (O.seen result.0)) }
     ensures keywords { O.keywords result.0 ≡ O.keywords outside }
     ensures greatest { HasNoNext (O.honest result.0) O.alone (O.seen outside).device (O.seen result.0).device result.1 }
     ensures stopped { IsErrOf result.1 RunFault.Stopped → MetStops tries (O.seen outside) (O.seen result.0) }

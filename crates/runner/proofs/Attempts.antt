@@ -30,8 +30,8 @@ use Rattle.runner.specs.declared.fault.RunFault.TheVariants as run
 use Rattle.runner.specs.Faults.{IsBeyond, IsCaused, IsLastRun, Reasons, because, call_fault, or_beyond, or_keywords, or_refused, or_unread, stops_met}
 use Rattle.runner.specs.ChangedMaps.{TellsOtherMap}
 use Rattle.runner.specs.Parts.{IsStuck, Left, TellsMore}
-use Rattle.runner.specs.Answers.{Answers, IsAsked, Moves, as_read, run_of}
-use Rattle.runner.specs.Attempts.{AnswersAt, AtOpening, HasNoNext, HasReached, IsReached, MetBefore, MetStops, Reopens, TellsNoNext, TriedAt, failed_before, found_by}
+use Rattle.runner.specs.Answers.{Answers, Inputs, Moves, as_read, run_of}
+use Rattle.runner.specs.Attempts.{AnswersAt, AtOpening, HasNoNext, HasReached, IsReached, MetBefore, MetStops, Reopens, TellsNoNext, AttemptAt, failed_before, found_by}
 use Rattle.runner.specs.Validities.{IsKept, TellsChanged}
 use Rattle.runner.proofs.PartCalls.{TellsNoBook, broken_or_whole, caused_after, caused_told, more_after, more_none}
 use Rattle.runner.proofs.Passes.{planned_state, run_of_state, unplanned_state}
@@ -44,70 +44,70 @@ pub moved_twice : (a b c : Stream) → Moves a b → Moves b c → Moves a c
 moved_twice a b c p q = (p.0 + q.0, q.1 ∙ ap (λ (s : Stream). after_pairs s q.0) p.1 ∙ sym (after_pairs-add a p.0 q.0))
 
 -- later marks are asked for just so
-pub asked_later : (ours : List ℕ → Bool) (opening : Opening) (options : Options) (a b : Stream) → Moves a b → IsAsked ours opening options a → IsAsked ours opening options b
-asked_later ours opening options a b m k = record {
+pub asked_later : {ours : List ℕ → Bool} {alone : Bool} (opening : Opening ours alone) (options : Options) (a b : Stream) → Moves a b → Inputs opening options a → Inputs opening options b
+asked_later opening options a b m k = record {
   called = k.called;
   are_ours = λ pairs count marks drawn. k.are_ours (m.0 + pairs) count marks (subst (λ (s : Stream). Draws s count marks) (ap (λ (s : Stream). after_pairs s pairs) m.1 ∙ sym (after_pairs-add a m.0 pairs)) drawn);
 }
 
 -- ---- the opening
 
-module _ (ours : List ℕ → Bool) (alone : Bool) (opening : Opening) where
-  pub opening_arrives : (d m : Device) → Arrives ours alone d m → AtOpening ours alone opening d → AtOpening ours alone opening m
+module _ {ours : List ℕ → Bool} {alone : Bool} (opening : Opening ours alone) where
+  pub opening_arrives : (d m : Device) → Arrives ours alone d m → AtOpening opening d → AtOpening opening m
   opening_arrives d m a k = record { room = k.room; open_run = by_case k.open_run }
     where
-      by_case : Unplanned alone opening d ⊎ IsPending ours alone opening d → Unplanned alone opening m ⊎ IsPending ours alone opening m
-      by_case (inl n) = inl (unplanned_arrives ours alone opening d m a n)
-      by_case (inr p) = inr (pending_arrives ours alone opening d m a p)
+      by_case : Unplanned opening d ⊎ IsPending opening d → Unplanned opening m ⊎ IsPending opening m
+      by_case (inl n) = inl (unplanned_arrives opening d m a n)
+      by_case (inr p) = inr (pending_arrives opening d m a p)
 
-  pub opening_underway : (d : Device) → AtOpening ours alone opening d → Underway ours alone opening d
+  pub opening_underway : (d : Device) → AtOpening opening d → Underway opening d
   opening_underway d k = by_case k.open_run
     where
-      by_case : Unplanned alone opening d ⊎ IsPending ours alone opening d → Underway ours alone opening d
+      by_case : Unplanned opening d ⊎ IsPending opening d → Underway opening d
       by_case (inl n) = inl n
       by_case (inr p) = inr (inl p)
 
-  opening_state : (opened : Option Opened) (d : Device) → AtOpening ours alone opening d → IsHeld opened d → run_of opened ≡ opening.world.state.run
+  opening_state : (opened : Option Opened) (d : Device) → AtOpening opening d → IsHeld opened d → run_of opened ≡ opening.world.state.run
   opening_state None d k held = absurd held
   opening_state (Some o) d k held = by_case k.open_run
     where
-      by_case : Unplanned alone opening d ⊎ IsPending ours alone opening d → o.state.run ≡ opening.world.state.run
-      by_case (inl n) = ap (λ (s : SyncState). s.run) (unplanned_state ours alone opening o d held n).0
-      by_case (inr p) = ap (λ (s : SyncState). s.run) (planned_state ours alone opening o p.world d p.grows held p.holds).0
+      by_case : Unplanned opening d ⊎ IsPending opening d → o.state.run ≡ opening.world.state.run
+      by_case (inl n) = ap (λ (s : SyncState). s.run) (unplanned_state opening o d held n).0
+      by_case (inr p) = ap (λ (s : SyncState). s.run) (planned_state opening o p.world d p.grows held p.holds).0
 
   -- the run is the one behind the state that was read
-  pub run_read : (opened : Option Opened) (last : SyncState) (d m d' : Device) → state_of opened ≡ Some last → AtOpening ours alone opening d → Arrives ours alone d m → d' ≡ m → IsHeld opened m → (last.run + 1 ≡ opening.world.state.run + 1) × AtOpening ours alone opening d'
+  pub run_read : (opened : Option Opened) (last : SyncState) (d m d' : Device) → state_of opened ≡ Some last → AtOpening opening d → Arrives ours alone d m → d' ≡ m → IsHeld opened m → (last.run + 1 ≡ opening.world.state.run + 1) × AtOpening opening d'
   run_read opened last d m d' e k a is held =
       let now = opening_arrives d m a k in
       let r = opening_state opened m now held in
       let t = run_of_state opened last e in
       rw is (omega (arith, r, t), now)
 
-  pub opening_left : (e : OutsideFault) (d m d' : Device) → AtOpening ours alone opening d → Arrives ours alone d m → d' ≡ m → TellsFiles e m.files → FromShelf e → TellsNoBook e × AtOpening ours alone opening d'
+  pub opening_left : (e : OutsideFault) (d m d' : Device) → AtOpening opening d → Arrives ours alone d m → d' ≡ m → TellsFiles e m.files → FromShelf e → TellsNoBook e × AtOpening opening d'
   opening_left e d m d' k a is tells told =
       let now = opening_arrives d m a k in
-      let left = unread_left ours alone opening e m d' (opening_underway m now) is tells told in
+      let left = unread_left opening e m d' (opening_underway m now) is tells told in
       (left.0, rw is now)
 
   -- ---- between attempts
 
-  pub tried_underway : (fixed : Option ℕ) (d : Device) → TriedAt ours alone opening fixed d → Underway ours alone opening d
+  pub tried_underway : (fixed : Option ℕ) (d : Device) → AttemptAt opening fixed d → Underway opening d
   tried_underway None d t = opening_underway d t
   tried_underway (Some n) d t = t.1
 
-  pub tried_opening : (fixed : Option ℕ) (d : Device) → ((x : ℕ) → fixed ≡ Some x → ⊥) → TriedAt ours alone opening fixed d → AtOpening ours alone opening d
+  pub tried_opening : (fixed : Option ℕ) (d : Device) → ((x : ℕ) → fixed ≡ Some x → ⊥) → AttemptAt opening fixed d → AtOpening opening d
   tried_opening None d f t = t
   tried_opening (Some n) d f t = absurd (f n refl)
 
-  pub opening_tried : (fixed : Option ℕ) (d : Device) → ((x : ℕ) → fixed ≡ Some x → ⊥) → AtOpening ours alone opening d → TriedAt ours alone opening fixed d
+  pub opening_tried : (fixed : Option ℕ) (d : Device) → ((x : ℕ) → fixed ≡ Some x → ⊥) → AtOpening opening d → AttemptAt opening fixed d
   opening_tried None d f t = t
   opening_tried (Some n) d f t = absurd (f n refl)
 
-pub tried_fixed : (ours : List ℕ → Bool) (alone : Bool) (opening : Opening) (fixed : Option ℕ) (number : ℕ) (d : Device) → fixed ≡ Some number → TriedAt ours alone opening fixed d → TriedAt ours alone opening (Some number) d
-tried_fixed ours alone opening fixed number d e t = subst (λ (x : Option ℕ). TriedAt ours alone opening x d) e t
+pub tried_fixed : {ours : List ℕ → Bool} {alone : Bool} (opening : Opening ours alone) (fixed : Option ℕ) (number : ℕ) (d : Device) → fixed ≡ Some number → AttemptAt opening fixed d → AttemptAt opening (Some number) d
+tried_fixed {ours} {alone} opening fixed number d e t = subst (λ (x : Option ℕ). AttemptAt opening x d) e t
 
-pub fixed_tried : (ours : List ℕ → Bool) (alone : Bool) (opening : Opening) (fixed : Option ℕ) (number : ℕ) (d : Device) → fixed ≡ Some number → TriedAt ours alone opening (Some number) d → TriedAt ours alone opening fixed d
-fixed_tried ours alone opening fixed number d e t = subst (λ (x : Option ℕ). TriedAt ours alone opening x d) (sym e) t
+pub fixed_tried : {ours : List ℕ → Bool} {alone : Bool} (opening : Opening ours alone) (fixed : Option ℕ) (number : ℕ) (d : Device) → fixed ≡ Some number → AttemptAt opening (Some number) d → AttemptAt opening fixed d
+fixed_tried {ours} {alone} opening fixed number d e t = subst (λ (x : Option ℕ). AttemptAt opening x d) (sym e) t
 
 -- ---- what one attempt tells, by the files before it was fixed which run is made
 
@@ -120,14 +120,14 @@ attempt_changed alone h1 h2 a b c side honest kept told = λ h s p held.
 pub attempt_map : (alone : Bool) (h1 h2 : Type 0) (keywords : List Keyword) (a b c : Device) → (h2 → h1) → (h1 → IsKept alone a b) → TellsOtherMap h2 alone keywords b c → TellsOtherMap h2 alone keywords a c
 attempt_map alone h1 h2 keywords a b c honest kept told = λ h. let t = told h in (t.0, kept_next alone a b c (kept (honest h)) t.1)
 
-pub attempt_answers : (ours : List ℕ → Bool) (alone : Bool) (opening : Opening) (h1 h2 : Type 0) (options : Options) (stream : Stream) (fixed : Option ℕ) (number : ℕ) (a b : Device) (before : Option ℕ) (r : Result Pass RunFault) → fixed ≡ Some number → (h2 → h1) → (h1 → IsKept alone a b)
-    → (h1 → TriedAt ours alone opening before a → TriedAt ours alone opening fixed b)
+pub attempt_answers : {ours : List ℕ → Bool} {alone : Bool} (opening : Opening ours alone) (h1 h2 : Type 0) (options : Options) (stream : Stream) (fixed : Option ℕ) (number : ℕ) (a b : Device) (before : Option ℕ) (r : Result Pass RunFault) → fixed ≡ Some number → (h2 → h1) → (h1 → IsKept alone a b)
+    → (h1 → AttemptAt opening before a → AttemptAt opening fixed b)
     → IfOk r (λ pass. h2 → AnswersAt number options pass b stream)
-    → IfOk r (λ pass. h2 → TriedAt ours alone opening before a → AnswersAt (opening.world.state.run + 1) options pass a stream)
-attempt_answers ours alone opening h1 h2 options stream fixed number a b before (Err e) is honest kept reaches answers = tt
-attempt_answers ours alone opening h1 h2 options stream fixed number a b before (Ok pass) is honest kept reaches answers = λ h at.
+    → IfOk r (λ pass. h2 → AttemptAt opening before a → AnswersAt (opening.world.state.run + 1) options pass a stream)
+attempt_answers opening h1 h2 options stream fixed number a b before (Err e) is honest kept reaches answers = tt
+attempt_answers {ours} {alone} opening h1 h2 options stream fixed number a b before (Ok pass) is honest kept reaches answers = λ h at.
     let k = kept (honest h) in
-    let t = tried_fixed ours alone opening fixed number b is (reaches (honest h) at) in
+    let t = tried_fixed opening fixed number b is (reaches (honest h) at) in
     let x = answers h in
     record {
       answers = λ s p held. subst (λ (n : ℕ). Answers n s p pass) t.0 (x.answers s p (subst (λ (f : Files). Holds f s p) (sym k.files) held));

@@ -27,19 +27,19 @@ use Rattle.underway.proofs.Growth.{files_same, since_map, unplanned_arrives, unp
 use Rattle.underway.proofs.Listings.{grows_next, listed_arrives, listed_grows, listed_here, listed_world, names_below, plan_written as written_midway}
 use Rattle.underway.proofs.Moves.{spares_more}
 use Rattle.runner.specs.Before.{AreOld, AreShown, BothListed, FarListed, IsClear, IsMade}
-use Rattle.runner.specs.Going.{AtReady}
+use Rattle.runner.specs.Going.{BeforeStep}
 use Rattle.runner.proofs.Within.{shown_within}
 
-module _ (ours : List ℕ → Bool) (alone : Bool) (opening : Opening) where
-  pub clear_unplanned : (opened : Option Opened) (is_admitted : Bool) (d : Device) → IsClear alone opening opened is_admitted d → Unplanned alone opening d
+module _ {ours : List ℕ → Bool} {alone : Bool} (opening : Opening ours alone) where
+  pub clear_unplanned : (opened : Option Opened) (is_admitted : Bool) (d : Device) → IsClear opening opened is_admitted d → Unplanned opening d
   clear_unplanned opened is_admitted d c = record { pending = Missing; idle = tt; files = c.files; chosen = c.chosen; below = c.below; grows = c.grows; spares = c.spares }
 
-  pub clear_underway : (opened : Option Opened) (is_admitted : Bool) (d : Device) → IsClear alone opening opened is_admitted d → Underway ours alone opening d
+  pub clear_underway : (opened : Option Opened) (is_admitted : Bool) (d : Device) → IsClear opening opened is_admitted d → Underway opening d
   clear_underway opened is_admitted d c = inl (clear_unplanned opened is_admitted d c)
 
-  pub clear_arrives : (opened : Option Opened) (is_admitted : Bool) (d m : Device) → Arrives ours alone d m → IsClear alone opening opened is_admitted d → IsClear alone opening opened is_admitted m
+  pub clear_arrives : (opened : Option Opened) (is_admitted : Bool) (d m : Device) → Arrives ours alone d m → IsClear opening opened is_admitted d → IsClear opening opened is_admitted m
   clear_arrives opened is_admitted d m a c =
-      let n = unplanned_arrives ours alone opening d m a (clear_unplanned opened is_admitted d c) in
+      let n = unplanned_arrives opening d m a (clear_unplanned opened is_admitted d c) in
       record {
         state = c.state;
         files = rw (files_same ours alone d m a) c.files;
@@ -52,7 +52,7 @@ module _ (ours : List ℕ → Bool) (alone : Bool) (opening : Opening) where
 
   -- ---- admission
 
-  pub admitted_all : (opened : Option Opened) (d m d' : Device) → Arrives ours alone d m → IsClear alone opening opened false d → Admits alone m d' → IsClear alone opening opened true d'
+  pub admitted_all : (opened : Option Opened) (d m d' : Device) → Arrives ours alone d m → IsClear opening opened false d → Admits alone m d' → IsClear opening opened true d'
   admitted_all opened d m d' a c t =
       let k = clear_arrives opened false d m a c in
       let n = t.near in
@@ -66,7 +66,7 @@ module _ (ours : List ℕ → Bool) (alone : Bool) (opening : Opening) where
         admitted = λ is e. ap (λ (b : Mailbox). b.waiting) n.now ∙ ap (λ (fs : List Waiting). fs ++ n.left) (drop_whole n.read) ∙ (n.reading.all e).1;
       }
 
-  pub admitted_part : (opened : Option Opened) (d m d' : Device) → Arrives ours alone d m → IsClear alone opening opened false d → AdmitsPart alone m d' → IsClear alone opening opened false d'
+  pub admitted_part : (opened : Option Opened) (d m d' : Device) → Arrives ours alone d m → IsClear opening opened false d → AdmitsPart alone m d' → IsClear opening opened false d'
   admitted_part opened d m d' a c t =
       let k = clear_arrives opened false d m a c in
       let n = t.near in
@@ -82,19 +82,19 @@ module _ (ours : List ℕ → Bool) (alone : Bool) (opening : Opening) where
 
   -- ---- the listings
 
-  pub far_listed : (opened : Option Opened) (far : Listing) (d m d' : Device) → ListsWithin opening.options.keywords far → Arrives ours alone d m → IsClear alone opening opened true d → d' ≡ m → ListsFar alone d.far.next far m → FarListed alone opening opened far d'
+  pub far_listed : (opened : Option Opened) (far : Listing) (d m d' : Device) → ListsWithin opening.options.keywords far → Arrives ours alone d m → IsClear opening opened true d → d' ≡ m → ListsFar alone d.far.next far m → FarListed opening opened far d'
   far_listed opened far d m d' within a c is l =
       let g = c.grows in
       rw is (record { clear = clear_arrives opened true d m a c; lists = lists_since alone d.far.next opening.world.far.next far m.far g.far_next l; within = within })
 
-  pub near_listed : (opened : Option Opened) (far near : Listing) (spared : ℕ → Bool) (d m d' : Device) → ListsWithin opening.options.keywords near → AreOld opening.world.state.max_pushed opening.world.state.entries spared → Arrives ours alone d m → FarListed alone opening opened far d → d' ≡ m → ShowsSparing NearSide spared m.near.store near → BothListed ours alone opening opened far near d'
+  pub near_listed : (opened : Option Opened) (far near : Listing) (spared : ℕ → Bool) (d m d' : Device) → ListsWithin opening.options.keywords near → AreOld opening.world.state.max_pushed opening.world.state.entries spared → Arrives ours alone d m → FarListed opening opened far d → d' ≡ m → ShowsSparing NearSide spared m.near.store near → BothListed opening opened far near d'
   near_listed opened far near spared d m d' within old a f is l =
       let c = clear_arrives opened true d m a f.clear in
       let s = opening.world.state in
       let told = f.lists.next in
       let grows = listed_grows alone opening.world s far d m f.clear.grows c.grows told in
       let most = told_most alone opening.world.far.next far d.far told in
-      let since : Since alone opening (λ w. AreShown w far near × Listed ours alone w m) = record {
+      let since : Since opening (λ w. AreShown w far near × Listed ours alone w m) = record {
         world = listed_world s far.next d m;
         grows = grows;
         admitted = λ e. c.admitted refl e;
@@ -106,24 +106,24 @@ module _ (ours : List ℕ → Bool) (alone : Bool) (opening : Opening) where
 
   -- ---- the plan
 
-  pub made_arrives : (opened : Option Opened) (plan : Plan) (d m : Device) → Arrives ours alone d m → IsMade ours alone opening opened plan d → IsMade ours alone opening opened plan m
-  made_arrives opened plan d m a p = record { clear = clear_arrives opened true d m a p.clear; since = since_map alone opening _ _ (λ w g k. (k.0, listed_arrives ours alone w d m a k.1)) p.since }
+  pub made_arrives : (opened : Option Opened) (plan : Plan) (d m : Device) → Arrives ours alone d m → IsMade opening opened plan d → IsMade opening opened plan m
+  made_arrives opened plan d m a p = record { clear = clear_arrives opened true d m a p.clear; since = since_map opening _ _ (λ w g k. (k.0, listed_arrives ours alone w d m a k.1)) p.since }
 
-  pub plan_written : (opened : Option Opened) (plan : Plan) (d m d' : Device) → Arrives ours alone d m → IsMade ours alone opening opened plan d → OfBook (λ _. TurnsJournal Missing (begun plan)) opened m d' → AtReady ours alone opening (turned (λ _. begun plan) opened) false d'
+  pub plan_written : (opened : Option Opened) (plan : Plan) (d m d' : Device) → Arrives ours alone d m → IsMade opening opened plan d → OfBook (λ _. TurnsJournal Missing (begun plan)) opened m d' → BeforeStep opening (turned (λ _. begun plan) opened) false d'
   plan_written None plan d m d' a p t = absurd t
   plan_written (Some o) plan d m d' a p t =
       let now = made_arrives (Some o) plan d m a p in
       record {
         state = now.clear.state;
-        since = since_map alone opening _ _ (λ w g k. let l = k.1 in written_midway ours alone w opening.options Two plan m d' k.0 l t.far t.near t.named (t.files w.state l.files)) now.since;
+        since = since_map opening _ _ (λ w g k. let l = k.1 in written_midway ours alone w opening.options Two plan m d' k.0 l t.far t.near t.named (t.files w.state l.files)) now.since;
       }
 
-  pub half_written : (opened : Option Opened) (plan : Plan) (d m d' : Device) → Arrives ours alone d m → IsMade ours alone opening opened plan d → OfBook (λ _. TurnsHalf Missing Useless) opened m d' → Underway ours alone opening d'
+  pub half_written : (opened : Option Opened) (plan : Plan) (d m d' : Device) → Arrives ours alone d m → IsMade opening opened plan d → OfBook (λ _. TurnsHalf Missing Useless) opened m d' → Underway opening d'
   half_written None plan d m d' a p t = absurd t
   half_written (Some o) plan d m d' a p t =
       let c = clear_arrives (Some o) true d m a p.clear in
       by_files (clear_unplanned (Some o) true m c) t.far t.near t.named (t.files opening.world.state c.files)
     where
-      by_files : Unplanned alone opening m → d'.far ≡ m.far → d'.near ≡ m.near → d'.named ≡ m.named → Holds d'.files opening.world.state Missing ⊎ Holds d'.files opening.world.state Useless → Underway ours alone opening d'
-      by_files n far near named (inl held) = inl (unplanned_filed alone opening Missing m d' tt far near named held n)
-      by_files n far near named (inr held) = inl (unplanned_filed alone opening Useless m d' tt far near named held n)
+      by_files : Unplanned opening m → d'.far ≡ m.far → d'.near ≡ m.near → d'.named ≡ m.named → Holds d'.files opening.world.state Missing ⊎ Holds d'.files opening.world.state Useless → Underway opening d'
+      by_files n far near named (inl held) = inl (unplanned_filed opening Missing m d' tt far near named held n)
+      by_files n far near named (inr held) = inl (unplanned_filed opening Useless m d' tt far near named held n)

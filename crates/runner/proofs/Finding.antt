@@ -20,7 +20,7 @@ use Rattle.rules.specs.declared.plan.Step.TheVariants as step
 use Rattle.rules.specs.declared.state.SyncState.{SyncState}
 use Rattle.rules.specs.World.{World}
 use Rattle.rules.proofs.Walks.{Contains-filter_map}
-use Rattle.planner.specs.Written.{mark_of as mark_in}
+use Rattle.planner.specs.Listed.{mark_of as mark_in}
 use Rattle.sync_state.specs.declared.version.Version.{Version}
 use Rattle.sync_state.specs.declared.journal.Logged.{Logged}
 use Rattle.sync_state.specs.declared.journal.Logged.TheVariants.{Copied, Done}
@@ -53,7 +53,7 @@ use Rattle.runner.specs.declared.performed.StepResult.{StepResult}
 use Rattle.runner.specs.declared.performed.StepResult.TheVariants as did
 use Rattle.runner.specs.Answers.{as_read}
 use Rattle.runner.specs.Finding.{AreFoundSo, FindsAt, FindsBy, FindsSame, IsFoundSo, IsNew, OfSame, copy_at, copy_under, told_found}
-use Rattle.runner.specs.Going.{AtReady, CopiesUnder, HasLogged, log_at, logged_of, logs_of, next_at, plan_at, steps_of, version_at}
+use Rattle.runner.specs.Going.{BeforeStep, CopiesUnder, HasLogged, log_at, logged_of, logs_of, next_at, plan_at, steps_of, version_at}
 use Rattle.runner.proofs.Stages.{stands_of}
 
 -- ---- what others add bears no mark of ours
@@ -141,7 +141,7 @@ module _ (ours : List ℕ → Bool) (alone : Bool) (w : World) (options : Option
       ∙ after-more plan.steps (results_of log) s (Some copy) (boxes_of w) (result_less plan.steps log s is) (result_is plan.steps log s is) in
       grown before (target dir) _ (sym a.boxes ∙ ap (λ (ms : List (List ℕ)). own (is_own w ms) (boxes_at d)) marks ∙ b.boxes ∙ more)
 
-module _ (ours : List ℕ → Bool) (alone : Bool) (opening : Opening) (opened : Option Opened) where
+module _ {ours : List ℕ → Bool} {alone : Bool} (opening : Opening ours alone) (opened : Option Opened) where
   abbrev version : Version
   version = version_at opened
 
@@ -155,21 +155,21 @@ module _ (ours : List ℕ → Bool) (alone : Bool) (opening : Opening) (opened :
   planned_at w d (inl k) = let at = k.1 in at.planned
   planned_at w d (inr k) = let at = k.1 in at.planned
 
-  ready_ours : (dir : Direction) (uid flags : ℕ) (mark : List ℕ) → next_at opened ≡ Some (step.New dir uid flags mark) → (is_taken_up : Bool) (d : Device) → AtReady ours alone opening opened is_taken_up d → ours mark ≡ true
+  ready_ours : (dir : Direction) (uid flags : ℕ) (mark : List ℕ) → next_at opened ≡ Some (step.New dir uid flags mark) → (is_taken_up : Bool) (d : Device) → BeforeStep opening opened is_taken_up d → ours mark ≡ true
   ready_ours dir uid flags mark is is_taken_up d k =
       let s = k.since in
       is_ours ours s.world opening.options plan (step.New dir uid flags mark) mark
-      (planned_at s.world d (stands_of ours alone opening opened s.world is_taken_up d s.holds))
+      (planned_at s.world d (stands_of opening opened s.world is_taken_up d s.holds))
       (next_contained plan.steps log _ is) refl
 
   -- what is answered where it was looked for
-  pub seek_told : (dir : Direction) (mark : List ℕ) → CopiesUnder opened dir mark → (d m : Device) → Arrives ours alone d m → AtReady ours alone opening opened true d → (found : Option ℕ) → found ≡ marked_from mark (first_uid plan (target dir)) (box m (target dir))
+  pub seek_told : (dir : Direction) (mark : List ℕ) → CopiesUnder opened dir mark → (d m : Device) → Arrives ours alone d m → BeforeStep opening opened true d → (found : Option ℕ) → found ≡ marked_from mark (first_uid plan (target dir)) (box m (target dir))
       → OfSame ours d (λ x. found ≡ copy_under plan dir mark x)
   seek_told dir mark next d m a k found told = λ x same.
       let mine = ready_ours dir next.uid next.flags mark next.is true d k in
       told ∙ same_arrives ours alone d m a mark (first_uid plan (target dir)) (target dir) mine ∙ same mark (first_uid plan (target dir)) (target dir) mine
 
-  none_there : (dir : Direction) (uid flags : ℕ) (mark : List ℕ) → next_at opened ≡ Some (step.New dir uid flags mark) → (d : Device) → AtReady ours alone opening opened false d → marked_from mark (first_uid plan (target dir)) (box d (target dir)) ≡ None
+  none_there : (dir : Direction) (uid flags : ℕ) (mark : List ℕ) → next_at opened ≡ Some (step.New dir uid flags mark) → (d : Device) → BeforeStep opening opened false d → marked_from mark (first_uid plan (target dir)) (box d (target dir)) ≡ None
   none_there dir uid flags mark is d k =
       let s = k.since in
       by_found s.world s.holds (marked_from mark (first_uid plan (target dir)) (box d (target dir))) refl
@@ -180,7 +180,7 @@ module _ (ours : List ℕ → Bool) (alone : Bool) (opening : Opening) (opened :
       by_found w at (Some copy) e t = absurd (never_both ours alone w opening.options version plan log dir uid flags mark is copy d at t)
 
   -- before a step none of whose calls is done there is no copy of it
-  pub not_there : (s : Step) → next_at opened ≡ Some s → (d : Device) → AtReady ours alone opening opened false d → copy_at plan s d ≡ None
+  pub not_there : (s : Step) → next_at opened ≡ Some s → (d : Device) → BeforeStep opening opened false d → copy_at plan s d ≡ None
   not_there (step.New dir uid flags mark) is d k = none_there dir uid flags mark is d k
   not_there (step.Gone dir far near) is d k = refl
   not_there (step.Flags dir far near set cleared) is d k = refl
@@ -188,15 +188,15 @@ module _ (ours : List ℕ → Bool) (alone : Bool) (opening : Opening) (opened :
 
   module _ (dir : Direction) (uid flags : ℕ) (mark : List ℕ) (is : next_at opened ≡ Some (step.New dir uid flags mark)) where
     -- a copy that was made, where none had been looked for
-    pub made_fresh : (r : Result StepResult RunFault) (h : Type 0) (d : Device) → IfOk r (λ x. told_found x ≡ None) → IfOk r (λ x. h → AtReady ours alone opening opened false d → OfSame ours d (λ y. told_found x ≡ copy_at plan (step.New dir uid flags mark) y))
+    pub made_fresh : (r : Result StepResult RunFault) (h : Type 0) (d : Device) → IfOk r (λ x. told_found x ≡ None) → IfOk r (λ x. h → BeforeStep opening opened false d → OfSame ours d (λ y. told_found x ≡ copy_at plan (step.New dir uid flags mark) y))
     made_fresh (Err e) h d made = tt
     made_fresh (Ok x) h d made = λ honest k y same.
         made ∙ sym (none_there dir uid flags mark is d k) ∙ same mark (first_uid plan (target dir)) (target dir) (ready_ours dir uid flags mark is false d k)
 
     -- one that was made, where none was found
     pub made_sought : (r : Result StepResult RunFault) (h0 h1 : Type 0) (d : Device) → (h1 → h0) → IfOk r (λ x. told_found x ≡ None)
-        → (h0 → AtReady ours alone opening opened true d → OfSame ours d (λ y. None ≡ copy_under plan dir mark y))
-        → IfOk r (λ x. h1 → AtReady ours alone opening opened true d → OfSame ours d (λ y. told_found x ≡ copy_at plan (step.New dir uid flags mark) y))
+        → (h0 → BeforeStep opening opened true d → OfSame ours d (λ y. None ≡ copy_under plan dir mark y))
+        → IfOk r (λ x. h1 → BeforeStep opening opened true d → OfSame ours d (λ y. told_found x ≡ copy_at plan (step.New dir uid flags mark) y))
     made_sought (Err e) h0 h1 d honest made none = tt
     made_sought (Ok x) h0 h1 d honest made none = λ h k y same. made ∙ none (honest h) k y same
 
@@ -218,12 +218,12 @@ pub found_more : (plan : Plan) (d : Device) (ps : List Performed) (p : Performed
 found_more plan d [] p k first later = (first refl, All-nil IsNew)
 found_more plan d (q ∷ ps) p k first later = (k.0, All-push IsNew ps p k.1 (later (λ e. cc)))
 
-pub found_next : (ours : List ℕ → Bool) (alone : Bool) (opening : Opening) (start now : Option Opened) (is_taken_up : Bool) (ps : List Performed) (p : Performed) (s0 s1 : Seen) → HasLogged start now (logs_of ps) → next_at now ≡ Some p.step → (ps ≡ [] → s1 ≡ s0) → ((ps ≡ [] → ⊥) → AtReady ours alone opening now false s1.device)
-    → AtReady ours alone opening now is_taken_up s1.device → OfSame ours s0.device (λ d. AreFoundSo (plan_at start) d ps) → (AtReady ours alone opening now is_taken_up s1.device → OfSame ours s1.device (λ d. IsFoundSo (plan_at now) d p)) → OfSame ours s0.device (λ d. AreFoundSo (plan_at start) d (ps ++ p ∷ []))
-found_next ours alone opening start now is_taken_up ps p s0 s1 has is first later ready so_far one = λ d same.
+pub found_next : {ours : List ℕ → Bool} {alone : Bool} (opening : Opening ours alone) (start now : Option Opened) (is_taken_up : Bool) (ps : List Performed) (p : Performed) (s0 s1 : Seen) → HasLogged start now (logs_of ps) → next_at now ≡ Some p.step → (ps ≡ [] → s1 ≡ s0) → ((ps ≡ [] → ⊥) → BeforeStep opening now false s1.device)
+    → BeforeStep opening now is_taken_up s1.device → OfSame ours s0.device (λ d. AreFoundSo (plan_at start) d ps) → (BeforeStep opening now is_taken_up s1.device → OfSame ours s1.device (λ d. IsFoundSo (plan_at now) d p)) → OfSame ours s0.device (λ d. AreFoundSo (plan_at start) d (ps ++ p ∷ []))
+found_next {ours} {alone} opening start now is_taken_up ps p s0 s1 has is first later ready so_far one = λ d same.
     found_more (plan_at start) d ps p (so_far d same)
     (λ e. subst (λ (plan : Plan). IsFoundSo plan d p) has.plan (one ready d (subst (λ (s : Seen). FindsSame ours d s.device) (sym (first e)) same)))
-    (λ e. one ready s1.device (same_none ours s1.device) ∙ not_there ours alone opening now p.step is s1.device (later e))
+    (λ e. one ready s1.device (same_none ours s1.device) ∙ not_there opening now p.step is s1.device (later e))
 
 pub not_none : (ps : List Performed) (p : Performed) → ps ++ p ∷ [] ≡ [] → ⊥
 not_none [] p e = cc
@@ -235,10 +235,10 @@ next_first (t ∷ steps) [] s rest e = cc
 next_first (t ∷ steps) (l ∷ ls) s rest e = next_first steps ls s rest e
 
 -- of a plan that was just made nothing is found
-pub all_new : (ours : List ℕ → Bool) (alone : Bool) (opening : Opening) (opened : Option Opened) (ps : List Performed) (d : Device) → steps_of ps ≡ drop (length (log_at opened)) (plan_at opened).steps → AtReady ours alone opening opened false d → AreFoundSo (plan_at opened) d ps → All IsNew ps
-all_new ours alone opening opened [] d steps k f = All-nil IsNew
-all_new ours alone opening opened (p ∷ ps) d steps k f =
-    All-cons IsNew p ps (f.0 ∙ not_there ours alone opening opened p.step (next_first (plan_at opened).steps (log_at opened) p.step (steps_of ps) steps) d k) f.1
+pub all_new : {ours : List ℕ → Bool} {alone : Bool} (opening : Opening ours alone) (opened : Option Opened) (ps : List Performed) (d : Device) → steps_of ps ≡ drop (length (log_at opened)) (plan_at opened).steps → BeforeStep opening opened false d → AreFoundSo (plan_at opened) d ps → All IsNew ps
+all_new opening opened [] d steps k f = All-nil IsNew
+all_new {ours} {alone} opening opened (p ∷ ps) d steps k f =
+    All-cons IsNew p ps (f.0 ∙ not_there opening opened p.step (next_first (plan_at opened).steps (log_at opened) p.step (steps_of ps) steps) d k) f.1
 
 -- ---- what a pass tells
 

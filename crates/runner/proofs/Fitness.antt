@@ -24,7 +24,8 @@ use Rattle.rules.specs.Called.{is_new, is_unfit, is_gone, pair_of, pair_between,
 use Rattle.rules.specs.Outcome.{count_new, greatest, highest_after, news}
 use Rattle.rules.proofs.WorldLemmas.{wanted}
 use Rattle.runner.specs.Before.{AreOld}
-use Rattle.planner.specs.Written.{all_notes, all_steps, all_unfit, drop_note, expunge_step, expunge_steps, flags_by_pair, flags_step, flags_steps, gone_by, gone_step, gone_steps, record_by_pair, record_note, record_notes, unfit_uids}
+use Rattle.planner.specs.Listed.{all_unfit, unfit_uids}
+use Rattle.planner.specs.Written.{all_notes, all_steps, drop_note, expunge_step, expunge_steps, flags_by_pair, flags_step, flags_steps, gone_by, gone_step, gone_steps, record_by_pair, record_note, record_notes}
 
 -- ---- walks over two lists
 

@@ -26,7 +26,7 @@ use Rattle.underway.specs.Moments.{Midway, PlannedAt, with_log}
 use Rattle.underway.specs.Openings.{Opening}
 use Rattle.underway.specs.Plans.{next_of}
 use Rattle.underway.proofs.Moves.{midway_filed}
-use Rattle.runner.specs.Going.{AtDone, AtReady, FitsNext, HasLogged, HasUntorn, IsGoing, IsUntorn, log_at, next_at, no_journal, number_at, plan_at, version_at, version_in}
+use Rattle.runner.specs.Going.{AfterStep, BeforeStep, FitsNext, HasLogged, HasUntorn, IsGoing, IsUntorn, log_at, next_at, no_journal, number_at, plan_at, version_at, version_in}
 use Rattle.runner.proofs.FreeCopies.{copy_is_free}
 use Rattle.runner.proofs.PartCalls.{TellsNoBook}
 use Rattle.runner.proofs.Stages.{done_arrives, done_underway, left_by, moment_map, planned, ready_underway}
@@ -79,41 +79,41 @@ taken_free (Some o) logged s g e t f = let same : o.state ≡ s = cc in of_pendi
     of_pending Useless g t f = g
     of_pending (Planned written) g t f = both_ways true (sym t ∙ ap not f) refl
 
-module _ (ours : List ℕ → Bool) (alone : Bool) (opening : Opening) (opened : Option Opened) (logged : Logged) where
-  pub log_made : (now : Option Opened) (d m d' : Device) → IsGoing opened → HasLogged opened now (logged ∷ []) → Arrives ours alone d m → AtDone ours alone opening opened logged d → OfBook (λ p. Turns p (logged_more p logged)) opened m d' → AtReady ours alone opening now false d'
+module _ {ours : List ℕ → Bool} {alone : Bool} (opening : Opening ours alone) (opened : Option Opened) (logged : Logged) where
+  pub log_made : (now : Option Opened) (d m d' : Device) → IsGoing opened → HasLogged opened now (logged ∷ []) → Arrives ours alone d m → AfterStep opening opened logged d → OfBook (λ p. Turns p (logged_more p logged)) opened m d' → BeforeStep opening now false d'
   log_made now d m d' g h a at e =
       let t = of_book (λ p. Turns p (logged_more p logged)) opened m d' g.untorn e in
-      let k = moment_map alone opening opened _ (λ w. Midway ours alone w opening.options (version_at opened) (plan_at opened) (log_at opened ++ logged ∷ []) false (log_at opened ++ logged ∷ []) false d')
+      let k = moment_map opening opened _ (λ w. Midway ours alone w opening.options (version_at opened) (plan_at opened) (log_at opened ++ logged ∷ []) false (log_at opened ++ logged ∷ []) false d')
       (λ w grows b x. midway_filed ours alone w opening.options (version_at opened) (plan_at opened) (log_at opened) (log_at opened ++ logged ∷ []) false false (log_at opened ++ logged ∷ []) false m d' t.far t.near t.named (t.files w.state x.files) x)
-      (done_arrives ours alone opening opened logged d m a at) in
+      (done_arrives opening opened logged d m a at) in
       rw (h.version, h.plan, h.log) (record { state = h.state ∙ k.state; since = k.since })
 
-  made_underway : (d m d' : Device) → IsGoing opened → Arrives ours alone d m → AtDone ours alone opening opened logged d → OfBook (λ p. Turns p (logged_more p logged)) opened m d' → Underway ours alone opening d'
+  made_underway : (d m d' : Device) → IsGoing opened → Arrives ours alone d m → AfterStep opening opened logged d → OfBook (λ p. Turns p (logged_more p logged)) opened m d' → Underway opening d'
   made_underway d m d' g a at e =
       let now = turned (λ p. logged_more p logged) opened in
-      ready_underway ours alone opening now false d' (log_made now d m d' g (has_logged opened logged g) a at e)
+      ready_underway opening now false d' (log_made now d m d' g (has_logged opened logged g) a at e)
 
-  half_underway : (d m d' : Device) → IsGoing opened → Arrives ours alone d m → AtDone ours alone opening opened logged d → OfBook (λ p. TurnsHalf p (torn p)) opened m d' → Underway ours alone opening d'
+  half_underway : (d m d' : Device) → IsGoing opened → Arrives ours alone d m → AfterStep opening opened logged d → OfBook (λ p. TurnsHalf p (torn p)) opened m d' → Underway opening d'
   half_underway d m d' g a at e =
       let t = of_book (λ p. TurnsHalf p (torn p)) opened m d' g.untorn e in
-      planned ours alone opening opened (λ w. PlannedAt ours alone w opening.options d') d' (λ w p. p)
-      (moment_map alone opening opened _ _ (λ w grows b x. by_files w t.far t.near t.named x (t.files w.state x.files)) (done_arrives ours alone opening opened logged d m a at))
+      planned opening opened (λ w. PlannedAt ours alone w opening.options d') d' (λ w p. p)
+      (moment_map opening opened _ _ (λ w grows b x. by_files w t.far t.near t.named x (t.files w.state x.files)) (done_arrives opening opened logged d m a at))
     where
       by_files : (w : World) → d'.far ≡ m.far → d'.near ≡ m.near → d'.named ≡ m.named → Midway ours alone w opening.options (version_at opened) (plan_at opened) (log_at opened) false (log_at opened ++ logged ∷ []) false m → Holds d'.files w.state (with_log (version_at opened) (plan_at opened) (log_at opened) false) ⊎ Holds d'.files w.state (with_log (version_at opened) (plan_at opened) (log_at opened) true) → PlannedAt ours alone w opening.options d'
       by_files w far near named x (inl held) = record { version = version_at opened; plan = plan_at opened; log = log_at opened; is_torn = false; stands = inr (logged, midway_filed ours alone w opening.options (version_at opened) (plan_at opened) (log_at opened) (log_at opened) false false (log_at opened ++ logged ∷ []) false m d' far near named held x) }
       by_files w far near named x (inr held) = record { version = version_at opened; plan = plan_at opened; log = log_at opened; is_torn = true; stands = inr (logged, midway_filed ours alone w opening.options (version_at opened) (plan_at opened) (log_at opened) (log_at opened) false true (log_at opened ++ logged ∷ []) false m d' far near named held x) }
 
   -- the UID of a copy that was made is not taken
-  never_taken : (d m : Device) → IsGoing opened → Arrives ours alone d m → AtDone ours alone opening opened logged d → IsTaken opened logged → ⊥
+  never_taken : (d m : Device) → IsGoing opened → Arrives ours alone d m → AfterStep opening opened logged d → IsTaken opened logged → ⊥
   never_taken d m g a at taken =
-      let k = done_arrives ours alone opening opened logged d m a at in
+      let k = done_arrives opening opened logged d m a at in
       let s = k.since in
       let free = copy_is_free ours alone s.world opening.options (version_at opened) (plan_at opened) (log_at opened) s.grows.in_order s.below logged m s.holds in
       taken_free opened logged s.world.state g.untorn (k.state ∙ ap (λ (x : SyncState). Some x) (sym s.grows.state)) taken free
 
   -- whatever a fault leaves
-  pub log_left : (e : OutsideFault) (d m d' : Device) → IsGoing opened → Arrives ours alone d m → AtDone ours alone opening opened logged d → FromLog opened logged e → LeavesBy {T = Unit {0}} (λ _. OfBook (λ p. Turns p (logged_more p logged)) opened) (OfBook (λ p. TurnsHalf p (torn p)) opened) e m d' → TellsNoBook e × Underway ours alone opening d'
-  log_left e d m d' g a at told l = (tells e told, left_by (Underway ours alone opening) _ _ e m d' l (done_underway ours alone opening opened logged m (done_arrives ours alone opening opened logged d m a at)) (half_underway d m d' g a at) (λ x. made_underway d m d' g a at))
+  pub log_left : (e : OutsideFault) (d m d' : Device) → IsGoing opened → Arrives ours alone d m → AfterStep opening opened logged d → FromLog opened logged e → LeavesBy {T = Unit {0}} (λ _. OfBook (λ p. Turns p (logged_more p logged)) opened) (OfBook (λ p. TurnsHalf p (torn p)) opened) e m d' → TellsNoBook e × Underway opening d'
+  log_left e d m d' g a at told l = (tells e told, left_by (Underway opening) _ _ e m d' l (done_underway opening opened logged m (done_arrives opening opened logged d m a at)) (half_underway d m d' g a at) (λ x. made_underway d m d' g a at))
     where
       tells : (e : OutsideFault) → FromLog opened logged e → TellsNoBook e
       tells out.Stopped t = tt

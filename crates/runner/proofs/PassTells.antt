@@ -18,7 +18,7 @@ use Rattle.runner.specs.Answers.{Answers, OfFiles, RunsBy, as_read}
 use Rattle.runner.specs.Attempts.{AnswersAt}
 use Rattle.runner.specs.Finding.{FindsAt}
 use Rattle.runner.specs.Passes.{LeavesMade, TellsRun}
-use Rattle.runner.specs.Results.{IsTold}
+use Rattle.runner.specs.Results.{Report}
 use Rattle.runner.specs.Validities.{LeavesBoxes}
 
 pub answers_so : (run : ℕ) (options : Options) (d : Device) (stream : Stream) (h : Type 0) (r : Result Pass RunFault) → IfOk r (λ pass. h → (s : SyncState) → (p : Pending) → Holds d.files s p → Answers run s p pass)
@@ -26,18 +26,18 @@ pub answers_so : (run : ℕ) (options : Options) (d : Device) (stream : Stream) 
 answers_so run options d stream h (Ok pass) answers runs = λ honest. record { answers = answers honest; runs = runs honest }
 answers_so run options d stream h (Err e) answers runs = tt
 
-module _ (ours : List ℕ → Bool) (alone : Bool) (opening : Opening) (run : ℕ) (h from : Type 0) (d d' : Device) where
-  pub tells_so : (r : Result Pass RunFault) → IfOk r (λ pass. h → from → IsTold ours alone opening pass d') → IfOk r (λ pass. h → from → FindsAt ours d pass)
+module _ {ours : List ℕ → Bool} {alone : Bool} (opening : Opening ours alone) (run : ℕ) (h from : Type 0) (d d' : Device) where
+  pub tells_so : (r : Result Pass RunFault) → IfOk r (λ pass. h → from → Report opening pass d') → IfOk r (λ pass. h → from → FindsAt ours d pass)
       → OnOk r (h → alone ≡ true → from → opening.world.state.run + 1 ≤ run → IsOpening opening.world → IsDone opening.world opening.options d')
-      → IfOk r (λ pass. h → from → TellsRun ours alone opening run pass d d')
+      → IfOk r (λ pass. h → from → TellsRun opening run pass d d')
   tells_so (Ok pass) told found alike = λ honest at. record { told = told honest at; found = found honest at; alike = λ nobody least sound. alike honest nobody at least sound }
   tells_so (Err e) told found alike = tt
 
-  pub told_in : (r : Result Pass RunFault) → IfOk r (λ pass. h → from → TellsRun ours alone opening run pass d d') → IfOk r (λ pass. h → from → IsTold ours alone opening pass d')
+  pub told_in : (r : Result Pass RunFault) → IfOk r (λ pass. h → from → TellsRun opening run pass d d') → IfOk r (λ pass. h → from → Report opening pass d')
   told_in (Ok pass) k = λ honest at. (k honest at).told
   told_in (Err e) k = tt
 
-  pub found_in : (r : Result Pass RunFault) → IfOk r (λ pass. h → from → TellsRun ours alone opening run pass d d') → IfOk r (λ pass. h → from → FindsAt ours d pass)
+  pub found_in : (r : Result Pass RunFault) → IfOk r (λ pass. h → from → TellsRun opening run pass d d') → IfOk r (λ pass. h → from → FindsAt ours d pass)
   found_in (Ok pass) k = λ honest at. (k honest at).found
   found_in (Err e) k = tt
 

@@ -15,7 +15,7 @@ use Rattle.rules.specs.Outcome.{count_new}
 use Rattle.rules.specs.Opening.{IsOpening}
 use Rattle.rules.specs.Scene.{scene}
 use Rattle.rules.specs.World.{World, IsInOrder, scene_of}
-use Rattle.planner.specs.Written.{all_unfit, marks_of}
+use Rattle.planner.specs.Listed.{all_unfit, marks_of}
 use Rattle.sync_state.specs.JournalText.{IsLog}
 use Rattle.sync_state.specs.declared.journal.Logged.{Logged}
 use Rattle.book.specs.declared.book.Pending.{Pending}
@@ -44,10 +44,10 @@ use Rattle.runner.specs.declared.pass.Pass.{Pass}
 use Rattle.runner.specs.declared.pass.Pass.TheVariants.{Already, Ran, Finished}
 use Rattle.runner.specs.declared.performed.Performed.{Performed}
 use Rattle.runner.specs.Faults.{IsBeyond, IsCaused, LeavesRun, Reasons}
-use Rattle.runner.specs.Answers.{Answers, AnswersTo, AreUnfit, AtEnd, HasRepeats, IsAsked, IsDrawn, IsEntry, IsPlanFault, IsRest, IsRestOf, IsRun, Reaches, RepeatsIn, RunsBy, as_read, made_in, run_of}
+use Rattle.runner.specs.Answers.{Answers, AnswersTo, AreUnfit, RunEnd, HasRepeats, Inputs, IsDrawn, PassStart, IsPlanFault, IsRest, IsRestOf, IsRun, PassEnd, RepeatsIn, RunsBy, as_read, made_in, run_of}
 use Rattle.runner.specs.Maps.{HasMap, HasMapIn, HasOtherMapIn}
-use Rattle.runner.specs.Before.{AreShown, BothListed, HasNoPlan, HasNone, HasPlan, IsEmptied, IsKnown, IsMade, IsTakenUp}
-use Rattle.runner.specs.Going.{AreOpen, AtReady, HasLogged, HasUntorn, IsGoing, IsUntorn, log_at, logged_of, logs_of, next_at, no_journal, plan_at, steps_of, version_at}
+use Rattle.runner.specs.Before.{AreShown, BothListed, HasNoPlan, HasNone, HasPlan, IsEmptied, ReadUnderway, IsMade, Resumed}
+use Rattle.runner.specs.Going.{AreOpen, BeforeStep, HasLogged, HasUntorn, IsGoing, IsUntorn, log_at, logged_of, logs_of, next_at, no_journal, plan_at, steps_of, version_at}
 use Rattle.runner.specs.Parts.{PartOr}
 use Rattle.runner.specs.Validities.{IsKept}
 use Rattle.runner.proofs.Logging.{of_book}
@@ -257,12 +257,12 @@ emptied_held opened d0 d1 d2 h0 h1 (Ok pass) k f held same = λ is h s p now idl
         let e = book_known d0.files o.state s o.pending p there now in
         subst (λ (x : SyncState). Holds d2.files x Missing) e.0 (g (subst (λ (f : Files). Holds f o.state o.pending) (sym is) there) (subst IsIdle (sym e.1) idle))
 
-module _ (ours : List ℕ → Bool) (alone : Bool) (opening : Opening) where
+module _ {ours : List ℕ → Bool} {alone : Bool} (opening : Opening ours alone) where
   -- ---- the plan of two listings
 
   pub plan_made : (opened : Option Opened) (options : Options) (stream : Stream) (far near : Listing) (plan : Plan) → IsDrawn opened stream far near options plan.steps
       → ((w : World) → IsInOrder w → state_of opened ≡ Some w.state → AreShown w far near → All (λ mark. ours mark ≡ true) (marks_of plan.steps) → IsPlanned ours w options plan)
-      → (d : Device) → IsAsked ours opening options stream → BothListed ours alone opening opened far near d → IsMade ours alone opening opened plan d
+      → (d : Device) → Inputs opening options stream → BothListed opening opened far near d → IsMade opening opened plan d
   plan_made None options stream far near plan drawn is d asked both = absurd drawn
   plan_made (Some o) options stream far near plan drawn is d asked both =
       let c = both.clear in
@@ -270,13 +270,13 @@ module _ (ours : List ℕ → Bool) (alone : Bool) (opening : Opening) where
       let mine : All (λ mark. ours mark ≡ true) (marks_of plan.steps) = asked.are_ours 0 (count_new (scene far near o.state options)) (marks_of plan.steps) (subst (λ (x : Stream). Draws x (count_new (scene far near o.state options)) (marks_of plan.steps)) (sym (no_pairs stream)) draws.drawn) in
       record {
         clear = c;
-        since = since_map alone opening _ _ (λ w g k. (subst (λ (x : Options). IsPlanned ours w x plan) (sym asked.called ∙ c.chosen) (is w g.in_order (c.state ∙ ap (λ (x : SyncState). Some x) (sym g.state)) k.0 mine), k.1)) both.since;
+        since = since_map opening _ _ (λ w g k. (subst (λ (x : Options). IsPlanned ours w x plan) (sym asked.called ∙ c.chosen) (is w g.in_order (c.state ∙ ap (λ (x : SyncState). Some x) (sym g.state)) k.0 mine), k.1)) both.since;
       }
 
   -- it is that of the world that was listed, and so are the messages that were passed over
   pub passed_by : (opened : Option Opened) (options : Options) (stream : Stream) (far near : Listing) (plan : Plan) (unfit : List (Side × ℕ)) → IsDrawn opened stream far near options plan.steps
       → ((w : World) → IsInOrder w → state_of opened ≡ Some w.state → AreShown w far near → All (λ mark. ours mark ≡ true) (marks_of plan.steps) → IsPlanned ours w options plan)
-      → AreUnfit opened far near options unfit → (d : Device) → IsAsked ours opening options stream → BothListed ours alone opening opened far near d → PassedOver ours alone opening plan unfit
+      → AreUnfit opened far near options unfit → (d : Device) → Inputs opening options stream → BothListed opening opened far near d → PassedOver opening plan unfit
   passed_by None options stream far near plan unfit drawn is are d asked both = absurd drawn
   passed_by (Some o) options stream far near plan unfit drawn is are d asked both =
       let c = both.clear in
@@ -284,13 +284,13 @@ module _ (ours : List ℕ → Bool) (alone : Bool) (opening : Opening) where
       let mine : All (λ mark. ours mark ≡ true) (marks_of plan.steps) = asked.are_ours 0 (count_new (scene far near o.state options)) (marks_of plan.steps) (subst (λ (x : Stream). Draws x (count_new (scene far near o.state options)) (marks_of plan.steps)) (sym (no_pairs stream)) draws.drawn) in
       let read = c.state in
       let first : o.state ≡ opening.world.state = cc in
-      since_map alone opening _ _ (λ w g k. subst (λ (x : Options). IsPlanned ours w x plan × (unfit ≡ all_unfit (scene_of w x))) (sym asked.called ∙ c.chosen) (
+      since_map opening _ _ (λ w g k. subst (λ (x : Options). IsPlanned ours w x plan × (unfit ≡ all_unfit (scene_of w x))) (sym asked.called ∙ c.chosen) (
         is w g.in_order (read ∙ ap (λ (x : SyncState). Some x) (sym g.state)) k.0 mine,
         unfit_by ours w o.state options far near (first ∙ sym g.state) k.0 unfit are,
       )) both.since
 
   -- as many marks are wanted as that world has new messages
-  pub repeats_since : (opened : Option Opened) (options : Options) (stream : Stream) (far near : Listing) (honest from : Type 0) (d : Device) → RepeatsIn opened stream far near options → (honest → from → BothListed ours alone opening opened far near d) → HasRepeats alone opening honest from options stream
+  pub repeats_since : (opened : Option Opened) (options : Options) (stream : Stream) (far near : Listing) (honest from : Type 0) (d : Device) → RepeatsIn opened stream far near options → (honest → from → BothListed opening opened far near d) → HasRepeats opening honest from options stream
   repeats_since None options stream far near honest from d k listed = absurd k
   repeats_since (Some o) options stream far near honest from d k listed = record {
     count = count_new (scene far near o.state options);
@@ -300,37 +300,37 @@ module _ (ours : List ℕ → Bool) (alone : Bool) (opening : Opening) where
         let c = both.clear in
         let read = c.state in
         let first : o.state ≡ opening.world.state = cc in
-        since_map alone opening _ _ (λ w g s. count_is ours w o.state options far near (first ∙ sym g.state) s.0) both.since;
+        since_map opening _ _ (λ w g s. count_is ours w o.state options far near (first ∙ sym g.state) s.0) both.since;
   }
 
   -- ---- the end
 
-  pub ended_at : (opened : Option Opened) (is_taken_up : Bool) (d m d' : Device) → IsGoing opened → next_at opened ≡ None → Arrives ours alone d m → AtReady ours alone opening opened is_taken_up d → OfBook CommitsTo opened m d' → AtEnd ours alone opening d'
+  pub ended_at : (opened : Option Opened) (is_taken_up : Bool) (d m d' : Device) → IsGoing opened → next_at opened ≡ None → Arrives ours alone d m → BeforeStep opening opened is_taken_up d → OfBook CommitsTo opened m d' → RunEnd opening d'
   ended_at opened is_taken_up d m d' g none a k t =
-      let r = ready_arrives ours alone opening opened is_taken_up d m a k in
+      let r = ready_arrives opening opened is_taken_up d m a k in
       let does = of_book CommitsTo opened m d' g.untorn t in
-      since_map alone opening _ _ (λ w grows at. (marks_of (plan_at opened).steps, ended ours alone w opening.options (version_at opened) (plan_at opened) (log_at opened) none m d' grows.in_order (stands_of ours alone opening opened w is_taken_up m at) does)) r.since
+      since_map opening _ _ (λ w grows at. (marks_of (plan_at opened).steps, ended ours alone w opening.options (version_at opened) (plan_at opened) (log_at opened) none m d' grows.in_order (stands_of opening opened w is_taken_up m at) does)) r.since
 
-  split_done : (d : Device) → Since alone opening (λ w. PlannedAt ours alone w opening.options d ⊎ DoneAt ours alone w opening.options d) → Underway ours alone opening d
+  split_done : (d : Device) → Since opening (λ w. PlannedAt ours alone w opening.options d ⊎ DoneAt ours alone w opening.options d) → Underway opening d
   split_done d s = by_world s.holds
     where
-      by_world : PlannedAt ours alone s.world opening.options d ⊎ DoneAt ours alone s.world opening.options d → Underway ours alone opening d
+      by_world : PlannedAt ours alone s.world opening.options d ⊎ DoneAt ours alone s.world opening.options d → Underway opening d
       by_world (inl p) = inr (inl (record { world = s.world; grows = s.grows; admitted = s.admitted; below = s.below; within = s.within; holds = p }))
       by_world (inr x) = inr (inr (record { world = s.world; grows = s.grows; admitted = s.admitted; below = s.below; within = s.within; holds = x }))
 
-  pub half_ended_at : (opened : Option Opened) (is_taken_up : Bool) (d m d' : Device) → IsGoing opened → next_at opened ≡ None → Arrives ours alone d m → AtReady ours alone opening opened is_taken_up d → OfBook CommitsHalf opened m d' → Underway ours alone opening d'
+  pub half_ended_at : (opened : Option Opened) (is_taken_up : Bool) (d m d' : Device) → IsGoing opened → next_at opened ≡ None → Arrives ours alone d m → BeforeStep opening opened is_taken_up d → OfBook CommitsHalf opened m d' → Underway opening d'
   half_ended_at opened is_taken_up d m d' g none a k t =
-      let r = ready_arrives ours alone opening opened is_taken_up d m a k in
+      let r = ready_arrives opening opened is_taken_up d m a k in
       let does = of_book CommitsHalf opened m d' g.untorn t in
-      split_done d' (since_map alone opening _ _ (λ w grows at. half_ended ours alone w opening.options (version_at opened) (plan_at opened) (log_at opened) none m d' grows.in_order (stands_of ours alone opening opened w is_taken_up m at) does) r.since)
+      split_done d' (since_map opening _ _ (λ w grows at. half_ended ours alone w opening.options (version_at opened) (plan_at opened) (log_at opened) none m d' grows.in_order (stands_of opening opened w is_taken_up m at) does) r.since)
 
-  end_over : (d : Device) → AtEnd ours alone opening d → IsOver ours alone opening d
-  end_over d s = since_map alone opening _ _ (λ w g k. ended_done ours alone w opening.options d k) s
+  end_over : (d : Device) → RunEnd opening d → IsOver opening d
+  end_over d s = since_map opening _ _ (λ w g k. ended_done ours alone w opening.options d k) s
 
-  pub end_underway : (d : Device) → AtEnd ours alone opening d → Underway ours alone opening d
+  pub end_underway : (d : Device) → RunEnd opening d → Underway opening d
   end_underway d s = inr (inr (end_over d s))
 
-  pub end_reaches : (run : ℕ) (d : Device) → AtEnd ours alone opening d → Reaches ours alone opening run d
+  pub end_reaches : (run : ℕ) (d : Device) → RunEnd opening d → PassEnd opening run d
   end_reaches run d s = record { underway = end_underway d s; done = λ e. end_over d s }
 
   -- ---- which condition a run that is underway is in, by what was read
@@ -340,7 +340,7 @@ module _ (ours : List ℕ → Bool) (alone : Bool) (opening : Opening) where
 
   pub planned_state : (o : Opened) (w : World) (d : Device) → Grows alone opening.world w → IsHeld (Some o) d → (p : PlannedAt ours alone w opening.options d) → (o.state ≡ opening.world.state) × HasPlanned o.pending
   planned_state o w d g held p =
-      let e = book_known d.files o.state w.state o.pending _ held (planned_files ours alone opening w d p) in
+      let e = book_known d.files o.state w.state o.pending _ held (planned_files opening w d p) in
       (e.0 ∙ g.state, subst HasPlanned (sym e.1) tt)
 
   done_state : (o : Opened) (w : World) (d : Device) → Grows alone opening.world w → IsHeld (Some o) d → DoneAt ours alone w opening.options d → o.state.run ≡ opening.world.state.run + 1
@@ -348,7 +348,7 @@ module _ (ours : List ℕ → Bool) (alone : Bool) (opening : Opening) where
       let e = book_known d.files o.state x.state o.pending x.pending held x.files in
       ap (λ (s : SyncState). s.run) e.0 ∙ done_run w d g x
 
-  pub unplanned_state : (o : Opened) (d : Device) → IsHeld (Some o) d → Unplanned alone opening d → (o.state ≡ opening.world.state) × IsIdle o.pending
+  pub unplanned_state : (o : Opened) (d : Device) → IsHeld (Some o) d → Unplanned opening d → (o.state ≡ opening.world.state) × IsIdle o.pending
   unplanned_state o d held n =
       let e = book_known d.files o.state opening.world.state o.pending n.pending held n.files in
       (e.0, subst IsIdle (sym e.1) n.idle)
@@ -360,7 +360,7 @@ module _ (ours : List ℕ → Bool) (alone : Bool) (opening : Opening) where
 
   planned_map : (keywords : List Keyword) (o : Opened) (w : World) (d : Device) → IsHeld (Some o) d → (p : PlannedAt ours alone w opening.options d) → HasMap keywords o.pending → opening.options.keywords ≡ keywords
   planned_map keywords o w d held p m =
-      let e = book_known d.files o.state w.state o.pending _ held (planned_files ours alone opening w d p) in
+      let e = book_known d.files o.state w.state o.pending _ held (planned_files opening w d p) in
       let made : p.plan.keywords ≡ keywords = subst (HasMap keywords) e.1 m in
       by_stands p.stands made
     where
@@ -369,50 +369,50 @@ module _ (ours : List ℕ → Bool) (alone : Bool) (opening : Opening) where
       by_stands (inr k) made = let at = k.1 in let is = at.planned.is_plan in sym is.keywords ∙ made
 
   -- where a plan that is pending goes by the map of the call, so does the opening's, whether it is made or not
-  pub known_map : (opened : Option Opened) (options : Options) (stream : Stream) (d : Device) → run_of opened + 1 ≤ opening.world.state.run + 1 → HasMapIn options.keywords opened → IsAsked ours opening options stream → IsKnown ours alone opening opened d → opening.options.keywords ≡ options.keywords
+  pub known_map : (opened : Option Opened) (options : Options) (stream : Stream) (d : Device) → run_of opened + 1 ≤ opening.world.state.run + 1 → HasMapIn options.keywords opened → Inputs opening options stream → ReadUnderway opening opened d → opening.options.keywords ≡ options.keywords
   known_map None options stream d le m asked k = absurd m
   known_map (Some o) options stream d le m asked k = by_case k.underway
     where
-      by_case : Underway ours alone opening d → opening.options.keywords ≡ options.keywords
+      by_case : Underway opening d → opening.options.keywords ≡ options.keywords
       by_case (inl u) = ap (λ (x : Options). x.keywords) (sym u.chosen ∙ asked.called)
       by_case (inr (inl s)) = planned_map options.keywords o s.world d k.held s.holds m
       by_case (inr (inr s)) = let e = done_state o s.world d s.grows k.held s.holds in absurd (omega arith)
 
   -- a run that is not done yet: its plan is pending, or there is none
-  pub known_planned : (opened : Option Opened) (d : Device) → HasPlan opened → run_of opened + 1 ≤ opening.world.state.run + 1 → IsKnown ours alone opening opened d → IsTakenUp ours alone opening opened d
+  pub known_planned : (opened : Option Opened) (d : Device) → HasPlan opened → run_of opened + 1 ≤ opening.world.state.run + 1 → ReadUnderway opening opened d → Resumed opening opened d
   known_planned None d plan le k = absurd plan
   known_planned (Some o) d plan le k = record { pending = by_case k.underway; held = k.held }
     where
-      by_case : Underway ours alone opening d → IsPending ours alone opening d
+      by_case : Underway opening d → IsPending opening d
       by_case (inl u) = absurd (idle_planned o.pending (unplanned_state o d k.held u).1 plan)
       by_case (inr (inl s)) = s
       by_case (inr (inr s)) = let e = done_state o s.world d s.grows k.held s.holds in absurd (omega arith)
 
-  pub known_unplanned : (opened : Option Opened) (d : Device) → HasNoPlan opened → run_of opened + 1 ≤ opening.world.state.run + 1 → IsKnown ours alone opening opened d → HasNone alone opening opened d
+  pub known_unplanned : (opened : Option Opened) (d : Device) → HasNoPlan opened → run_of opened + 1 ≤ opening.world.state.run + 1 → ReadUnderway opening opened d → HasNone opening opened d
   known_unplanned None d none le k = absurd none
   known_unplanned (Some o) d none le k = record { unplanned = by_case k.underway; held = k.held }
     where
-      by_case : Underway ours alone opening d → Unplanned alone opening d
+      by_case : Underway opening d → Unplanned opening d
       by_case (inl u) = u
       by_case (inr (inl s)) = absurd (idle_planned o.pending none (planned_state o s.world d s.grows k.held s.holds).1)
       by_case (inr (inr s)) = let e = done_state o s.world d s.grows k.held s.holds in absurd (omega arith)
 
   -- what was read is of the opening's run or of the one behind it
-  pub known_least : (opened : Option Opened) (d : Device) → IsKnown ours alone opening opened d → opening.world.state.run ≤ run_of opened
+  pub known_least : (opened : Option Opened) (d : Device) → ReadUnderway opening opened d → opening.world.state.run ≤ run_of opened
   known_least None d k = absurd k.held
   known_least (Some o) d k = by_case k.underway
     where
-      by_case : Underway ours alone opening d → opening.world.state.run ≤ o.state.run
+      by_case : Underway opening d → opening.world.state.run ≤ o.state.run
       by_case (inl u) = let e = ap (λ (s : SyncState). s.run) (unplanned_state o d k.held u).0 in omega arith
       by_case (inr (inl s)) = let e = ap (λ (s : SyncState). s.run) (planned_state o s.world d s.grows k.held s.holds).0 in omega arith
       by_case (inr (inr s)) = let e = done_state o s.world d s.grows k.held s.holds in omega arith
 
   -- a state of the run, or of a later one, is that of its end
-  pub known_reaches : (opened : Option Opened) (run : ℕ) (d : Device) → run ≤ run_of opened → IsKnown ours alone opening opened d → Reaches ours alone opening run d
+  pub known_reaches : (opened : Option Opened) (run : ℕ) (d : Device) → run ≤ run_of opened → ReadUnderway opening opened d → PassEnd opening run d
   known_reaches None run d le k = absurd k.held
   known_reaches (Some o) run d le k = record { underway = k.underway; done = λ e. by_case e k.underway }
     where
-      by_case : opening.world.state.run + 1 ≤ run → Underway ours alone opening d → IsOver ours alone opening d
+      by_case : opening.world.state.run + 1 ≤ run → Underway opening d → IsOver opening d
       by_case e (inl u) = let s = ap (λ (s : SyncState). s.run) (unplanned_state o d k.held u).0 in absurd (omega arith)
       by_case e (inr (inl x)) = let s = ap (λ (s : SyncState). s.run) (planned_state o x.world d x.grows k.held x.holds).0 in absurd (omega arith)
       by_case e (inr (inr x)) = x
@@ -455,11 +455,11 @@ whole_steps opened performed e s = s ∙ ap (λ (l : List Logged). drop (length 
 
 -- ---- where nobody else adds messages
 
-pub over_alike : (ours : List ℕ → Bool) (alone : Bool) (opening : Opening) (d : Device) → alone ≡ true → IsOpening opening.world → IsOver ours alone opening d → IsDone opening.world opening.options d
-over_alike ours alone opening d nobody sound over = done_is_done ours opening d sound (subst (λ (x : Bool). IsOver ours x opening d) nobody over)
+pub over_alike : {ours : List ℕ → Bool} {alone : Bool} (opening : Opening ours alone) (d : Device) → alone ≡ true → IsOpening opening.world → IsOver opening d → IsDone opening.world opening.options d
+over_alike {ours} {alone} opening d nobody sound over = done_is_done opening d sound (subst (λ (x : Bool). IsOver opening d) nobody over)
 
-pub pass_alike : (reasons : Reasons) (honest : Type 0) (ours : List ℕ → Bool) (alone : Bool) (opening : Opening) (run : ℕ) (options : Options) (stream : Stream) (s0 s1 : Seen) (r : Result Pass RunFault)
-    → PartOr reasons honest (IsEntry ours alone opening run options stream) (Underway ours alone opening) made_in (λ _. Reaches ours alone opening run) s0 s1 r
-    → OnOk r (honest → alone ≡ true → IsEntry ours alone opening run options stream s0.device → opening.world.state.run + 1 ≤ run → IsOpening opening.world → IsDone opening.world opening.options s1.device)
-pass_alike reasons honest ours alone opening run options stream s0 s1 (Ok x) p = λ h nobody at least sound. let r = p.reaches h at in over_alike ours alone opening s1.device nobody sound (r.done least)
-pass_alike reasons honest ours alone opening run options stream s0 s1 (Err e) p = tt
+pub pass_alike : (reasons : Reasons) (honest : Type 0) {ours : List ℕ → Bool} {alone : Bool} (opening : Opening ours alone) (run : ℕ) (options : Options) (stream : Stream) (s0 s1 : Seen) (r : Result Pass RunFault)
+    → PartOr reasons honest (PassStart opening run options stream) (Underway opening) made_in (λ _. PassEnd opening run) s0 s1 r
+    → OnOk r (honest → alone ≡ true → PassStart opening run options stream s0.device → opening.world.state.run + 1 ≤ run → IsOpening opening.world → IsDone opening.world opening.options s1.device)
+pass_alike reasons honest {ours} {alone} opening run options stream s0 s1 (Ok x) p = λ h nobody at least sound. let r = p.reaches h at in over_alike opening s1.device nobody sound (r.done least)
+pass_alike reasons honest opening run options stream s0 s1 (Err e) p = tt

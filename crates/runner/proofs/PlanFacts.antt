@@ -9,13 +9,15 @@ use Rattle.mailcore.specs.Operations.{item_sparing}
 use Rattle.rules.specs.declared.options.Options.{Options}
 use Rattle.rules.specs.declared.plan.Plan.{Plan}
 use Rattle.rules.specs.declared.plan.PlanSide.{PlanSide}
+use Rattle.rules.specs.declared.plan.Step.{Step}
 use Rattle.rules.specs.declared.state.SyncState.{SyncState}
 use Rattle.rules.specs.Outcome.{count_new, highest_after}
 use Rattle.rules.specs.PlanEntries.{PlanAgrees}
 use Rattle.rules.specs.Plans.{AreInRange, IsHighest, IsPlan}
 use Rattle.rules.specs.Scene.{Scene, scene}
 use Rattle.rules.specs.World.{World, scene_of, store}
-use Rattle.planner.specs.Written.{all_notes, all_steps, all_unfit, marks_of, side_with}
+use Rattle.planner.specs.Listed.{AreCalled, all_unfit, marks_of, side_with}
+use Rattle.planner.specs.Written.{all_notes, all_steps}
 use Rattle.book.specs.Agreement.{Agrees}
 use Rattle.book.specs.BookLogs.{fresh}
 use Rattle.book.specs.Books.{IsSound}
@@ -24,7 +26,7 @@ use Rattle.rand_core.specs.Stream.{Stream}
 use Rattle.mailbox.specs.Operations.{HasNumbers}
 use Rattle.outside.specs.Opened.{IsRead, Opened, TakesPlan, state_of}
 use Rattle.underway.specs.Plans.{IsPlanned, first_uid}
-use Rattle.runner.specs.Answers.{AreDrawn, Moves, RepeatsFor, RepeatsIn, run_of}
+use Rattle.runner.specs.Answers.{AreDrawn, IsDrawn, Moves, RepeatsFor, RepeatsIn, run_of}
 use Rattle.runner.specs.Before.{AreOld, AreShown, HasNoJournal}
 use Rattle.runner.proofs.Fitness.{count_same, highest_same, notes_same, steps_same, unfit_same}
 
@@ -68,6 +70,13 @@ pub repeats_in : (opened : Option Opened) (s : SyncState) (stream : Stream) (far
 repeats_in None s stream far near options e k = cc
 repeats_in (Some o) s stream far near options e k = let same : o.state ≡ s = cc in subst (λ (x : SyncState). RepeatsFor stream (count_new (scene far near x options))) (sym same) k
 
+-- its steps are those that are called for, under the marks that were drawn, by what was read
+pub drawn_in : (opened : Option Opened) (s : SyncState) (stream : Stream) (far near : Listing) (options : Options) (steps : List Step) → state_of opened ≡ Some s → AreDrawn stream far near s options (marks_of steps) → AreCalled (scene far near s options) steps → IsDrawn opened stream far near options steps
+drawn_in None s stream far near options steps e d k = cc
+drawn_in (Some o) s stream far near options steps e d k =
+    let same : o.state ≡ s = cc in
+    subst (λ (x : SyncState). AreDrawn stream far near x options (marks_of steps) × AreCalled (scene far near x options) steps) (sym same) (d, k)
+
 -- ---- it is the plan of the world that the listings show
 
 module _ (ours : List ℕ → Bool) (w : World) (s : SyncState) (options : Options) (far near : Listing) (state : s ≡ w.state) (shown : AreShown w far near) where
@@ -88,7 +97,7 @@ module _ (ours : List ℕ → Bool) (w : World) (s : SyncState) (options : Optio
 
   pub planned_by : (plan : Plan) (stream : Stream) → AreDrawn stream far near s options (marks_of plan.steps) → All (λ mark. ours mark ≡ true) (marks_of plan.steps) → plan.run ≡ s.run + 1
       → plan.far ≡ side_with far (highest_after listed Pull) → plan.near ≡ side_with near (highest_after listed Push) → plan.steps ≡ all_steps listed (marks_of plan.steps) → plan.notes ≡ all_notes listed → plan.keywords ≡ options.keywords → IsPlanned ours w options plan
-  planned_by plan stream drawn mine run far_side near_side steps notes keywords =
+  planned_by {plan} {stream} drawn mine run far_side near_side steps notes keywords =
       let marks = marks_of plan.steps in
       let base : Scene = scene_of w options in
       let spared = shown.spared in

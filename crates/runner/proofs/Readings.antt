@@ -32,8 +32,8 @@ use Rattle.underway.specs.Openings.{IsIdle, Opening, Unplanned}
 use Rattle.underway.proofs.Arrived.{alike_filed, pending_arrives, underway_arrives}
 use Rattle.underway.proofs.Growth.{files_same, since_map, unplanned_arrives, unplanned_filed}
 use Rattle.underway.proofs.Moves.{midway_filed}
-use Rattle.runner.specs.Before.{HasNoPlan, HasNone, HasPlan, IsClear, IsEmptied, IsKnown, IsTakenUp}
-use Rattle.runner.specs.Going.{AreOpen, AtReady}
+use Rattle.runner.specs.Before.{HasNoPlan, HasNone, HasPlan, IsClear, IsEmptied, ReadUnderway, Resumed}
+use Rattle.runner.specs.Going.{AreOpen, BeforeStep}
 use Rattle.runner.proofs.PartCalls.{TellsNoBook}
 
 -- ---- what was read
@@ -141,7 +141,7 @@ no_line files s p out.NoMemory h k t = tt
 pub unread_files : (e : OutsideFault) (m d' : Device) → d' ≡ m → TellsFiles e m.files → TellsFiles e d'.files
 unread_files e m d' is t = subst (λ (d : Device). TellsFiles e d.files) (sym is) t
 
-module _ (ours : List ℕ → Bool) (alone : Bool) (opening : Opening) where
+module _ {ours : List ℕ → Bool} {alone : Bool} (opening : Opening ours alone) where
   stands_files : (w : World) (version : Version) (plan : Plan) (log : List Logged) (torn : Bool) (d : Device) → Stands ours alone w opening.options version plan log torn d → Holds d.files w.state (with_log version plan log torn)
   stands_files w version plan log torn d (inl k) = let at = k.1 in at.files
   stands_files w version plan log torn d (inr k) = let at = k.1 in at.files
@@ -150,12 +150,12 @@ module _ (ours : List ℕ → Bool) (alone : Bool) (opening : Opening) where
   planned_files w d p = stands_files w p.version p.plan p.log p.is_torn d p.stands
 
   -- the files of a run that is underway hold a book
-  pub underway_files : (d : Device) → Underway ours alone opening d → (s : SyncState) × ((p : Pending) × Holds d.files s p)
+  pub underway_files : (d : Device) → Underway opening d → (s : SyncState) × ((p : Pending) × Holds d.files s p)
   underway_files d (inl u) = (opening.world.state, (u.pending, u.files))
   underway_files d (inr (inl s)) = let p = s.holds in (s.world.state, (with_log p.version p.plan p.log p.is_torn, planned_files s.world d p))
   underway_files d (inr (inr s)) = let x = s.holds in (x.state, (x.pending, x.files))
 
-  pub unread_left : (e : OutsideFault) (m d' : Device) → Underway ours alone opening m → d' ≡ m → TellsFiles e m.files → FromShelf e → TellsNoBook e × Underway ours alone opening d'
+  pub unread_left : (e : OutsideFault) (m d' : Device) → Underway opening m → d' ≡ m → TellsFiles e m.files → FromShelf e → TellsNoBook e × Underway opening d'
   unread_left e m d' u is t k = let h = underway_files m u in (no_line m.files h.0 h.1.0 e h.1.1 k t, rw is u)
 
   -- ---- others
@@ -168,13 +168,13 @@ module _ (ours : List ℕ → Bool) (alone : Bool) (opening : Opening) where
   held_before None d m a h = h
   held_before (Some o) d m a h = rw (sym (files_same ours alone d m a)) h
 
-  pub known_arrives : (opened : Option Opened) (d m : Device) → Arrives ours alone d m → IsKnown ours alone opening opened d → IsKnown ours alone opening opened m
-  known_arrives opened d m a k = record { underway = underway_arrives ours alone opening d m a k.underway; held = held_arrives opened d m a k.held }
+  pub known_arrives : (opened : Option Opened) (d m : Device) → Arrives ours alone d m → ReadUnderway opening opened d → ReadUnderway opening opened m
+  known_arrives opened d m a k = record { underway = underway_arrives opening d m a k.underway; held = held_arrives opened d m a k.held }
 
-  pub read_known : (opened : Option Opened) (d m d' : Device) → Underway ours alone opening d → Arrives ours alone d m → d' ≡ m → IsHeld opened m → IsKnown ours alone opening opened d'
-  read_known opened d m d' u a is h = rw is (record { underway = underway_arrives ours alone opening d m a u; held = h })
+  pub read_known : (opened : Option Opened) (d m d' : Device) → Underway opening d → Arrives ours alone d m → d' ≡ m → IsHeld opened m → ReadUnderway opening opened d'
+  read_known opened d m d' u a is h = rw is (record { underway = underway_arrives opening d m a u; held = h })
 
-  pub opened_known : (side : Side) (opened now : Option Opened) (d m d' : Device) → now ≡ with_box side opened → IsKnown ours alone opening opened d → Arrives ours alone d m → d' ≡ m → IsKnown ours alone opening now d'
+  pub opened_known : (side : Side) (opened now : Option Opened) (d m d' : Device) → now ≡ with_box side opened → ReadUnderway opening opened d → Arrives ours alone d m → d' ≡ m → ReadUnderway opening now d'
   opened_known side opened now d m d' e k a is = rw (e, is) (let n = known_arrives opened d m a k in record { underway = n.underway; held = boxed_held side opened m n.held })
 
   -- ---- another journal
@@ -187,10 +187,10 @@ module _ (ours : List ℕ → Bool) (alone : Bool) (opening : Opening) where
   idle_kept p q (inl e) i = subst IsIdle (sym e) i
   idle_kept p q (inr k) i = k.1
 
-  filed_unplanned : (o : Opened) (q : Pending) (m d' : Device) → TurnsIdle o.pending q → Holds m.files o.state o.pending → d'.far ≡ m.far → d'.near ≡ m.near → d'.named ≡ m.named → Holds d'.files o.state q → Unplanned alone opening m → Unplanned alone opening d'
+  filed_unplanned : (o : Opened) (q : Pending) (m d' : Device) → TurnsIdle o.pending q → Holds m.files o.state o.pending → d'.far ≡ m.far → d'.near ≡ m.near → d'.named ≡ m.named → Holds d'.files o.state q → Unplanned opening m → Unplanned opening d'
   filed_unplanned o q m d' t held far near named now n =
       let e = book_known m.files o.state opening.world.state o.pending n.pending held n.files in
-      unplanned_filed alone opening q m d' (idle_kept o.pending q t (subst IsIdle (sym e.1) n.idle)) far near named (subst (λ (s : SyncState). Holds d'.files s q) e.0 now) n
+      unplanned_filed opening q m d' (idle_kept o.pending q t (subst IsIdle (sym e.1) n.idle)) far near named (subst (λ (s : SyncState). Holds d'.files s q) e.0 now) n
 
   stands_filed : (w : World) (version : Version) (plan : Plan) (log : List Logged) (torn torn' : Bool) (m d' : Device) → d'.far ≡ m.far → d'.near ≡ m.near → d'.named ≡ m.named → Holds d'.files w.state (with_log version plan log torn') → Stands ours alone w opening.options version plan log torn m → Stands ours alone w opening.options version plan log torn' d'
   stands_filed w version plan log torn torn' m d' far near named holds (inl k) = inl (k.0, midway_filed ours alone w opening.options version plan log log torn torn' log k.0 m d' far near named holds k.1)
@@ -210,14 +210,14 @@ module _ (ours : List ℕ → Bool) (alone : Bool) (opening : Opening) where
       let e = book_known m.files o.state x.state o.pending x.pending held x.files in
       record { state = x.state; pending = q; idle = idle_kept o.pending q t (subst IsIdle (sym e.1) x.idle); files = subst (λ (s : SyncState). Holds d'.files s q) e.0 now; marks = x.marks; alike = alike_filed ours alone w opening.options x.marks m d' x.state far near named x.alike }
 
-  filed_underway : (o : Opened) (q : Pending) (m d' : Device) → TurnsIdle o.pending q → Holds m.files o.state o.pending → d'.far ≡ m.far → d'.near ≡ m.near → d'.named ≡ m.named → Holds d'.files o.state q → Underway ours alone opening m → Underway ours alone opening d'
+  filed_underway : (o : Opened) (q : Pending) (m d' : Device) → TurnsIdle o.pending q → Holds m.files o.state o.pending → d'.far ≡ m.far → d'.near ≡ m.near → d'.named ≡ m.named → Holds d'.files o.state q → Underway opening m → Underway opening d'
   filed_underway o q m d' t held far near named now (inl u) = inl (filed_unplanned o q m d' t held far near named now u)
-  filed_underway o q m d' t held far near named now (inr (inl s)) = inr (inl (since_map alone opening _ _ (λ w g p. filed_planned o q m d' t held far near named now w p) s))
-  filed_underway o q m d' t held far near named now (inr (inr s)) = inr (inr (since_map alone opening _ _ (λ w g x. filed_done o q m d' t held far near named now w x) s))
+  filed_underway o q m d' t held far near named now (inr (inl s)) = inr (inl (since_map opening _ _ (λ w g p. filed_planned o q m d' t held far near named now w p) s))
+  filed_underway o q m d' t held far near named now (inr (inr s)) = inr (inr (since_map opening _ _ (λ w g x. filed_done o q m d' t held far near named now w x) s))
 
   -- ---- a journal without a plan goes
 
-  pub forgot : (opened : Option Opened) (d m d' : Device) → HasNoPlan opened → Arrives ours alone d m → IsKnown ours alone opening opened d → OfBook (λ p. Turns p Missing) opened m d' → IsKnown ours alone opening (turned (λ _. Missing) opened) d'
+  pub forgot : (opened : Option Opened) (d m d' : Device) → HasNoPlan opened → Arrives ours alone d m → ReadUnderway opening opened d → OfBook (λ p. Turns p Missing) opened m d' → ReadUnderway opening (turned (λ _. Missing) opened) d'
   forgot None d m d' none a k t = absurd none
   forgot (Some o) d m d' none a k t =
       let n = known_arrives (Some o) d m a k in
@@ -228,11 +228,11 @@ module _ (ours : List ℕ → Bool) (alone : Bool) (opening : Opening) where
   forgot_held None d m d' read a held t = held
   forgot_held (Some o) d m d' read a held t = λ idle. t.files o.state (held_arrives (Some o) d m a held)
 
-  pub half_forgot : (opened : Option Opened) (d m d' : Device) → HasNoPlan opened → Arrives ours alone d m → IsKnown ours alone opening opened d → OfBook (λ p. TurnsHalf p Missing) opened m d' → Underway ours alone opening d'
+  pub half_forgot : (opened : Option Opened) (d m d' : Device) → HasNoPlan opened → Arrives ours alone d m → ReadUnderway opening opened d → OfBook (λ p. TurnsHalf p Missing) opened m d' → Underway opening d'
   half_forgot None d m d' none a k t = absurd none
   half_forgot (Some o) d m d' none a k t = let n = known_arrives (Some o) d m a k in by_files n.held n.underway t.far t.near t.named (t.files o.state n.held)
     where
-      by_files : Holds m.files o.state o.pending → Underway ours alone opening m → d'.far ≡ m.far → d'.near ≡ m.near → d'.named ≡ m.named → Holds d'.files o.state o.pending ⊎ Holds d'.files o.state Missing → Underway ours alone opening d'
+      by_files : Holds m.files o.state o.pending → Underway opening m → d'.far ≡ m.far → d'.near ≡ m.near → d'.named ≡ m.named → Holds d'.files o.state o.pending ⊎ Holds d'.files o.state Missing → Underway opening d'
       by_files held u far near named (inl now) = filed_underway o o.pending m d' (inl refl) held far near named now u
       by_files held u far near named (inr now) = filed_underway o Missing m d' (inr (none, tt)) held far near named now u
 
@@ -240,14 +240,14 @@ module _ (ours : List ℕ → Bool) (alone : Bool) (opening : Opening) where
   stores_kept None d m d' read a t e = absurd read
   stores_kept (Some o) d m d' read a t e = let same = a.nobody e in (t.far ∙ ap (λ (x : Device). x.far) same, t.near ∙ ap (λ (x : Device). x.near) same)
 
-  pub none_known : (opened : Option Opened) (d : Device) → HasNone alone opening opened d → IsKnown ours alone opening opened d
+  pub none_known : (opened : Option Opened) (d : Device) → HasNone opening opened d → ReadUnderway opening opened d
   none_known opened d k = record { underway = inl k.unplanned; held = k.held }
 
-  pub emptied : (opened : Option Opened) (d m d' : Device) → HasNoPlan opened → Arrives ours alone d m → HasNone alone opening opened d → OfBook (λ p. Turns p Missing) opened m d' → IsClear alone opening (turned (λ _. Missing) opened) false d'
+  pub emptied : (opened : Option Opened) (d m d' : Device) → HasNoPlan opened → Arrives ours alone d m → HasNone opening opened d → OfBook (λ p. Turns p Missing) opened m d' → IsClear opening (turned (λ _. Missing) opened) false d'
   emptied None d m d' none a k t = absurd none
   emptied (Some o) d m d' none a k t =
       let held : Holds m.files o.state o.pending = held_arrives (Some o) d m a k.held in
-      let n = unplanned_arrives ours alone opening d m a k.unplanned in
+      let n = unplanned_arrives opening d m a k.unplanned in
       let e = book_known m.files o.state opening.world.state o.pending n.pending held n.files in
       record {
         state = ap (λ (s : SyncState). Some s) e.0;
@@ -261,7 +261,7 @@ module _ (ours : List ℕ → Bool) (alone : Bool) (opening : Opening) where
 
   -- ---- a torn line goes
 
-  pub taken_known : (opened : Option Opened) (d : Device) → IsTakenUp ours alone opening opened d → IsKnown ours alone opening opened d
+  pub taken_known : (opened : Option Opened) (d : Device) → Resumed opening opened d → ReadUnderway opening opened d
   taken_known opened d k = record { underway = inr (inl k.pending); held = k.held }
 
   mended_stands : (written : WrittenJournal) (s : SyncState) (w : World) (m d' : Device) → Holds m.files s (Planned written) → d'.far ≡ m.far → d'.near ≡ m.near → d'.named ≡ m.named → Holds d'.files s (mended (Planned written)) → PlannedAt ours alone w opening.options m → (s ≡ w.state) × Stands ours alone w opening.options written.version written.journal.plan written.journal.log false d'
@@ -271,15 +271,15 @@ module _ (ours : List ℕ → Bool) (alone : Bool) (opening : Opening) where
       let files : Holds d'.files w.state (with_log p.version p.plan p.log false) = subst (λ (x : WrittenJournal). Holds d'.files w.state (Planned (record x { is_torn = false }))) is (subst (λ (x : SyncState). Holds d'.files x (Planned (record written { is_torn = false }))) e.0 now) in
       (e.0, subst (λ (x : WrittenJournal). Stands ours alone w opening.options x.version x.journal.plan x.journal.log false d') (sym is) (stands_filed w p.version p.plan p.log p.is_torn false m d' far near named files p.stands))
 
-  pub untorn : (opened : Option Opened) (d m d' : Device) → HasPlan opened → Arrives ours alone d m → IsTakenUp ours alone opening opened d → OfBook (λ p. Turns p (mended p)) opened m d' → AtReady ours alone opening (turned mended opened) true d'
+  pub untorn : (opened : Option Opened) (d m d' : Device) → HasPlan opened → Arrives ours alone d m → Resumed opening opened d → OfBook (λ p. Turns p (mended p)) opened m d' → BeforeStep opening (turned mended opened) true d'
   untorn None d m d' plan a k t = absurd plan
   untorn (Some o) d m d' plan a k t = by_pending o.pending plan (held_arrives (Some o) d m a k.held) t
     where
-      by_pending : (p : Pending) → HasPlanned p → Holds m.files o.state p → OnFiles (Turns p (mended p)) m d' → AtReady ours alone opening (Some (record o { pending = mended p })) true d'
+      by_pending : (p : Pending) → HasPlanned p → Holds m.files o.state p → OnFiles (Turns p (mended p)) m d' → BeforeStep opening (Some (record o { pending = mended p })) true d'
       by_pending Missing plan held t = absurd plan
       by_pending Useless plan held t = absurd plan
       by_pending (Planned written) plan held t =
-          let s = pending_arrives ours alone opening d m a k.pending in
+          let s = pending_arrives opening d m a k.pending in
           let now = t.files o.state held in
           let one = mended_stands written o.state s.world m d' held t.far t.near t.named now s.holds in
           record {
@@ -287,10 +287,10 @@ module _ (ours : List ℕ → Bool) (alone : Bool) (opening : Opening) where
             since = record { world = s.world; grows = s.grows; admitted = s.admitted; below = s.below; within = s.within; holds = one.1 };
           }
 
-  pub half_untorn : (opened : Option Opened) (d m d' : Device) → HasPlan opened → Arrives ours alone d m → IsTakenUp ours alone opening opened d → OfBook (λ p. TurnsHalf p p) opened m d' → Underway ours alone opening d'
+  pub half_untorn : (opened : Option Opened) (d m d' : Device) → HasPlan opened → Arrives ours alone d m → Resumed opening opened d → OfBook (λ p. TurnsHalf p p) opened m d' → Underway opening d'
   half_untorn None d m d' plan a k t = absurd plan
   half_untorn (Some o) d m d' plan a k t = let n = known_arrives (Some o) d m a (taken_known (Some o) d k) in by_files n.held n.underway t.far t.near t.named (t.files o.state n.held)
     where
-      by_files : Holds m.files o.state o.pending → Underway ours alone opening m → d'.far ≡ m.far → d'.near ≡ m.near → d'.named ≡ m.named → Holds d'.files o.state o.pending ⊎ Holds d'.files o.state o.pending → Underway ours alone opening d'
+      by_files : Holds m.files o.state o.pending → Underway opening m → d'.far ≡ m.far → d'.near ≡ m.near → d'.named ≡ m.named → Holds d'.files o.state o.pending ⊎ Holds d'.files o.state o.pending → Underway opening d'
       by_files held u far near named (inl now) = filed_underway o o.pending m d' (inl refl) held far near named now u
       by_files held u far near named (inr now) = filed_underway o o.pending m d' (inl refl) held far near named now u

@@ -1,5 +1,5 @@
 -- Parts that perform steps: which step a refusal is told of.
-use Rattle.std.proofs.Common.{◌≡◌, ◌∙◌, ℕ, Bool, Option, Result, sym, subst}
+use Rattle.std.proofs.Common.{◌≡◌, ◌∙◌, ℕ, Bool, List, Option, Result, sym, subst}
 use Rattle.rand_core.specs.Stream.{Stream}
 use Rattle.mailcore.specs.declared.side.Side.{Side}
 use Rattle.rules.specs.declared.options.Options.{Options}
@@ -62,19 +62,19 @@ pub part_unstepped : {T : Type 0} (c : Reasons) (h : Type 0) (a underway : Devic
 part_unstepped c h a underway copies reaches s0 s1 r u p = part_told Unstepped c h a underway copies reaches s0 s1 r (unstepped_told c u) p
 
 -- marks repeat also where another condition leads to this one
-pub repeats_from : (alone : Bool) (opening : Opening) (honest from start : Type 0) (options : Options) (stream : Stream) → (honest → start → from) → HasRepeats alone opening honest from options stream → HasRepeats alone opening honest start options stream
-repeats_from alone opening honest from start options stream leads k = record { count = k.count; repeats = k.repeats; wanted = λ h at. k.wanted h (leads h at) }
+pub repeats_from : {ours : List ℕ → Bool} {alone : Bool} (opening : Opening ours alone) (honest from start : Type 0) (options : Options) (stream : Stream) → (honest → start → from) → HasRepeats opening honest from options stream → HasRepeats opening honest start options stream
+repeats_from opening honest from start options stream leads k = record { count = k.count; repeats = k.repeats; wanted = λ h at. k.wanted h (leads h at) }
 
 -- and for another opening, where both are one
-pub repeats_by : (alone : Bool) (x y : Opening) (honest from start : Type 0) (options : Options) (stream : Stream) → (honest → start → from × (x ≡ y)) → HasRepeats alone x honest from options stream → HasRepeats alone y honest start options stream
-repeats_by alone x y honest from start options stream leads k = record {
+pub repeats_by : {ours : List ℕ → Bool} {alone : Bool} (x y : Opening ours alone) (honest from start : Type 0) (options : Options) (stream : Stream) → (honest → start → from × (x ≡ y)) → HasRepeats x honest from options stream → HasRepeats y honest start options stream
+repeats_by {ours} {alone} x y honest from start options stream leads k = record {
   count = k.count;
   repeats = k.repeats;
-  wanted = λ h at. let l = leads h at in subst (λ (o : Opening). Since alone o (λ w. k.count ≡ count_new (scene_of w options))) l.1 (k.wanted h l.0);
+  wanted = λ h at. let l = leads h at in subst (λ (o : Opening ours alone). Since o (λ w. k.count ≡ count_new (scene_of w options))) l.1 (k.wanted h l.0);
 }
 
 -- one that makes a plan and performs its steps, between other conditions
-pub run_weaker : {T : Type 0} (alone : Bool) (opening : Opening) (options : Options) (stream : Stream) (changed : Side → Type 0) (keywords : Type 0) (h : Type 0) (a a' underway : Device → Type 0) (copies : T → ℕ) (reaches reaches' : T → Device → Type 0) (s0 s1 : Seen) (r : Result T RunFault) → ((d : Device) → a' d → a d) → ((x : T) (d : Device) → reaches x d → reaches' x d)
-    → RunPart (or_keywords keywords (because changed (HasRepeats alone opening h (a s0.device) options stream))) h a underway copies reaches s0 s1 r → RunPart (or_keywords keywords (because changed (HasRepeats alone opening h (a' s0.device) options stream))) h a' underway copies reaches' s0 s1 r
-run_weaker alone opening options stream changed keywords h a a' underway copies reaches reaches' s0 s1 r f g p =
-    part_weaker _ h a a' underway copies reaches reaches' s0 s1 r f g (part_told _ _ h a underway copies reaches s0 s1 r (record { changed = λ side t. t; keywords = λ n. n; repeats = λ k. repeats_from alone opening h (a s0.device) (a' s0.device) options stream (λ honest at. f s0.device at) k; beyond = λ n. n; unread = λ e t. t; refused = λ step t honest at. t honest (f s0.device at); unstepped = λ u. u }) p)
+pub run_weaker : {T : Type 0} {ours : List ℕ → Bool} {alone : Bool} (opening : Opening ours alone) (options : Options) (stream : Stream) (changed : Side → Type 0) (keywords : Type 0) (h : Type 0) (a a' underway : Device → Type 0) (copies : T → ℕ) (reaches reaches' : T → Device → Type 0) (s0 s1 : Seen) (r : Result T RunFault) → ((d : Device) → a' d → a d) → ((x : T) (d : Device) → reaches x d → reaches' x d)
+    → RunPart (or_keywords keywords (because changed (HasRepeats opening h (a s0.device) options stream))) h a underway copies reaches s0 s1 r → RunPart (or_keywords keywords (because changed (HasRepeats opening h (a' s0.device) options stream))) h a' underway copies reaches' s0 s1 r
+run_weaker {ours} {alone} opening options stream changed keywords h a a' underway copies reaches reaches' s0 s1 r f g p =
+    part_weaker _ h a a' underway copies reaches reaches' s0 s1 r f g (part_told _ _ h a underway copies reaches s0 s1 r (record { changed = λ side t. t; keywords = λ n. n; repeats = λ k. repeats_from opening h (a s0.device) (a' s0.device) options stream (λ honest at. f s0.device at) k; beyond = λ n. n; unread = λ e t. t; refused = λ step t honest at. t honest (f s0.device at); unstepped = λ u. u }) p)

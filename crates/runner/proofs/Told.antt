@@ -11,7 +11,7 @@ use Rattle.rules.specs.declared.plan.Plan.{Plan}
 use Rattle.rules.specs.declared.plan.Step.{Step}
 use Rattle.rules.specs.declared.plan.Step.TheVariants as step
 use Rattle.rules.specs.declared.state.SyncState.{SyncState}
-use Rattle.planner.specs.Written.{marks_of}
+use Rattle.planner.specs.Listed.{marks_of}
 use Rattle.sync_state.specs.JournalText.{FitsStep}
 use Rattle.sync_state.specs.declared.journal.Logged.{Logged}
 use Rattle.book.specs.declared.book.Pending.{Pending}
@@ -36,8 +36,8 @@ use Rattle.runner.specs.declared.pass.Pass.TheVariants.{Already}
 use Rattle.runner.specs.declared.performed.Performed.{Performed}
 use Rattle.runner.specs.declared.performed.StepResult.{StepResult}
 use Rattle.runner.specs.declared.performed.StepResult.TheVariants as did
-use Rattle.runner.specs.Going.{AtReady, HasLogged, IsGoing, log_at, logged_of, logs_of, next_at, no_journal, plan_at, steps_of, version_at}
-use Rattle.runner.specs.Results.{AreResults, AreStepsOf, EndsBy, IsOtherResult, IsResult, IsTold, IsToldRest, IsToldWhole, PassedOver}
+use Rattle.runner.specs.Going.{BeforeStep, HasLogged, IsGoing, log_at, logged_of, logs_of, next_at, no_journal, plan_at, steps_of, version_at}
+use Rattle.runner.specs.Results.{AreResults, AreStepsOf, EndsBy, IsOtherResult, IsResult, Report, RestReport, WholeReport, PassedOver}
 use Rattle.runner.proofs.Logging.{of_book}
 use Rattle.runner.proofs.Stages.{ready_arrives, stands_of}
 
@@ -128,19 +128,19 @@ fit_rest steps [] more k = k
 fit_rest [] (l ∷ ls) more k = absurd k
 fit_rest (s ∷ steps) (l ∷ ls) more k = fit_rest steps ls more k.1
 
-module _ (ours : List ℕ → Bool) (alone : Bool) (opening : Opening) where
-  pub ends_by : (opened : Option Opened) (is_taken_up : Bool) (d m d' : Device) → IsGoing opened → next_at opened ≡ None → Arrives ours alone d m → AtReady ours alone opening opened is_taken_up d → OfBook CommitsTo opened m d'
-      → EndsBy ours alone opening (plan_at opened) (log_at opened) d'
+module _ {ours : List ℕ → Bool} {alone : Bool} (opening : Opening ours alone) where
+  pub ends_by : (opened : Option Opened) (is_taken_up : Bool) (d m d' : Device) → IsGoing opened → next_at opened ≡ None → Arrives ours alone d m → BeforeStep opening opened is_taken_up d → OfBook CommitsTo opened m d'
+      → EndsBy opening (plan_at opened) (log_at opened) d'
   ends_by opened is_taken_up d m d' g none a k t =
-      let r = ready_arrives ours alone opening opened is_taken_up d m a k in
+      let r = ready_arrives opening opened is_taken_up d m a k in
       let does = of_book CommitsTo opened m d' g.untorn t in
-      since_map alone opening _ _ (λ w grows at.
-      let stands = stands_of ours alone opening opened w is_taken_up m at in
+      since_map opening _ _ (λ w grows at.
+      let stands = stands_of opening opened w is_taken_up m at in
       let whole = whole_at ours alone w opening.options (version_at opened) (plan_at opened) (log_at opened) none false m stands in
       record { ended = ended ours alone w opening.options (version_at opened) (plan_at opened) (log_at opened) none m d' grows.in_order stands does; planned = whole.planned; fit = whole.fit }) r.since
 
-  told_last : (old now : Option Opened) (ps : List Performed) (d : Device) → HasLogged old now (logs_of ps) → steps_of ps ≡ drop (length (log_at old)) (plan_at old).steps → EndsBy ours alone opening (plan_at now) (log_at now) d
-      → AreStepsOf ours alone opening (plan_at old) (take (length (log_at old)) (plan_at old).steps) ps d
+  told_last : (old now : Option Opened) (ps : List Performed) (d : Device) → HasLogged old now (logs_of ps) → steps_of ps ≡ drop (length (log_at old)) (plan_at old).steps → EndsBy opening (plan_at now) (log_at now) d
+      → AreStepsOf opening (plan_at old) (take (length (log_at old)) (plan_at old).steps) ps d
   told_last old now ps d h steps ends =
       let n = length (log_at old) in
       let before = take n (plan_at old).steps in
@@ -149,18 +149,18 @@ module _ (ours : List ℕ → Bool) (alone : Bool) (opening : Opening) where
       record {
         steps = sym (take-append-drop n (plan_at old).steps) ∙ ap (λ (l : List Step). before ++ l) (sym steps);
         copies = subst (λ (l : List Step). Fit l (results_of (logs_of ps))) (sym steps) (fit_rest (plan_at old).steps (log_at old) (logs_of ps) logged);
-        over = since_map alone opening _ _ (λ w grows k. (subst (λ (p : Plan). EndedUnder ours alone w opening.options (marks_of p.steps) d) h.plan k.ended, subst (λ (p : Plan). IsPlanned ours w opening.options p) h.plan k.planned)) ends;
+        over = since_map opening _ _ (λ w grows k. (subst (λ (p : Plan). EndedUnder ours alone w opening.options (marks_of p.steps) d) h.plan k.ended, subst (λ (p : Plan). IsPlanned ours w opening.options p) h.plan k.planned)) ends;
       }
 
-  pub told_rest : (old now : Option Opened) (ps : List Performed) (d : Device) → HasLogged old now (logs_of ps) → steps_of ps ≡ drop (length (log_at old)) (plan_at old).steps → EndsBy ours alone opening (plan_at now) (log_at now) d
-      → IsToldRest ours alone opening ps d
+  pub told_rest : (old now : Option Opened) (ps : List Performed) (d : Device) → HasLogged old now (logs_of ps) → steps_of ps ≡ drop (length (log_at old)) (plan_at old).steps → EndsBy opening (plan_at now) (log_at now) d
+      → RestReport opening ps d
   told_rest old now ps d h steps ends = record { plan = plan_at old; before = take (length (log_at old)) (plan_at old).steps; last = told_last old now ps d h steps ends }
 
-  pub told_whole : (old now : Option Opened) (ps : List Performed) (unfit : List (Side × ℕ)) (d : Device) → log_at old ≡ [] → HasLogged old now (logs_of ps) → steps_of ps ≡ drop (length (log_at old)) (plan_at old).steps → EndsBy ours alone opening (plan_at now) (log_at now) d
-      → PassedOver ours alone opening (plan_at old) unfit → IsToldWhole ours alone opening ps unfit d
+  pub told_whole : (old now : Option Opened) (ps : List Performed) (unfit : List (Side × ℕ)) (d : Device) → log_at old ≡ [] → HasLogged old now (logs_of ps) → steps_of ps ≡ drop (length (log_at old)) (plan_at old).steps → EndsBy opening (plan_at now) (log_at now) d
+      → PassedOver opening (plan_at old) unfit → WholeReport opening ps unfit d
   told_whole old now ps unfit d none h steps ends passed = record {
     plan = plan_at old;
-    all = subst (λ (l : List Logged). AreStepsOf ours alone opening (plan_at old) (take (length l) (plan_at old).steps) ps d) none (told_last old now ps d h steps ends);
+    all = subst (λ (l : List Logged). AreStepsOf opening (plan_at old) (take (length l) (plan_at old).steps) ps d) none (told_last old now ps d h steps ends);
     passed_over = passed;
   }
 
@@ -176,6 +176,6 @@ told_from (Ok pass) honest from start told leads k = λ h at. k h (leads h at)
 told_from (Err e) honest from start told leads k = tt
 
 -- nothing is told of a run that was made before
-pub told_none : (ours : List ℕ → Bool) (alone : Bool) (opening : Opening) (honest start : Type 0) (d : Device) (r : Result Pass RunFault) → IfOk r (λ pass. pass ≡ Already) → IfOk r (λ pass. honest → start → IsTold ours alone opening pass d)
-told_none ours alone opening honest start d (Ok pass) e = λ h at. rw e tt
-told_none ours alone opening honest start d (Err e) k = tt
+pub told_none : {ours : List ℕ → Bool} {alone : Bool} (opening : Opening ours alone) (honest start : Type 0) (d : Device) (r : Result Pass RunFault) → IfOk r (λ pass. pass ≡ Already) → IfOk r (λ pass. honest → start → Report opening pass d)
+told_none opening honest start d (Ok pass) e = λ h at. rw e tt
+told_none opening honest start d (Err e) k = tt

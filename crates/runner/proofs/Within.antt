@@ -23,7 +23,7 @@ use Rattle.underway.specs.Moments.{HasBegun, Stands}
 use Rattle.underway.specs.Openings.{Opening}
 use Rattle.underway.specs.Plans.{IsPlanned, next_of}
 use Rattle.underway.proofs.NextSteps.{next_contained}
-use Rattle.runner.specs.Going.{AtBegun, AtMoment, AtReady, Ready, log_at, next_at, plan_at, version_at}
+use Rattle.runner.specs.Going.{DuringStep, AtMoment, BeforeStep, StepStart, log_at, next_at, plan_at, version_at}
 
 -- ---- what is listed
 
@@ -58,15 +58,15 @@ step_within keywords ours w options plan log s within p next =
     let steps : All (IsWithinStep keywords) plan.steps = All-same (IsWithinStep keywords) plan.steps _ p.is_plan.steps (plan_within keywords w options p.marks within) in
     All-contains (IsWithinStep keywords) plan.steps s steps (next_contained plan.steps log s next)
 
-module _ (ours : List ℕ → Bool) (alone : Bool) (opening : Opening) (opened : Option Opened) (s : Step) (next : next_at opened ≡ Some s) where
-  moment_within : (P : World → Type 0) → ((w : World) → P w → IsPlanned ours w opening.options (plan_at opened)) → AtMoment alone opening opened P → IsWithinStep opening.options.keywords s
+module _ {ours : List ℕ → Bool} {alone : Bool} (opening : Opening ours alone) (opened : Option Opened) (s : Step) (next : next_at opened ≡ Some s) where
+  moment_within : (P : World → Type 0) → ((w : World) → P w → IsPlanned ours w opening.options (plan_at opened)) → AtMoment opening opened P → IsWithinStep opening.options.keywords s
   moment_within P f k = let n = k.since in step_within opening.options.keywords ours n.world opening.options (plan_at opened) (log_at opened) s n.within (f n.world n.holds) next
 
   stands_planned : (w : World) (d : Device) → Stands ours alone w opening.options (version_at opened) (plan_at opened) (log_at opened) false d → IsPlanned ours w opening.options (plan_at opened)
   stands_planned w d (inl k) = let m = k.1 in m.planned
   stands_planned w d (inr k) = let m = k.1 in m.planned
 
-  ready_planned : (is_taken_up : Bool) (w : World) (d : Device) → Ready ours alone w opening.options (version_at opened) (plan_at opened) (log_at opened) is_taken_up d → IsPlanned ours w opening.options (plan_at opened)
+  ready_planned : (is_taken_up : Bool) (w : World) (d : Device) → StepStart ours alone w opening.options (version_at opened) (plan_at opened) (log_at opened) is_taken_up d → IsPlanned ours w opening.options (plan_at opened)
   ready_planned false w d m = m.planned
   ready_planned true w d k = stands_planned w d k
 
@@ -74,23 +74,23 @@ module _ (ours : List ℕ → Bool) (alone : Bool) (opening : Opening) (opened :
   begun_planned is_made w d (inl k) = let m = k.1 in m.planned
   begun_planned is_made w d (inr k) = let m = k.1 in m.planned
 
-  ready_within : (is_taken_up : Bool) (d : Device) → AtReady ours alone opening opened is_taken_up d → IsWithinStep opening.options.keywords s
+  ready_within : (is_taken_up : Bool) (d : Device) → BeforeStep opening opened is_taken_up d → IsWithinStep opening.options.keywords s
   ready_within is_taken_up d k = moment_within _ (λ w r. ready_planned is_taken_up w d r) k
 
-  begun_within : (is_made : Bool) (d : Device) → AtBegun ours alone opening opened is_made d → IsWithinStep opening.options.keywords s
+  begun_within : (is_made : Bool) (d : Device) → DuringStep opening opened is_made d → IsWithinStep opening.options.keywords s
   begun_within is_made d k = moment_within _ (λ w r. begun_planned is_made w d r) k
 
 -- ---- the sets that its calls get
 
-module _ (ours : List ℕ → Bool) (alone : Bool) (opening : Opening) (opened : Option Opened) (of_outside : List Keyword) (same : opening.options.keywords ≡ of_outside) where
+module _ {ours : List ℕ → Bool} {alone : Bool} (opening : Opening ours alone) (opened : Option Opened) (of_outside : List Keyword) (same : opening.options.keywords ≡ of_outside) where
   -- the flags of a copy
-  pub copy_whole : (direction : Direction) (uid flags : ℕ) (mark : List ℕ) → next_at opened ≡ Some (step.New direction uid flags mark) → (d : Device) → AtReady ours alone opening opened false d → kept of_outside flags ≡ flags
+  pub copy_whole : (direction : Direction) (uid flags : ℕ) (mark : List ℕ) → next_at opened ≡ Some (step.New direction uid flags mark) → (d : Device) → BeforeStep opening opened false d → kept of_outside flags ≡ flags
   copy_whole direction uid flags mark next d k = kept_whole opening.options.keywords of_outside flags same (ready_within ours alone opening opened (step.New direction uid flags mark) next false d k)
 
   -- those that are set
-  pub set_whole : (direction : Direction) (far near set cleared : ℕ) → next_at opened ≡ Some (step.Flags direction far near set cleared) → (d : Device) → AtReady ours alone opening opened true d → kept of_outside set ≡ set
+  pub set_whole : (direction : Direction) (far near set cleared : ℕ) → next_at opened ≡ Some (step.Flags direction far near set cleared) → (d : Device) → BeforeStep opening opened true d → kept of_outside set ≡ set
   set_whole direction far near set cleared next d k = kept_whole opening.options.keywords of_outside set same (ready_within ours alone opening opened (step.Flags direction far near set cleared) next true d k).0
 
   -- and those that are cleared behind them
-  pub cleared_whole : (direction : Direction) (far near set cleared : ℕ) → next_at opened ≡ Some (step.Flags direction far near set cleared) → (is_made : Bool) (d : Device) → AtBegun ours alone opening opened is_made d → kept of_outside cleared ≡ cleared
+  pub cleared_whole : (direction : Direction) (far near set cleared : ℕ) → next_at opened ≡ Some (step.Flags direction far near set cleared) → (is_made : Bool) (d : Device) → DuringStep opening opened is_made d → kept of_outside cleared ≡ cleared
   cleared_whole direction far near set cleared next is_made d k = kept_whole opening.options.keywords of_outside cleared same (begun_within ours alone opening opened (step.Flags direction far near set cleared) next is_made d k).1

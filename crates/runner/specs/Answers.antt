@@ -11,7 +11,7 @@ use Rattle.rules.specs.declared.state.SyncState.{SyncState}
 use Rattle.rules.specs.Outcome.{count_new}
 use Rattle.rules.specs.Scene.{scene}
 use Rattle.rules.specs.World.{scene_of}
-use Rattle.planner.specs.Written.{all_steps, all_unfit, marks_of}
+use Rattle.planner.specs.Listed.{AreCalled, all_unfit, marks_of}
 use Rattle.book.specs.declared.book.Pending.{Pending}
 use Rattle.book.specs.declared.book.Pending.TheVariants.{Missing, Useless, Planned}
 use Rattle.book.specs.Books.{Holds}
@@ -25,7 +25,7 @@ use Rattle.runner.specs.declared.fault.RunFault.TheVariants as run
 use Rattle.runner.specs.declared.pass.Pass.{Pass}
 use Rattle.runner.specs.declared.pass.Pass.TheVariants.{Already, Ran, Finished}
 use Rattle.runner.specs.declared.performed.Performed.{Performed}
-use Rattle.runner.specs.Before.{HasNone, IsKnown}
+use Rattle.runner.specs.Before.{HasNone, ReadUnderway}
 use Rattle.runner.specs.Going.{made, steps_of}
 use Rattle.runner.specs.Maps.{HasMapIn}
 
@@ -59,15 +59,15 @@ RepeatsIn None stream far near options = ⊥
 RepeatsIn (Some o) stream far near options = RepeatsFor stream (count_new (scene far near o.state options))
 
 -- one for each new message of some world since the opening, where the outside has kept its word and began so
-pub record HasRepeats (alone : Bool) (opening : Opening) (honest from : Type 0) (options : Options) (stream : Stream) : Type 0 where
+pub record HasRepeats {ours : List ℕ → Bool} {alone : Bool} (opening : Opening ours alone) (honest from : Type 0) (options : Options) (stream : Stream) : Type 0 where
   pub count : ℕ
   pub repeats : RepeatsFor stream count
-  pub wanted : honest → from → Since alone opening (λ w. count ≡ count_new (scene_of w options))
+  pub wanted : honest → from → Since opening (λ w. count ≡ count_new (scene_of w options))
 
--- all steps of the plan of two listings, under the first marks of a generator
+-- the steps that the rules call for on two listings, under the first marks of a generator
 abbrev pub IsDrawn : Option Opened → Stream → (far near : Listing) → Options → List Step → Type 0
 IsDrawn None stream far near options steps = ⊥
-IsDrawn (Some o) stream far near options steps = AreDrawn stream far near o.state options (marks_of steps) × (steps ≡ all_steps (scene far near o.state options) (marks_of steps))
+IsDrawn (Some o) stream far near options steps = AreDrawn stream far near o.state options (marks_of steps) × AreCalled (scene far near o.state options) steps
 
 -- the messages of two listings that only want fitness to be new
 abbrev pub AreUnfit : Option Opened → (far near : Listing) → Options → List (Side × ℕ) → Type 0
@@ -133,32 +133,32 @@ made_in (Finished performed) = made performed.items
 -- ---- where it leads
 
 -- the outcome, and no journal
-abbrev pub AtEnd : (List ℕ → Bool) → Bool → Opening → Device → Type 0
-AtEnd ours alone opening d = Since alone opening (λ w. EndedAt ours alone w opening.options d)
+abbrev pub RunEnd : {ours : List ℕ → Bool} {alone : Bool} → Opening ours alone → Device → Type 0
+RunEnd {ours} {alone} opening d = Since opening (λ w. EndedAt ours alone w opening.options d)
 
 -- what a pass for this run reaches
-pub record Reaches (ours : List ℕ → Bool) (alone : Bool) (opening : Opening) (run : ℕ) (d : Device) : Type 0 where
-  pub underway : Underway ours alone opening d
-  pub done : opening.world.state.run + 1 ≤ run → IsOver ours alone opening d
+pub record PassEnd {ours : List ℕ → Bool} {alone : Bool} (opening : Opening ours alone) (run : ℕ) (d : Device) : Type 0 where
+  pub underway : Underway opening d
+  pub done : opening.world.state.run + 1 ≤ run → IsOver opening d
 
 -- the options of the call are the opening's, and whatever marks its generator gives, from now on or later, nobody else writes
-pub record IsAsked (ours : List ℕ → Bool) (opening : Opening) (options : Options) (stream : Stream) : Type 0 where
+pub record Inputs {ours : List ℕ → Bool} {alone : Bool} (opening : Opening ours alone) (options : Options) (stream : Stream) : Type 0 where
   pub called : opening.called ≡ options
   pub are_ours : (pairs count : ℕ) (marks : List (List ℕ)) → Draws (after_pairs stream pairs) count marks → All (λ mark. ours mark ≡ true) marks
 
 -- a plan may be made
-pub record IsChosen (ours : List ℕ → Bool) (alone : Bool) (opening : Opening) (opened : Option Opened) (options : Options) (stream : Stream) (d : Device) : Type 0 where
-  pub asked : IsAsked ours opening options stream
-  pub none : HasNone alone opening opened d
+pub record PlanStart {ours : List ℕ → Bool} {alone : Bool} (opening : Opening ours alone) (opened : Option Opened) (options : Options) (stream : Stream) (d : Device) : Type 0 where
+  pub asked : Inputs opening options stream
+  pub none : HasNone opening opened d
 
 -- where a pass for this run may begin
-pub record IsEntry (ours : List ℕ → Bool) (alone : Bool) (opening : Opening) (run : ℕ) (options : Options) (stream : Stream) (d : Device) : Type 0 where
+pub record PassStart {ours : List ℕ → Bool} {alone : Bool} (opening : Opening ours alone) (run : ℕ) (options : Options) (stream : Stream) (d : Device) : Type 0 where
   pub most : run ≤ opening.world.state.run + 1
-  pub asked : IsAsked ours opening options stream
-  pub underway : Underway ours alone opening d
+  pub asked : Inputs opening options stream
+  pub underway : Underway opening d
 
 -- the same once the shelf was read
-pub record IsKnownEntry (ours : List ℕ → Bool) (alone : Bool) (opening : Opening) (opened : Option Opened) (run : ℕ) (options : Options) (stream : Stream) (d : Device) : Type 0 where
+pub record ReadPassStart {ours : List ℕ → Bool} {alone : Bool} (opening : Opening ours alone) (opened : Option Opened) (run : ℕ) (options : Options) (stream : Stream) (d : Device) : Type 0 where
   pub most : run ≤ opening.world.state.run + 1
-  pub asked : IsAsked ours opening options stream
-  pub known : IsKnown ours alone opening opened d
+  pub asked : Inputs opening options stream
+  pub known : ReadUnderway opening opened d

@@ -17,29 +17,29 @@ use Rattle.underway.specs.Openings.{Opening, Since, Unplanned}
 use Rattle.runner.specs.declared.fault.RunFault.{RunFault}
 use Rattle.runner.specs.declared.fault.RunFault.TheVariants as run
 use Rattle.runner.specs.declared.pass.Pass.{Pass}
-use Rattle.runner.specs.Answers.{Answers, IsAsked, Moves, RepeatsFor, RunsBy, as_read}
+use Rattle.runner.specs.Answers.{Answers, Inputs, Moves, RepeatsFor, RunsBy, as_read}
 use Rattle.runner.specs.Validities.{HasChanged, IsKept}
 
 -- ---- where a run stands between two attempts
 
 -- an opening: the run behind its state has not been finished, and its number is not beyond the greatest
-pub record AtOpening (ours : List ℕ → Bool) (alone : Bool) (opening : Opening) (d : Device) : Type 0 where
+pub record AtOpening {ours : List ℕ → Bool} {alone : Bool} (opening : Opening ours alone) (d : Device) : Type 0 where
   pub room : opening.world.state.run + 1 < 2 ^ 64
-  pub open_run : Unplanned alone opening d ⊎ IsPending ours alone opening d
+  pub open_run : Unplanned opening d ⊎ IsPending opening d
 
 -- so much is so where this began at an opening, on an outside that has kept its word, under the options of the call and marks that
 -- nobody else writes
-abbrev pub FromOpening : (honest : Type 0) → (List ℕ → Bool) → Bool → Opening → Options → Stream → (start : Device) → Type 0 → Type 0
-FromOpening honest ours alone opening options stream start P = honest → IsAsked ours opening options stream → AtOpening ours alone opening start → P
+abbrev pub FromOpening : (honest : Type 0) → {ours : List ℕ → Bool} {alone : Bool} → Opening ours alone → Options → Stream → (start : Device) → Type 0 → Type 0
+FromOpening honest {ours} {alone} opening options stream start P = honest → Inputs opening options stream → AtOpening opening start → P
 
 -- where `settle` may stand between two attempts: its run is fixed once a reading was not stopped
-abbrev pub TriedAt : (List ℕ → Bool) → Bool → Opening → (fixed : Option ℕ) → Device → Type 0
-TriedAt ours alone opening None d = AtOpening ours alone opening d
-TriedAt ours alone opening (Some run) d = (run ≡ opening.world.state.run + 1) × Underway ours alone opening d
+abbrev pub AttemptAt : {ours : List ℕ → Bool} {alone : Bool} → Opening ours alone → (fixed : Option ℕ) → Device → Type 0
+AttemptAt {ours} {alone} opening None d = AtOpening opening d
+AttemptAt {ours} {alone} opening (Some run) d = (run ≡ opening.world.state.run + 1) × Underway opening d
 
-pub record IsTried (ours : List ℕ → Bool) (alone : Bool) (opening : Opening) (options : Options) (stream : Stream) (fixed : Option ℕ) (d : Device) : Type 0 where
-  pub asked : IsAsked ours opening options stream
-  pub tried : TriedAt ours alone opening fixed d
+pub record AttemptStart {ours : List ℕ → Bool} {alone : Bool} (opening : Opening ours alone) (options : Options) (stream : Stream) (fixed : Option ℕ) (d : Device) : Type 0 where
+  pub asked : Inputs opening options stream
+  pub tried : AttemptAt opening fixed d
 
 -- ---- the device goes on
 
@@ -76,10 +76,10 @@ pub record Reopens (times : ℕ) (old new : Seen) : Type 0 where
 -- Where an attempt began that came after so many others. Behind each of those the outside was opened again, and not otherwise, with the run
 -- underway. The first one began where `settle` was called, and each other where the outside was opened for it. From one to the next, and from
 -- the last to its end, no plan and no logged step was lost, and each message that no call named stayed. The generator has moved by whole pairs.
-pub record Began (ours : List ℕ → Bool) (alone : Bool) (opening : Opening) (earlier : ℕ) (old new : Seen) (stream : Stream) : Type 0 where
+pub record LastAttempt {ours : List ℕ → Bool} {alone : Bool} (opening : Opening ours alone) (earlier : ℕ) (old new : Seen) (stream : Stream) : Type 0 where
   pub reopens : Reopens earlier old new
-  pub each : All (Underway ours alone opening) reopens.since
-  pub underway : Underway ours alone opening (began_on reopens.since old.device)
+  pub each : All (Underway opening) reopens.since
+  pub underway : Underway opening (began_on reopens.since old.device)
   pub goes_on : GoesOnOver reopens.since old.device new.device
   pub drawn : Stream
   pub undrawn : earlier ≡ 0 → drawn ≡ stream
@@ -91,29 +91,29 @@ pub record AnswersAt (run : ℕ) (options : Options) (pass : Pass) (d : Device) 
   pub runs : (s : SyncState) (p : Pending) → Holds d.files s p → RunsBy (as_read s p) options stream pass
 
 -- The last attempt, one of so many, found that this side's UIDVALIDITY had changed, and has changed nothing itself.
-pub record ChangedLast (ours : List ℕ → Bool) (alone : Bool) (opening : Opening) (tries : ℕ) (side : Side) (old new : Seen) (stream : Stream) : Type 0 where
+pub record ChangedLast {ours : List ℕ → Bool} {alone : Bool} (opening : Opening ours alone) (tries : ℕ) (side : Side) (old new : Seen) (stream : Stream) : Type 0 where
   pub earlier : ℕ
   pub few : earlier < tries
-  pub began : Began ours alone opening earlier old new stream
+  pub began : LastAttempt opening earlier old new stream
   pub changed : (s : SyncState) (p : Pending) → Holds (began_on began.reopens.since old.device).files s p → HasChanged (as_read s p) side (began_on began.reopens.since old.device)
   pub kept : IsKept alone (began_on began.reopens.since old.device) new.device
 
 -- The last attempt, one of so many, has changed nothing itself.
-pub record KeptLast (ours : List ℕ → Bool) (alone : Bool) (opening : Opening) (tries : ℕ) (old new : Seen) (stream : Stream) : Type 0 where
+pub record KeptLast {ours : List ℕ → Bool} {alone : Bool} (opening : Opening ours alone) (tries : ℕ) (old new : Seen) (stream : Stream) : Type 0 where
   pub earlier : ℕ
   pub few : earlier < tries
-  pub began : Began ours alone opening earlier old new stream
+  pub began : LastAttempt opening earlier old new stream
   pub kept : IsKept alone (began_on began.reopens.since old.device) new.device
 
 -- in an attempt marks repeat: so many draws do from where the generator stood then, which was between these two, before there is a mark for
 -- each new message of some world since the opening
-pub record HaveRepeated (honest : Type 0) (ours : List ℕ → Bool) (alone : Bool) (opening : Opening) (options : Options) (stream after : Stream) (start : Device) : Type 0 where
+pub record HaveRepeated (honest : Type 0) {ours : List ℕ → Bool} {alone : Bool} (opening : Opening ours alone) (options : Options) (stream after : Stream) (start : Device) : Type 0 where
   pub drawn : Stream
   pub moved : Moves stream drawn
   pub on : Moves drawn after
   pub count : ℕ
   pub repeats : RepeatsFor drawn count
-  pub wanted : FromOpening honest ours alone opening options stream start (Since alone opening (λ w. count ≡ count_new (scene_of w options)))
+  pub wanted : FromOpening honest opening options stream start (Since opening (λ w. count ≡ count_new (scene_of w options)))
 
 -- ---- the greatest number
 

@@ -41,22 +41,22 @@ IsEmptied None d = ⊥
 IsEmptied (Some o) d = IsIdle o.pending → Holds d.files o.state Missing
 
 -- the files hold what was read
-pub record IsKnown (ours : List ℕ → Bool) (alone : Bool) (opening : Opening) (opened : Option Opened) (d : Device) : Type 0 where
-  pub underway : Underway ours alone opening d
+pub record ReadUnderway {ours : List ℕ → Bool} {alone : Bool} (opening : Opening ours alone) (opened : Option Opened) (d : Device) : Type 0 where
+  pub underway : Underway opening d
   pub held : IsHeld opened d
 
 -- there is a plan, which will be taken up
-pub record IsTakenUp (ours : List ℕ → Bool) (alone : Bool) (opening : Opening) (opened : Option Opened) (d : Device) : Type 0 where
-  pub pending : IsPending ours alone opening d
+pub record Resumed {ours : List ℕ → Bool} {alone : Bool} (opening : Opening ours alone) (opened : Option Opened) (d : Device) : Type 0 where
+  pub pending : IsPending opening d
   pub held : IsHeld opened d
 
 -- there is none
-pub record HasNone (alone : Bool) (opening : Opening) (opened : Option Opened) (d : Device) : Type 0 where
-  pub unplanned : Unplanned alone opening d
+pub record HasNone {ours : List ℕ → Bool} {alone : Bool} (opening : Opening ours alone) (opened : Option Opened) (d : Device) : Type 0 where
+  pub unplanned : Unplanned opening d
   pub held : IsHeld opened d
 
 -- there is no journal; once the waiting files are admitted, none waits where nobody adds any
-pub record IsClear (alone : Bool) (opening : Opening) (opened : Option Opened) (is_admitted : Bool) (d : Device) : Type 0 where
+pub record IsClear {ours : List ℕ → Bool} {alone : Bool} (opening : Opening ours alone) (opened : Option Opened) (is_admitted : Bool) (d : Device) : Type 0 where
   pub state : state_of opened ≡ Some opening.world.state
   pub files : Holds d.files opening.world.state Missing
   pub chosen : opening.called ≡ opening.options
@@ -66,8 +66,8 @@ pub record IsClear (alone : Bool) (opening : Opening) (opened : Option Opened) (
   pub admitted : is_admitted ≡ true → alone ≡ true → d.near.waiting ≡ []
 
 -- the far mailbox was listed, each flag by its name; others may have added since
-pub record FarListed (alone : Bool) (opening : Opening) (opened : Option Opened) (far : Listing) (d : Device) : Type 0 where
-  pub clear : IsClear alone opening opened true d
+pub record FarListed {ours : List ℕ → Bool} {alone : Bool} (opening : Opening ours alone) (opened : Option Opened) (far : Listing) (d : Device) : Type 0 where
+  pub clear : IsClear opening opened true d
   pub lists : ListsFar alone opening.world.far.next far d
   pub within : ListsWithin opening.options.keywords far
 
@@ -86,11 +86,11 @@ pub record AreShown (w : World) (far near : Listing) : Type 0 where
   pub old : AreOld w.state.max_pushed w.state.entries spared
   pub near_is : ShowsSparing Near spared w.near near
 
-pub record BothListed (ours : List ℕ → Bool) (alone : Bool) (opening : Opening) (opened : Option Opened) (far near : Listing) (d : Device) : Type 0 where
-  pub clear : IsClear alone opening opened true d
-  pub since : Since alone opening (λ w. AreShown w far near × Listed ours alone w d)
+pub record BothListed {ours : List ℕ → Bool} {alone : Bool} (opening : Opening ours alone) (opened : Option Opened) (far near : Listing) (d : Device) : Type 0 where
+  pub clear : IsClear opening opened true d
+  pub since : Since opening (λ w. AreShown w far near × Listed ours alone w d)
 
 -- the plan of that world is made
-pub record IsMade (ours : List ℕ → Bool) (alone : Bool) (opening : Opening) (opened : Option Opened) (plan : Plan) (d : Device) : Type 0 where
-  pub clear : IsClear alone opening opened true d
-  pub since : Since alone opening (λ w. IsPlanned ours w opening.options plan × Listed ours alone w d)
+pub record IsMade {ours : List ℕ → Bool} {alone : Bool} (opening : Opening ours alone) (opened : Option Opened) (plan : Plan) (d : Device) : Type 0 where
+  pub clear : IsClear opening opened true d
+  pub since : Since opening (λ w. IsPlanned ours w opening.options plan × Listed ours alone w d)

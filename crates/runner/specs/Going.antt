@@ -133,35 +133,35 @@ pub record HasLogged (old new : Option Opened) (results : List Logged) : Type 0 
 -- ---- where the next step stands, for the plan that is pending, on some world since the opening
 
 -- the state that was read is the opening's, and so much is so of some world since
-pub record AtMoment (alone : Bool) (opening : Opening) (opened : Option Opened) (P : World → Type 0) : Type 0 where
+pub record AtMoment {ours : List ℕ → Bool} {alone : Bool} (opening : Opening ours alone) (opened : Option Opened) (P : World → Type 0) : Type 0 where
   pub state : state_of opened ≡ Some opening.world.state
-  pub since : Since alone opening P
+  pub since : Since opening P
 
 -- none of its calls is done; where the plan was taken up again, some or all may be
-abbrev pub Ready : (List ℕ → Bool) → Bool → World → Options → Version → Plan → List Logged → (is_taken_up : Bool) → Device → Type 0
-Ready ours alone w options version plan log false d = Midway ours alone w options version plan log false log false d
-Ready ours alone w options version plan log true d = Stands ours alone w options version plan log false d
+abbrev pub StepStart : (List ℕ → Bool) → Bool → World → Options → Version → Plan → List Logged → (is_taken_up : Bool) → Device → Type 0
+StepStart ours alone w options version plan log false d = Midway ours alone w options version plan log false log false d
+StepStart ours alone w options version plan log true d = Stands ours alone w options version plan log false d
 
-abbrev pub AtReady : (List ℕ → Bool) → Bool → Opening → Option Opened → (is_taken_up : Bool) → Device → Type 0
-AtReady ours alone opening opened is_taken_up d = AtMoment alone opening opened (λ w. Ready ours alone w opening.options (version_at opened) (plan_at opened) (log_at opened) is_taken_up d)
+abbrev pub BeforeStep : {ours : List ℕ → Bool} {alone : Bool} → Opening ours alone → Option Opened → (is_taken_up : Bool) → Device → Type 0
+BeforeStep {ours} {alone} opening opened is_taken_up d = AtMoment opening opened (λ w. StepStart ours alone w opening.options (version_at opened) (plan_at opened) (log_at opened) is_taken_up d)
 
 -- its flags are set, if they are set by a call of their own
-abbrev pub AtBegun : (List ℕ → Bool) → Bool → Opening → Option Opened → (is_made : Bool) → Device → Type 0
-AtBegun ours alone opening opened is_made d = AtMoment alone opening opened (λ w. HasBegun ours alone w opening.options (version_at opened) (plan_at opened) (log_at opened) is_made d)
+abbrev pub DuringStep : {ours : List ℕ → Bool} {alone : Bool} → Opening ours alone → Option Opened → (is_made : Bool) → Device → Type 0
+DuringStep {ours} {alone} opening opened is_made d = AtMoment opening opened (λ w. HasBegun ours alone w opening.options (version_at opened) (plan_at opened) (log_at opened) is_made d)
 
 -- its copy was looked for
-abbrev pub AtSought : (List ℕ → Bool) → Bool → Opening → Option Opened → (found : Option ℕ) → Device → Type 0
-AtSought ours alone opening opened found d = AtMoment alone opening opened (λ w. IsSought ours alone w opening.options (version_at opened) (plan_at opened) (log_at opened) found d)
+abbrev pub AfterSearch : {ours : List ℕ → Bool} {alone : Bool} → Opening ours alone → Option Opened → (found : Option ℕ) → Device → Type 0
+AfterSearch {ours} {alone} opening opened found d = AtMoment opening opened (λ w. IsSought ours alone w opening.options (version_at opened) (plan_at opened) (log_at opened) found d)
 
 -- it is done, and to be logged so
-abbrev pub AtDone : (List ℕ → Bool) → Bool → Opening → Option Opened → Logged → Device → Type 0
-AtDone ours alone opening opened logged d = AtMoment alone opening opened (λ w. Midway ours alone w opening.options (version_at opened) (plan_at opened) (log_at opened) false (log_at opened ++ logged ∷ []) false d)
+abbrev pub AfterStep : {ours : List ℕ → Bool} {alone : Bool} → Opening ours alone → Option Opened → Logged → Device → Type 0
+AfterStep {ours} {alone} opening opened logged d = AtMoment opening opened (λ w. Midway ours alone w opening.options (version_at opened) (plan_at opened) (log_at opened) false (log_at opened ++ logged ∷ []) false d)
 
 -- its copy is made, under some UID
-abbrev pub AtCopied : (List ℕ → Bool) → Bool → Opening → Option Opened → Device → Type 0
-AtCopied ours alone opening opened d = AtMoment alone opening opened (λ w. (copy : ℕ) × Midway ours alone w opening.options (version_at opened) (plan_at opened) (log_at opened) false (log_at opened ++ Copied copy ∷ []) false d)
+abbrev pub AfterCopy : {ours : List ℕ → Bool} {alone : Bool} → Opening ours alone → Option Opened → Device → Type 0
+AfterCopy {ours} {alone} opening opened d = AtMoment opening opened (λ w. (copy : ℕ) × Midway ours alone w opening.options (version_at opened) (plan_at opened) (log_at opened) false (log_at opened ++ Copied copy ∷ []) false d)
 
 -- the copy that was just made was looked for, and found
-abbrev pub FoundCopy : (List ℕ → Bool) → Bool → Opening → Option Opened → (found : Option ℕ) → Device → Type 0
-FoundCopy ours alone opening opened None d = ⊥
-FoundCopy ours alone opening opened (Some copy) d = AtDone ours alone opening opened (Copied copy) d
+abbrev pub FoundCopy : {ours : List ℕ → Bool} {alone : Bool} → Opening ours alone → Option Opened → (found : Option ℕ) → Device → Type 0
+FoundCopy opening opened None d = ⊥
+FoundCopy {ours} {alone} opening opened (Some copy) d = AfterStep opening opened (Copied copy) d

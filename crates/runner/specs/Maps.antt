@@ -1,5 +1,5 @@
 -- The map of keywords that a plan was made by.
-use Rattle.std.specs.Prelude.{◌≡◌, ◌≢◌, List, Option, None, Some}
+use Rattle.std.specs.Prelude.{◌≡◌, ◌≢◌, ℕ, Bool, List, Option, None, Some}
 use Rattle.mailcore.specs.declared.keywords.Keyword.{Keyword}
 use Rattle.book.specs.declared.book.Pending.{Pending}
 use Rattle.book.specs.declared.book.Pending.TheVariants.{Missing, Useless, Planned}
@@ -29,5 +29,5 @@ HasOtherMapIn keywords None = ⊥
 HasOtherMapIn keywords (Some o) = HasOtherMap keywords o.pending
 
 -- the same opening, with a plan by this map
-abbrev pub by_map : List Keyword → Opening → Opening
+abbrev pub by_map : {ours : List ℕ → Bool} {alone : Bool} → List Keyword → Opening ours alone → Opening ours alone
 by_map keywords opening = record opening { options = record opening.options { keywords = keywords } }

@@ -9,11 +9,11 @@ use Rattle.outside.specs.Devices.{Device}
 use Rattle.underway.specs.Endings.{IsDone}
 use Rattle.underway.specs.Openings.{IsIdle, Opening}
 use Rattle.runner.specs.declared.pass.Pass.{Pass}
-use Rattle.runner.specs.Answers.{HasRepeats, IsEntry, OfFiles}
+use Rattle.runner.specs.Answers.{HasRepeats, PassStart, OfFiles}
 use Rattle.runner.specs.Faults.{Reasons, TellsBeyond, TellsUnread, because, or_beyond, or_keywords, or_unread}
 use Rattle.runner.specs.ChangedMaps.{TellsOtherMap}
 use Rattle.runner.specs.Finding.{FindsAt}
-use Rattle.runner.specs.Results.{IsTold}
+use Rattle.runner.specs.Results.{Report}
 use Rattle.runner.specs.Validities.{LeavesBoxes, TellsChanged}
 
 -- Of a run that was underway. The steps told are those of the plan of the world that the run is over for, in order: all of them, or the last
@@ -21,8 +21,8 @@ use Rattle.runner.specs.Validities.{LeavesBoxes, TellsChanged}
 -- world. A copy is told as found exactly if it stood on its side when the pass began, under the UID that it has: that of the first step that
 -- was not logged alone, and none where the plan was made in this pass. Where nobody else adds messages, and the run is not an older one, both
 -- mailboxes and the state are alike to the outcome that the rules name for the opening.
-pub record TellsRun (ours : List ℕ → Bool) (alone : Bool) (opening : Opening) (run : ℕ) (pass : Pass) (old new : Device) : Type 0 where
-  pub told : IsTold ours alone opening pass new
+pub record TellsRun {ours : List ℕ → Bool} {alone : Bool} (opening : Opening ours alone) (run : ℕ) (pass : Pass) (old new : Device) : Type 0 where
+  pub told : Report opening pass new
   pub found : FindsAt ours old pass
   pub alike : alone ≡ true → opening.world.state.run + 1 ≤ run → IsOpening opening.world → IsDone opening.world opening.options new
 
@@ -36,7 +36,7 @@ pub record LeavesMade (honest : Type 0) (alone : Bool) (old new : Device) : Type
 -- `MarksRepeat` only where the generator's draws do, before there is a mark for each new message of some world since the
 -- opening; a line of the state or the journal only where the files that stand there hold no book, but line 0 of the state: where the run is
 -- beyond the next one, or the outside has told it last.
-abbrev pub pass_reasons : (honest : Type 0) → (List ℕ → Bool) → Bool → Opening → (run : ℕ) → Options → Stream → (old new : Device) → Reasons
-pass_reasons honest ours alone opening run options stream old new =
+abbrev pub pass_reasons : (honest : Type 0) → {ours : List ℕ → Bool} {alone : Bool} → Opening ours alone → (run : ℕ) → Options → Stream → (old new : Device) → Reasons
+pass_reasons honest {ours} {alone} opening run options stream old new =
     or_unread (TellsUnread honest new) (or_beyond (TellsBeyond honest run old) (or_keywords (TellsOtherMap honest alone options.keywords old new)
-    (because (TellsChanged honest alone old new) (HasRepeats alone opening honest (IsEntry ours alone opening run options stream old) options stream))))
+    (because (TellsChanged honest alone old new) (HasRepeats opening honest (PassStart opening run options stream old) options stream))))

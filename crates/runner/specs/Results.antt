@@ -10,7 +10,7 @@ use Rattle.rules.specs.declared.plan.Step.{Step}
 use Rattle.rules.specs.declared.plan.Step.TheVariants as step
 use Rattle.rules.specs.declared.state.SyncState.{SyncState}
 use Rattle.rules.specs.World.{World, scene_of}
-use Rattle.planner.specs.Written.{all_unfit, marks_of}
+use Rattle.planner.specs.Listed.{all_unfit, marks_of}
 use Rattle.sync_state.specs.declared.journal.Logged.{Logged}
 use Rattle.book.specs.declared.book.Pending.TheVariants.{Missing}
 use Rattle.book.specs.Books.{Holds}
@@ -74,33 +74,33 @@ pub record IsOverBy (ours : List ℕ → Bool) (alone : Bool) (w : World) (optio
   pub fit : Fit plan.steps (results_of log)
 
 -- the run is over for some world since the opening, and that world's plan, whose steps have these results, is this one
-abbrev pub EndsBy : (List ℕ → Bool) → Bool → Opening → Plan → List Logged → Device → Type 0
-EndsBy ours alone opening plan log d = Since alone opening (λ w. IsOverBy ours alone w opening.options plan log d)
+abbrev pub EndsBy : {ours : List ℕ → Bool} {alone : Bool} → Opening ours alone → Plan → List Logged → Device → Type 0
+EndsBy {ours} {alone} opening plan log d = Since opening (λ w. IsOverBy ours alone w opening.options plan log d)
 
 -- some world since the opening has this plan, and these messages of it, which only want fitness to be new, were passed over
-abbrev pub PassedOver : (List ℕ → Bool) → Bool → Opening → Plan → List (Side × ℕ) → Type 0
-PassedOver ours alone opening plan unfit = Since alone opening (λ w. IsPlanned ours w opening.options plan × (unfit ≡ all_unfit (scene_of w opening.options)))
+abbrev pub PassedOver : {ours : List ℕ → Bool} {alone : Bool} → Opening ours alone → Plan → List (Side × ℕ) → Type 0
+PassedOver {ours} {alone} opening plan unfit = Since opening (λ w. IsPlanned ours w opening.options plan × (unfit ≡ all_unfit (scene_of w opening.options)))
 
 -- The steps told are those of this plan behind these ones. The run is over for a world that has this plan, the copies bear its marks, and
 -- each new message that is told, and no other step, has the UID of a copy.
-pub record AreStepsOf (ours : List ℕ → Bool) (alone : Bool) (opening : Opening) (plan : Plan) (before : List Step) (performed : List Performed) (d : Device) : Type 0 where
+pub record AreStepsOf {ours : List ℕ → Bool} {alone : Bool} (opening : Opening ours alone) (plan : Plan) (before : List Step) (performed : List Performed) (d : Device) : Type 0 where
   pub steps : plan.steps ≡ before ++ steps_of performed
   pub copies : Fit (steps_of performed) (results_of (logs_of performed))
-  pub over : Since alone opening (λ w. EndedUnder ours alone w opening.options (marks_of plan.steps) d × IsPlanned ours w opening.options plan)
+  pub over : Since opening (λ w. EndedUnder ours alone w opening.options (marks_of plan.steps) d × IsPlanned ours w opening.options plan)
 
 -- what is told of a run that was planned in this pass: all steps of its plan, and the messages of the world that was listed for it
-pub record IsToldWhole (ours : List ℕ → Bool) (alone : Bool) (opening : Opening) (performed : List Performed) (unfit : List (Side × ℕ)) (d : Device) : Type 0 where
+pub record WholeReport {ours : List ℕ → Bool} {alone : Bool} (opening : Opening ours alone) (performed : List Performed) (unfit : List (Side × ℕ)) (d : Device) : Type 0 where
   pub plan : Plan
-  pub all : AreStepsOf ours alone opening plan [] performed d
-  pub passed_over : PassedOver ours alone opening plan unfit
+  pub all : AreStepsOf opening plan [] performed d
+  pub passed_over : PassedOver opening plan unfit
 
 -- of one that was taken up: the last steps of its plan
-pub record IsToldRest (ours : List ℕ → Bool) (alone : Bool) (opening : Opening) (performed : List Performed) (d : Device) : Type 0 where
+pub record RestReport {ours : List ℕ → Bool} {alone : Bool} (opening : Opening ours alone) (performed : List Performed) (d : Device) : Type 0 where
   pub plan : Plan
   pub before : List Step
-  pub last : AreStepsOf ours alone opening plan before performed d
+  pub last : AreStepsOf opening plan before performed d
 
-abbrev pub IsTold : (List ℕ → Bool) → Bool → Opening → Pass → Device → Type 0
-IsTold ours alone opening Already d = Unit {0}
-IsTold ours alone opening (Ran performed unfit) d = IsToldWhole ours alone opening performed.items unfit.items d
-IsTold ours alone opening (Finished performed) d = IsToldRest ours alone opening performed.items d
+abbrev pub Report : {ours : List ℕ → Bool} {alone : Bool} → Opening ours alone → Pass → Device → Type 0
+Report opening Already d = Unit {0}
+Report {ours} {alone} opening (Ran performed unfit) d = WholeReport opening performed.items unfit.items d
+Report {ours} {alone} opening (Finished performed) d = RestReport opening performed.items d

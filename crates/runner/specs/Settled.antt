@@ -11,42 +11,42 @@ use Rattle.underway.specs.Openings.{Opening}
 use Rattle.runner.specs.declared.fault.RunFault.{RunFault}
 use Rattle.runner.specs.declared.fault.RunFault.TheVariants as run
 use Rattle.runner.specs.declared.pass.Settled.{Settled}
-use Rattle.runner.specs.Attempts.{AnswersAt, Began, ChangedLast, HaveRepeated, KeptLast, MetBefore, MetStops, Reopens, began_on, failed_before}
+use Rattle.runner.specs.Attempts.{AnswersAt, LastAttempt, ChangedLast, HaveRepeated, KeptLast, MetBefore, MetStops, Reopens, began_on, failed_before}
 use Rattle.runner.specs.ChangedMaps.{HoldsOtherMap}
 use Rattle.runner.specs.Faults.{IsCaused, LeavesRun, RefusedAt, TellsNoRun, because, or_beyond, or_keywords, or_refused, or_unread}
 use Rattle.runner.specs.Finding.{FindsAt}
-use Rattle.runner.specs.Results.{IsTold}
+use Rattle.runner.specs.Results.{Report}
 
 -- An answer. The run is over; where nobody else adds messages, both mailboxes and the state are alike to the outcome that the rules name for
 -- the opening. What is told is what the last attempt answered: by the files of the device on which it began, the run was made already, or a
 -- plan of it was pending, or none was. The steps told are those of the plan of the world that the run is over for: all of them, or the last
 -- where the plan was pending, each new message with the UID of a copy; the messages that were passed over are those of the listed world. A
 -- copy that is told as found stood on its side when the last attempt began, and has the UID that it had there; each other one was made by it.
-pub record IsSettled (ours : List ℕ → Bool) (alone : Bool) (opening : Opening) (options : Options) (stream : Stream) (settled : Settled) (old new : Seen) : Type 0 where
-  pub over : IsOver ours alone opening new.device
+pub record IsSettled {ours : List ℕ → Bool} {alone : Bool} (opening : Opening ours alone) (options : Options) (stream : Stream) (settled : Settled) (old new : Seen) : Type 0 where
+  pub over : IsOver opening new.device
   pub alike : alone ≡ true → IsOpening opening.world → IsDone opening.world opening.options new.device
-  pub began : Began ours alone opening settled.stops old new stream
+  pub began : LastAttempt opening settled.stops old new stream
   pub answers : AnswersAt (opening.world.state.run + 1) options settled.last (began_on began.reopens.since old.device) began.drawn
-  pub told : IsTold ours alone opening settled.last new.device
+  pub told : Report opening settled.last new.device
   pub found : FindsAt ours (began_on began.reopens.since old.device) settled.last
 
 -- A fault. The run is underway still. Behind `ValidityChanged` and `KeywordsChanged` nothing has changed but what the attempts before the last
 -- have done. A step
 -- that is told as refused is the next one of the plan that the files then hold.
-pub record IsUnsettled (ours : List ℕ → Bool) (alone : Bool) (opening : Opening) (tries : ℕ) (stream : Stream) (fault : RunFault) (old new : Seen) : Type 0 where
-  pub left : LeavesRun (Underway ours alone opening) fault old new
-  pub changed : (side : Side) → fault ≡ run.ValidityChanged side → ChangedLast ours alone opening tries side old new stream
-  pub keywords : fault ≡ run.KeywordsChanged → KeptLast ours alone opening tries old new stream
+pub record IsUnsettled {ours : List ℕ → Bool} {alone : Bool} (opening : Opening ours alone) (tries : ℕ) (stream : Stream) (fault : RunFault) (old new : Seen) : Type 0 where
+  pub left : LeavesRun (Underway opening) fault old new
+  pub changed : (side : Side) → fault ≡ run.ValidityChanged side → ChangedLast opening tries side old new stream
+  pub keywords : fault ≡ run.KeywordsChanged → KeptLast opening tries old new stream
   pub refused : (step : ℕ) → fault ≡ run.Refused step → RefusedAt step new.device
 
 -- Why a fault that is no stop is told. A refusal or a fault of a box is the last that was told, unless it is that of a copy that was lost.
 -- Marks repeat only where the draws of an attempt do, and the map of keywords has changed only where the files that stand there hold a plan by
 -- another one. A line of the state or the journal is told only where the files that stand there hold
 -- no book from it on, but line 2 of the state where their run has the greatest number, and but line 0, where the outside has told it last.
-abbrev pub HasReason : (honest : Type 0) → (List ℕ → Bool) → Bool → Opening → Options → (stream after : Stream) → RunFault → (old new : Seen) → Type 0
-HasReason honest ours alone opening options stream after fault old new = (fault ≡ run.Stopped → ⊥) → IsCaused
+abbrev pub HasReason : (honest : Type 0) → {ours : List ℕ → Bool} {alone : Bool} → Opening ours alone → Options → (stream after : Stream) → RunFault → (old new : Seen) → Type 0
+HasReason honest {ours} {alone} opening options stream after fault old new = (fault ≡ run.Stopped → ⊥) → IsCaused
     (or_unread (TellsNoRun honest new.device) (or_refused (λ step. Unit {0}) (or_beyond (honest → ⊥)
-    (or_keywords (honest → HoldsOtherMap options.keywords new.device) (because (λ side. Unit {0}) (HaveRepeated honest ours alone opening options stream after old.device)))))) fault old new
+    (or_keywords (honest → HoldsOtherMap options.keywords new.device) (because (λ side. Unit {0}) (HaveRepeated honest opening options stream after old.device)))))) fault old new
 
 -- behind a fault: each of all attempts met a stop where a stop is told, and else each but the last
 pub record CountsFailed (tries : ℕ) (fault : RunFault) (old new : Seen) : Type 0 where

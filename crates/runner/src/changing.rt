@@ -7,7 +7,7 @@ ghost use Rattle.step_laws.specs.Steps.{changed_uid};
 ghost use Rattle.underway.specs.Conditions.{Underway};
 ghost use Rattle.underway.specs.Openings.{Opening};
 ghost use Rattle.runner.specs.Parts.{StepPart};
-ghost use Rattle.runner.specs.Going.{IsGoing, AtBegun, AtDone, AtReady, logged_of, made_by, next_at, sets_first};
+ghost use Rattle.runner.specs.Going.{IsGoing, DuringStep, AfterStep, BeforeStep, logged_of, made_by, next_at, sets_first};
 
 use crate::fault::{RunFault, step_fault};
 use crate::performed::StepResult;
@@ -50,7 +50,7 @@ fn sets_first(flags: &FlagStep) -> bool
 
 /// Sets the flags, if the step sets any.
 fn set_flags<O: Outside>(outside: &mut O, number: usize, flags: &FlagStep) -> Result<(), RunFault>
-    ghost opening: { Opening }
+    ghost opening: { Opening O.ours O.alone }
     requires going { IsGoing (O.opened outside.old) }
     requires next { next_at (O.opened outside.old) ≡ Some (step.Flags flags.now.direction flags.now.far flags.now.near flags.now.set
         flags.now.cleared) }
@@ -61,8 +61,8 @@ fn set_flags<O: Outside>(outside: &mut O, number: usize, flags: &FlagStep) -> Re
     ensures opened { O.opened outside.new ≡ O.opened outside.old }
     ensures idle { sets_first flags.now.set flags.now.cleared ≡ false → O.seen outside.new ≡ O.seen outside.old }
     ensures part { StepPart number (O.opened outside.old) (O.honest outside.new)
-        (AtReady O.ours O.alone opening (O.opened outside.old) true) (Underway O.ours O.alone opening) (λ _. 0)
-        (λ _. AtBegun O.ours O.alone opening (O.opened outside.old) (sets_first flags.now.set flags.now.cleared)) (O.seen outside.old)
+        (BeforeStep opening (O.opened outside.old) true) (Underway opening) (λ _. 0)
+        (λ _. DuringStep opening (O.opened outside.old) (sets_first flags.now.set flags.now.cleared)) (O.seen outside.old)
         (O.seen outside.new) result }
 {
     if !sets_first(flags) {
@@ -78,7 +78,7 @@ fn set_flags<O: Outside>(outside: &mut O, number: usize, flags: &FlagStep) -> Re
 
 /// Clears the flags, if the step clears any.
 fn clear_flags<O: Outside>(outside: &mut O, number: usize, flags: &FlagStep) -> Result<(), RunFault>
-    ghost opening: { Opening }
+    ghost opening: { Opening O.ours O.alone }
     requires going { IsGoing (O.opened outside.old) }
     requires next { next_at (O.opened outside.old) ≡ Some (step.Flags flags.now.direction flags.now.far flags.now.near flags.now.set
         flags.now.cleared) }
@@ -89,8 +89,8 @@ fn clear_flags<O: Outside>(outside: &mut O, number: usize, flags: &FlagStep) -> 
     ensures opened { O.opened outside.new ≡ O.opened outside.old }
     ensures idle { flags.now.cleared ≡ 0 → O.seen outside.new ≡ O.seen outside.old }
     ensures part { StepPart number (O.opened outside.old) (O.honest outside.new)
-        (AtBegun O.ours O.alone opening (O.opened outside.old) (sets_first flags.now.set flags.now.cleared))
-        (Underway O.ours O.alone opening) (λ _. 0) (λ _. AtDone O.ours O.alone opening (O.opened outside.old) Done) (O.seen outside.old)
+        (DuringStep opening (O.opened outside.old) (sets_first flags.now.set flags.now.cleared))
+        (Underway opening) (λ _. 0) (λ _. AfterStep opening (O.opened outside.old) Done) (O.seen outside.old)
         (O.seen outside.new) result }
 {
     if flags.cleared.is_empty() {
@@ -110,7 +110,7 @@ pub(crate) fn carry_flags<O: Outside>(
     number: usize,
     flags: &FlagStep,
 ) -> Result<StepResult, RunFault>
-    ghost opening: { Opening }
+    ghost opening: { Opening O.ours O.alone }
     requires going { IsGoing (O.opened outside.old) }
     requires next { next_at (O.opened outside.old) ≡ Some (step.Flags flags.now.direction flags.now.far flags.now.near flags.now.set
         flags.now.cleared) }
@@ -121,8 +121,8 @@ pub(crate) fn carry_flags<O: Outside>(
     ensures opened { O.opened outside.new ≡ O.opened outside.old }
     ensures fits { IfOk result (λ r. logged_of r ≡ Done) }
     ensures part { StepPart number (O.opened outside.old) (O.honest outside.new)
-        (AtReady O.ours O.alone opening (O.opened outside.old) true) (Underway O.ours O.alone opening) made_by
-        (λ r. AtDone O.ours O.alone opening (O.opened outside.old) (logged_of r)) (O.seen outside.old) (O.seen outside.new) result }
+        (BeforeStep opening (O.opened outside.old) true) (Underway opening) made_by
+        (λ r. AfterStep opening (O.opened outside.old) (logged_of r)) (O.seen outside.old) (O.seen outside.new) result }
 {
     set_flags(outside, number, flags)?;
     clear_flags(outside, number, flags)?;
@@ -137,7 +137,7 @@ pub(crate) fn mark_deleted<O: Outside>(
     far: Uid,
     near: Uid,
 ) -> Result<StepResult, RunFault>
-    ghost opening: { Opening }
+    ghost opening: { Opening O.ours O.alone }
     requires going { IsGoing (O.opened outside.old) }
     requires next { next_at (O.opened outside.old) ≡ Some (step.Gone direction far near) }
     ensures was_honest { O.honest outside.new → O.honest outside.old }
@@ -145,8 +145,8 @@ pub(crate) fn mark_deleted<O: Outside>(
     ensures opened { O.opened outside.new ≡ O.opened outside.old }
     ensures fits { IfOk result (λ r. logged_of r ≡ Done) }
     ensures part { StepPart number (O.opened outside.old) (O.honest outside.new)
-        (AtReady O.ours O.alone opening (O.opened outside.old) true) (Underway O.ours O.alone opening) made_by
-        (λ r. AtDone O.ours O.alone opening (O.opened outside.old) (logged_of r)) (O.seen outside.old) (O.seen outside.new) result }
+        (BeforeStep opening (O.opened outside.old) true) (Underway opening) made_by
+        (λ r. AfterStep opening (O.opened outside.old) (logged_of r)) (O.seen outside.old) (O.seen outside.new) result }
 {
     let side = direction.target();
     let uid = changed_uid(direction, far, near);
@@ -163,7 +163,7 @@ pub(crate) fn remove<O: Outside>(
     side: Side,
     uid: Uid,
 ) -> Result<StepResult, RunFault>
-    ghost opening: { Opening }
+    ghost opening: { Opening O.ours O.alone }
     requires going { IsGoing (O.opened outside.old) }
     requires next { next_at (O.opened outside.old) ≡ Some (step.Expunge side uid) }
     ensures was_honest { O.honest outside.new → O.honest outside.old }
@@ -171,8 +171,8 @@ pub(crate) fn remove<O: Outside>(
     ensures opened { O.opened outside.new ≡ O.opened outside.old }
     ensures fits { IfOk result (λ r. logged_of r ≡ Done) }
     ensures part { StepPart number (O.opened outside.old) (O.honest outside.new)
-        (AtReady O.ours O.alone opening (O.opened outside.old) true) (Underway O.ours O.alone opening) made_by
-        (λ r. AtDone O.ours O.alone opening (O.opened outside.old) (logged_of r)) (O.seen outside.old) (O.seen outside.new) result }
+        (BeforeStep opening (O.opened outside.old) true) (Underway opening) made_by
+        (λ r. AfterStep opening (O.opened outside.old) (logged_of r)) (O.seen outside.old) (O.seen outside.new) result }
 {
     match outside.expunge(side, uid) {
         Ok(()) => Ok(StepResult::Plain),

@@ -6,7 +6,7 @@ ghost use Rattle.sync_state.specs.JournalText.{LogsNew};
 ghost use Rattle.underway.specs.Conditions.{Underway};
 ghost use Rattle.underway.specs.Openings.{Opening};
 ghost use Rattle.runner.specs.Parts.{StepPart};
-ghost use Rattle.runner.specs.Going.{IsGoing, AtCopied, AtDone, AtReady, AtSought, CopiesUnder, FoundCopy, logged_of, made_by, next_at, plan_at};
+ghost use Rattle.runner.specs.Going.{IsGoing, AfterCopy, AfterStep, BeforeStep, AfterSearch, CopiesUnder, FoundCopy, logged_of, made_by, next_at, plan_at};
 ghost use Rattle.runner.specs.Finding.{OfSame, copy_at, copy_under, told_found};
 ghost use Rattle.runner.specs.Sources.{BySource};
 
@@ -26,16 +26,16 @@ fn seek<O: Outside>(
     direction: Direction,
     mark: Tuid,
 ) -> Result<Option<Uid>, RunFault>
-    ghost opening: { Opening }
+    ghost opening: { Opening O.ours O.alone }
     requires going { IsGoing (O.opened outside.old) }
     requires next { CopiesUnder (O.opened outside.old) direction mark }
     ensures was_honest { O.honest outside.new → O.honest outside.old }
     ensures keywords { O.keywords outside.new ≡ O.keywords outside.old }
     ensures opened { O.opened outside.new ≡ O.opened outside.old }
     ensures part { StepPart number (O.opened outside.old) (O.honest outside.new)
-        (AtReady O.ours O.alone opening (O.opened outside.old) true) (Underway O.ours O.alone opening) (λ _. 0)
-        (AtSought O.ours O.alone opening (O.opened outside.old)) (O.seen outside.old) (O.seen outside.new) result }
-    ensures found { IfOk result (λ found. O.honest outside.new → AtReady O.ours O.alone opening (O.opened outside.old) true
+        (BeforeStep opening (O.opened outside.old) true) (Underway opening) (λ _. 0)
+        (AfterSearch opening (O.opened outside.old)) (O.seen outside.old) (O.seen outside.new) result }
+    ensures found { IfOk result (λ found. O.honest outside.new → BeforeStep opening (O.opened outside.old) true
         (O.seen outside.old).device → OfSame O.ours (O.seen outside.old).device (λ d. found ≡ copy_under
         (plan_at (O.opened outside.old)) direction mark d)) }
 {
@@ -54,15 +54,15 @@ fn find_copy<O: Outside>(
     direction: Direction,
     mark: Tuid,
 ) -> Result<Option<Uid>, RunFault>
-    ghost opening: { Opening }
+    ghost opening: { Opening O.ours O.alone }
     requires going { IsGoing (O.opened outside.old) }
     requires next { CopiesUnder (O.opened outside.old) direction mark }
     ensures was_honest { O.honest outside.new → O.honest outside.old }
     ensures keywords { O.keywords outside.new ≡ O.keywords outside.old }
     ensures opened { O.opened outside.new ≡ O.opened outside.old }
     ensures part { StepPart number (O.opened outside.old) (O.honest outside.new)
-        (AtCopied O.ours O.alone opening (O.opened outside.old)) (Underway O.ours O.alone opening) (λ _. 0)
-        (FoundCopy O.ours O.alone opening (O.opened outside.old)) (O.seen outside.old) (O.seen outside.new) result }
+        (AfterCopy opening (O.opened outside.old)) (Underway opening) (λ _. 0)
+        (FoundCopy opening (O.opened outside.old)) (O.seen outside.old) (O.seen outside.new) result }
 {
     let side = direction.target();
     let from = first_uid(outside, side);
@@ -81,7 +81,7 @@ fn copy<O: Outside>(
     flags: Flags,
     mark: Tuid,
 ) -> Result<StepResult, RunFault>
-    ghost opening: { Opening }
+    ghost opening: { Opening O.ours O.alone }
     requires going { IsGoing (O.opened outside.old) }
     requires next { next_at (O.opened outside.old) ≡ Some (step.New direction uid flags mark) }
     requires map { opening.options.keywords ≡ O.keywords outside.old }
@@ -92,8 +92,8 @@ fn copy<O: Outside>(
     ensures made { IfOk result (λ r. told_found r ≡ None) }
     ensures source { IfOk result (λ r. O.honest outside.new → BySource O.ours O.alone direction uid r (O.seen outside.old).device) }
     ensures part { StepPart number (O.opened outside.old) (O.honest outside.new)
-        (AtReady O.ours O.alone opening (O.opened outside.old) false) (Underway O.ours O.alone opening) made_by
-        (λ r. AtDone O.ours O.alone opening (O.opened outside.old) (logged_of r)) (O.seen outside.old) (O.seen outside.new) result }
+        (BeforeStep opening (O.opened outside.old) false) (Underway opening) made_by
+        (λ r. AfterStep opening (O.opened outside.old) (logged_of r)) (O.seen outside.old) (O.seen outside.new) result }
 {
     let carried = match outside.carry(direction, uid, mark, flags) {
         Ok(carried) => carried,
@@ -122,7 +122,7 @@ pub(crate) fn bring<O: Outside>(
     mark: Tuid,
     is_taken_up: bool,
 ) -> Result<StepResult, RunFault>
-    ghost opening: { Opening }
+    ghost opening: { Opening O.ours O.alone }
     requires going { IsGoing (O.opened outside.old) }
     requires next { next_at (O.opened outside.old) ≡ Some (step.New direction uid flags mark) }
     requires map { opening.options.keywords ≡ O.keywords outside.old }
@@ -130,12 +130,12 @@ pub(crate) fn bring<O: Outside>(
     ensures keywords { O.keywords outside.new ≡ O.keywords outside.old }
     ensures opened { O.opened outside.new ≡ O.opened outside.old }
     ensures fits { IfOk result (λ r. LogsNew (logged_of r)) }
-    ensures found { IfOk result (λ r. O.honest outside.new → AtReady O.ours O.alone opening (O.opened outside.old) is_taken_up
+    ensures found { IfOk result (λ r. O.honest outside.new → BeforeStep opening (O.opened outside.old) is_taken_up
         (O.seen outside.old).device → OfSame O.ours (O.seen outside.old).device (λ d. told_found r ≡ copy_at
         (plan_at (O.opened outside.old)) (step.New direction uid flags mark) d)) }
     ensures part { StepPart number (O.opened outside.old) (O.honest outside.new)
-        (AtReady O.ours O.alone opening (O.opened outside.old) is_taken_up) (Underway O.ours O.alone opening) made_by
-        (λ r. AtDone O.ours O.alone opening (O.opened outside.old) (logged_of r)) (O.seen outside.old) (O.seen outside.new) result }
+        (BeforeStep opening (O.opened outside.old) is_taken_up) (Underway opening) made_by
+        (λ r. AfterStep opening (O.opened outside.old) (logged_of r)) (O.seen outside.old) (O.seen outside.new) result }
 {
     if !is_taken_up {
         return copy(outside, number, direction, uid, flags, mark);

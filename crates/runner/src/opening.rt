@@ -12,9 +12,9 @@ ghost use Rattle.underway.specs.Openings.{Opening};
 ghost use Rattle.runner.specs.Faults.{TellsUnread, because, or_unread};
 ghost use Rattle.runner.specs.Parts.{IsStuck, Part, PartOr, Unstepped};
 ghost use Rattle.runner.specs.Validities.{BothSame, HasSame, HaveValidities, IsKept, KeepsValidities, LeavesBoxes, TellsChange, TellsOther, recorded_in};
-ghost use Rattle.runner.specs.Going.{AreOpen, AtReady};
+ghost use Rattle.runner.specs.Going.{AreOpen, BeforeStep};
 ghost use Rattle.runner.specs.Finding.{FindsSame};
-ghost use Rattle.runner.specs.Before.{BothListed, FarListed, SparesOld, HasNoJournal, HasNoPlan, HasNone, HasPlan, IsClear, IsEmptied, IsKnown, IsMade, IsTakenUp};
+ghost use Rattle.runner.specs.Before.{BothListed, FarListed, SparesOld, HasNoJournal, HasNoPlan, HasNone, HasPlan, IsClear, IsEmptied, ReadUnderway, IsMade, Resumed};
 
 use crate::fault::{RunFault, call_fault};
 use crate::old_messages::old_messages;
@@ -27,7 +27,7 @@ use std::alloc::Global;
 
 /// Reads the shelf.
 pub(crate) fn recall<O: Outside>(outside: &mut O) -> Result<(), RunFault>
-    ghost opening: { Opening }
+    ghost opening: { Opening O.ours O.alone }
     ensures was_honest { O.honest outside.new → O.honest outside.old }
     ensures keywords { O.keywords outside.new ≡ O.keywords outside.old }
     ensures book { OnOk result (IsBook (O.opened outside.new)) }
@@ -36,8 +36,8 @@ pub(crate) fn recall<O: Outside>(outside: &mut O) -> Result<(), RunFault>
     ensures stuck { IsStuck (O.seen outside.old) (O.seen outside.new) result }
     ensures same { OnOk result (O.honest outside.new → FindsSame O.ours (O.seen outside.old).device (O.seen outside.new).device) }
     ensures part { PartOr (or_unread (TellsUnread (O.honest outside.new) (O.seen outside.new).device) Unstepped) (O.honest outside.new)
-        (Underway O.ours O.alone opening) (Underway O.ours O.alone opening)
-        (λ _. 0) (λ _. IsKnown O.ours O.alone opening (O.opened outside.new)) (O.seen outside.old) (O.seen outside.new) result }
+        (Underway opening) (Underway opening)
+        (λ _. 0) (λ _. ReadUnderway opening (O.opened outside.new)) (O.seen outside.old) (O.seen outside.new) result }
 {
     match outside.open_book() {
         Ok(()) => Ok(()),
@@ -47,7 +47,7 @@ pub(crate) fn recall<O: Outside>(outside: &mut O) -> Result<(), RunFault>
 
 /// The journal goes, unless it holds a plan of the next run.
 pub(crate) fn forget<O: Outside>(outside: &mut O) -> Result<(), RunFault>
-    ghost opening: { Opening }
+    ghost opening: { Opening O.ours O.alone }
     requires read { IsRead (O.opened outside.old) }
     requires whole { (O.seen outside.old).is_broken ≡ false }
     ensures was_honest { O.honest outside.new → O.honest outside.old }
@@ -57,8 +57,8 @@ pub(crate) fn forget<O: Outside>(outside: &mut O) -> Result<(), RunFault>
     ensures emptied { OnOk result (O.honest outside.new → IsHeld (O.opened outside.old) (O.seen outside.old).device
         → IsEmptied (O.opened outside.old) (O.seen outside.new).device) }
     ensures stores { OnOk result (LeavesBoxes (O.honest outside.new) O.alone (O.seen outside.old).device (O.seen outside.new).device) }
-    ensures part { Part (O.honest outside.new) (IsKnown O.ours O.alone opening (O.opened outside.old)) (Underway O.ours O.alone opening)
-        (λ _. 0) (λ _. IsKnown O.ours O.alone opening (O.opened outside.new)) (O.seen outside.old) (O.seen outside.new) result }
+    ensures part { Part (O.honest outside.new) (ReadUnderway opening (O.opened outside.old)) (Underway opening)
+        (λ _. 0) (λ _. ReadUnderway opening (O.opened outside.new)) (O.seen outside.old) (O.seen outside.new) result }
 {
     if outside.pending().is_some() {
         return Ok(());
@@ -71,14 +71,14 @@ pub(crate) fn forget<O: Outside>(outside: &mut O) -> Result<(), RunFault>
 
 /// Takes a torn line off the journal, so that steps can be logged behind it.
 pub(crate) fn untear<O: Outside>(outside: &mut O) -> Result<(), RunFault>
-    ghost opening: { Opening }
+    ghost opening: { Opening O.ours O.alone }
     requires plan { HasPlan (O.opened outside.old) }
     ensures was_honest { O.honest outside.new → O.honest outside.old }
     ensures keywords { O.keywords outside.new ≡ O.keywords outside.old }
     ensures opened { OnOk result (O.opened outside.new ≡ turned mended (O.opened outside.old)) }
     ensures same { OnOk result (O.honest outside.new → FindsSame O.ours (O.seen outside.old).device (O.seen outside.new).device) }
-    ensures part { Part (O.honest outside.new) (IsTakenUp O.ours O.alone opening (O.opened outside.old)) (Underway O.ours O.alone opening)
-        (λ _. 0) (λ _. AtReady O.ours O.alone opening (O.opened outside.new) true) (O.seen outside.old) (O.seen outside.new) result }
+    ensures part { Part (O.honest outside.new) (Resumed opening (O.opened outside.old)) (Underway opening)
+        (λ _. 0) (λ _. BeforeStep opening (O.opened outside.new) true) (O.seen outside.old) (O.seen outside.new) result }
 {
     match outside.mend() {
         Ok(()) => Ok(()),
@@ -88,14 +88,14 @@ pub(crate) fn untear<O: Outside>(outside: &mut O) -> Result<(), RunFault>
 
 /// Removes a journal without a plan of the next run.
 fn empty<O: Outside>(outside: &mut O) -> Result<(), RunFault>
-    ghost opening: { Opening }
+    ghost opening: { Opening O.ours O.alone }
     requires none { HasNoPlan (O.opened outside.old) }
     ensures was_honest { O.honest outside.new → O.honest outside.old }
     ensures keywords { O.keywords outside.new ≡ O.keywords outside.old }
     ensures opened { OnOk result (O.opened outside.new ≡ turned (λ _. Missing) (O.opened outside.old)) }
     ensures validities { OnOk result (O.honest outside.new → KeepsValidities (O.seen outside.old).device (O.seen outside.new).device) }
-    ensures part { Part (O.honest outside.new) (HasNone O.alone opening (O.opened outside.old)) (Underway O.ours O.alone opening) (λ _. 0)
-        (λ _. IsClear O.alone opening (O.opened outside.new) false) (O.seen outside.old) (O.seen outside.new) result }
+    ensures part { Part (O.honest outside.new) (HasNone opening (O.opened outside.old)) (Underway opening) (λ _. 0)
+        (λ _. IsClear opening (O.opened outside.new) false) (O.seen outside.old) (O.seen outside.new) result }
 {
     match outside.discard() {
         Ok(()) => Ok(()),
@@ -105,14 +105,14 @@ fn empty<O: Outside>(outside: &mut O) -> Result<(), RunFault>
 
 /// Gives waiting files their UIDs.
 fn admit<O: Outside>(outside: &mut O) -> Result<(), RunFault>
-    ghost opening: { Opening }
+    ghost opening: { Opening O.ours O.alone }
     requires is_open { IsOpen Side.Near (O.opened outside.old) }
     ensures was_honest { O.honest outside.new → O.honest outside.old }
     ensures keywords { O.keywords outside.new ≡ O.keywords outside.old }
     ensures opened { O.opened outside.new ≡ O.opened outside.old }
     ensures validities { OnOk result (O.honest outside.new → KeepsValidities (O.seen outside.old).device (O.seen outside.new).device) }
-    ensures part { Part (O.honest outside.new) (IsClear O.alone opening (O.opened outside.old) false) (Underway O.ours O.alone opening)
-        (λ _. 0) (λ _. IsClear O.alone opening (O.opened outside.new) true) (O.seen outside.old) (O.seen outside.new) result }
+    ensures part { Part (O.honest outside.new) (IsClear opening (O.opened outside.old) false) (Underway opening)
+        (λ _. 0) (λ _. IsClear opening (O.opened outside.new) true) (O.seen outside.old) (O.seen outside.new) result }
 {
     match outside.admit() {
         Ok(()) => Ok(()),
@@ -122,15 +122,15 @@ fn admit<O: Outside>(outside: &mut O) -> Result<(), RunFault>
 
 /// Removes a journal without a plan of the next run, and gives waiting files their UIDs.
 pub(crate) fn clear<O: Outside>(outside: &mut O) -> Result<(), RunFault>
-    ghost opening: { Opening }
+    ghost opening: { Opening O.ours O.alone }
     requires none { HasNoPlan (O.opened outside.old) }
     requires boxes { AreOpen (O.opened outside.old) }
     ensures was_honest { O.honest outside.new → O.honest outside.old }
     ensures keywords { O.keywords outside.new ≡ O.keywords outside.old }
     ensures opened { OnOk result (O.opened outside.new ≡ turned (λ _. Missing) (O.opened outside.old)) }
     ensures validities { OnOk result (O.honest outside.new → KeepsValidities (O.seen outside.old).device (O.seen outside.new).device) }
-    ensures part { Part (O.honest outside.new) (HasNone O.alone opening (O.opened outside.old)) (Underway O.ours O.alone opening) (λ _. 0)
-        (λ _. IsClear O.alone opening (O.opened outside.new) true) (O.seen outside.old) (O.seen outside.new) result }
+    ensures part { Part (O.honest outside.new) (HasNone opening (O.opened outside.old)) (Underway opening) (λ _. 0)
+        (λ _. IsClear opening (O.opened outside.new) true) (O.seen outside.old) (O.seen outside.new) result }
 {
     empty(outside)?;
     admit(outside)
@@ -138,7 +138,7 @@ pub(crate) fn clear<O: Outside>(outside: &mut O) -> Result<(), RunFault>
 
 /// Lists the far mailbox.
 fn list_far<O: Outside>(outside: &mut O) -> Result<Listing, RunFault>
-    ghost opening: { Opening }
+    ghost opening: { Opening O.ours O.alone }
     requires boxes { AreOpen (O.opened outside.old) }
     requires map { opening.options.keywords ≡ O.keywords outside.old }
     ensures was_honest { O.honest outside.new → O.honest outside.old }
@@ -147,8 +147,8 @@ fn list_far<O: Outside>(outside: &mut O) -> Result<Listing, RunFault>
     ensures numbers { IfOk result HasNumbers }
     ensures validities { OnOk result (O.honest outside.new → KeepsValidities (O.seen outside.old).device (O.seen outside.new).device) }
     ensures validity { IfOk result (λ far. O.honest outside.new → far.validity ≡ (O.seen outside.new).device.far.validity) }
-    ensures part { Part (O.honest outside.new) (IsClear O.alone opening (O.opened outside.old) true) (Underway O.ours O.alone opening)
-        (λ _. 0) (λ far. FarListed O.alone opening (O.opened outside.old) far) (O.seen outside.old) (O.seen outside.new) result }
+    ensures part { Part (O.honest outside.new) (IsClear opening (O.opened outside.old) true) (Underway opening)
+        (λ _. 0) (λ far. FarListed opening (O.opened outside.old) far) (O.seen outside.old) (O.seen outside.new) result }
 {
     match outside.list_far() {
         Ok(far) => Ok(far),
@@ -162,7 +162,7 @@ fn list_near<O: Outside>(
     far: &Listing,
     spared: &Spared,
 ) -> Result<Listing, RunFault>
-    ghost opening: { Opening }
+    ghost opening: { Opening O.ours O.alone }
     requires spared { SparesOld (O.opened outside.old) (spares spared.now) }
     requires boxes { AreOpen (O.opened outside.old) }
     requires map { opening.options.keywords ≡ O.keywords outside.old }
@@ -172,8 +172,8 @@ fn list_near<O: Outside>(
     ensures numbers { IfOk result HasNumbers }
     ensures validities { OnOk result (O.honest outside.new → KeepsValidities (O.seen outside.old).device (O.seen outside.new).device) }
     ensures validity { IfOk result (λ near. O.honest outside.new → near.validity ≡ (O.seen outside.new).device.near.store.validity) }
-    ensures part { Part (O.honest outside.new) (FarListed O.alone opening (O.opened outside.old) far.now) (Underway O.ours O.alone opening)
-        (λ _. 0) (λ near. BothListed O.ours O.alone opening (O.opened outside.old) far.now near) (O.seen outside.old) (O.seen outside.new)
+    ensures part { Part (O.honest outside.new) (FarListed opening (O.opened outside.old) far.now) (Underway opening)
+        (λ _. 0) (λ near. BothListed opening (O.opened outside.old) far.now near) (O.seen outside.old) (O.seen outside.new)
         result }
 {
     match outside.list_near(spared) {
@@ -193,7 +193,7 @@ pub(crate) struct Listings {
 
 /// Lists the far mailbox, and then the near one.
 pub(crate) fn list_both<O: Outside>(alloc: Global, outside: &mut O) -> Result<Listings, RunFault>
-    ghost opening: { Opening }
+    ghost opening: { Opening O.ours O.alone }
     requires read { IsRead (O.opened outside.old) }
     requires boxes { AreOpen (O.opened outside.old) }
     requires map { opening.options.keywords ≡ O.keywords outside.old }
@@ -203,8 +203,8 @@ pub(crate) fn list_both<O: Outside>(alloc: Global, outside: &mut O) -> Result<Li
     ensures far_numbers { IfOk result (λ both. HasNumbers both.far) }
     ensures near_numbers { IfOk result (λ both. HasNumbers both.near) }
     ensures validities { IfOk result (λ both. O.honest outside.new → HaveValidities both.far both.near (O.seen outside.old).device) }
-    ensures part { Part (O.honest outside.new) (IsClear O.alone opening (O.opened outside.old) true) (Underway O.ours O.alone opening)
-        (λ _. 0) (λ both. BothListed O.ours O.alone opening (O.opened outside.old) both.far both.near) (O.seen outside.old)
+    ensures part { Part (O.honest outside.new) (IsClear opening (O.opened outside.old) true) (Underway opening)
+        (λ _. 0) (λ both. BothListed opening (O.opened outside.old) both.far both.near) (O.seen outside.old)
         (O.seen outside.new) result }
 {
     let far = list_far(outside)?;
@@ -217,13 +217,13 @@ pub(crate) fn list_both<O: Outside>(alloc: Global, outside: &mut O) -> Result<Li
 
 /// Writes the whole plan into the journal.
 pub(crate) fn write_plan<O: Outside>(outside: &mut O, plan: Plan) -> Result<(), RunFault>
-    ghost opening: { Opening }
+    ghost opening: { Opening O.ours O.alone }
     requires takes { TakesPlan (O.opened outside.old) plan }
     ensures was_honest { O.honest outside.new → O.honest outside.old }
     ensures keywords { O.keywords outside.new ≡ O.keywords outside.old }
     ensures opened { OnOk result (O.opened outside.new ≡ turned (λ _. begun plan) (O.opened outside.old)) }
-    ensures part { Part (O.honest outside.new) (IsMade O.ours O.alone opening (O.opened outside.old) plan) (Underway O.ours O.alone opening)
-        (λ _. 0) (λ _. AtReady O.ours O.alone opening (O.opened outside.new) false) (O.seen outside.old) (O.seen outside.new) result }
+    ensures part { Part (O.honest outside.new) (IsMade opening (O.opened outside.old) plan) (Underway opening)
+        (λ _. 0) (λ _. BeforeStep opening (O.opened outside.new) false) (O.seen outside.old) (O.seen outside.new) result }
 {
     match outside.begin(plan) {
         Ok(()) => Ok(()),
@@ -254,7 +254,7 @@ fn recorded_validity<O: Outside>(outside: &O, side: Side) -> Option<u32>
 
 /// Opens a box, whose UIDVALIDITY has to be the recorded one.
 fn open_one<O: Outside>(outside: &mut O, side: Side) -> Result<(), RunFault>
-    ghost opening: { Opening }
+    ghost opening: { Opening O.ours O.alone }
     requires read { IsRead (O.opened outside.old) }
     ensures was_honest { O.honest outside.new → O.honest outside.old }
     ensures keywords { O.keywords outside.new ≡ O.keywords outside.old }
@@ -263,8 +263,8 @@ fn open_one<O: Outside>(outside: &mut O, side: Side) -> Result<(), RunFault>
         (O.seen outside.old).device (O.seen outside.new).device) }
     ensures same { OnOk result (O.honest outside.new → FindsSame O.ours (O.seen outside.old).device (O.seen outside.new).device) }
     ensures part { PartOr (because (TellsOther (O.honest outside.new) O.alone (O.opened outside.old) side (O.seen outside.old).device
-        (O.seen outside.new).device) ⊥) (O.honest outside.new) (IsKnown O.ours O.alone opening (O.opened outside.old))
-        (Underway O.ours O.alone opening) (λ _. 0) (λ _. IsKnown O.ours O.alone opening (O.opened outside.new)) (O.seen outside.old)
+        (O.seen outside.new).device) ⊥) (O.honest outside.new) (ReadUnderway opening (O.opened outside.old))
+        (Underway opening) (λ _. 0) (λ _. ReadUnderway opening (O.opened outside.new)) (O.seen outside.old)
         (O.seen outside.new) result }
 {
     let recorded = recorded_validity(outside, side);
@@ -285,7 +285,7 @@ fn open_one<O: Outside>(outside: &mut O, side: Side) -> Result<(), RunFault>
 
 /// Opens both boxes, the far one first.
 pub(crate) fn open_boxes<O: Outside>(outside: &mut O) -> Result<(), RunFault>
-    ghost opening: { Opening }
+    ghost opening: { Opening O.ours O.alone }
     requires read { IsRead (O.opened outside.old) }
     ensures was_honest { O.honest outside.new → O.honest outside.old }
     ensures keywords { O.keywords outside.new ≡ O.keywords outside.old }
@@ -294,8 +294,8 @@ pub(crate) fn open_boxes<O: Outside>(outside: &mut O) -> Result<(), RunFault>
         (O.seen outside.old).device (O.seen outside.new).device) }
     ensures same { OnOk result (O.honest outside.new → FindsSame O.ours (O.seen outside.old).device (O.seen outside.new).device) }
     ensures part { PartOr (because (TellsChange (O.honest outside.new) O.alone (O.opened outside.old) (O.seen outside.old).device
-        (O.seen outside.new).device) ⊥) (O.honest outside.new) (IsKnown O.ours O.alone opening (O.opened outside.old))
-        (Underway O.ours O.alone opening) (λ _. 0) (λ _. IsKnown O.ours O.alone opening (O.opened outside.new)) (O.seen outside.old)
+        (O.seen outside.new).device) ⊥) (O.honest outside.new) (ReadUnderway opening (O.opened outside.old))
+        (Underway opening) (λ _. 0) (λ _. ReadUnderway opening (O.opened outside.new)) (O.seen outside.old)
         (O.seen outside.new) result }
 {
     open_one(outside, Side::Far)?;

@@ -4,7 +4,7 @@ ghost use Rattle.std.specs.Prelude.{◌≡◌, ◌+◌, ◌<◌, ◌^◌, All, S
 ghost use Rattle.mailbox.specs.Operations.{HasNumbers};
 ghost use Rattle.outside.specs.Opened.{IsRead, TakesPlan, state_of};
 ghost use Rattle.rules.specs.World.{World, IsInOrder};
-ghost use Rattle.planner.specs.Written.{marks_of};
+ghost use Rattle.planner.specs.Listed.{marks_of};
 ghost use Rattle.underway.specs.Plans.{IsPlanned};
 ghost use Rattle.rules.specs.Outcome.{count_new};
 ghost use Rattle.rules.specs.Scene.{scene};

@@ -9,11 +9,11 @@ ghost use Rattle.runner.specs.Maps.{HasMapIn};
 ghost use Rattle.runner.specs.ChangedMaps.{TellsMap};
 ghost use Rattle.runner.specs.Parts.{IsStuck, Part, PartOr, RunPart, Unstepped};
 ghost use Rattle.runner.specs.Validities.{IsKept, LeavesBoxes, TellsChange, TellsUnlessSame};
-ghost use Rattle.runner.specs.Going.{AreOpen, AtReady, IsGoing, log_at, next_at, plan_at};
-ghost use Rattle.runner.specs.Before.{HasNoPlan, HasPlan, IsEmptied, IsKnown, IsTakenUp};
-ghost use Rattle.runner.specs.Results.{EndsBy, HasResults, IsTold, PassedOver};
+ghost use Rattle.runner.specs.Going.{AreOpen, BeforeStep, IsGoing, log_at, next_at, plan_at};
+ghost use Rattle.runner.specs.Before.{HasNoPlan, HasPlan, IsEmptied, ReadUnderway, Resumed};
+ghost use Rattle.runner.specs.Results.{EndsBy, HasResults, Report, PassedOver};
 ghost use Rattle.runner.specs.Finding.{FindsBy, OfSame};
-ghost use Rattle.runner.specs.Answers.{AnswersTo, AtEnd, HasRepeats, IsChosen, IsEntry, IsKnownEntry, IsRun, Moves, OfFiles, Reaches, RunsBy, made_in, run_of};
+ghost use Rattle.runner.specs.Answers.{AnswersTo, RunEnd, HasRepeats, PlanStart, PassStart, ReadPassStart, IsRun, Moves, OfFiles, PassEnd, RunsBy, made_in, run_of};
 ghost use Rattle.runner.specs.Attempts.{AnswersAt};
 ghost use Rattle.runner.specs.Passes.{LeavesMade, TellsRun, pass_reasons};
 
@@ -33,7 +33,7 @@ use std::alloc::Global;
 
 /// The new state takes the old one's place, and the journal goes.
 fn conclude<O: Outside>(outside: &mut O, is_taken_up: bool) -> Result<(), RunFault>
-    ghost opening: { Opening }
+    ghost opening: { Opening O.ours O.alone }
     requires going { IsGoing (O.opened outside.old) }
     requires takes { TakesCommit (O.opened outside.old) }
     requires ended { next_at (O.opened outside.old) ≡ None }
@@ -41,11 +41,11 @@ fn conclude<O: Outside>(outside: &mut O, is_taken_up: bool) -> Result<(), RunFau
     ensures keywords { O.keywords outside.new ≡ O.keywords outside.old }
     ensures committed { OnOk result (AreCommitted (O.opened outside.old) (O.opened outside.new)) }
     ensures held { OnOk result (O.honest outside.new → IsHeld (O.opened outside.new) (O.seen outside.new).device) }
-    ensures ends { OnOk result (O.honest outside.new → AtReady O.ours O.alone opening (O.opened outside.old) is_taken_up
-        (O.seen outside.old).device → EndsBy O.ours O.alone opening (plan_at (O.opened outside.old)) (log_at (O.opened outside.old))
+    ensures ends { OnOk result (O.honest outside.new → BeforeStep opening (O.opened outside.old) is_taken_up
+        (O.seen outside.old).device → EndsBy opening (plan_at (O.opened outside.old)) (log_at (O.opened outside.old))
         (O.seen outside.new).device) }
-    ensures part { Part (O.honest outside.new) (AtReady O.ours O.alone opening (O.opened outside.old) is_taken_up)
-        (Underway O.ours O.alone opening) (λ _. 0) (λ _. AtEnd O.ours O.alone opening) (O.seen outside.old) (O.seen outside.new) result }
+    ensures part { Part (O.honest outside.new) (BeforeStep opening (O.opened outside.old) is_taken_up)
+        (Underway opening) (λ _. 0) (λ _. RunEnd opening) (O.seen outside.old) (O.seen outside.new) result }
 {
     match outside.commit() {
         Ok(()) => Ok(()),
@@ -60,7 +60,7 @@ fn propose<O: Outside, R: Rng>(
     options: &Options,
     rng: &mut R,
 ) -> Result<Vec<(Side, Uid)>, RunFault>
-    ghost opening: { Opening }
+    ghost opening: { Opening O.ours O.alone }
     requires none { HasNoPlan (O.opened outside.old) }
     requires boxes { AreOpen (O.opened outside.old) }
     requires room { run_of (O.opened outside.old) + 1 < 2 ^ 64 }
@@ -71,14 +71,14 @@ fn propose<O: Outside, R: Rng>(
     ensures log { OnOk result (log_at (O.opened outside.new) ≡ []) }
     ensures run { IfOk result (λ unfit. IsRun (O.opened outside.old) options.now (R.stream rng.old) (plan_at (O.opened outside.new)).steps
         unfit.items) }
-    ensures passed_over { IfOk result (λ unfit. O.honest outside.new → IsChosen O.ours O.alone opening (O.opened outside.old) options.now
-        (R.stream rng.old) (O.seen outside.old).device → PassedOver O.ours O.alone opening (plan_at (O.opened outside.new)) unfit.items) }
+    ensures passed_over { IfOk result (λ unfit. O.honest outside.new → PlanStart opening (O.opened outside.old) options.now
+        (R.stream rng.old) (O.seen outside.old).device → PassedOver opening (plan_at (O.opened outside.new)) unfit.items) }
     ensures moved { Moves (R.stream rng.old) (R.stream rng.new) }
     ensures part { PartOr (because (TellsUnlessSame (O.honest outside.new) (O.opened outside.old) (O.seen outside.old).device)
-        (HasRepeats O.alone opening (O.honest outside.new) (IsChosen O.ours O.alone opening (O.opened outside.old) options.now
+        (HasRepeats opening (O.honest outside.new) (PlanStart opening (O.opened outside.old) options.now
         (R.stream rng.old) (O.seen outside.old).device) options.now (R.stream rng.old))) (O.honest outside.new)
-        (IsChosen O.ours O.alone opening (O.opened outside.old) options.now (R.stream rng.old)) (Underway O.ours O.alone opening) (λ _. 0)
-        (λ _. AtReady O.ours O.alone opening (O.opened outside.new) false) (O.seen outside.old) (O.seen outside.new) result }
+        (PlanStart opening (O.opened outside.old) options.now (R.stream rng.old)) (Underway opening) (λ _. 0)
+        (λ _. BeforeStep opening (O.opened outside.new) false) (O.seen outside.old) (O.seen outside.new) result }
 {
     clear(outside)?;
     let both = list_both(alloc, outside)?;
@@ -96,7 +96,7 @@ fn begin<O: Outside, R: Rng, P: Progress>(
     rng: &mut R,
     progress: &P,
 ) -> Result<Pass, RunFault>
-    ghost opening: { Opening }
+    ghost opening: { Opening O.ours O.alone }
     requires none { HasNoPlan (O.opened outside.old) }
     requires boxes { AreOpen (O.opened outside.old) }
     requires room { run_of (O.opened outside.old) + 1 < 2 ^ 64 }
@@ -105,19 +105,19 @@ fn begin<O: Outside, R: Rng, P: Progress>(
     ensures keywords { O.keywords outside.new ≡ O.keywords outside.old }
     ensures answer { IfOk result (AnswersTo (run_of (O.opened outside.old) + 1) (O.opened outside.old)) }
     ensures results { IfOk result (λ pass. O.honest outside.new → HasResults pass (O.seen outside.new).device) }
-    ensures told { IfOk result (λ pass. O.honest outside.new → IsChosen O.ours O.alone opening (O.opened outside.old)
-        options.now (R.stream rng.old) (O.seen outside.old).device → IsTold O.ours O.alone opening pass (O.seen outside.new).device) }
+    ensures told { IfOk result (λ pass. O.honest outside.new → PlanStart opening (O.opened outside.old)
+        options.now (R.stream rng.old) (O.seen outside.old).device → Report opening pass (O.seen outside.new).device) }
     ensures runs { IfOk result (RunsBy (O.opened outside.old) options.now (R.stream rng.old)) }
     ensures fresh { IfOk result (λ pass. pass ≡ Pass.Already → ⊥) }
     ensures moved { Moves (R.stream rng.old) (R.stream rng.new) }
-    ensures found { IfOk result (λ pass. O.honest outside.new → IsChosen O.ours O.alone opening (O.opened outside.old)
+    ensures found { IfOk result (λ pass. O.honest outside.new → PlanStart opening (O.opened outside.old)
         options.now (R.stream rng.old) (O.seen outside.old).device
         → OfSame O.ours (O.seen outside.old).device (λ d. FindsBy (O.opened outside.old) d pass)) }
     ensures part { RunPart (because (TellsUnlessSame (O.honest outside.new) (O.opened outside.old) (O.seen outside.old).device)
-        (HasRepeats O.alone opening (O.honest outside.new) (IsChosen O.ours O.alone opening (O.opened outside.old) options.now
+        (HasRepeats opening (O.honest outside.new) (PlanStart opening (O.opened outside.old) options.now
         (R.stream rng.old) (O.seen outside.old).device) options.now (R.stream rng.old))) (O.honest outside.new)
-        (IsChosen O.ours O.alone opening (O.opened outside.old) options.now (R.stream rng.old)) (Underway O.ours O.alone opening) made_in
-        (λ _. AtEnd O.ours O.alone opening) (O.seen outside.old) (O.seen outside.new) result }
+        (PlanStart opening (O.opened outside.old) options.now (R.stream rng.old)) (Underway opening) made_in
+        (λ _. RunEnd opening) (O.seen outside.old) (O.seen outside.new) result }
 {
     let unfit = propose(alloc, outside, options, rng)?;
     let performed = carry_out(alloc, outside, false, progress)?;
@@ -131,7 +131,7 @@ fn resume<O: Outside, P: Progress>(
     outside: &mut O,
     progress: &P,
 ) -> Result<Pass, RunFault>
-    ghost opening: { Opening }
+    ghost opening: { Opening O.ours O.alone }
     requires book { IsBook (O.opened outside.old) }
     requires plan { HasPlan (O.opened outside.old) }
     requires boxes { AreOpen (O.opened outside.old) }
@@ -140,14 +140,14 @@ fn resume<O: Outside, P: Progress>(
     ensures keywords { O.keywords outside.new ≡ O.keywords outside.old }
     ensures answer { IfOk result (AnswersTo (run_of (O.opened outside.old) + 1) (O.opened outside.old)) }
     ensures results { IfOk result (λ pass. O.honest outside.new → HasResults pass (O.seen outside.new).device) }
-    ensures told { IfOk result (λ pass. O.honest outside.new → IsTakenUp O.ours O.alone opening (O.opened outside.old)
-        (O.seen outside.old).device → IsTold O.ours O.alone opening pass (O.seen outside.new).device) }
+    ensures told { IfOk result (λ pass. O.honest outside.new → Resumed opening (O.opened outside.old)
+        (O.seen outside.old).device → Report opening pass (O.seen outside.new).device) }
     ensures finished { IfOk result (λ pass. pass ≡ Pass.Already → ⊥) }
-    ensures found { IfOk result (λ pass. O.honest outside.new → IsTakenUp O.ours O.alone opening (O.opened outside.old)
+    ensures found { IfOk result (λ pass. O.honest outside.new → Resumed opening (O.opened outside.old)
         (O.seen outside.old).device
         → OfSame O.ours (O.seen outside.old).device (λ d. FindsBy (O.opened outside.old) d pass)) }
-    ensures part { RunPart Unstepped (O.honest outside.new) (IsTakenUp O.ours O.alone opening (O.opened outside.old))
-        (Underway O.ours O.alone opening) made_in (λ _. AtEnd O.ours O.alone opening) (O.seen outside.old) (O.seen outside.new) result }
+    ensures part { RunPart Unstepped (O.honest outside.new) (Resumed opening (O.opened outside.old))
+        (Underway opening) made_in (λ _. RunEnd opening) (O.seen outside.old) (O.seen outside.new) result }
 {
     untear(outside)?;
     let performed = carry_out(alloc, outside, true, progress)?;
@@ -157,7 +157,7 @@ fn resume<O: Outside, P: Progress>(
 
 /// The run's number is taken: a journal goes, unless it holds a plan of the next run.
 fn skip<O: Outside>(outside: &mut O) -> Result<Pass, RunFault>
-    ghost opening: { Opening }
+    ghost opening: { Opening O.ours O.alone }
     requires read { IsRead (O.opened outside.old) }
     requires whole { (O.seen outside.old).is_broken ≡ false }
     ensures was_honest { O.honest outside.new → O.honest outside.old }
@@ -166,8 +166,8 @@ fn skip<O: Outside>(outside: &mut O) -> Result<Pass, RunFault>
     ensures stores { OnOk result (LeavesBoxes (O.honest outside.new) O.alone (O.seen outside.old).device (O.seen outside.new).device) }
     ensures emptied { OnOk result (O.honest outside.new → IsHeld (O.opened outside.old) (O.seen outside.old).device
         → IsEmptied (O.opened outside.old) (O.seen outside.new).device) }
-    ensures part { Part (O.honest outside.new) (IsKnown O.ours O.alone opening (O.opened outside.old)) (Underway O.ours O.alone opening)
-        made_in (λ _. Reaches O.ours O.alone opening (run_of (O.opened outside.old))) (O.seen outside.old) (O.seen outside.new) result }
+    ensures part { Part (O.honest outside.new) (ReadUnderway opening (O.opened outside.old)) (Underway opening)
+        made_in (λ _. PassEnd opening (run_of (O.opened outside.old))) (O.seen outside.old) (O.seen outside.new) result }
 {
     forget(outside)?;
     Ok(Pass::Already)
@@ -181,7 +181,7 @@ fn work<O: Outside, R: Rng, P: Progress>(
     rng: &mut R,
     progress: &P,
 ) -> Result<Pass, RunFault>
-    ghost opening: { Opening }
+    ghost opening: { Opening O.ours O.alone }
     requires book { IsBook (O.opened outside.old) }
     requires boxes { AreOpen (O.opened outside.old) }
     requires room { run_of (O.opened outside.old) + 1 < 2 ^ 64 }
@@ -191,21 +191,21 @@ fn work<O: Outside, R: Rng, P: Progress>(
     ensures keywords { O.keywords outside.new ≡ O.keywords outside.old }
     ensures answer { IfOk result (AnswersTo (run_of (O.opened outside.old) + 1) (O.opened outside.old)) }
     ensures results { IfOk result (λ pass. O.honest outside.new → HasResults pass (O.seen outside.new).device) }
-    ensures told { IfOk result (λ pass. O.honest outside.new → IsKnownEntry O.ours O.alone opening (O.opened outside.old)
-        (run_of (O.opened outside.old) + 1) options.now (R.stream rng.old) (O.seen outside.old).device → IsTold O.ours O.alone opening
+    ensures told { IfOk result (λ pass. O.honest outside.new → ReadPassStart opening (O.opened outside.old)
+        (run_of (O.opened outside.old) + 1) options.now (R.stream rng.old) (O.seen outside.old).device → Report opening
         pass (O.seen outside.new).device) }
     ensures runs { IfOk result (RunsBy (O.opened outside.old) options.now (R.stream rng.old)) }
     ensures fresh { IfOk result (λ pass. pass ≡ Pass.Already → ⊥) }
     ensures moved { Moves (R.stream rng.old) (R.stream rng.new) }
-    ensures found { IfOk result (λ pass. O.honest outside.new → IsKnownEntry O.ours O.alone opening (O.opened outside.old)
+    ensures found { IfOk result (λ pass. O.honest outside.new → ReadPassStart opening (O.opened outside.old)
         (run_of (O.opened outside.old) + 1) options.now (R.stream rng.old) (O.seen outside.old).device
         → OfSame O.ours (O.seen outside.old).device (λ d. FindsBy (O.opened outside.old) d pass)) }
     ensures part { RunPart (because (TellsUnlessSame (O.honest outside.new) (O.opened outside.old) (O.seen outside.old).device)
-        (HasRepeats O.alone opening (O.honest outside.new) (IsKnownEntry O.ours O.alone opening (O.opened outside.old)
+        (HasRepeats opening (O.honest outside.new) (ReadPassStart opening (O.opened outside.old)
         (run_of (O.opened outside.old) + 1) options.now (R.stream rng.old) (O.seen outside.old).device) options.now (R.stream rng.old)))
         (O.honest outside.new)
-        (IsKnownEntry O.ours O.alone opening (O.opened outside.old) (run_of (O.opened outside.old) + 1) options.now (R.stream rng.old))
-        (Underway O.ours O.alone opening) made_in (λ _. AtEnd O.ours O.alone opening) (O.seen outside.old) (O.seen outside.new) result }
+        (ReadPassStart opening (O.opened outside.old) (run_of (O.opened outside.old) + 1) options.now (R.stream rng.old))
+        (Underway opening) made_in (λ _. RunEnd opening) (O.seen outside.old) (O.seen outside.new) result }
 {
     if outside.pending().is_some() {
         resume(alloc, outside, progress)
@@ -222,7 +222,7 @@ fn open_and_work<O: Outside, R: Rng, P: Progress>(
     rng: &mut R,
     progress: &P,
 ) -> Result<Pass, RunFault>
-    ghost opening: { Opening }
+    ghost opening: { Opening O.ours O.alone }
     requires book { IsBook (O.opened outside.old) }
     requires room { run_of (O.opened outside.old) + 1 < 2 ^ 64 }
     requires map { O.keywords outside.old ≡ options.now.keywords }
@@ -230,23 +230,23 @@ fn open_and_work<O: Outside, R: Rng, P: Progress>(
     ensures keywords { O.keywords outside.new ≡ O.keywords outside.old }
     ensures answer { IfOk result (AnswersTo (run_of (O.opened outside.old) + 1) (O.opened outside.old)) }
     ensures results { IfOk result (λ pass. O.honest outside.new → HasResults pass (O.seen outside.new).device) }
-    ensures told { IfOk result (λ pass. O.honest outside.new → IsKnownEntry O.ours O.alone opening (O.opened outside.old)
-        (run_of (O.opened outside.old) + 1) options.now (R.stream rng.old) (O.seen outside.old).device → IsTold O.ours O.alone opening
+    ensures told { IfOk result (λ pass. O.honest outside.new → ReadPassStart opening (O.opened outside.old)
+        (run_of (O.opened outside.old) + 1) options.now (R.stream rng.old) (O.seen outside.old).device → Report opening
         pass (O.seen outside.new).device) }
     ensures runs { IfOk result (RunsBy (O.opened outside.old) options.now (R.stream rng.old)) }
     ensures fresh { IfOk result (λ pass. pass ≡ Pass.Already → ⊥) }
     ensures moved { Moves (R.stream rng.old) (R.stream rng.new) }
-    ensures found { IfOk result (λ pass. O.honest outside.new → IsKnownEntry O.ours O.alone opening (O.opened outside.old)
+    ensures found { IfOk result (λ pass. O.honest outside.new → ReadPassStart opening (O.opened outside.old)
         (run_of (O.opened outside.old) + 1) options.now (R.stream rng.old) (O.seen outside.old).device
         → OfSame O.ours (O.seen outside.old).device (λ d. FindsBy (O.opened outside.old) d pass)) }
     ensures part { RunPart (or_keywords (TellsMap (O.honest outside.new) O.alone (O.opened outside.old) options.now.keywords
         (O.seen outside.old).device (O.seen outside.new).device)
         (because (TellsChange (O.honest outside.new) O.alone (O.opened outside.old) (O.seen outside.old).device (O.seen outside.new).device)
-        (HasRepeats O.alone opening (O.honest outside.new) (IsKnownEntry O.ours O.alone opening (O.opened outside.old)
+        (HasRepeats opening (O.honest outside.new) (ReadPassStart opening (O.opened outside.old)
         (run_of (O.opened outside.old) + 1) options.now (R.stream rng.old) (O.seen outside.old).device) options.now (R.stream rng.old))))
         (O.honest outside.new)
-        (IsKnownEntry O.ours O.alone opening (O.opened outside.old) (run_of (O.opened outside.old) + 1) options.now (R.stream rng.old))
-        (Underway O.ours O.alone opening) made_in (λ _. AtEnd O.ours O.alone opening) (O.seen outside.old) (O.seen outside.new) result }
+        (ReadPassStart opening (O.opened outside.old) (run_of (O.opened outside.old) + 1) options.now (R.stream rng.old))
+        (Underway opening) made_in (λ _. RunEnd opening) (O.seen outside.old) (O.seen outside.new) result }
 {
     open_boxes(outside)?;
     same_map(outside, options)?;
@@ -262,7 +262,7 @@ fn take_up<O: Outside, R: Rng, P: Progress>(
     rng: &mut R,
     progress: &P,
 ) -> Result<Pass, RunFault>
-    ghost opening: { Opening }
+    ghost opening: { Opening O.ours O.alone }
     requires book { IsBook (O.opened outside.old) }
     requires whole { (O.seen outside.old).is_broken ≡ false }
     requires map { O.keywords outside.old ≡ options.now.keywords }
@@ -270,15 +270,15 @@ fn take_up<O: Outside, R: Rng, P: Progress>(
     ensures keywords { O.keywords outside.new ≡ O.keywords outside.old }
     ensures answer { IfOk result (AnswersTo run (O.opened outside.old)) }
     ensures results { IfOk result (λ pass. O.honest outside.new → HasResults pass (O.seen outside.new).device) }
-    ensures told { IfOk result (λ pass. O.honest outside.new → IsKnownEntry O.ours O.alone opening (O.opened outside.old)
-        run options.now (R.stream rng.old) (O.seen outside.old).device → IsTold O.ours O.alone opening pass (O.seen outside.new).device) }
+    ensures told { IfOk result (λ pass. O.honest outside.new → ReadPassStart opening (O.opened outside.old)
+        run options.now (R.stream rng.old) (O.seen outside.old).device → Report opening pass (O.seen outside.new).device) }
     ensures runs { IfOk result (RunsBy (O.opened outside.old) options.now (R.stream rng.old)) }
     ensures stores { IfOk result (λ pass. pass ≡ Pass.Already → LeavesBoxes (O.honest outside.new) O.alone (O.seen outside.old).device
         (O.seen outside.new).device) }
     ensures emptied { IfOk result (λ pass. pass ≡ Pass.Already → O.honest outside.new → IsHeld (O.opened outside.old)
         (O.seen outside.old).device → IsEmptied (O.opened outside.old) (O.seen outside.new).device) }
     ensures moved { Moves (R.stream rng.old) (R.stream rng.new) }
-    ensures found { IfOk result (λ pass. O.honest outside.new → IsKnownEntry O.ours O.alone opening (O.opened outside.old)
+    ensures found { IfOk result (λ pass. O.honest outside.new → ReadPassStart opening (O.opened outside.old)
         run options.now (R.stream rng.old) (O.seen outside.old).device
         → OfSame O.ours (O.seen outside.old).device (λ d. FindsBy (O.opened outside.old) d pass)) }
     ensures beyond { run_of (O.opened outside.old) + 1 < run → IsErr result × (O.seen outside.new ≡ O.seen outside.old) }
@@ -286,10 +286,10 @@ fn take_up<O: Outside, R: Rng, P: Progress>(
         (or_keywords (TellsMap (O.honest outside.new) O.alone (O.opened outside.old) options.now.keywords (O.seen outside.old).device
         (O.seen outside.new).device)
         (because (TellsChange (O.honest outside.new) O.alone (O.opened outside.old) (O.seen outside.old).device (O.seen outside.new).device)
-        (HasRepeats O.alone opening (O.honest outside.new) (IsKnownEntry O.ours O.alone opening (O.opened outside.old) run options.now
+        (HasRepeats opening (O.honest outside.new) (ReadPassStart opening (O.opened outside.old) run options.now
         (R.stream rng.old) (O.seen outside.old).device) options.now (R.stream rng.old))))) (O.honest outside.new)
-        (IsKnownEntry O.ours O.alone opening (O.opened outside.old) run options.now (R.stream rng.old)) (Underway O.ours O.alone opening)
-        made_in (λ _. Reaches O.ours O.alone opening run) (O.seen outside.old) (O.seen outside.new) result }
+        (ReadPassStart opening (O.opened outside.old) run options.now (R.stream rng.old)) (Underway opening)
+        made_in (λ _. PassEnd opening run) (O.seen outside.old) (O.seen outside.new) result }
 {
     let last = outside.state().run;
     if run <= last {
@@ -301,10 +301,10 @@ fn take_up<O: Outside, R: Rng, P: Progress>(
     open_and_work(alloc, outside, options, rng, progress)
 }
 
-/// Carries out the run of this number, or goes on with it where its plan is pending.
+/// Carries out the run of this number, or resumes it if its plan is pending.
 ///
-/// `BadState(0)`: the last run recorded is not the one before. `Stopped`: taken up again, it goes on where it stopped. `KeywordsChanged`:
-/// its plan was made by another map of keywords, and nothing has changed; by that map it can be taken up.
+/// `BadState(0)`: the last run recorded is not the one before. `Stopped`: it was interrupted, and the next call resumes it.
+/// `KeywordsChanged`: its plan was made by another map of keywords, and nothing has changed; by that map it can be resumed.
 pub fn pass<O: Outside, R: Rng, P: Progress>(
     alloc: Global,
     outside: &mut O,
@@ -313,35 +313,36 @@ pub fn pass<O: Outside, R: Rng, P: Progress>(
     rng: &mut R,
     progress: &P,
 ) -> Result<Pass, RunFault>
-    ghost opening: { Opening }
+    ghost opening: { Opening O.ours O.alone }
     requires map { O.keywords outside.old ≡ options.now.keywords }
     ensures was_honest { O.honest outside.new → O.honest outside.old }
     ensures keywords { O.keywords outside.new ≡ O.keywords outside.old }
 
-    // What is answered goes by what the files held, and what is run by the marks that the generator gave, which moves by whole pairs.
+    // The answer depends on what the files held: the run was made before, its plan was pending, or it is planned now, as the rules
+    // call for, with the marks that the generator gave as pairs of words.
     ensures answers { IfOk result (λ pass. O.honest outside.new
         → AnswersAt run options.now pass (O.seen outside.old).device (R.stream rng.old)) }
     ensures moved { Moves (R.stream rng.old) (R.stream rng.new) }
 
-    // A copy that is told as made or found stands beside its source in an entry of the state that the files then hold.
+    // Each copy that is reported stands with its source in an entry of the new state.
     ensures results { IfOk result (λ pass. O.honest outside.new → HasResults pass (O.seen outside.new).device) }
 
-    // Where the run was underway, an answer tells its steps, and the end is the one that the rules name for the opening.
-    ensures told { IfOk result (λ pass. O.honest outside.new → IsEntry O.ours O.alone opening run options.now (R.stream rng.old)
-        (O.seen outside.old).device → TellsRun O.ours O.alone opening run pass (O.seen outside.old).device (O.seen outside.new).device) }
+    // If the run was underway, the answer reports its steps, and the end is what the rules prescribe for the world that it began with.
+    ensures told { IfOk result (λ pass. O.honest outside.new → PassStart opening run options.now (R.stream rng.old)
+        (O.seen outside.old).device → TellsRun opening run pass (O.seen outside.old).device (O.seen outside.new).device) }
 
-    // A run that was made leaves both mailboxes, and one beyond the next one is not made and changes nothing. On an outside that has failed
-    // before it stops.
+    // A run that was made before is not made again. A run after the next one is refused, and nothing has changed. On an outside that had
+    // failed before, it stops.
     ensures made { IfOk result (λ pass. pass ≡ Pass.Already
         → LeavesMade (O.honest outside.new) O.alone (O.seen outside.old).device (O.seen outside.new).device) }
     ensures beyond { OfFiles (O.honest outside.new) (O.seen outside.old).device (λ s p. s.run + 1 < run
         → IsErr result × IsKept O.alone (O.seen outside.old).device (O.seen outside.new).device) }
     ensures stuck { IsStuck (O.seen outside.old) (O.seen outside.new) result }
 
-    // A run that is underway is still underway after any fault, which has its reason, and over where it answers.
-    ensures part { RunPart (pass_reasons (O.honest outside.new) O.ours O.alone opening run options.now (R.stream rng.old)
-        (O.seen outside.old).device (O.seen outside.new).device) (O.honest outside.new) (IsEntry O.ours O.alone opening run options.now
-        (R.stream rng.old)) (Underway O.ours O.alone opening) made_in (λ _. Reaches O.ours O.alone opening run) (O.seen outside.old)
+    // A run that is underway is over if this succeeds. After any error it is still underway, and the error has its cause.
+    ensures part { RunPart (pass_reasons (O.honest outside.new) opening run options.now (R.stream rng.old)
+        (O.seen outside.old).device (O.seen outside.new).device) (O.honest outside.new) (PassStart opening run options.now
+        (R.stream rng.old)) (Underway opening) made_in (λ _. PassEnd opening run) (O.seen outside.old)
         (O.seen outside.new) result }
 {
     recall(outside)?;

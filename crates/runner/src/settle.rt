@@ -4,12 +4,12 @@ ghost use Rattle.std.specs.Prelude.{◌≡◌, ◌≤◌, ◌+◌, ◌^◌, None
 ghost use Rattle.underway.specs.Conditions.{IsOver};
 ghost use Rattle.underway.specs.Openings.{Opening};
 ghost use Rattle.runner.specs.Answers.{HasRepeats, Moves, OfFiles, made_in};
-ghost use Rattle.runner.specs.Attempts.{AnswersAt, AtOpening, FromOpening, HasNoNext, HasReached, IsReached, IsTried, TriedAt, found_by};
+ghost use Rattle.runner.specs.Attempts.{AnswersAt, AtOpening, FromOpening, HasNoNext, HasReached, IsReached, AttemptStart, AttemptAt, found_by};
 ghost use Rattle.runner.specs.Faults.{TellsNoRun, because, or_beyond, or_keywords, or_unread};
 ghost use Rattle.runner.specs.Finding.{FindsAt, FindsSame};
 ghost use Rattle.runner.specs.ChangedMaps.{TellsOtherMap};
 ghost use Rattle.runner.specs.Parts.{IsStuck, PartOr, RunPart, Unstepped};
-ghost use Rattle.runner.specs.Results.{HasResults, IsTold};
+ghost use Rattle.runner.specs.Results.{HasResults, Report};
 ghost use Rattle.runner.specs.Settled.{CountsAttempts, HasReason, IsSettled, IsUnsettled};
 ghost use Rattle.runner.specs.Validities.{IsKept, TellsChanged};
 
@@ -24,7 +24,7 @@ use std::alloc::Global;
 
 /// The number of the run: the state's and 1. `BadState(2)`: the state's is the greatest.
 fn next_run<O: Outside>(outside: &mut O) -> Result<u64, RunFault>
-    ghost opening: { Opening }
+    ghost opening: { Opening O.ours O.alone }
     ensures was_honest { O.honest outside.new → O.honest outside.old }
     ensures keywords { O.keywords outside.new ≡ O.keywords outside.old }
     ensures number { IfOk result (λ number. O.honest outside.new → HasReached number (O.seen outside.new).device.files) }
@@ -33,8 +33,8 @@ fn next_run<O: Outside>(outside: &mut O) -> Result<u64, RunFault>
     ensures same { OnOk result (O.honest outside.new → FindsSame O.ours (O.seen outside.old).device (O.seen outside.new).device) }
     ensures stuck { IsStuck (O.seen outside.old) (O.seen outside.new) result }
     ensures part { PartOr (or_unread (TellsNoRun (O.honest outside.new) (O.seen outside.new).device) Unstepped) (O.honest outside.new)
-        (AtOpening O.ours O.alone opening) (AtOpening O.ours O.alone opening)
-        (λ _. 0) (λ number d. (number ≡ opening.world.state.run + 1) × AtOpening O.ours O.alone opening d) (O.seen outside.old)
+        (AtOpening opening) (AtOpening opening)
+        (λ _. 0) (λ number d. (number ≡ opening.world.state.run + 1) × AtOpening opening d) (O.seen outside.old)
         (O.seen outside.new) result }
 {
     match outside.open_book() {
@@ -51,7 +51,7 @@ fn next_run<O: Outside>(outside: &mut O) -> Result<u64, RunFault>
 
 /// The run's number, which is fixed at the first reading that is not stopped.
 fn fix_run<O: Outside>(outside: &mut O, run: &mut Option<u64>) -> Result<u64, RunFault>
-    ghost opening: { Opening }
+    ghost opening: { Opening O.ours O.alone }
     requires whole { (number : ℕ) → run.old ≡ Some number → (O.seen outside.old).is_broken ≡ false }
     ensures was_honest { O.honest outside.new → O.honest outside.old }
     ensures keywords { O.keywords outside.new ≡ O.keywords outside.old }
@@ -64,8 +64,8 @@ fn fix_run<O: Outside>(outside: &mut O, run: &mut Option<u64>) -> Result<u64, Ru
     ensures same { OnOk result (O.honest outside.new → FindsSame O.ours (O.seen outside.old).device (O.seen outside.new).device) }
     ensures stuck { IsStuck (O.seen outside.old) (O.seen outside.new) result }
     ensures part { PartOr (or_unread (TellsNoRun (O.honest outside.new) (O.seen outside.new).device) Unstepped) (O.honest outside.new)
-        (TriedAt O.ours O.alone opening run.old) (TriedAt O.ours O.alone opening run.new)
-        (λ _. 0) (λ _. TriedAt O.ours O.alone opening run.new) (O.seen outside.old) (O.seen outside.new) result }
+        (AttemptAt opening run.old) (AttemptAt opening run.new)
+        (λ _. 0) (λ _. AttemptAt opening run.new) (O.seen outside.old) (O.seen outside.new) result }
 {
     if let Some(number) = *run {
         return Ok(number);
@@ -84,18 +84,18 @@ fn attempt<O: Outside, R: Rng, P: Progress>(
     rng: &mut R,
     progress: &P,
 ) -> Result<Pass, RunFault>
-    ghost opening: { Opening }
+    ghost opening: { Opening O.ours O.alone }
     requires whole { (number : ℕ) → run.old ≡ Some number → (O.seen outside.old).is_broken ≡ false }
     requires map { O.keywords outside.old ≡ options.now.keywords }
     ensures was_honest { O.honest outside.new → O.honest outside.old }
     ensures keywords { O.keywords outside.new ≡ O.keywords outside.old }
     ensures moved { Moves (R.stream rng.old) (R.stream rng.new) }
-    ensures answer { IfOk result (λ pass. O.honest outside.new → TriedAt O.ours O.alone opening run.old (O.seen outside.old).device
+    ensures answer { IfOk result (λ pass. O.honest outside.new → AttemptAt opening run.old (O.seen outside.old).device
         → AnswersAt (opening.world.state.run + 1) options.now pass (O.seen outside.old).device (R.stream rng.old)) }
     ensures results { IfOk result (λ pass. O.honest outside.new → HasResults pass (O.seen outside.new).device) }
-    ensures told { IfOk result (λ pass. O.honest outside.new → IsTried O.ours O.alone opening options.now (R.stream rng.old) run.old
-        (O.seen outside.old).device → IsTold O.ours O.alone opening pass (O.seen outside.new).device) }
-    ensures found { IfOk result (λ pass. O.honest outside.new → IsTried O.ours O.alone opening options.now (R.stream rng.old) run.old
+    ensures told { IfOk result (λ pass. O.honest outside.new → AttemptStart opening options.now (R.stream rng.old) run.old
+        (O.seen outside.old).device → Report opening pass (O.seen outside.new).device) }
+    ensures found { IfOk result (λ pass. O.honest outside.new → AttemptStart opening options.now (R.stream rng.old) run.old
         (O.seen outside.old).device → FindsAt O.ours (O.seen outside.old).device pass) }
     ensures greatest { run.old ≡ None → HasNoNext (O.honest outside.new) O.alone (O.seen outside.old).device (O.seen outside.new).device result }
     ensures unfixed { run.old ≡ None → OfFiles (O.honest outside.new) (O.seen outside.old).device (λ s p. s.run + 1 ≡ 2 ^ 64 → run.new ≡ None) }
@@ -107,11 +107,11 @@ fn attempt<O: Outside, R: Rng, P: Progress>(
         (or_keywords (TellsOtherMap (O.honest outside.new) O.alone options.now.keywords (O.seen outside.old).device
         (O.seen outside.new).device)
         (because (TellsChanged (O.honest outside.new) O.alone (O.seen outside.old).device (O.seen outside.new).device)
-        (HasRepeats O.alone opening (O.honest outside.new) (IsTried O.ours O.alone opening options.now (R.stream rng.old) run.old
+        (HasRepeats opening (O.honest outside.new) (AttemptStart opening options.now (R.stream rng.old) run.old
         (O.seen outside.old).device) options.now (R.stream rng.old))))))
-        (O.honest outside.new) (IsTried O.ours O.alone opening options.now (R.stream rng.old) run.old)
-        (IsTried O.ours O.alone opening options.now (R.stream rng.new) run.new)
-        made_in (λ _. IsOver O.ours O.alone opening) (O.seen outside.old) (O.seen outside.new) result }
+        (O.honest outside.new) (AttemptStart opening options.now (R.stream rng.old) run.old)
+        (AttemptStart opening options.now (R.stream rng.new) run.new)
+        made_in (λ _. IsOver opening) (O.seen outside.old) (O.seen outside.new) result }
 {
     let number = fix_run(outside, run)?;
     pass(alloc, outside, number, options, rng, progress)
@@ -129,10 +129,10 @@ fn again<O: Outside>(outside: &mut O, tried: u32)
     outside.reopen();
 }
 
-/// Carries out one run: the one behind the state, in up to `tries` attempts, each of them after one that met a stop.
+/// Carries out one run, the one after the state's, in up to `tries` attempts. An attempt that is interrupted is followed by the next one.
 ///
-/// `Stopped`: each attempt met a stop, as the first does where the outside had failed before. Another fault is answered at once.
-/// `BadState(2)`: the state's run is the greatest number. Whoever goes on after a fault calls `reopen` first, or loses an attempt.
+/// `Stopped`: each attempt was interrupted; the first counts as interrupted if the outside had failed before. Any other error ends the run
+/// at once. `BadState(2)`: the state has the greatest run number. After an error call `reopen` first, or lose an attempt.
 pub fn settle<O: Outside, R: Rng, P: Progress>(
     alloc: Global,
     outside: &mut O,
@@ -141,29 +141,27 @@ pub fn settle<O: Outside, R: Rng, P: Progress>(
     rng: &mut R,
     progress: &P,
 ) -> Result<Settled, RunFault>
-    ghost opening: { Opening }
+    ghost opening: { Opening O.ours O.alone }
     requires map { O.keywords outside.old ≡ options.now.keywords }
     ensures was_honest { O.honest outside.new → O.honest outside.old }
     ensures keywords { O.keywords outside.new ≡ O.keywords outside.old }
 
-    // From an opening: an answer leaves the run over, and tells what the last attempt answered, which began on a device that is known; a
-    // fault leaves the run underway.
-    ensures done { IfOk result (λ settled. FromOpening (O.honest outside.new) O.ours O.alone opening options.now (R.stream rng.old)
-        (O.seen outside.old).device
-        (IsSettled O.ours O.alone opening options.now (R.stream rng.old) settled (O.seen outside.old) (O.seen outside.new))) }
-    ensures left { IfErr result (λ fault. FromOpening (O.honest outside.new) O.ours O.alone opening options.now (R.stream rng.old)
-        (O.seen outside.old).device
-        (IsUnsettled O.ours O.alone opening tries (R.stream rng.old) fault (O.seen outside.old) (O.seen outside.new))) }
+    // If it succeeds, the run is over: both mailboxes and the state are what the rules prescribe for the world that it began with. The
+    // answer says what the last attempt did. If it fails, the run is still pending, and the next call resumes it.
+    ensures done { IfOk result (λ settled. FromOpening (O.honest outside.new) opening options.now (R.stream rng.old)
+        (O.seen outside.old).device (IsSettled opening options.now (R.stream rng.old) settled (O.seen outside.old) (O.seen outside.new))) }
+    ensures left { IfErr result (λ fault. FromOpening (O.honest outside.new) opening options.now (R.stream rng.old)
+        (O.seen outside.old).device (IsUnsettled opening tries (R.stream rng.old) fault (O.seen outside.old) (O.seen outside.new))) }
 
-    // A copy that the last attempt told as made or found stands beside its source in an entry of the state that the files then hold.
+    // Each copy that is reported stands with its source in an entry of the new state.
     ensures results { IfOk result (λ settled. O.honest outside.new → HasResults settled.last (O.seen outside.new).device) }
 
-    // A fault that is no stop has its reason, and behind the greatest run number there is no other.
-    ensures caused { IfErr result (λ fault. HasReason (O.honest outside.new) O.ours O.alone opening options.now (R.stream rng.old)
+    // Each error but `Stopped` has its cause. After the run with the greatest number there is no other.
+    ensures caused { IfErr result (λ fault. HasReason (O.honest outside.new) opening options.now (R.stream rng.old)
         (R.stream rng.new) fault (O.seen outside.old) (O.seen outside.new)) }
     ensures greatest { HasNoNext (O.honest outside.new) O.alone (O.seen outside.old).device (O.seen outside.new).device result }
 
-    // Each attempt but the last met one stop, and each of all where a stop is answered. The generator moves by whole pairs.
+    // Each attempt but the last was interrupted once; if the answer is `Stopped`, the last was too. Marks are drawn as pairs of words.
     ensures counts { CountsAttempts tries (O.seen outside.old) (O.seen outside.new) result }
     ensures stuck { tries ≤ 1 → IsStuck (O.seen outside.old) (O.seen outside.new) result }
     ensures moved { Moves (R.stream rng.old) (R.stream rng.new) }

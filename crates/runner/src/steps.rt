@@ -10,7 +10,7 @@ ghost use Rattle.outside.specs.Opened.{TakesLog, turned};
 ghost use Rattle.underway.specs.Conditions.{Underway};
 ghost use Rattle.underway.specs.Openings.{Opening};
 ghost use Rattle.runner.specs.Parts.{Never, RunPart, StepPart};
-ghost use Rattle.runner.specs.Going.{IsGoing, AtDone, AtReady, FitsNext, HasLogged, log_at, logged_of, logs_of, made, made_by, next_at, number_at, plan_at, steps_of};
+ghost use Rattle.runner.specs.Going.{IsGoing, AfterStep, BeforeStep, FitsNext, HasLogged, log_at, logged_of, logs_of, made, made_by, next_at, number_at, plan_at, steps_of};
 ghost use Rattle.runner.specs.Finding.{AreFoundSo, IsFoundSo, OfSame, copy_at, told_found};
 ghost use Rattle.outside.specs.Calls.{Writes};
 
@@ -33,7 +33,7 @@ fn perform<O: Outside>(
     step: &Step,
     is_taken_up: bool,
 ) -> Result<StepResult, RunFault>
-    ghost opening: { Opening }
+    ghost opening: { Opening O.ours O.alone }
     requires going { IsGoing (O.opened outside.old) }
     requires next { next_at (O.opened outside.old) ≡ Some step.now }
     requires whole { (O.seen outside.old).is_broken ≡ false }
@@ -42,12 +42,12 @@ fn perform<O: Outside>(
     ensures keywords { O.keywords outside.new ≡ O.keywords outside.old }
     ensures opened { O.opened outside.new ≡ O.opened outside.old }
     ensures fits { IfOk result (λ r. FitsStep step.now (logged_of r)) }
-    ensures found { IfOk result (λ r. O.honest outside.new → AtReady O.ours O.alone opening (O.opened outside.old) is_taken_up
+    ensures found { IfOk result (λ r. O.honest outside.new → BeforeStep opening (O.opened outside.old) is_taken_up
         (O.seen outside.old).device → OfSame O.ours (O.seen outside.old).device (λ d. told_found r ≡ copy_at
         (plan_at (O.opened outside.old)) step.now d)) }
     ensures part { StepPart number (O.opened outside.old) (O.honest outside.new)
-        (AtReady O.ours O.alone opening (O.opened outside.old) is_taken_up) (Underway O.ours O.alone opening) made_by
-        (λ r. AtDone O.ours O.alone opening (O.opened outside.old) (logged_of r)) (O.seen outside.old) (O.seen outside.new) result }
+        (BeforeStep opening (O.opened outside.old) is_taken_up) (Underway opening) made_by
+        (λ r. AfterStep opening (O.opened outside.old) (logged_of r)) (O.seen outside.old) (O.seen outside.new) result }
 {
     match *step {
         Step::New {
@@ -111,7 +111,7 @@ fn write<O: Outside>(outside: &mut O, number: usize, logged: Logged) -> Result<(
 
 /// Logs what became of the next step.
 fn log<O: Outside>(outside: &mut O, number: usize, became: &StepResult) -> Result<(), RunFault>
-    ghost opening: { Opening }
+    ghost opening: { Opening O.ours O.alone }
     requires going { IsGoing (O.opened outside.old) }
     requires number { number ≡ number_at (O.opened outside.old) }
     requires fits { FitsNext (next_at (O.opened outside.old)) (logged_of became.now) }
@@ -119,8 +119,8 @@ fn log<O: Outside>(outside: &mut O, number: usize, became: &StepResult) -> Resul
     ensures keywords { O.keywords outside.new ≡ O.keywords outside.old }
     ensures opened { OnOk result (HasLogged (O.opened outside.old) (O.opened outside.new) (logged_of became.now ∷ [])) }
     ensures part { StepPart number (O.opened outside.old) (O.honest outside.new)
-        (AtDone O.ours O.alone opening (O.opened outside.old) (logged_of became.now)) (Underway O.ours O.alone opening) (λ _. 0)
-        (λ _. AtReady O.ours O.alone opening (O.opened outside.new) false) (O.seen outside.old) (O.seen outside.new) result }
+        (AfterStep opening (O.opened outside.old) (logged_of became.now)) (Underway opening) (λ _. 0)
+        (λ _. BeforeStep opening (O.opened outside.new) false) (O.seen outside.old) (O.seen outside.new) result }
 {
     match write(outside, number, logged_as(became)) {
         Ok(()) => Ok(()),
@@ -135,7 +135,7 @@ fn advance<O: Outside>(
     step: Step,
     is_taken_up: bool,
 ) -> Result<Performed, RunFault>
-    ghost opening: { Opening }
+    ghost opening: { Opening O.ours O.alone }
     requires going { IsGoing (O.opened outside.old) }
     requires number { number ≡ number_at (O.opened outside.old) }
     requires next { next_at (O.opened outside.old) ≡ Some step }
@@ -146,11 +146,11 @@ fn advance<O: Outside>(
     ensures opened { IfOk result (λ p. HasLogged (O.opened outside.old) (O.opened outside.new) (logged_of p.result ∷ [])) }
     ensures step { IfOk result (λ p. p.step ≡ step) }
     ensures fits { IfOk result (λ p. FitsStep p.step (logged_of p.result)) }
-    ensures found { IfOk result (λ p. O.honest outside.new → AtReady O.ours O.alone opening (O.opened outside.old) is_taken_up
+    ensures found { IfOk result (λ p. O.honest outside.new → BeforeStep opening (O.opened outside.old) is_taken_up
         (O.seen outside.old).device → OfSame O.ours (O.seen outside.old).device (λ d. IsFoundSo (plan_at (O.opened outside.old)) d p)) }
     ensures part { StepPart number (O.opened outside.old) (O.honest outside.new)
-        (AtReady O.ours O.alone opening (O.opened outside.old) is_taken_up) (Underway O.ours O.alone opening) (λ p. made_by p.result)
-        (λ _. AtReady O.ours O.alone opening (O.opened outside.new) false) (O.seen outside.old) (O.seen outside.new) result }
+        (BeforeStep opening (O.opened outside.old) is_taken_up) (Underway opening) (λ p. made_by p.result)
+        (λ _. BeforeStep opening (O.opened outside.new) false) (O.seen outside.old) (O.seen outside.new) result }
 {
     let result = perform(outside, number, &step, is_taken_up)?;
     log(outside, number, &result)?;
@@ -165,7 +165,7 @@ pub(crate) fn carry_out<O: Outside, P: Progress>(
     is_taken_up: bool,
     progress: &P,
 ) -> Result<Vec<Performed>, RunFault>
-    ghost opening: { Opening }
+    ghost opening: { Opening O.ours O.alone }
     requires going { IsGoing (O.opened outside.old) }
     requires whole { (O.seen outside.old).is_broken ≡ false }
     requires map { opening.options.keywords ≡ O.keywords outside.old }
@@ -176,12 +176,12 @@ pub(crate) fn carry_out<O: Outside, P: Progress>(
     ensures steps { IfOk result (λ performed. steps_of performed.items ≡ drop (length (log_at (O.opened outside.old)))
         (plan_at (O.opened outside.old)).steps) }
     ensures fits { IfOk result (λ performed. All (λ p. FitsStep p.step (logged_of p.result)) performed.items) }
-    ensures found { IfOk result (λ performed. O.honest outside.new → AtReady O.ours O.alone opening (O.opened outside.old) is_taken_up
+    ensures found { IfOk result (λ performed. O.honest outside.new → BeforeStep opening (O.opened outside.old) is_taken_up
         (O.seen outside.old).device → OfSame O.ours (O.seen outside.old).device (λ d. AreFoundSo (plan_at (O.opened outside.old)) d
         performed.items)) }
-    ensures part { RunPart Never (O.honest outside.new) (AtReady O.ours O.alone opening (O.opened outside.old) is_taken_up)
-        (Underway O.ours O.alone opening) (λ performed. made performed.items)
-        (λ _. AtReady O.ours O.alone opening (O.opened outside.new) is_taken_up) (O.seen outside.old) (O.seen outside.new) result }
+    ensures part { RunPart Never (O.honest outside.new) (BeforeStep opening (O.opened outside.old) is_taken_up)
+        (Underway opening) (λ performed. made performed.items)
+        (λ _. BeforeStep opening (O.opened outside.new) is_taken_up) (O.seen outside.old) (O.seen outside.new) result }
 {
     let mut performed = Vec::new(alloc);
     tell_logged(outside, progress);

@@ -25,7 +25,8 @@ use Rattle.rules.specs.World.{World, IsInOrder, store, scene_of}
 use Rattle.rules.proofs.Walks.{All-from_contains, AllPairs-head, AllPairs-tail, Contains-cases, Contains-filter, Contains-map, Contains-none, filter_contains, map_contains}
 use Rattle.rules.proofs.LookUps.{flags_at_item, listed_item}
 use Rattle.rules.proofs.WorldLemmas.{listed, rising, store_is, stored}
-use Rattle.planner.specs.Written.{all_new, all_notes, all_steps, of_note, of_step, gone_steps, flags_steps, expunge_steps}
+use Rattle.planner.specs.Listed.{of_note, of_step}
+use Rattle.planner.specs.Written.{all_new, all_notes, all_steps, gone_steps, flags_steps, expunge_steps}
 use Rattle.planner.proofs.Behind.{new_steps_all}
 use Rattle.planner.proofs.Ordered.{ordered_steps}
 use Rattle.planner.proofs.Sound.{sound}

@@ -20,7 +20,7 @@ use Rattle.rules.specs.declared.plan.Step.{Step}
 use Rattle.rules.specs.declared.plan.Step.TheVariants.{New, Gone, Flags, Expunge}
 use Rattle.rules.specs.World.{World, store}
 use Rattle.rules.specs.Copies.{line_end, copy_of}
-use Rattle.planner.specs.Written.{marks_of, mark_of as mark_of_step}
+use Rattle.planner.specs.Listed.{marks_of, mark_of as mark_of_step}
 use Rattle.rules.proofs.Walks.{AllPairs-head, AllPairs-tail, AllPairs-nil, All-from_contains, list_any_from, Contains-filter_map}
 use Rattle.step_laws.specs.Steps.{Boxes, box, bytes_at, step_after, after, own_in}
 use Rattle.step_laws.specs.OwnLaws.{is_the, bears, is_own, marked_uid}

@@ -22,7 +22,8 @@ use Rattle.rules.specs.Called.{called, is_new}
 use Rattle.rules.specs.World.{World, IsInOrder, store, scene_of}
 use Rattle.rules.specs.Copies.{copy_of}
 use Rattle.rules.specs.AlikeBy.{AreMarks}
-use Rattle.planner.specs.Written.{all_steps, all_notes, marks_of, of_step, of_note, mark_of as mark_of_step}
+use Rattle.planner.specs.Listed.{marks_of, of_step, of_note, mark_of as mark_of_step}
+use Rattle.planner.specs.Written.{all_steps, all_notes}
 use Rattle.planner.proofs.Carried.{given}
 use Rattle.planner.proofs.Sound.{sound}
 use Rattle.rules.proofs.Walks.{Contains-map, Contains-filter_map, All-from_contains, list_any_from, list_any_some}

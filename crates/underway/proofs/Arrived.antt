@@ -88,13 +88,13 @@ alike_filed ours alone w options marks d d' s far near named k =
 
 -- ---- all of them
 
-pub pending_arrives : (ours : List ℕ → Bool) (alone : Bool) (opening : Opening) (d m : Device) → Arrives ours alone d m → IsPending ours alone opening d → IsPending ours alone opening m
-pending_arrives ours alone opening d m a = since_map alone opening _ _ (λ w g p. planned_arrives ours alone w opening.options d m a p)
+pub pending_arrives : {ours : List ℕ → Bool} {alone : Bool} (opening : Opening ours alone) (d m : Device) → Arrives ours alone d m → IsPending opening d → IsPending opening m
+pending_arrives {ours} {alone} opening d m a = since_map opening _ _ (λ w g p. planned_arrives ours alone w opening.options d m a p)
 
-pub over_arrives : (ours : List ℕ → Bool) (alone : Bool) (opening : Opening) (d m : Device) → Arrives ours alone d m → IsOver ours alone opening d → IsOver ours alone opening m
-over_arrives ours alone opening d m a = since_map alone opening _ _ (λ w g p. done_arrives ours alone w opening.options d m a p)
+pub over_arrives : {ours : List ℕ → Bool} {alone : Bool} (opening : Opening ours alone) (d m : Device) → Arrives ours alone d m → IsOver opening d → IsOver opening m
+over_arrives {ours} {alone} opening d m a = since_map opening _ _ (λ w g p. done_arrives ours alone w opening.options d m a p)
 
-pub underway_arrives : (ours : List ℕ → Bool) (alone : Bool) (opening : Opening) (d m : Device) → Arrives ours alone d m → Underway ours alone opening d → Underway ours alone opening m
-underway_arrives ours alone opening d m a (inl u) = inl (unplanned_arrives ours alone opening d m a u)
-underway_arrives ours alone opening d m a (inr (inl p)) = inr (inl (pending_arrives ours alone opening d m a p))
-underway_arrives ours alone opening d m a (inr (inr e)) = inr (inr (over_arrives ours alone opening d m a e))
+pub underway_arrives : {ours : List ℕ → Bool} {alone : Bool} (opening : Opening ours alone) (d m : Device) → Arrives ours alone d m → Underway opening d → Underway opening m
+underway_arrives {ours} {alone} opening d m a (inl u) = inl (unplanned_arrives opening d m a u)
+underway_arrives {ours} {alone} opening d m a (inr (inl p)) = inr (inl (pending_arrives opening d m a p))
+underway_arrives {ours} {alone} opening d m a (inr (inr e)) = inr (inr (over_arrives opening d m a e))

@@ -12,7 +12,8 @@ use Rattle.rules.specs.AlikeBy.{AlikeBy}
 use Rattle.rules.specs.Opening.{IsOpening}
 use Rattle.rules.specs.World.{World, IsInOrder, Store, store, scene_of}
 use Rattle.rules.specs.WorldAfter.{messages_under}
-use Rattle.planner.specs.Written.{all_steps, marks_of}
+use Rattle.planner.specs.Listed.{marks_of}
+use Rattle.planner.specs.Written.{all_steps}
 use Rattle.planner.proofs.Theorem.{in_turn}
 use Rattle.sync_state.specs.declared.version.Version.{Version}
 use Rattle.sync_state.specs.declared.journal.Logged.{Logged}
@@ -156,8 +157,8 @@ admitted_is w now g none =
           ∙ ap (λ (s : SyncState). record { far = w.far; near = record { validity = w.near.validity; next = now.near.next; messages = w.near.messages ++ numbered_under g.uids w.waiting }; waiting = []; state = s }) g.state,
     )
 
-pub done_is_done : (ours : List ℕ → Bool) (opening : Opening) (d : Device) → IsOpening opening.world → Since true opening (λ w. DoneAt ours true w opening.options d) → IsDone opening.world opening.options d
-done_is_done ours opening d sound s =
+pub done_is_done : {ours : List ℕ → Bool} (opening : Opening ours true) (d : Device) → IsOpening opening.world → Since opening (λ w. DoneAt ours true w opening.options d) → IsDone opening.world opening.options d
+done_is_done opening d sound s =
     let done = s.holds in
     let k = done.alike in
     let a = admitted_is opening.world s.world s.grows (s.admitted refl) in

@@ -66,20 +66,20 @@ module _ (ours : List ℕ → Bool) where
   pub named_same : (alone : Bool) (d m : Device) → Arrives ours alone d m → m.named ≡ d.named
   named_same alone d m a = ap (λ (x : Device). x.named) a.now
 
-  pub unplanned_arrives : (alone : Bool) (opening : Opening) (d m : Device) → Arrives ours alone d m → Unplanned alone opening d → Unplanned alone opening m
-  unplanned_arrives alone opening d m a u = record {
-    pending = u.pending;
-    idle = u.idle;
-    files = rw (files_same alone d m a) u.files;
-    chosen = u.chosen;
-    below = u.below;
-    grows = grows_arrives alone opening.world opening.world.state d m u.grows a;
-    spares = rw (named_same alone d m a) u.spares;
-  }
+pub unplanned_arrives : {ours : List ℕ → Bool} {alone : Bool} (opening : Opening ours alone) (d m : Device) → Arrives ours alone d m → Unplanned opening d → Unplanned opening m
+unplanned_arrives {ours} {alone} opening d m a u = record {
+  pending = u.pending;
+  idle = u.idle;
+  files = rw (files_same ours alone d m a) u.files;
+  chosen = u.chosen;
+  below = u.below;
+  grows = grows_arrives ours alone opening.world opening.world.state d m u.grows a;
+  spares = rw (named_same ours alone d m a) u.spares;
+}
 
 -- another journal, and both mailboxes as they were
-pub unplanned_filed : (alone : Bool) (opening : Opening) (pending : Pending) (d d' : Device) → IsIdle pending → d'.far ≡ d.far → d'.near ≡ d.near → d'.named ≡ d.named → Holds d'.files opening.world.state pending → Unplanned alone opening d → Unplanned alone opening d'
-unplanned_filed alone opening pending d d' idle far near named holds u = record {
+pub unplanned_filed : {ours : List ℕ → Bool} {alone : Bool} (opening : Opening ours alone) (pending : Pending) (d d' : Device) → IsIdle pending → d'.far ≡ d.far → d'.near ≡ d.near → d'.named ≡ d.named → Holds d'.files opening.world.state pending → Unplanned opening d → Unplanned opening d'
+unplanned_filed opening pending d d' idle far near named holds u = record {
   pending = pending;
   idle = idle;
   files = holds;
@@ -90,5 +90,5 @@ unplanned_filed alone opening pending d d' idle far near named holds u = record 
 }
 
 -- what is so of some world since the opening is so with all that is known of the world
-pub since_map : (alone : Bool) (opening : Opening) (P Q : World → Type 0) → ((w : World) → Grows alone opening.world w → P w → Q w) → Since alone opening P → Since alone opening Q
-since_map alone opening P Q f s = record { world = s.world; grows = s.grows; admitted = s.admitted; below = s.below; within = s.within; holds = f s.world s.grows s.holds }
+pub since_map : {ours : List ℕ → Bool} {alone : Bool} (opening : Opening ours alone) (P Q : World → Type 0) → ((w : World) → Grows alone opening.world w → P w → Q w) → Since opening P → Since opening Q
+since_map opening P Q f s = record { world = s.world; grows = s.grows; admitted = s.admitted; below = s.below; within = s.within; holds = f s.world s.grows s.holds }

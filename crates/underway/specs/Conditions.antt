@@ -5,11 +5,11 @@ use Rattle.underway.specs.Openings.{Opening, Since, Unplanned}
 use Rattle.underway.specs.Moments.{PlannedAt}
 use Rattle.underway.specs.Endings.{DoneAt}
 
-abbrev pub IsPending : (List ℕ → Bool) → Bool → Opening → Device → Type 0
-IsPending ours alone opening d = Since alone opening (λ w. PlannedAt ours alone w opening.options d)
+abbrev pub IsPending : {ours : List ℕ → Bool} {alone : Bool} → Opening ours alone → Device → Type 0
+IsPending {ours} {alone} opening d = Since opening (λ w. PlannedAt ours alone w opening.options d)
 
-abbrev pub IsOver : (List ℕ → Bool) → Bool → Opening → Device → Type 0
-IsOver ours alone opening d = Since alone opening (λ w. DoneAt ours alone w opening.options d)
+abbrev pub IsOver : {ours : List ℕ → Bool} {alone : Bool} → Opening ours alone → Device → Type 0
+IsOver {ours} {alone} opening d = Since opening (λ w. DoneAt ours alone w opening.options d)
 
-abbrev pub Underway : (List ℕ → Bool) → Bool → Opening → Device → Type 0
-Underway ours alone opening d = Unplanned alone opening d ⊎ (IsPending ours alone opening d ⊎ IsOver ours alone opening d)
+abbrev pub Underway : {ours : List ℕ → Bool} {alone : Bool} → Opening ours alone → Device → Type 0
+Underway {ours} {alone} opening d = Unplanned opening d ⊎ (IsPending opening d ⊎ IsOver opening d)

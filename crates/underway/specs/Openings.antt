@@ -14,8 +14,9 @@ use Rattle.book.specs.Books.{Holds}
 use Rattle.step_laws.specs.Keywords.{IsWithinWorld}
 use Rattle.outside.specs.Devices.{Device}
 
--- the world that a run is made on, the options of its plan, and those of the call
-pub record Opening : Type 0 where
+-- The setting of a run: which marks nobody else writes (`ours`), whether nobody else adds messages (`alone`), the world that the run is made on,
+-- the options of its plan, and those of the call.
+pub record Opening (ours : List ℕ → Bool) (alone : Bool) : Type 0 where
   pub world : World
   pub options : Options
   pub called : Options
@@ -53,7 +54,7 @@ IsIdle Useless = Unit {0}
 IsIdle (Planned written) = ⊥
 
 -- The state is the opening's, and there is no plan. The options of the plan will be those of the call.
-pub record Unplanned (alone : Bool) (opening : Opening) (d : Device) : Type 0 where
+pub record Unplanned {ours : List ℕ → Bool} {alone : Bool} (opening : Opening ours alone) (d : Device) : Type 0 where
   pub pending : Pending
   pub idle : IsIdle pending
   pub files : Holds d.files opening.world.state pending
@@ -64,7 +65,7 @@ pub record Unplanned (alone : Bool) (opening : Opening) (d : Device) : Type 0 wh
 
 -- So much is so of some world since the opening, that of both listings on which the plan was made: each flag that is listed has a name.
 -- Where nobody adds any files, all have their UIDs by then.
-pub record Since (alone : Bool) (opening : Opening) (P : World → Type 0) : Type 0 where
+pub record Since {ours : List ℕ → Bool} {alone : Bool} (opening : Opening ours alone) (P : World → Type 0) : Type 0 where
   pub world : World
   pub grows : Grows alone opening.world world
   pub admitted : alone ≡ true → world.waiting ≡ []

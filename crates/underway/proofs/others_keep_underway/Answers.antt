@@ -3,4 +3,4 @@ use Rattle.underway.proofs.Growth.{unplanned_arrives}
 use Rattle.underway.proofs.others_keep_underway.Goals as goal
 
 pub returns : goal.returns
-returns c = record { all = underway_arrives; unplanned = unplanned_arrives; pending = pending_arrives }
+returns c = record { all = λ ours alone. underway_arrives; unplanned = λ ours alone. unplanned_arrives; pending = λ ours alone. pending_arrives }

@@ -25,7 +25,7 @@ returns-clause-over g c = λ none start named begins.
 pub returns-clause-left : goal.returns-clause-left
 returns-clause-left g c = λ none start named begins.
     let same = parts_seen c.args.setting.options.keywords _ c.args.setting.far.server.server (stored_in c.args.setting.near.folder.folder) (files_of c.args.setting.near.shelf) _ (ap (λ (l : MemLink). (line_of l).end.server) c.new-link.ensures.link ∙ c.new.ensures.server) c.in_ok-outside.ensures.seen in
-    subst (λ (s : Seen). IfErr c.settle_all.result.1 (λ fault. LeavesRun (Underway anybody.ours anybody.alone (opening_of start c.args.setting.options)) fault s (seen_of c.settle_all.result.0))) same
+    subst (λ (s : Seen). IfErr c.settle_all.result.1 (λ fault. LeavesRun (Underway (opening_of anybody.ours anybody.alone start c.args.setting.options)) fault s (seen_of c.settle_all.result.0))) same
     (left_among g.row.MARKS none start c.args.setting.options (seen_of c.in_ok-outside.outside) (seen_of c.settle_all.result.0) c.settle_all.result.1
     (c.settle_all.ensures.left start named (tt, refl, refl) (are_ours g.row.MARKS none) (subst (λ (s : Seen). Begins start s.device) (sym same) begins)))
 

@@ -20,7 +20,7 @@ returns-clause-done c = λ start named begins.
 pub returns-clause-left : goal.returns-clause-left
 returns-clause-left c = λ start named begins.
     let same = setting_seen c.args.setting _ _ c.new-link.ensures.server c.in_ok-outside.ensures.seen in
-    subst (λ (s : Seen). IfErr c.settle_all.result.1 (λ fault. LeavesRun (Underway nobody.ours nobody.alone (opening_of start c.args.setting.options)) fault s (seen_of c.settle_all.result.0))) same
+    subst (λ (s : Seen). IfErr c.settle_all.result.1 (λ fault. LeavesRun (Underway (opening_of nobody.ours nobody.alone start c.args.setting.options)) fault s (seen_of c.settle_all.result.0))) same
     (c.settle_all.ensures.left start named (tt, refl, refl) (λ mark. refl) (subst (λ (s : Seen). Begins start s.device) (sym same) begins))
 
 pub returns-clause-greatest : goal.returns-clause-greatest

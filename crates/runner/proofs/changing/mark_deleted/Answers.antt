@@ -24,7 +24,7 @@ returns-in-Ok-clause-part g c =
     let near = c.args.near in
     let s1 = g.O.Outside.seen c.add_flags.new.self in
     passed_call _ _ _ _ _ _ _ _ _ _ _ c.in-Ok.ensures.call
-    (λ m at a own. whole_made ours alone g.opening opened (step.Gone d far near) c.requires.1.1 refl _ m s1.device a at (marked d far near (kept (g.O.Outside.keywords c.args.outside.now) c.only.result) m s1.device (deleted_whole _ c.only.result c.only.ensures) (rw (c.target-side.ensures, c.changed_uid-uid.ensures) at own)))
+    (λ m at a own. whole_made g.opening opened (step.Gone d far near) c.requires.1.1 refl _ m s1.device a at (marked d far near (kept (g.O.Outside.keywords c.args.outside.now) c.only.result) m s1.device (deleted_whole _ c.only.result c.only.ensures) (rw (c.target-side.ensures, c.changed_uid-uid.ensures) at own)))
 
 pub returns-in-Err-clause-part : goal.returns-in-Err-clause-part
 returns-in-Err-clause-part g c =
@@ -36,11 +36,11 @@ returns-in-Err-clause-part g c =
     let near = c.args.near in
     let s1 = g.O.Outside.seen c.add_flags.new.self in
     rw c.step_fault.ensures (left_step _ _ _ _ _ _ _ _ _ _ c.args.number opened _ c.in-Err.ensures.call (line_of_box _)
-    (λ m at a own. rw own (ready_held ours alone g.opening opened true m (ready_arrives ours alone g.opening opened true _ m a at)))
+    (λ m at a own. rw own (ready_held g.opening opened true m (ready_arrives g.opening opened true _ m a at)))
     (λ m at a own told. (
       from_box c.in-Err.fault told,
-      left_by (Underway ours alone g.opening) _ _ c.in-Err.fault m s1.device own
-          (ready_underway ours alone g.opening opened true m (ready_arrives ours alone g.opening opened true _ m a at))
-          (λ part. ready_underway ours alone g.opening opened true s1.device (ready_named ours alone g.opening opened (step.Gone d far near) (target d) (changed_uid d far near) c.requires.1.1 refl _ m s1.device a at (rw (c.target-side.ensures, c.changed_uid-uid.ensures) at part)))
-          (λ x does. done_underway ours alone g.opening opened Done s1.device (whole_made ours alone g.opening opened (step.Gone d far near) c.requires.1.1 refl _ m s1.device a at (marked d far near (kept (g.O.Outside.keywords c.args.outside.now) c.only.result) m s1.device (deleted_whole _ c.only.result c.only.ensures) (rw (c.target-side.ensures, c.changed_uid-uid.ensures) at does)))),
+      left_by (Underway g.opening) _ _ c.in-Err.fault m s1.device own
+          (ready_underway g.opening opened true m (ready_arrives g.opening opened true _ m a at))
+          (λ part. ready_underway g.opening opened true s1.device (ready_named g.opening opened (step.Gone d far near) (target d) (changed_uid d far near) c.requires.1.1 refl _ m s1.device a at (rw (c.target-side.ensures, c.changed_uid-uid.ensures) at part)))
+          (λ x does. done_underway g.opening opened Done s1.device (whole_made g.opening opened (step.Gone d far near) c.requires.1.1 refl _ m s1.device a at (marked d far near (kept (g.O.Outside.keywords c.args.outside.now) c.only.result) m s1.device (deleted_whole _ c.only.result c.only.ensures) (rw (c.target-side.ensures, c.changed_uid-uid.ensures) at does)))),
     )))

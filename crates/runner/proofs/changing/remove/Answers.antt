@@ -18,7 +18,7 @@ returns-in-Ok-clause-part g c =
     let uid = c.args.uid in
     let s1 = g.O.Outside.seen c.expunge.new.self in
     passed_call _ _ _ _ _ _ _ _ _ _ _ c.in-Ok.ensures.call
-    (λ m at a own. expunge_made ours alone g.opening opened side uid c.requires.1.1 _ m s1.device a at own)
+    (λ m at a own. expunge_made g.opening opened side uid c.requires.1.1 _ m s1.device a at own)
 
 pub returns-in-Err-clause-part : goal.returns-in-Err-clause-part
 returns-in-Err-clause-part g c =
@@ -29,11 +29,11 @@ returns-in-Err-clause-part g c =
     let uid = c.args.uid in
     let s1 = g.O.Outside.seen c.expunge.new.self in
     rw c.step_fault.ensures (left_step _ _ _ _ _ _ _ _ _ _ c.args.number opened _ c.in-Err.ensures.call (line_of_box _)
-    (λ m at a own. rw own (ready_held ours alone g.opening opened true m (ready_arrives ours alone g.opening opened true _ m a at)))
+    (λ m at a own. rw own (ready_held g.opening opened true m (ready_arrives g.opening opened true _ m a at)))
     (λ m at a own told. (
       from_box c.in-Err.fault told,
-      left_by (Underway ours alone g.opening) _ _ c.in-Err.fault m s1.device own
-          (ready_underway ours alone g.opening opened true m (ready_arrives ours alone g.opening opened true _ m a at))
-          (λ part. ready_underway ours alone g.opening opened true s1.device (ready_named ours alone g.opening opened (step.Expunge side uid) side uid c.requires.1.1 refl _ m s1.device a at part))
-          (λ x does. done_underway ours alone g.opening opened Done s1.device (expunge_made ours alone g.opening opened side uid c.requires.1.1 _ m s1.device a at does)),
+      left_by (Underway g.opening) _ _ c.in-Err.fault m s1.device own
+          (ready_underway g.opening opened true m (ready_arrives g.opening opened true _ m a at))
+          (λ part. ready_underway g.opening opened true s1.device (ready_named g.opening opened (step.Expunge side uid) side uid c.requires.1.1 refl _ m s1.device a at part))
+          (λ x does. done_underway g.opening opened Done s1.device (expunge_made g.opening opened side uid c.requires.1.1 _ m s1.device a at does)),
     )))

@@ -5,7 +5,7 @@ use Rattle.mailcore.specs.Sides.{target}
 use Rattle.rules.specs.declared.plan.Step.TheVariants as step
 use Rattle.step_laws.specs.Steps.{changed_uid}
 use Rattle.underway.specs.Conditions.{Underway}
-use Rattle.runner.specs.Going.{AtBegun, sets_first}
+use Rattle.runner.specs.Going.{DuringStep, sets_first}
 use Rattle.runner.proofs.PartCalls.{from_box, left_step, line_of_box, passed_call, passed_none}
 use Rattle.runner.proofs.Stages.{begun_underway, left_by, ready_arrives, ready_held, ready_named, ready_underway, set_called, set_none}
 use Rattle.runner.proofs.Within.{set_whole}
@@ -22,7 +22,7 @@ returns-in-Ok-clause-part g c =
     let f = c.args.flags.now in
     let s1 = g.O.Outside.seen c.add_flags.new.self in
     passed_call _ _ _ _ _ _ _ _ _ _ _ c.in-Ok.ensures.call
-    (λ m at a own. let w = set_whole ours alone g.opening opened _ c.requires.1.1.1.1 f.direction f.far f.near f.set f.cleared c.requires.1.1.0 _ at in set_called ours alone g.opening opened f.direction f.far f.near f.set f.cleared c.requires.1.1.0 (sets_first f.set f.cleared) _ m s1.device a at (rw (c.target-side.ensures, c.changed_uid-uid.ensures, w) at own))
+    (λ m at a own. let w = set_whole g.opening opened _ c.requires.1.1.1.1 f.direction f.far f.near f.set f.cleared c.requires.1.1.0 _ at in set_called g.opening opened f.direction f.far f.near f.set f.cleared c.requires.1.1.0 (sets_first f.set f.cleared) _ m s1.device a at (rw (c.target-side.ensures, c.changed_uid-uid.ensures, w) at own))
 
 pub returns-in-Err-clause-part : goal.returns-in-Err-clause-part
 returns-in-Err-clause-part g c =
@@ -32,13 +32,13 @@ returns-in-Err-clause-part g c =
     let f = c.args.flags.now in
     let s1 = g.O.Outside.seen c.add_flags.new.self in
     rw c.step_fault.ensures (left_step _ _ _ _ _ _ _ _ _ _ c.args.number opened _ c.in-Err.ensures.call (line_of_box _)
-    (λ m at a own. rw own (ready_held ours alone g.opening opened true m (ready_arrives ours alone g.opening opened true _ m a at)))
-    (λ m at a own told. let w = set_whole ours alone g.opening opened _ c.requires.1.1.1.1 f.direction f.far f.near f.set f.cleared c.requires.1.1.0 _ at in (
+    (λ m at a own. rw own (ready_held g.opening opened true m (ready_arrives g.opening opened true _ m a at)))
+    (λ m at a own told. let w = set_whole g.opening opened _ c.requires.1.1.1.1 f.direction f.far f.near f.set f.cleared c.requires.1.1.0 _ at in (
       from_box c.in-Err.fault told,
-      left_by (Underway ours alone g.opening) _ _ c.in-Err.fault m s1.device own
-          (ready_underway ours alone g.opening opened true m (ready_arrives ours alone g.opening opened true _ m a at))
-          (λ part. ready_underway ours alone g.opening opened true s1.device (ready_named ours alone g.opening opened (step.Flags f.direction f.far f.near f.set f.cleared) (target f.direction) (changed_uid f.direction f.far f.near) c.requires.1.1.0 refl _ m s1.device a at (rw (c.target-side.ensures, c.changed_uid-uid.ensures) at part)))
-          (λ x does. begun_underway ours alone g.opening opened true s1.device (set_called ours alone g.opening opened f.direction f.far f.near f.set f.cleared c.requires.1.1.0 true _ m s1.device a at (rw (c.target-side.ensures, c.changed_uid-uid.ensures, w) at does))),
+      left_by (Underway g.opening) _ _ c.in-Err.fault m s1.device own
+          (ready_underway g.opening opened true m (ready_arrives g.opening opened true _ m a at))
+          (λ part. ready_underway g.opening opened true s1.device (ready_named g.opening opened (step.Flags f.direction f.far f.near f.set f.cleared) (target f.direction) (changed_uid f.direction f.far f.near) c.requires.1.1.0 refl _ m s1.device a at (rw (c.target-side.ensures, c.changed_uid-uid.ensures) at part)))
+          (λ x does. begun_underway g.opening opened true s1.device (set_called g.opening opened f.direction f.far f.near f.set f.cleared c.requires.1.1.0 true _ m s1.device a at (rw (c.target-side.ensures, c.changed_uid-uid.ensures, w) at does))),
     )))
 
 pub returns-then-not-sets_first-clause-part : goal.returns-then-not-sets_first-clause-part
@@ -49,7 +49,7 @@ returns-then-not-sets_first-clause-part g c =
     let f = c.args.flags.now in
     let s0 = g.O.Outside.seen c.args.outside.now in
     let down : c.sets_first.result ≡ false = grind (arith, common_steps) in
-    passed_none _ _ _ _ c.requires.1.1.1.0 (λ at. subst (λ (b : Bool). AtBegun ours alone g.opening opened b s0.device) (sym down ∙ c.sets_first.ensures) (set_none ours alone g.opening opened f.direction f.far f.near f.set f.cleared c.requires.1.1.0 _ at))
+    passed_none _ _ _ _ c.requires.1.1.1.0 (λ at. subst (λ (b : Bool). DuringStep g.opening opened b s0.device) (sym down ∙ c.sets_first.ensures) (set_none g.opening opened f.direction f.far f.near f.set f.cleared c.requires.1.1.0 _ at))
 
 pub returns-in-Ok-clause-idle : goal.returns-in-Ok-clause-idle
 returns-in-Ok-clause-idle g c = λ e.

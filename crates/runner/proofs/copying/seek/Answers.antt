@@ -10,7 +10,7 @@ returns-in-Ok-clause-part g c =
     let alone = g.O.Outside.alone in
     let opened = g.O.Outside.opened c.args.outside.now in
     passed_call _ _ _ _ _ _ _ _ _ _ _ c.in-Ok.ensures.call
-    (λ m at a own. rw own.0 (sought_told ours alone g.opening opened c.args.direction c.args.mark c.requires.1.1 _ m a at c.in-Ok.found (rw (c.first_uid-from.ensures, c.target-side.ensures) at own.1)))
+    (λ m at a own. rw own.0 (sought_told g.opening opened c.args.direction c.args.mark c.requires.1.1 _ m a at c.in-Ok.found (rw (c.first_uid-from.ensures, c.target-side.ensures) at own.1)))
 
 pub returns-in-Err-clause-part : goal.returns-in-Err-clause-part
 returns-in-Err-clause-part g c =
@@ -18,8 +18,8 @@ returns-in-Err-clause-part g c =
     let alone = g.O.Outside.alone in
     let opened = g.O.Outside.opened c.args.outside.now in
     rw c.step_fault.ensures (left_step _ _ _ _ _ _ _ _ _ _ c.args.number opened _ c.in-Err.ensures.call (line_of_box _)
-    (λ m at a own. rw own (ready_held ours alone g.opening opened true m (ready_arrives ours alone g.opening opened true _ m a at)))
-    (λ m at a own told. (from_box c.in-Err.fault told, rw own (ready_underway ours alone g.opening opened true m (ready_arrives ours alone g.opening opened true _ m a at)))))
+    (λ m at a own. rw own (ready_held g.opening opened true m (ready_arrives g.opening opened true _ m a at)))
+    (λ m at a own told. (from_box c.in-Err.fault told, rw own (ready_underway g.opening opened true m (ready_arrives g.opening opened true _ m a at)))))
 
 pub find_mark-requires : goal.find_mark-requires
 find_mark-requires g c = record { is_open = c.requires.1.0.boxes c.target-side.result }
@@ -29,4 +29,4 @@ returns-in-Ok-clause-found g c = λ honest k.
     let w = c.in-Ok.ensures.call in
     let acts = w.acts in
     let e = acts.effect honest in
-    seek_told g.O.Outside.ours g.O.Outside.alone g.opening (g.O.Outside.opened c.args.outside.now) c.args.direction c.args.mark c.requires.1.1 _ e.mid e.before k c.in-Ok.found (rw (c.first_uid-from.ensures, c.target-side.ensures) at (e.behind).1)
+    seek_told g.opening (g.O.Outside.opened c.args.outside.now) c.args.direction c.args.mark c.requires.1.1 _ e.mid e.before k c.in-Ok.found (rw (c.first_uid-from.ensures, c.target-side.ensures) at (e.behind).1)

@@ -9,7 +9,7 @@ use Rattle.runner.proofs.opening.admit.Goals as goal
 pub returns-in-Ok-clause-part : goal.returns-in-Ok-clause-part
 returns-in-Ok-clause-part g c =
     let s1 = g.O.Outside.seen c.admit.new.self in
-    rw c.admit.ensures.opened (passed_call _ _ _ _ _ _ _ _ _ _ _ c.in-Ok.ensures.call (λ m at a own. admitted_all g.O.Outside.ours g.O.Outside.alone g.opening _ _ m s1.device a at own))
+    rw c.admit.ensures.opened (passed_call _ _ _ _ _ _ _ _ _ _ _ c.in-Ok.ensures.call (λ m at a own. admitted_all g.opening _ _ m s1.device a at own))
 
 pub returns-in-Err-clause-part : goal.returns-in-Err-clause-part
 returns-in-Err-clause-part g c =
@@ -19,10 +19,10 @@ returns-in-Err-clause-part g c =
     let s1 = g.O.Outside.seen c.admit.new.self in
     rw c.call_fault.ensures (left_call _ _ _ _ _ _ _ _ _ _ _ tt c.in-Err.ensures.call (line_of_box _) (λ m at a own told. (
       from_box c.in-Err.fault told,
-      left_by (Underway ours alone g.opening) _ _ c.in-Err.fault m s1.device own
-          (clear_underway ours alone g.opening opened false m (clear_arrives ours alone g.opening opened false _ m a at))
-          (λ k. clear_underway ours alone g.opening opened false s1.device (admitted_part ours alone g.opening opened _ m s1.device a at k))
-          (λ x t. clear_underway ours alone g.opening opened true s1.device (admitted_all ours alone g.opening opened _ m s1.device a at t)),
+      left_by (Underway g.opening) _ _ c.in-Err.fault m s1.device own
+          (clear_underway g.opening opened false m (clear_arrives g.opening opened false _ m a at))
+          (λ k. clear_underway g.opening opened false s1.device (admitted_part g.opening opened _ m s1.device a at k))
+          (λ x t. clear_underway g.opening opened true s1.device (admitted_all g.opening opened _ m s1.device a at t)),
     )))
 
 pub returns-in-Ok-clause-validities : goal.returns-in-Ok-clause-validities

@@ -15,7 +15,7 @@ discard-requires g c = record { takes = none_taken (g.O.Outside.opened c.args.ou
 pub returns-in-Ok-clause-part : goal.returns-in-Ok-clause-part
 returns-in-Ok-clause-part g c =
     let s1 = g.O.Outside.seen c.discard.new.self in
-    rw c.in-Ok.ensures.opened (passed_call _ _ _ _ _ _ _ _ _ _ _ c.in-Ok.ensures.call (λ m at a own. emptied g.O.Outside.ours g.O.Outside.alone g.opening _ _ m s1.device c.requires.1 a at own))
+    rw c.in-Ok.ensures.opened (passed_call _ _ _ _ _ _ _ _ _ _ _ c.in-Ok.ensures.call (λ m at a own. emptied g.opening _ _ m s1.device c.requires.1 a at own))
 
 pub returns-in-Err-clause-part : goal.returns-in-Err-clause-part
 returns-in-Err-clause-part g c =
@@ -25,10 +25,10 @@ returns-in-Err-clause-part g c =
     let s1 = g.O.Outside.seen c.discard.new.self in
     rw c.call_fault.ensures (left_call _ _ _ _ _ _ _ _ _ _ _ tt c.in-Err.ensures.call (line_of_book _) (λ m at a own told. (
       from_book c.in-Err.fault told,
-      left_by (Underway ours alone g.opening) _ _ c.in-Err.fault m s1.device own
-          (let k = known_arrives ours alone g.opening opened _ m a (none_known ours alone g.opening opened _ at) in k.underway)
-          (half_forgot ours alone g.opening opened _ m s1.device c.requires.1 a (none_known ours alone g.opening opened _ at))
-          (λ x t. clear_underway ours alone g.opening (turned (λ _. Missing) opened) false s1.device (emptied ours alone g.opening opened _ m s1.device c.requires.1 a at t)),
+      left_by (Underway g.opening) _ _ c.in-Err.fault m s1.device own
+          (let k = known_arrives g.opening opened _ m a (none_known g.opening opened _ at) in k.underway)
+          (half_forgot g.opening opened _ m s1.device c.requires.1 a (none_known g.opening opened _ at))
+          (λ x t. clear_underway g.opening (turned (λ _. Missing) opened) false s1.device (emptied g.opening opened _ m s1.device c.requires.1 a at t)),
     )))
 
 pub returns-in-Ok-clause-validities : goal.returns-in-Ok-clause-validities

@@ -28,7 +28,7 @@ returns-in-Ok-clause-part g c =
     let opened = g.O.Outside.opened c.args.outside.now in
     let i : is_some c.pending.result ≡ false = grind (arith, common_steps) in
     let none : HasNoPlan opened = has_none opened c.requires.1.0 (none_of _ c.pending.result _ c.pending.ensures i) in
-    rw c.in-Ok.ensures.opened (passed_call _ _ _ _ _ _ _ _ _ _ _ c.in-Ok.ensures.call (λ m at a own. forgot g.O.Outside.ours g.O.Outside.alone g.opening opened _ m s1.device none a at own))
+    rw c.in-Ok.ensures.opened (passed_call _ _ _ _ _ _ _ _ _ _ _ c.in-Ok.ensures.call (λ m at a own. forgot g.opening opened _ m s1.device none a at own))
 
 pub returns-in-Err-clause-part : goal.returns-in-Err-clause-part
 returns-in-Err-clause-part g c =
@@ -40,14 +40,14 @@ returns-in-Err-clause-part g c =
     let none : HasNoPlan opened = has_none opened c.requires.1.0 (none_of _ c.pending.result _ c.pending.ensures i) in
     rw c.call_fault.ensures (left_call _ _ _ _ _ _ _ _ _ _ _ tt c.in-Err.ensures.call (line_of_book _) (λ m at a own told. (
       from_book c.in-Err.fault told,
-      left_by (Underway ours alone g.opening) _ _ c.in-Err.fault m s1.device own
-          (underway_arrives ours alone g.opening _ m a at.underway)
-          (half_forgot ours alone g.opening opened _ m s1.device none a at)
-          (λ x t. let k = forgot ours alone g.opening opened _ m s1.device none a at t in k.underway),
+      left_by (Underway g.opening) _ _ c.in-Err.fault m s1.device own
+          (underway_arrives g.opening _ m a at.underway)
+          (half_forgot g.opening opened _ m s1.device none a at)
+          (λ x t. let k = forgot g.opening opened _ m s1.device none a at t in k.underway),
     )))
 
 pub returns-in-Ok-clause-stores : goal.returns-in-Ok-clause-stores
-returns-in-Ok-clause-stores g c = λ honest alone. let w = c.in-Ok.ensures.call in let acts = w.acts in let e = acts.effect honest in stores_kept g.O.Outside.ours g.O.Outside.alone g.opening _ _ e.mid _ c.requires.1.0 e.before e.behind alone
+returns-in-Ok-clause-stores g c = λ honest alone. let w = c.in-Ok.ensures.call in let acts = w.acts in let e = acts.effect honest in stores_kept g.opening _ _ e.mid _ c.requires.1.0 e.before e.behind alone
 
 pub returns-then-is_some-clause-gone : goal.returns-then-is_some-clause-gone
 returns-then-is_some-clause-gone g c = λ none.
@@ -71,4 +71,4 @@ returns-in-Ok-clause-emptied g c = λ honest held.
     let w = c.in-Ok.ensures.call in
     let acts = w.acts in
     let e = acts.effect honest in
-    forgot_held g.O.Outside.ours g.O.Outside.alone g.opening (g.O.Outside.opened c.args.outside.now) (g.O.Outside.seen c.args.outside.now).device e.mid (g.O.Outside.seen c.discard.new.self).device c.requires.1.0 e.before held e.behind
+    forgot_held g.opening (g.O.Outside.opened c.args.outside.now) (g.O.Outside.seen c.args.outside.now).device e.mid (g.O.Outside.seen c.discard.new.self).device c.requires.1.0 e.before held e.behind

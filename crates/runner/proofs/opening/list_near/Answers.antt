@@ -13,12 +13,12 @@ list_near-requires g c = record { is_open = c.requires.1.1.0 Near }
 pub returns-in-Ok-clause-part : goal.returns-in-Ok-clause-part
 returns-in-Ok-clause-part g c =
     let s1 = g.O.Outside.seen c.list_near.new.self in
-    passed_told _ _ _ _ _ _ _ _ _ _ _ c.in-Ok.ensures.call (λ h m at a own. near_listed g.O.Outside.ours g.O.Outside.alone g.opening _ _ _ _ _ m s1.device (subst (λ (ks : List Keyword). ListsWithin ks c.in-Ok.near) (sym c.requires.1.1.1) (c.in-Ok.ensures.within h)) (c.requires.1.0 g.opening.world.state at.clear.state) a at own.0 own.1)
+    passed_told _ _ _ _ _ _ _ _ _ _ _ c.in-Ok.ensures.call (λ h m at a own. near_listed g.opening _ _ _ _ _ m s1.device (subst (λ (ks : List Keyword). ListsWithin ks c.in-Ok.near) (sym c.requires.1.1.1) (c.in-Ok.ensures.within h)) (c.requires.1.0 g.opening.world.state at.clear.state) a at own.0 own.1)
 
 pub returns-in-Err-clause-part : goal.returns-in-Err-clause-part
 returns-in-Err-clause-part g c =
     let opened = g.O.Outside.opened c.args.outside.now in
-    rw c.call_fault.ensures (left_call _ _ _ _ _ _ _ _ _ _ _ tt c.in-Err.ensures.call (line_of_box _) (λ m at a own told. (from_box c.in-Err.fault told, rw own (clear_underway g.O.Outside.ours g.O.Outside.alone g.opening opened true m (clear_arrives g.O.Outside.ours g.O.Outside.alone g.opening opened true _ m a at.clear)))))
+    rw c.call_fault.ensures (left_call _ _ _ _ _ _ _ _ _ _ _ tt c.in-Err.ensures.call (line_of_box _) (λ m at a own told. (from_box c.in-Err.fault told, rw own (clear_underway g.opening opened true m (clear_arrives g.opening opened true _ m a at.clear)))))
 
 pub returns-in-Ok-clause-validities : goal.returns-in-Ok-clause-validities
 returns-in-Ok-clause-validities g c = λ honest. let w = c.in-Ok.ensures.call in let acts = w.acts in let e = acts.effect honest in read_validities g.O.Outside.ours g.O.Outside.alone _ e.mid _ e.before e.behind.0

@@ -1,6 +1,6 @@
 use Rattle.std.proofs.Common.{refl, sym, ◌∙◌}
 use Rattle.underway.proofs.Arrived.{underway_arrives}
-use Rattle.runner.specs.Before.{IsKnown}
+use Rattle.runner.specs.Before.{ReadUnderway}
 use Rattle.runner.proofs.PartCalls.{from_box, left_call, left_here, line_of_box, passed_call}
 use Rattle.runner.proofs.Readings.{known_arrives, opened_known}
 use Rattle.runner.proofs.Validities.{any_read, other_read, same_read}
@@ -10,21 +10,21 @@ use Rattle.runner.proofs.opening.open_one.Goals as goal
 pub returns-then-before-validity-clause-part : goal.returns-then-before-validity-clause-part
 returns-then-before-validity-clause-part g c =
     let s1 = g.O.Outside.seen c.open_box.new.self in
-    passed_call _ _ _ _ _ _ _ _ _ _ _ c.in-Ok.ensures.call (λ m at a own. opened_known g.O.Outside.ours g.O.Outside.alone g.opening c.args.side (g.O.Outside.opened c.args.outside.now) _ _ m s1.device c.in-Ok.ensures.opened at a own.0)
+    passed_call _ _ _ _ _ _ _ _ _ _ _ c.in-Ok.ensures.call (λ m at a own. opened_known g.opening c.args.side (g.O.Outside.opened c.args.outside.now) _ _ m s1.device c.in-Ok.ensures.opened at a own.0)
 
 pub returns-in-None-clause-part : goal.returns-in-None-clause-part
 returns-in-None-clause-part g c =
     let s1 = g.O.Outside.seen c.open_box.new.self in
-    passed_call _ _ _ _ _ _ _ _ _ _ _ c.in-Ok.ensures.call (λ m at a own. opened_known g.O.Outside.ours g.O.Outside.alone g.opening c.args.side (g.O.Outside.opened c.args.outside.now) _ _ m s1.device c.in-Ok.ensures.opened at a own.0)
+    passed_call _ _ _ _ _ _ _ _ _ _ _ c.in-Ok.ensures.call (λ m at a own. opened_known g.opening c.args.side (g.O.Outside.opened c.args.outside.now) _ _ m s1.device c.in-Ok.ensures.opened at a own.0)
 
 pub returns-else-before-validity-clause-part : goal.returns-else-before-validity-clause-part
 returns-else-before-validity-clause-part g c =
     let opened = g.O.Outside.opened c.args.outside.now in
-    left_here _ _ (IsKnown g.O.Outside.ours g.O.Outside.alone g.opening opened) _ _ _ _ _ (passed_call _ _ _ _ _ _ _ _ _ _ _ c.in-Ok.ensures.call (λ m at a own. rw own.0 (known_arrives g.O.Outside.ours g.O.Outside.alone g.opening opened _ m a at))) (refl, λ honest. let w = c.in-Ok.ensures.call in let acts = w.acts in let e = acts.effect honest in other_read g.O.Outside.ours g.O.Outside.alone opened c.args.side _ e.mid _ c.in-Some.before c.in-Ok.validity (sym c.recorded_validity-recorded.ensures ∙ c.in-Some.is) e.before e.behind.0 e.behind.1 c.if-before-validity.false) (λ k. k.underway)
+    left_here _ _ (ReadUnderway g.opening opened) _ _ _ _ _ (passed_call _ _ _ _ _ _ _ _ _ _ _ c.in-Ok.ensures.call (λ m at a own. rw own.0 (known_arrives g.opening opened _ m a at))) (refl, λ honest. let w = c.in-Ok.ensures.call in let acts = w.acts in let e = acts.effect honest in other_read g.O.Outside.ours g.O.Outside.alone opened c.args.side _ e.mid _ c.in-Some.before c.in-Ok.validity (sym c.recorded_validity-recorded.ensures ∙ c.in-Some.is) e.before e.behind.0 e.behind.1 c.if-before-validity.false) (λ k. k.underway)
 
 pub returns-in-Err-clause-part : goal.returns-in-Err-clause-part
 returns-in-Err-clause-part g c =
-    rw c.call_fault.ensures (left_call _ _ _ _ _ _ _ _ _ _ _ tt c.in-Err.ensures.call (line_of_box _) (λ m at a own told. (from_box c.in-Err.fault told, rw own (underway_arrives g.O.Outside.ours g.O.Outside.alone g.opening _ m a at.underway))))
+    rw c.call_fault.ensures (left_call _ _ _ _ _ _ _ _ _ _ _ tt c.in-Err.ensures.call (line_of_box _) (λ m at a own told. (from_box c.in-Err.fault told, rw own (underway_arrives g.opening _ m a at.underway))))
 
 pub returns-then-before-validity-clause-kept : goal.returns-then-before-validity-clause-kept
 returns-then-before-validity-clause-kept g c = λ honest. let w = c.in-Ok.ensures.call in let acts = w.acts in let e = acts.effect honest in same_read g.O.Outside.ours g.O.Outside.alone (g.O.Outside.opened c.args.outside.now) c.args.side _ e.mid _ c.in-Some.before c.in-Ok.validity (sym c.recorded_validity-recorded.ensures ∙ c.in-Some.is) e.before e.behind.0 e.behind.1 c.if-before-validity.true

@@ -8,7 +8,7 @@ use Rattle.runner.proofs.opening.recall.Goals as goal
 pub returns-in-Ok-clause-part : goal.returns-in-Ok-clause-part
 returns-in-Ok-clause-part g c =
     let s1 = g.O.Outside.seen c.open_book.new.self in
-    passed_call _ _ _ _ _ _ _ _ _ _ _ c.in-Ok.ensures.call (λ m at a own. read_known g.O.Outside.ours g.O.Outside.alone g.opening _ _ m s1.device at a own.0 own.1)
+    passed_call _ _ _ _ _ _ _ _ _ _ _ c.in-Ok.ensures.call (λ m at a own. read_known g.opening _ _ m s1.device at a own.0 own.1)
 
 pub returns-in-Err-clause-part : goal.returns-in-Err-clause-part
 returns-in-Err-clause-part g c =
@@ -17,10 +17,10 @@ returns-in-Err-clause-part g c =
     let s1 = g.O.Outside.seen c.open_book.new.self in
     rw c.call_fault.ensures (left_call _ _ _ _ _ _ _ _ _ _ _ tt c.in-Err.ensures.call
     (λ told. line_of_shelf _ (λ honest. let w = c.in-Err.ensures.call in let acts = w.acts in let l = acts.left honest in unread_files c.in-Err.fault l.mid s1.device l.behind.0 l.behind.1))
-    (λ m at a own told. unread_left ours alone g.opening c.in-Err.fault m s1.device (underway_arrives ours alone g.opening _ m a at) own.0 own.1 told))
+    (λ m at a own told. unread_left g.opening c.in-Err.fault m s1.device (underway_arrives g.opening _ m a at) own.0 own.1 told))
 
 pub returns-in-Ok-clause-held : goal.returns-in-Ok-clause-held
-returns-in-Ok-clause-held g c = λ honest. let w = c.in-Ok.ensures.call in let acts = w.acts in let e = acts.effect honest in held_before g.O.Outside.ours g.O.Outside.alone g.opening _ _ e.mid e.before e.behind.1
+returns-in-Ok-clause-held g c = λ honest. let w = c.in-Ok.ensures.call in let acts = w.acts in let e = acts.effect honest in held_before g.opening _ _ e.mid e.before e.behind.1
 
 pub returns-in-Ok-clause-kept : goal.returns-in-Ok-clause-kept
 returns-in-Ok-clause-kept g c = λ honest. let w = c.in-Ok.ensures.call in let acts = w.acts in let e = acts.effect honest in kept_read g.O.Outside.ours g.O.Outside.alone _ e.mid _ e.before e.behind.0

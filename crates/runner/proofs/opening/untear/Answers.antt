@@ -14,7 +14,7 @@ mend-requires g c = record { read = plan_read (g.O.Outside.opened c.args.outside
 pub returns-in-Ok-clause-part : goal.returns-in-Ok-clause-part
 returns-in-Ok-clause-part g c =
     let s1 = g.O.Outside.seen c.mend.new.self in
-    rw c.in-Ok.ensures.opened (passed_call _ _ _ _ _ _ _ _ _ _ _ c.in-Ok.ensures.call (λ m at a own. untorn g.O.Outside.ours g.O.Outside.alone g.opening _ _ m s1.device c.requires.1 a at own))
+    rw c.in-Ok.ensures.opened (passed_call _ _ _ _ _ _ _ _ _ _ _ c.in-Ok.ensures.call (λ m at a own. untorn g.opening _ _ m s1.device c.requires.1 a at own))
 
 pub returns-in-Err-clause-part : goal.returns-in-Err-clause-part
 returns-in-Err-clause-part g c =
@@ -24,10 +24,10 @@ returns-in-Err-clause-part g c =
     let s1 = g.O.Outside.seen c.mend.new.self in
     rw c.call_fault.ensures (left_call _ _ _ _ _ _ _ _ _ _ _ tt c.in-Err.ensures.call (line_of_book _) (λ m at a own told. (
       from_book c.in-Err.fault told,
-      left_by (Underway ours alone g.opening) _ _ c.in-Err.fault m s1.device own
-          (let k = known_arrives ours alone g.opening opened _ m a (taken_known ours alone g.opening opened _ at) in k.underway)
-          (half_untorn ours alone g.opening opened _ m s1.device c.requires.1 a at)
-          (λ x t. ready_underway ours alone g.opening (turned mended opened) true s1.device (untorn ours alone g.opening opened _ m s1.device c.requires.1 a at t)),
+      left_by (Underway g.opening) _ _ c.in-Err.fault m s1.device own
+          (let k = known_arrives g.opening opened _ m a (taken_known g.opening opened _ at) in k.underway)
+          (half_untorn g.opening opened _ m s1.device c.requires.1 a at)
+          (λ x t. ready_underway g.opening (turned mended opened) true s1.device (untorn g.opening opened _ m s1.device c.requires.1 a at t)),
     )))
 
 pub returns-in-Ok-clause-same : goal.returns-in-Ok-clause-same

@@ -10,7 +10,7 @@ use Rattle.runner.proofs.opening.write_plan.Goals as goal
 pub returns-in-Ok-clause-part : goal.returns-in-Ok-clause-part
 returns-in-Ok-clause-part g c =
     let s1 = g.O.Outside.seen c.begin.new.self in
-    rw c.in-Ok.ensures.opened (passed_call _ _ _ _ _ _ _ _ _ _ _ c.in-Ok.ensures.call (λ m at a own. plan_written g.O.Outside.ours g.O.Outside.alone g.opening _ c.args.plan _ m s1.device a at own))
+    rw c.in-Ok.ensures.opened (passed_call _ _ _ _ _ _ _ _ _ _ _ c.in-Ok.ensures.call (λ m at a own. plan_written g.opening _ c.args.plan _ m s1.device a at own))
 
 pub returns-in-Err-clause-part : goal.returns-in-Err-clause-part
 returns-in-Err-clause-part g c =
@@ -21,8 +21,8 @@ returns-in-Err-clause-part g c =
     let s1 = g.O.Outside.seen c.begin.new.self in
     rw c.call_fault.ensures (left_call _ _ _ _ _ _ _ _ _ _ _ tt c.in-Err.ensures.call (line_of_book _) (λ m at a own told. (
       from_book c.in-Err.fault told,
-      left_by (Underway ours alone g.opening) _ _ c.in-Err.fault m s1.device own
-          (let p = made_arrives ours alone g.opening opened plan _ m a at in clear_underway ours alone g.opening opened true m p.clear)
-          (half_written ours alone g.opening opened plan _ m s1.device a at)
-          (λ x t. ready_underway ours alone g.opening (turned (λ _. begun plan) opened) false s1.device (plan_written ours alone g.opening opened plan _ m s1.device a at t)),
+      left_by (Underway g.opening) _ _ c.in-Err.fault m s1.device own
+          (let p = made_arrives g.opening opened plan _ m a at in clear_underway g.opening opened true m p.clear)
+          (half_written g.opening opened plan _ m s1.device a at)
+          (λ x t. ready_underway g.opening (turned (λ _. begun plan) opened) false s1.device (plan_written g.opening opened plan _ m s1.device a at t)),
     )))

@@ -1,6 +1,6 @@
 use Rattle.std.proofs.Common.{arith, rules, sym, ◌∙◌}
 use Rattle.std.proofs.lemmas.Result.{err_from_is_err_and}
-use Rattle.runner.specs.Answers.{IsChosen}
+use Rattle.runner.specs.Answers.{PlanStart}
 use Rattle.runner.specs.Going.{made}
 use Rattle.runner.proofs.StepParts.{left_unstepped, steps_told, unrefused_told}
 use Rattle.runner.proofs.PartCalls.{left_after, left_told, passed_after, passed_weaker}
@@ -52,7 +52,7 @@ returns-clause-part g c =
     let s1 = g.O.Outside.seen c.propose.new.outside in
     let s2 = g.O.Outside.seen c.carry_out.new.outside in
     let so_far = passed_after _ _ _ _ _ _ _ _ s1 _ c.in_ok-performed.ensures.was_honest c.in_ok-unfit.ensures.part c.in_ok-performed.ensures.part in
-    let from = IsChosen g.O.Outside.ours g.O.Outside.alone g.opening (g.O.Outside.opened c.args.outside.now) c.args.options.now (g.R.Rng.stream c.args.rng.now) in
+    let from = PlanStart g.opening (g.O.Outside.opened c.args.outside.now) c.args.options.now (g.R.Rng.stream c.args.rng.now) in
     passed_weaker _ from from _ _ _ (made c.in_ok-performed.performed.items) _ _ (omega arith) (λ d k. k) (λ d k. k) (passed_after _ _ _ _ _ _ _ _ s2 _ c.in_ok-conclude.ensures.was_honest so_far c.in_ok-conclude.ensures.part)
 
 pub returns-clause-answer : goal.returns-clause-answer
@@ -75,7 +75,7 @@ returns-clause-told g c = λ h k.
     let s1 = g.O.Outside.seen c.propose.new.outside in
     let carried = concluded.was_honest h in
     let so_far = passed_after _ _ _ _ _ _ _ _ s1 _ performed.was_honest proposed.part performed.part in
-    told_whole g.O.Outside.ours g.O.Outside.alone g.opening (g.O.Outside.opened c.propose.new.outside) (g.O.Outside.opened c.carry_out.new.outside) c.in_ok-performed.performed.items c.in_ok-unfit.unfit.items _ proposed.log performed.opened performed.steps
+    told_whole g.opening (g.O.Outside.opened c.propose.new.outside) (g.O.Outside.opened c.carry_out.new.outside) c.in_ok-performed.performed.items c.in_ok-unfit.unfit.items _ proposed.log performed.opened performed.steps
     (concluded.ends h (so_far.reaches carried k)) (proposed.passed_over (performed.was_honest carried) k)
 
 pub returns-clause-found : goal.returns-clause-found
@@ -86,4 +86,4 @@ returns-clause-found g c = λ h k d to.
     let part = proposed.part in
     let s1 = g.O.Outside.seen c.propose.new.outside in
     let ready = part.reaches (performed.was_honest carried) k in
-    all_new g.O.Outside.ours g.O.Outside.alone g.opening (g.O.Outside.opened c.propose.new.outside) c.in_ok-performed.performed.items s1.device performed.steps ready (performed.found carried ready s1.device (same_none g.O.Outside.ours s1.device))
+    all_new g.opening (g.O.Outside.opened c.propose.new.outside) c.in_ok-performed.performed.items s1.device performed.steps ready (performed.found carried ready s1.device (same_none g.O.Outside.ours s1.device))

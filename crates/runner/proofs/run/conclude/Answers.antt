@@ -1,5 +1,5 @@
 use Rattle.underway.specs.Conditions.{Underway}
-use Rattle.runner.specs.Going.{AtReady, log_at, plan_at}
+use Rattle.runner.specs.Going.{BeforeStep, log_at, plan_at}
 use Rattle.runner.specs.Parts.{Passed}
 use Rattle.runner.specs.Results.{EndsBy}
 use Rattle.runner.proofs.Passes.{end_underway, ended_at, half_ended_at}
@@ -11,7 +11,7 @@ use Rattle.runner.proofs.run.conclude.Goals as goal
 pub returns-in-Ok-clause-part : goal.returns-in-Ok-clause-part
 returns-in-Ok-clause-part g c =
     let s1 = g.O.Outside.seen c.commit.new.self in
-    passed_call _ _ _ _ _ _ _ _ _ _ _ c.in-Ok.ensures.call (λ m at a own. ended_at g.O.Outside.ours g.O.Outside.alone g.opening (g.O.Outside.opened c.args.outside.now) c.args.is_taken_up _ m s1.device c.requires.1.0 c.requires.1.1.1 a at own)
+    passed_call _ _ _ _ _ _ _ _ _ _ _ c.in-Ok.ensures.call (λ m at a own. ended_at g.opening (g.O.Outside.opened c.args.outside.now) c.args.is_taken_up _ m s1.device c.requires.1.0 c.requires.1.1.1 a at own)
 
 pub returns-in-Err-clause-part : goal.returns-in-Err-clause-part
 returns-in-Err-clause-part g c =
@@ -22,10 +22,10 @@ returns-in-Err-clause-part g c =
     let s1 = g.O.Outside.seen c.commit.new.self in
     rw c.call_fault.ensures (left_call _ _ _ _ _ _ _ _ _ _ _ tt c.in-Err.ensures.call (line_of_book _) (λ m at a own told. (
       from_book c.in-Err.fault told,
-      left_by (Underway ours alone g.opening) _ _ c.in-Err.fault m s1.device own
-          (ready_underway ours alone g.opening opened seek m (ready_arrives ours alone g.opening opened seek _ m a at))
-          (half_ended_at ours alone g.opening opened seek _ m s1.device c.requires.1.0 c.requires.1.1.1 a at)
-          (λ x t. end_underway ours alone g.opening s1.device (ended_at ours alone g.opening opened seek _ m s1.device c.requires.1.0 c.requires.1.1.1 a at t)),
+      left_by (Underway g.opening) _ _ c.in-Err.fault m s1.device own
+          (ready_underway g.opening opened seek m (ready_arrives g.opening opened seek _ m a at))
+          (half_ended_at g.opening opened seek _ m s1.device c.requires.1.0 c.requires.1.1.1 a at)
+          (λ x t. end_underway g.opening s1.device (ended_at g.opening opened seek _ m s1.device c.requires.1.0 c.requires.1.1.1 a at t)),
     )))
 
 pub returns-in-Ok-clause-ends : goal.returns-in-Ok-clause-ends
@@ -36,6 +36,6 @@ returns-in-Ok-clause-ends g c = λ h k.
     let seek = c.args.is_taken_up in
     let s0 = g.O.Outside.seen c.args.outside.now in
     let s1 = g.O.Outside.seen c.commit.new.self in
-    let p : Passed (g.O.Outside.honest c.commit.new.self) (AtReady ours alone g.opening opened seek) (EndsBy ours alone g.opening (plan_at opened) (log_at opened)) 0 s0 s1 =
-    passed_call _ _ _ _ _ _ _ _ _ _ _ c.in-Ok.ensures.call (λ m at a own. ends_by ours alone g.opening opened seek _ m s1.device c.requires.1.0 c.requires.1.1.1 a at own) in
+    let p : Passed (g.O.Outside.honest c.commit.new.self) (BeforeStep g.opening opened seek) (EndsBy g.opening (plan_at opened) (log_at opened)) 0 s0 s1 =
+    passed_call _ _ _ _ _ _ _ _ _ _ _ c.in-Ok.ensures.call (λ m at a own. ends_by g.opening opened seek _ m s1.device c.requires.1.0 c.requires.1.1.1 a at own) in
     p.reaches h k

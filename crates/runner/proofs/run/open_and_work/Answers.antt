@@ -4,10 +4,10 @@ use Rattle.mailcore.specs.declared.keywords.Keyword.{Keyword}
 use Rattle.underway.specs.Conditions.{Underway}
 use Rattle.underway.specs.Openings.{Opening}
 use Rattle.runner.specs.declared.fault.RunFault.TheVariants as run
-use Rattle.runner.specs.Answers.{AtEnd, IsAsked, IsKnownEntry, run_of}
+use Rattle.runner.specs.Answers.{RunEnd, Inputs, ReadPassStart, run_of}
 use Rattle.runner.specs.Going.{plan_at}
 use Rattle.runner.specs.Maps.{HasOtherMapIn, by_map}
-use Rattle.runner.specs.Results.{IsTold}
+use Rattle.runner.specs.Results.{Report}
 use Rattle.runner.proofs.PartCalls.{left_here, left_told, left_weaker, part_after, part_by, part_told, passed_weaker, passed_with}
 use Rattle.runner.proofs.StepParts.{repeats_by}
 use Rattle.runner.proofs.Passes.{boxed_answers, boxed_book, boxed_other_map, boxed_run, boxed_runs, known_map}
@@ -58,8 +58,8 @@ returns-in_err-same_map-clause-part g c =
     let s1 = g.O.Outside.seen c.open_boxes.new.outside in
     let told = c.in_err-same_map.ensures.other in
     let other : HasOtherMapIn c.args.options.now.keywords old = boxed_other_map c.args.options.now.keywords old (subst (HasOtherMapIn c.args.options.now.keywords) c.in_ok-open_boxes.ensures.opened told.1) in
-    let ready = passed_weaker _ _ (IsKnownEntry ours alone g.opening old (run_of old + 1) c.args.options.now (g.R.Rng.stream c.args.rng.now)) _ (Underway ours alone g.opening) _ 0 _ s1 refl (λ d k. k.known) (λ d k. k.underway) c.in_ok-open_boxes.ensures.part in
-    rw (e.1, e.2, told.0) (left_here _ _ (Underway ours alone g.opening) (Underway ours alone g.opening) 0 run.KeywordsChanged s0 s1 ready (other, c.in_ok-open_boxes.ensures.kept) (λ k. k))
+    let ready = passed_weaker _ _ (ReadPassStart g.opening old (run_of old + 1) c.args.options.now (g.R.Rng.stream c.args.rng.now)) _ (Underway g.opening) _ 0 _ s1 refl (λ d k. k.known) (λ d k. k.underway) c.in_ok-open_boxes.ensures.part in
+    rw (e.1, e.2, told.0) (left_here _ _ (Underway g.opening) (Underway g.opening) 0 run.KeywordsChanged s0 s1 ready (other, c.in_ok-open_boxes.ensures.kept) (λ k. k))
 
 pub returns-clause-answer : goal.returns-clause-answer
 returns-clause-answer g c =
@@ -82,13 +82,13 @@ returns-clause-part g c =
     let options = c.args.options.now in
     let stream = g.R.Rng.stream c.args.rng.now in
     let here = by_map options.keywords g.opening in
-    let with = passed_with ((run ≤ g.opening.world.state.run + 1) × IsAsked ours g.opening options stream) _ _ _ _ _ _ c.in_ok-open_boxes.ensures.part in
-    let ready = passed_weaker _ _ (IsKnownEntry ours alone g.opening old run options stream) _ (IsKnownEntry ours alone g.opening new run options stream) _ 0 _ s1 refl (λ d k. ((k.most, k.asked), k.known)) (λ d k. record { most = k.0.0; asked = k.0.1; known = k.1 }) with in
+    let with = passed_with ((run ≤ g.opening.world.state.run + 1) × Inputs g.opening options stream) _ _ _ _ _ _ c.in_ok-open_boxes.ensures.part in
+    let ready = passed_weaker _ _ (ReadPassStart g.opening old run options stream) _ (ReadPassStart g.opening new run options stream) _ 0 _ s1 refl (λ d k. ((k.most, k.asked), k.known)) (λ d k. record { most = k.0.0; asked = k.0.1; known = k.1 }) with in
     let as_many : run_of new ≡ run_of old = rw c.in_ok-open_boxes.ensures.opened (boxed_run old) in
-    let same : g.O.Outside.honest c.work.new.outside → IsKnownEntry ours alone g.opening new run options stream s1.device → here ≡ g.opening
-    = (λ h k. let m = k.most in ap (λ (x : List Keyword). by_map x g.opening) (sym (known_map ours alone g.opening new options stream s1.device (omega (arith, as_many, m)) c.in_ok-same_map.ensures.same k.asked k.known))) in
-    let there : g.O.Outside.honest c.work.new.outside → IsKnownEntry ours alone g.opening new run options stream s1.device → IsKnownEntry ours alone here new run options stream s1.device
-    = (λ h k. subst (λ (o : Opening). IsKnownEntry ours alone o new run options stream s1.device) (sym (same h k)) k) in
+    let same : g.O.Outside.honest c.work.new.outside → ReadPassStart g.opening new run options stream s1.device → here ≡ g.opening
+    = (λ h k. let m = k.most in ap (λ (x : List Keyword). by_map x g.opening) (sym (known_map g.opening new options stream s1.device (omega (arith, as_many, m)) c.in_ok-same_map.ensures.same k.asked k.known))) in
+    let there : g.O.Outside.honest c.work.new.outside → ReadPassStart g.opening new run options stream s1.device → ReadPassStart here new run options stream s1.device
+    = (λ h k. subst (λ (o : Opening ours alone). ReadPassStart o new run options stream s1.device) (sym (same h k)) k) in
     part_after _ _ _ _ _ _ _ _ _ s1 _ _ c.work.ensures.was_honest ready
     (part_told _ _ _ _ _ _ _ _ _ _ (record {
       changed = λ side t. same_told _ _ _ old new (g.O.Outside.seen c.args.outside.now).device s1.device (g.O.Outside.seen c.work.new.outside).device side c.work.ensures.was_honest c.in_ok-open_boxes.ensures.opened c.in_ok-open_boxes.ensures.kept t;
@@ -99,7 +99,7 @@ returns-clause-part g c =
       refused = λ step t h at. t h (there h (ready.reaches (c.work.ensures.was_honest h) at));
       unstepped = λ u. u;
     })
-    (part_by here g.opening _ _ (λ o. IsKnownEntry ours alone o new run options stream) (λ o. Underway ours alone o) (λ o. AtEnd ours alone o) _ s1 _ same c.work.result (rw as_many at c.work.ensures.part)))
+    (part_by here g.opening _ _ (λ o. ReadPassStart o new run options stream) (λ o. Underway o) (λ o. RunEnd o) _ s1 _ same c.work.result (rw as_many at c.work.ensures.part)))
 
 pub returns-in_err-open_boxes-clause-moved : goal.returns-in_err-open_boxes-clause-moved
 returns-in_err-open_boxes-clause-moved g c = moved_none _
@@ -120,13 +120,13 @@ returns-clause-told g c =
     let here = by_map options.keywords g.opening in
     let as_many : run_of new ≡ run_of old = rw c.in_ok-open_boxes.ensures.opened (boxed_run old) in
     let part = c.in_ok-open_boxes.ensures.part in
-    told_over c.work.result _ (IsKnownEntry ours alone here new run options stream d1) _ _ _
+    told_over c.work.result _ (ReadPassStart here new run options stream d1) _ _ _
     (λ h k.
     let known = part.reaches (c.work.ensures.was_honest h) k.known in
     let m = k.most in
-    let same : here ≡ g.opening = ap (λ (x : List Keyword). by_map x g.opening) (sym (known_map ours alone g.opening new options stream d1 (omega (arith, as_many, m)) c.in_ok-same_map.ensures.same k.asked known)) in (
-      subst (λ (o : Opening). IsKnownEntry ours alone o new run options stream d1) (sym same) (record { most = k.most; asked = k.asked; known = known }),
-      λ pass t. subst (λ (o : Opening). IsTold ours alone o pass (g.O.Outside.seen c.work.new.outside).device) same t,
+    let same : here ≡ g.opening = ap (λ (x : List Keyword). by_map x g.opening) (sym (known_map g.opening new options stream d1 (omega (arith, as_many, m)) c.in_ok-same_map.ensures.same k.asked known)) in (
+      subst (λ (o : Opening ours alone). ReadPassStart o new run options stream d1) (sym same) (record { most = k.most; asked = k.asked; known = known }),
+      λ pass t. subst (λ (o : Opening ours alone). Report o pass (g.O.Outside.seen c.work.new.outside).device) same t,
     )) (rw as_many at c.work.ensures.told)
 
 pub returns-clause-found : goal.returns-clause-found
@@ -144,9 +144,9 @@ returns-clause-found g c =
     let as_many : run_of new ≡ run_of old = rw c.in_ok-open_boxes.ensures.opened (boxed_run old) in
     let plan : plan_at new ≡ plan_at old = rw c.in_ok-open_boxes.ensures.opened (boxed_plan old) in
     let part = c.in_ok-open_boxes.ensures.part in
-    finds_from ours old new s0.device s1.device c.work.result _ _ _ (IsKnownEntry ours alone g.opening old run options stream s0.device) plan c.work.ensures.was_honest
+    finds_from ours old new s0.device s1.device c.work.result _ _ _ (ReadPassStart g.opening old run options stream s0.device) plan c.work.ensures.was_honest
     (λ h k.
     let known = part.reaches (c.work.ensures.was_honest h) k.known in
     let m = k.most in
-    let same : here ≡ g.opening = ap (λ (x : List Keyword). by_map x g.opening) (sym (known_map ours alone g.opening new options stream s1.device (omega (arith, as_many, m)) c.in_ok-same_map.ensures.same k.asked known)) in
-    subst (λ (o : Opening). IsKnownEntry ours alone o new run options stream s1.device) (sym same) (record { most = k.most; asked = k.asked; known = known })) c.in_ok-open_boxes.ensures.same (rw as_many at c.work.ensures.found)
+    let same : here ≡ g.opening = ap (λ (x : List Keyword). by_map x g.opening) (sym (known_map g.opening new options stream s1.device (omega (arith, as_many, m)) c.in_ok-same_map.ensures.same k.asked known)) in
+    subst (λ (o : Opening ours alone). ReadPassStart o new run options stream s1.device) (sym same) (record { most = k.most; asked = k.asked; known = known })) c.in_ok-open_boxes.ensures.same (rw as_many at c.work.ensures.found)

@@ -1,6 +1,6 @@
 use Rattle.std.proofs.Common.{◌≤◌, ◌+◌, refl}
 use Rattle.std.proofs.lemmas.Result.{err_from_is_err_and}
-use Rattle.runner.specs.Answers.{IsAsked, IsEntry, IsKnownEntry}
+use Rattle.runner.specs.Answers.{Inputs, PassStart, ReadPassStart}
 use Rattle.runner.proofs.PartCalls.{left_told, left_weaker, part_after, part_told, passed_weaker, passed_with}
 use Rattle.runner.proofs.PassTells.{answers_so, made_so, tells_so}
 use Rattle.runner.proofs.Passes.{answers_held, beyond_held, beyond_read, emptied_held, pass_alike, runs_held, stores_joined}
@@ -54,9 +54,9 @@ returns-clause-part g c =
     let run = c.args.run in
     let options = c.args.options.now in
     let stream = g.R.Rng.stream c.args.rng.now in
-    let with = passed_with ((run ≤ g.opening.world.state.run + 1) × IsAsked ours g.opening options stream) _ _ _ _ _ _ c.in_ok-recall.ensures.part in
-    let ready = passed_weaker _ _ (IsEntry ours alone g.opening run options stream) _ (IsKnownEntry ours alone g.opening opened run options stream) _ 0 _ s1 refl (λ d k. ((k.most, k.asked), k.underway)) (λ d k. record { most = k.0.0; asked = k.0.1; known = k.1 }) with in
-    part_after _ _ _ _ _ _ _ _ _ s1 _ _ c.take_up.ensures.was_honest ready (part_told _ _ _ _ _ _ _ _ _ _ (record { changed = λ side t. files_changed alone _ _ opened s0.device s1.device s2.device side c.take_up.ensures.was_honest c.in_ok-recall.ensures.held c.in_ok-recall.ensures.kept t; keywords = λ t. files_map alone _ _ options.keywords opened s0.device s1.device s2.device c.take_up.ensures.was_honest c.in_ok-recall.ensures.held c.in_ok-recall.ensures.kept t; repeats = λ k. repeats_from alone g.opening _ _ _ options stream (λ h at. ready.reaches (c.take_up.ensures.was_honest h) at) k; beyond = λ n h. beyond_read opened s0.device run (c.in_ok-recall.ensures.held (c.take_up.ensures.was_honest h)) n; unread = λ e n. absurd n; refused = λ step t h at. t h (ready.reaches (c.take_up.ensures.was_honest h) at); unstepped = λ u. u }) c.take_up.ensures.part)
+    let with = passed_with ((run ≤ g.opening.world.state.run + 1) × Inputs g.opening options stream) _ _ _ _ _ _ c.in_ok-recall.ensures.part in
+    let ready = passed_weaker _ _ (PassStart g.opening run options stream) _ (ReadPassStart g.opening opened run options stream) _ 0 _ s1 refl (λ d k. ((k.most, k.asked), k.underway)) (λ d k. record { most = k.0.0; asked = k.0.1; known = k.1 }) with in
+    part_after _ _ _ _ _ _ _ _ _ s1 _ _ c.take_up.ensures.was_honest ready (part_told _ _ _ _ _ _ _ _ _ _ (record { changed = λ side t. files_changed alone _ _ opened s0.device s1.device s2.device side c.take_up.ensures.was_honest c.in_ok-recall.ensures.held c.in_ok-recall.ensures.kept t; keywords = λ t. files_map alone _ _ options.keywords opened s0.device s1.device s2.device c.take_up.ensures.was_honest c.in_ok-recall.ensures.held c.in_ok-recall.ensures.kept t; repeats = λ k. repeats_from g.opening _ _ _ options stream (λ h at. ready.reaches (c.take_up.ensures.was_honest h) at) k; beyond = λ n h. beyond_read opened s0.device run (c.in_ok-recall.ensures.held (c.take_up.ensures.was_honest h)) n; unread = λ e n. absurd n; refused = λ step t h at. t h (ready.reaches (c.take_up.ensures.was_honest h) at); unstepped = λ u. u }) c.take_up.ensures.part)
 
 pub returns-in_err-recall-clause-moved : goal.returns-in_err-recall-clause-moved
 returns-in_err-recall-clause-moved g c = moved_none _
@@ -81,9 +81,9 @@ returns-clause-told g c =
     let stream = g.R.Rng.stream c.args.rng.now in
     let opened = g.O.Outside.opened c.recall.new.outside in
     let d1 = (g.O.Outside.seen c.recall.new.outside).device in
-    let leads : g.O.Outside.honest c.take_up.new.outside → IsEntry ours alone g.opening run options stream d0 → IsKnownEntry ours alone g.opening opened run options stream d1
+    let leads : g.O.Outside.honest c.take_up.new.outside → PassStart g.opening run options stream d0 → ReadPassStart g.opening opened run options stream d1
     = (λ h k. record { most = k.most; asked = k.asked; known = part.reaches (before h) k.underway }) in
-    tells_so ours alone g.opening run _ _ d0 _ c.take_up.result
+    tells_so g.opening run _ _ d0 _ c.take_up.result
     (told_from c.take_up.result _ _ _ _ leads c.take_up.ensures.told)
     (finds_held ours opened d0 d1 c.take_up.result _ _ _ _ before leads c.in_ok-recall.ensures.same c.in_ok-recall.ensures.held c.take_up.ensures.found)
-    (pass_alike _ _ ours alone g.opening run options stream (g.O.Outside.seen c.args.outside.now) (g.O.Outside.seen c.take_up.new.outside) c.take_up.result (returns-clause-part g c))
+    (pass_alike _ _ g.opening run options stream (g.O.Outside.seen c.args.outside.now) (g.O.Outside.seen c.take_up.new.outside) c.take_up.result (returns-clause-part g c))

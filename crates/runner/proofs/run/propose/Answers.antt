@@ -4,7 +4,7 @@ use Rattle.book.specs.declared.book.Pending.TheVariants.{Missing}
 use Rattle.outside.specs.Opened.{turned}
 use Rattle.rules.specs.declared.plan.Plan.{Plan}
 use Rattle.underway.specs.Conditions.{Underway}
-use Rattle.runner.specs.Answers.{HasRepeats, IsAsked, IsChosen}
+use Rattle.runner.specs.Answers.{HasRepeats, Inputs, PlanStart}
 use Rattle.runner.specs.Before.{IsMade}
 use Rattle.runner.specs.Faults.{because}
 use Rattle.runner.specs.Going.{plan_at}
@@ -62,8 +62,8 @@ returns-in_err-plan-clause-part g c =
     let both = c.in_ok-both.both in
     let emptied = c.list_both.ensures.opened ∙ c.in_ok-clear.ensures.opened in
     let s2 = g.O.Outside.seen c.list_both.new.outside in
-    let reasons = because (TellsUnlessSame (g.O.Outside.honest c.list_both.new.outside) old (g.O.Outside.seen c.args.outside.now).device) (HasRepeats g.O.Outside.alone g.opening (g.O.Outside.honest c.list_both.new.outside) (IsChosen g.O.Outside.ours g.O.Outside.alone g.opening old c.args.options.now (g.R.Rng.stream c.args.rng.now) (g.O.Outside.seen c.args.outside.now).device) c.args.options.now (g.R.Rng.stream c.args.rng.now)) in
-    rw (e.1, e.2) (left_weaker _ _ _ _ _ _ _ (λ d k. k.none) (left_here _ _ _ _ _ _ _ _ so_far (caused_plan reasons _ s2 s2 c.in_err-plan.ensures.fault (λ side is. unless_same _ _ old _ both.far both.near side _ s1.device emptied c.requires.1.1.0 c.in_ok-both.ensures.was_honest c.in_ok-clear.ensures.validities c.in_ok-both.ensures.validities (c.in_err-plan.ensures.changed side is)) (λ is. repeats_since g.O.Outside.ours g.O.Outside.alone g.opening (g.O.Outside.opened c.list_both.new.outside) c.args.options.now (g.R.Rng.stream c.args.rng.now) both.far both.near _ _ s2.device (c.in_err-plan.ensures.repeats is) (λ h (k : IsChosen g.O.Outside.ours g.O.Outside.alone g.opening old c.args.options.now (g.R.Rng.stream c.args.rng.now) (g.O.Outside.seen c.args.outside.now).device). rw c.list_both.ensures.opened (so_far.reaches h k.none)))) (λ k. after_plan (Underway g.O.Outside.ours g.O.Outside.alone g.opening) _ _ _ c.in_err-plan.ensures.fault (clear_underway g.O.Outside.ours g.O.Outside.alone g.opening _ _ _ k.clear))))
+    let reasons = because (TellsUnlessSame (g.O.Outside.honest c.list_both.new.outside) old (g.O.Outside.seen c.args.outside.now).device) (HasRepeats g.opening (g.O.Outside.honest c.list_both.new.outside) (PlanStart g.opening old c.args.options.now (g.R.Rng.stream c.args.rng.now) (g.O.Outside.seen c.args.outside.now).device) c.args.options.now (g.R.Rng.stream c.args.rng.now)) in
+    rw (e.1, e.2) (left_weaker _ _ _ _ _ _ _ (λ d k. k.none) (left_here _ _ _ _ _ _ _ _ so_far (caused_plan reasons _ s2 s2 c.in_err-plan.ensures.fault (λ side is. unless_same _ _ old _ both.far both.near side _ s1.device emptied c.in_ok-clear.ensures.validities c.in_ok-both.ensures.validities (c.in_err-plan.ensures.changed side is)) (λ is. repeats_since g.opening (g.O.Outside.opened c.list_both.new.outside) c.args.options.now (g.R.Rng.stream c.args.rng.now) both.far both.near _ _ s2.device (c.in_err-plan.ensures.repeats is) (λ h (k : PlanStart g.opening old c.args.options.now (g.R.Rng.stream c.args.rng.now) (g.O.Outside.seen c.args.outside.now).device). rw c.list_both.ensures.opened (so_far.reaches h k.none)))) (λ k. after_plan (Underway g.opening) _ _ _ c.in_err-plan.ensures.fault (clear_underway g.opening _ _ _ k.clear))))
 
 pub returns-in_err-unfit-clause-part : goal.returns-in_err-unfit-clause-part
 returns-in_err-unfit-clause-part g c =
@@ -72,8 +72,8 @@ returns-in_err-unfit-clause-part g c =
     let so_far = passed_after _ _ _ _ _ _ _ _ s1 _ c.in_ok-both.ensures.was_honest c.in_ok-clear.ensures.part c.in_ok-both.ensures.part in
     let old = g.O.Outside.opened c.args.outside.now in
     let s2 = g.O.Outside.seen c.list_both.new.outside in
-    let reasons = because (TellsUnlessSame (g.O.Outside.honest c.list_both.new.outside) old (g.O.Outside.seen c.args.outside.now).device) (HasRepeats g.O.Outside.alone g.opening (g.O.Outside.honest c.list_both.new.outside) (IsChosen g.O.Outside.ours g.O.Outside.alone g.opening old c.args.options.now (g.R.Rng.stream c.args.rng.now) (g.O.Outside.seen c.args.outside.now).device) c.args.options.now (g.R.Rng.stream c.args.rng.now)) in
-    rw (e.1, e.2) (left_weaker _ _ _ _ _ _ _ (λ d k. k.none) (left_here _ _ _ _ _ _ _ _ so_far (caused_memory reasons _ s2 s2 c.in_err-unfit.ensures.fault) (λ k. after_plan (Underway g.O.Outside.ours g.O.Outside.alone g.opening) _ _ _ (memory_plan _ c.in_err-unfit.ensures.fault) (clear_underway g.O.Outside.ours g.O.Outside.alone g.opening _ _ _ k.clear))))
+    let reasons = because (TellsUnlessSame (g.O.Outside.honest c.list_both.new.outside) old (g.O.Outside.seen c.args.outside.now).device) (HasRepeats g.opening (g.O.Outside.honest c.list_both.new.outside) (PlanStart g.opening old c.args.options.now (g.R.Rng.stream c.args.rng.now) (g.O.Outside.seen c.args.outside.now).device) c.args.options.now (g.R.Rng.stream c.args.rng.now)) in
+    rw (e.1, e.2) (left_weaker _ _ _ _ _ _ _ (λ d k. k.none) (left_here _ _ _ _ _ _ _ _ so_far (caused_memory reasons _ s2 s2 c.in_err-unfit.ensures.fault) (λ k. after_plan (Underway g.opening) _ _ _ (memory_plan _ c.in_err-unfit.ensures.fault) (clear_underway g.opening _ _ _ k.clear))))
 
 pub returns-clause-going : goal.returns-clause-going
 returns-clause-going g c =
@@ -106,8 +106,8 @@ returns-in_err-write_plan-clause-part g c =
     let options = c.args.options.now in
     let stream = g.R.Rng.stream c.args.rng.now in
     let so_far = passed_after _ _ _ _ _ _ _ _ s1 _ c.in_ok-both.ensures.was_honest c.in_ok-clear.ensures.part c.in_ok-both.ensures.part in
-    let asked = passed_with (IsAsked ours g.opening options stream) _ _ _ _ _ _ so_far in
-    let ready = passed_weaker _ _ (IsChosen ours alone g.opening (g.O.Outside.opened c.args.outside.now) options stream) _ (IsMade ours alone g.opening now c.in_ok-plan.plan) _ 0 _ s2 refl (λ d k. (k.asked, k.none)) (λ d k. plan_made ours alone g.opening now options stream both.far both.near c.in_ok-plan.plan c.in_ok-plan.ensures.drawn c.in_ok-plan.ensures.plan d k.0 (rw c.list_both.ensures.opened k.1)) asked in
+    let asked = passed_with (Inputs g.opening options stream) _ _ _ _ _ _ so_far in
+    let ready = passed_weaker _ _ (PlanStart g.opening (g.O.Outside.opened c.args.outside.now) options stream) _ (IsMade g.opening now c.in_ok-plan.plan) _ 0 _ s2 refl (λ d k. (k.asked, k.none)) (λ d k. plan_made g.opening now options stream both.far both.near c.in_ok-plan.plan c.in_ok-plan.ensures.drawn c.in_ok-plan.ensures.plan d k.0 (rw c.list_both.ensures.opened k.1)) asked in
     rw (e.1, e.2) (left_unstepped _ _ _ _ _ _ tt (left_after _ _ _ _ _ _ _ _ s2 _ c.in_err-write_plan.ensures.was_honest ready c.in_err-write_plan.ensures.part))
 
 pub returns-clause-part : goal.returns-clause-part
@@ -121,8 +121,8 @@ returns-clause-part g c =
     let options = c.args.options.now in
     let stream = g.R.Rng.stream c.args.rng.now in
     let so_far = passed_after _ _ _ _ _ _ _ _ s1 _ c.in_ok-both.ensures.was_honest c.in_ok-clear.ensures.part c.in_ok-both.ensures.part in
-    let asked = passed_with (IsAsked ours g.opening options stream) _ _ _ _ _ _ so_far in
-    let ready = passed_weaker _ _ (IsChosen ours alone g.opening (g.O.Outside.opened c.args.outside.now) options stream) _ (IsMade ours alone g.opening now c.in_ok-plan.plan) _ 0 _ s2 refl (λ d k. (k.asked, k.none)) (λ d k. plan_made ours alone g.opening now options stream both.far both.near c.in_ok-plan.plan c.in_ok-plan.ensures.drawn c.in_ok-plan.ensures.plan d k.0 (rw c.list_both.ensures.opened k.1)) asked in
+    let asked = passed_with (Inputs g.opening options stream) _ _ _ _ _ _ so_far in
+    let ready = passed_weaker _ _ (PlanStart g.opening (g.O.Outside.opened c.args.outside.now) options stream) _ (IsMade g.opening now c.in_ok-plan.plan) _ 0 _ s2 refl (λ d k. (k.asked, k.none)) (λ d k. plan_made g.opening now options stream both.far both.near c.in_ok-plan.plan c.in_ok-plan.ensures.drawn c.in_ok-plan.ensures.plan d k.0 (rw c.list_both.ensures.opened k.1)) asked in
     passed_after _ _ _ _ _ _ _ _ s2 _ c.in_ok-write_plan.ensures.was_honest ready c.in_ok-write_plan.ensures.part
 
 pub returns-in_err-clear-clause-moved : goal.returns-in_err-clear-clause-moved
@@ -142,5 +142,5 @@ returns-clause-passed_over g c = λ h k.
     let so_far = passed_after _ _ _ _ _ _ _ _ s1 _ c.in_ok-both.ensures.was_honest c.in_ok-clear.ensures.part c.in_ok-both.ensures.part in
     let listed = so_far.reaches (c.in_ok-write_plan.ensures.was_honest h) k.none in
     let unfit = c.in_ok-unfit.unfit.items in
-    let here = passed_by g.O.Outside.ours g.O.Outside.alone g.opening now c.args.options.now (g.R.Rng.stream c.args.rng.now) both.far both.near plan unfit c.in_ok-plan.ensures.drawn c.in_ok-plan.ensures.plan c.in_ok-unfit.ensures.unfit (g.O.Outside.seen c.list_both.new.outside).device k.asked (rw c.list_both.ensures.opened listed) in
-    subst (λ (p : Plan). PassedOver g.O.Outside.ours g.O.Outside.alone g.opening p unfit) (sym same) here
+    let here = passed_by g.opening now c.args.options.now (g.R.Rng.stream c.args.rng.now) both.far both.near plan unfit c.in_ok-plan.ensures.drawn c.in_ok-plan.ensures.plan c.in_ok-unfit.ensures.unfit (g.O.Outside.seen c.list_both.new.outside).device k.asked (rw c.list_both.ensures.opened listed) in
+    subst (λ (p : Plan). PassedOver g.opening p unfit) (sym same) here

@@ -1,6 +1,6 @@
 use Rattle.std.proofs.Common.{◌≡◌, arith, rules, subst, sym, ◌∙◌}
 use Rattle.rules.specs.declared.plan.Plan.{Plan}
-use Rattle.runner.specs.Before.{IsTakenUp}
+use Rattle.runner.specs.Before.{Resumed}
 use Rattle.runner.specs.Finding.{AreFoundSo}
 use Rattle.runner.specs.Going.{made, plan_at}
 use Rattle.std.proofs.lemmas.Result.{err_from_is_err_and}
@@ -56,7 +56,7 @@ returns-clause-part g c =
     let s1 = g.O.Outside.seen c.untear.new.outside in
     let s2 = g.O.Outside.seen c.carry_out.new.outside in
     let so_far = passed_after _ _ _ _ _ _ _ _ s1 _ c.in_ok-performed.ensures.was_honest c.in_ok-untear.ensures.part c.in_ok-performed.ensures.part in
-    let from = IsTakenUp g.O.Outside.ours g.O.Outside.alone g.opening (g.O.Outside.opened c.args.outside.now) in
+    let from = Resumed g.opening (g.O.Outside.opened c.args.outside.now) in
     passed_weaker _ from from _ _ _ (made c.in_ok-performed.performed.items) _ _ (omega arith) (λ d k. k) (λ d k. k) (passed_after _ _ _ _ _ _ _ _ s2 _ c.in_ok-conclude.ensures.was_honest so_far c.in_ok-conclude.ensures.part)
 
 pub returns-clause-answer : goal.returns-clause-answer
@@ -76,7 +76,7 @@ returns-clause-told g c = λ h k.
     let concluded = c.in_ok-conclude.ensures in
     let s1 = g.O.Outside.seen c.untear.new.outside in
     let so_far = passed_after _ _ _ _ _ _ _ _ s1 _ performed.was_honest c.in_ok-untear.ensures.part performed.part in
-    told_rest g.O.Outside.ours g.O.Outside.alone g.opening (g.O.Outside.opened c.untear.new.outside) (g.O.Outside.opened c.carry_out.new.outside) c.in_ok-performed.performed.items _ performed.opened performed.steps
+    told_rest g.opening (g.O.Outside.opened c.untear.new.outside) (g.O.Outside.opened c.carry_out.new.outside) c.in_ok-performed.performed.items _ performed.opened performed.steps
     (concluded.ends h (so_far.reaches (concluded.was_honest h) k))
 
 pub returns-clause-found : goal.returns-clause-found

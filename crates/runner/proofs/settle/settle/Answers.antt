@@ -4,7 +4,7 @@ use Rattle.outside.specs.Devices.{Device}
 use Rattle.underway.specs.Conditions.{Underway}
 use Rattle.runner.specs.declared.fault.RunFault.TheVariants as run
 use Rattle.runner.specs.declared.pass.Pass.{Pass}
-use Rattle.runner.specs.Attempts.{HaveRepeated, IsReached, IsTried}
+use Rattle.runner.specs.Attempts.{HaveRepeated, IsReached, AttemptStart}
 use Rattle.runner.specs.ChangedMaps.{HoldsOtherMap}
 use Rattle.runner.specs.Faults.{TellsNoRun}
 use Rattle.runner.proofs.Attempts.{caused_since, failed_few, found_device, greatest_since, kept_none, met_before, more_found, moved_twice, refused_for, stops_kept, stops_more, stuck_first, stuck_more, tried_underway}
@@ -22,7 +22,7 @@ loop-tried-init g c = record {
   stops = omega arith;
   told = more_none _ _ refl;
   appends = omega arith;
-  reopened = attempted_none _ _ _ _ 0 _ refl;
+  reopened = attempted_none _ _ 0 _ refl;
   first = λ z. refl;
   unfixed = λ z. refl;
   reached = λ h. tt;
@@ -45,7 +45,7 @@ loop-tried-preserved g c =
     let s2 = g.O.Outside.seen c.attempt.new.outside in
     let tried = c.loop-tried.tried in
     let run = c.loop-tried.run in
-    let before = IsTried ours alone g.opening options (g.R.Rng.stream c.loop-tried.rng) run in
+    let before = AttemptStart g.opening options (g.R.Rng.stream c.loop-tried.rng) run in
     let device = found_device tried now s1 e in
     let part = rw c.in-Err-Stopped.field-0-is at c.in-Err-Stopped.ensures.part in
     let n = part.no_less in
@@ -57,7 +57,7 @@ loop-tried-preserved g c =
       stops = stops_more _ _ _ tried s0 now s1 s2 _ i.stops i.first e c.attempt.ensures.stuck part;
       told = more_after s0 s1 s2 (more_found tried s0 now s1 i.told e) n.told;
       appends = let k = i.appends in let m = n.appends in omega (arith, k, appends, m);
-      reopened = attempted_more ours alone g.opening _ _ tried run s0 now s1 s2 (λ f. (c.again.ensures.was_honest (c.attempt.ensures.was_honest f.0), f.1, f.2)) i.first e i.reopened (λ f. (i.left f.0 f.1 f.2).tried) (λ f. part.goes_on f.0) n.reopened;
+      reopened = attempted_more g.opening _ _ tried run s0 now s1 s2 (λ f. (c.again.ensures.was_honest (c.attempt.ensures.was_honest f.0), f.1, f.2)) i.first e i.reopened (λ f. (i.left f.0 f.1 f.2).tried) (λ f. part.goes_on f.0) n.reopened;
       first = λ z. absurd (omega (arith, z));
       unfixed = λ z. absurd (omega (arith, z));
       reached = λ h. c.attempt.ensures.reached h (subst (λ (d : Device). IsReached run d.files) (sym device) (i.reached (c.again.ensures.was_honest (c.attempt.ensures.was_honest h))));
@@ -88,9 +88,9 @@ returns-in-Ok-clause-done g c = λ h asked at.
     let said = c.in-Ok.ensures in
     let before = c.again.ensures.was_honest (c.attempt.ensures.was_honest h) in
     let t = i.left before asked at in
-    let here = subst (IsTried ours alone g.opening c.args.options.now drawn c.loop-tried.run) (sym (found_device tried now s1 c.again.ensures.seen)) t in
-    let began = began_at ours alone g.opening _ tried c.loop-tried.run s0 now s1 s2 stream drawn i.first i.undrawn i.moved c.again.ensures.seen i.reopened (before, asked, at) t.tried (said.part.goes_on h) said.part.reopened in
-    settled_so ours alone g.opening s0 s1 s2 stream drawn c.args.options.now (record { stops = tried; last = c.in-Ok.last }) began (said.part.reaches h here) (said.answer h here.tried) (said.told h here) (said.found h here)
+    let here = subst (AttemptStart g.opening c.args.options.now drawn c.loop-tried.run) (sym (found_device tried now s1 c.again.ensures.seen)) t in
+    let began = began_at g.opening _ tried c.loop-tried.run s0 now s1 s2 stream drawn i.first i.undrawn i.moved c.again.ensures.seen i.reopened (before, asked, at) t.tried (said.part.goes_on h) said.part.reopened in
+    settled_so g.opening s0 s1 s2 stream drawn c.args.options.now (record { stops = tried; last = c.in-Ok.last }) began (said.part.reaches h here) (said.answer h here.tried) (said.told h here) (said.found h here)
 
 pub returns-in-Ok-clause-greatest : goal.returns-in-Ok-clause-greatest
 returns-in-Ok-clause-greatest g c = λ h s p held is.
@@ -114,7 +114,7 @@ returns-in-Ok-clause-counts g c =
     let p = c.in-Ok.ensures.part in (
       stops_kept tried s0 now s1 s2 i.stops c.again.ensures.seen p.stops,
       failed_few tried s0 now s1 s2 c.in-Ok.last i.first c.again.ensures.seen c.in-Ok.ensures.stuck,
-      reopens_more g.O.Outside.ours g.O.Outside.alone g.opening _ tried s0 now s1 s2 i.first c.again.ensures.seen i.reopened p.reopened,
+      reopens_more g.opening _ tried s0 now s1 s2 i.first c.again.ensures.seen i.reopened p.reopened,
     )
 
 pub returns-in-Ok-clause-stuck : goal.returns-in-Ok-clause-stuck
@@ -147,15 +147,15 @@ returns-in-Err-clause-left g c = λ h asked at.
     let part = c.in-Err.ensures.part in
     let before = c.again.ensures.was_honest (c.attempt.ensures.was_honest h) in
     let t = i.left before asked at in
-    let here = subst (IsTried ours alone g.opening options drawn c.loop-tried.run) (sym (found_device tried now s1 e)) t in
-    let after = IsTried ours alone g.opening options (g.R.Rng.stream c.attempt.new.rng) c.attempt.new.run in
+    let here = subst (AttemptStart g.opening options drawn c.loop-tried.run) (sym (found_device tried now s1 e)) t in
+    let after = AttemptStart g.opening options (g.R.Rng.stream c.attempt.new.rng) c.attempt.new.run in
     let kept = part.no_less.reopened in
-    let began = began_at ours alone g.opening _ tried c.loop-tried.run s0 now s1 s2 stream drawn i.first i.undrawn i.moved e i.reopened (before, asked, at) t.tried (part.goes_on h) kept in
+    let began = began_at g.opening _ tried c.loop-tried.run s0 now s1 s2 stream drawn i.first i.undrawn i.moved e i.reopened (before, asked, at) t.tried (part.goes_on h) kept in
     record {
-      left = leaves_after (Underway ours alone g.opening) fault s0 s1 s2 (more_found tried s0 now s1 i.told e)
-          (leaves_map after (Underway ours alone g.opening) fault s1 s2 (λ k. tried_underway ours alone g.opening c.attempt.new.run s2.device k.tried) (part.left h here));
-      changed = λ side is. changed_last ours alone g.opening s0 s1 s2 stream drawn _ _ _ tried c.args.tries side fault began (omega arith) is h part (λ told. told);
-      keywords = λ is. kept_last ours alone g.opening s0 s1 s2 stream drawn _ _ _ tried c.args.tries options.keywords fault began (omega arith) is h part (λ told. told);
+      left = leaves_after (Underway g.opening) fault s0 s1 s2 (more_found tried s0 now s1 i.told e)
+          (leaves_map after (Underway g.opening) fault s1 s2 (λ k. tried_underway g.opening c.attempt.new.run s2.device k.tried) (part.left h here));
+      changed = λ side is. changed_last g.opening s0 s1 s2 stream drawn _ _ _ tried c.args.tries side fault began (omega arith) is h part (λ told. told);
+      keywords = λ is. kept_last g.opening s0 s1 s2 stream drawn _ _ _ tried c.args.tries options.keywords fault began (omega arith) is h part (λ told. told);
       refused = λ step is. refused_for _ _ _ fault s1 s2 step is part h here;
     }
 
@@ -169,9 +169,9 @@ returns-in-Err-clause-caused g c = λ other.
     let s2 = g.O.Outside.seen c.attempt.new.outside in
     let appends : s0.appends ≤ s1.appends = (let k = i.appends in let r = ap (λ (s : Seen). s.appends) e in omega (arith, k, r)) in
     let start = g.R.Rng.stream c.args.rng.now in
-    let before = IsTried g.O.Outside.ours g.O.Outside.alone g.opening c.args.options.now (g.R.Rng.stream c.loop-tried.rng) c.loop-tried.run in
+    let before = AttemptStart g.opening c.args.options.now (g.R.Rng.stream c.loop-tried.rng) c.loop-tried.run in
     let device = found_device c.loop-tried.tried now s1 e in
-    caused_since _ _ _ (g.O.Outside.honest c.attempt.new.outside → HoldsOtherMap c.args.options.now.keywords s2.device) (HaveRepeated (g.O.Outside.honest c.attempt.new.outside) g.O.Outside.ours g.O.Outside.alone g.opening c.args.options.now start (g.R.Rng.stream c.attempt.new.rng) s0.device) (g.O.Outside.honest c.attempt.new.outside → ⊥) (TellsNoRun (g.O.Outside.honest c.attempt.new.outside) (g.O.Outside.seen c.attempt.new.outside).device) c.in-Err.fault s0 s1 s2 (more_found c.loop-tried.tried s0 now s1 i.told e) appends other c.in-Err.ensures.part (λ t h. (t h).0) (λ k. record { drawn = g.R.Rng.stream c.loop-tried.rng; moved = i.moved; on = c.attempt.ensures.moved; count = k.count; repeats = k.repeats; wanted = λ h asked at. k.wanted h (subst before (sym device) (i.left (c.again.ensures.was_honest (c.attempt.ensures.was_honest h)) asked at)) }) (λ b h. b h (subst (λ (d : Device). IsReached c.loop-tried.run d.files) (sym device) (i.reached (c.again.ensures.was_honest (c.attempt.ensures.was_honest h))))) (λ e t. t)
+    caused_since _ _ _ (g.O.Outside.honest c.attempt.new.outside → HoldsOtherMap c.args.options.now.keywords s2.device) (HaveRepeated (g.O.Outside.honest c.attempt.new.outside) g.opening c.args.options.now start (g.R.Rng.stream c.attempt.new.rng) s0.device) (g.O.Outside.honest c.attempt.new.outside → ⊥) (TellsNoRun (g.O.Outside.honest c.attempt.new.outside) (g.O.Outside.seen c.attempt.new.outside).device) c.in-Err.fault s0 s1 s2 (more_found c.loop-tried.tried s0 now s1 i.told e) appends other c.in-Err.ensures.part (λ t h. (t h).0) (λ k. record { drawn = g.R.Rng.stream c.loop-tried.rng; moved = i.moved; on = c.attempt.ensures.moved; count = k.count; repeats = k.repeats; wanted = λ h asked at. k.wanted h (subst before (sym device) (i.left (c.again.ensures.was_honest (c.attempt.ensures.was_honest h)) asked at)) }) (λ b h. b h (subst (λ (d : Device). IsReached c.loop-tried.run d.files) (sym device) (i.reached (c.again.ensures.was_honest (c.attempt.ensures.was_honest h))))) (λ e t. t)
 
 pub returns-in-Err-clause-counts : goal.returns-in-Err-clause-counts
 returns-in-Err-clause-counts g c =
@@ -183,7 +183,7 @@ returns-in-Err-clause-counts g c =
     let s2 = g.O.Outside.seen c.attempt.new.outside in
     let part = c.in-Err.ensures.part in
     let kept = part.no_less.reopened in
-    let reopens = reopens_more g.O.Outside.ours g.O.Outside.alone g.opening _ tried s0 now s1 s2 i.first c.again.ensures.seen i.reopened kept in
+    let reopens = reopens_more g.opening _ tried s0 now s1 s2 i.first c.again.ensures.seen i.reopened kept in
     let other : c.in-Err.fault ≡ run.Stopped → ⊥ = search rules in
     record {
       stopped = λ is. absurd (other is);

@@ -2,8 +2,8 @@ use Rattle.std.proofs.Common.{◌≡◌, ◌≤◌, ◌-◌, ◌+◌, ◌^◌, N
 use Rattle.book.specs.declared.book.Pending.{Pending}
 use Rattle.book.specs.Books.{Holds}
 use Rattle.rules.specs.declared.state.SyncState.{SyncState}
-use Rattle.runner.specs.Answers.{IsAsked, Moves}
-use Rattle.runner.specs.Attempts.{AtOpening, IsReached, IsTried, MetStops}
+use Rattle.runner.specs.Answers.{Inputs, Moves}
+use Rattle.runner.specs.Attempts.{AtOpening, IsReached, AttemptStart, MetStops}
 use Rattle.runner.specs.Parts.{TellsMore}
 use Rattle.runner.specs.Validities.{IsKept}
 use Rattle.runner.proofs.Reopening.{Attempted}
@@ -25,12 +25,12 @@ invariant-loop-tried g l =
       stops : MetStops l.tried start now;
       told : TellsMore start now;
       appends : start.appends ≤ now.appends;
-      reopened : Attempted ours alone g.opening (g.O.Outside.honest l.outside × IsAsked ours g.opening l.options (g.R.Rng.stream l.fn.rng) × AtOpening ours alone g.opening start.device) (l.tried - 1) start now;
+      reopened : Attempted ours alone g.opening (g.O.Outside.honest l.outside × Inputs g.opening l.options (g.R.Rng.stream l.fn.rng) × AtOpening g.opening start.device) (l.tried - 1) start now;
       first : l.tried ≡ 0 → now ≡ start;
       unfixed : l.tried ≡ 0 → l.run ≡ None;
       reached : g.O.Outside.honest l.outside → IsReached l.run now.device.files;
       undrawn : l.tried ≡ 0 → g.R.Rng.stream l.rng ≡ g.R.Rng.stream l.fn.rng;
       stuck : l.tried ≤ 1 → start.is_broken ≡ true → now ≡ start;
-      left : g.O.Outside.honest l.outside → IsAsked ours g.opening l.options (g.R.Rng.stream l.fn.rng) → AtOpening ours alone g.opening start.device → IsTried ours alone g.opening l.options (g.R.Rng.stream l.rng) l.run now.device;
+      left : g.O.Outside.honest l.outside → Inputs g.opening l.options (g.R.Rng.stream l.fn.rng) → AtOpening g.opening start.device → AttemptStart g.opening l.options (g.R.Rng.stream l.rng) l.run now.device;
       greatest : g.O.Outside.honest l.outside → (s : SyncState) (p : Pending) → Holds start.device.files s p → s.run + 1 ≡ 2 ^ 64 → (l.run ≡ None) × IsKept alone start.device now.device;
     }

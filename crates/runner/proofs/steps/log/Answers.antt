@@ -25,7 +25,7 @@ returns-in-Ok-clause-part g c =
     let logged = logged_of c.args.became.now in
     let has : HasLogged opened now (logged ∷ []) = rw (c.in-Ok.ensures.opened, c.logged_as.ensures) (has_logged opened logged c.requires.1.0) in
     passed_call _ _ _ _ _ _ _ _ _ _ _ (rw c.logged_as.ensures at c.in-Ok.ensures.call)
-    (λ m at a own. log_made ours alone g.opening opened logged now _ m s1.device c.requires.1.0 has a at own)
+    (λ m at a own. log_made g.opening opened logged now _ m s1.device c.requires.1.0 has a at own)
 
 pub returns-in-Err-clause-part : goal.returns-in-Err-clause-part
 returns-in-Err-clause-part g c =
@@ -35,5 +35,5 @@ returns-in-Err-clause-part g c =
     let s1 = g.O.Outside.seen c.write.new.outside in
     let logged = logged_of c.args.became.now in
     rw c.step_fault.ensures (left_step _ _ _ _ _ _ _ _ _ _ c.args.number opened _ (rw c.logged_as.ensures at c.in-Err.ensures.call) (line_of_log opened logged _)
-    (λ m at a own. rw own (done_held ours alone g.opening opened logged m (done_arrives ours alone g.opening opened logged _ m a at)))
-    (λ m at a own told. log_left ours alone g.opening opened logged c.in-Err.fault _ m s1.device c.requires.1.0 a at told own))
+    (λ m at a own. rw own (done_held g.opening opened logged m (done_arrives g.opening opened logged _ m a at)))
+    (λ m at a own told. log_left g.opening opened logged c.in-Err.fault _ m s1.device c.requires.1.0 a at told own))
