@@ -1,8 +1,8 @@
 //! One run over a mailbox that was lent.
 
 ghost use Rattle.std.specs.Prelude.{◌≡◌, Err, OnOk};
-ghost use Rattle.underway.specs.Conditions.{IsOver};
-ghost use Rattle.underway.specs.Openings.{Opening};
+ghost use Rattle.run_states.specs.Conditions.{IsOver};
+ghost use Rattle.run_states.specs.Openings.{Opening};
 ghost use Rattle.runner.specs.Answers.{Inputs};
 ghost use Rattle.runner.specs.Attempts.{AtOpening, FromOpening, MetStops};
 ghost use Rattle.channels.specs.Asks.{run_attempts};

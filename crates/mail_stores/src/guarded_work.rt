@@ -3,7 +3,6 @@
 ghost use Rattle.std.specs.Prelude.{◌≡◌};
 
 use book::shelf::Shelf;
-use both::sides::Sides;
 use channels::stores::Work;
 use far_side::logged_in::LoggedIn;
 use guarded::guard::Guard;
@@ -12,6 +11,7 @@ use imap_link::link::Link;
 use mailcore::keywords::Keywords;
 use maildir::folder::Folder;
 use near_places::lock::Lock;
+use run_both::sides::Sides;
 use runner::progress::Progress;
 use std::alloc::Global;
 use std::num::NonZeroU32;

@@ -25,10 +25,10 @@ use Rattle.imap_session.specs.Servers.{Server}
 use Rattle.far_side.specs.Chosen.{settled, store_at}
 use Rattle.outside.specs.Calls.{Seen}
 use Rattle.outside.specs.Devices.{Device}
-use Rattle.pair.specs.Parts.{device_with}
-use Rattle.pair.specs.Tallies.{seen_with, untouched}
-use Rattle.underway.specs.Endings.{IsDone}
-use Rattle.alike_laws.specs.Beginnings.{Begins, HoldsWorld}
+use Rattle.run_pair.specs.Parts.{device_with}
+use Rattle.run_pair.specs.Tallies.{seen_with, untouched}
+use Rattle.run_states.specs.Endings.{IsDone}
+use Rattle.law_alike.specs.Beginnings.{Begins, HoldsWorld}
 use Rattle.runner.specs.declared.fault.RunFault.{RunFault}
 use Rattle.runner.specs.Attempts.{HasNoNext, TellsNoNext}
 use Rattle.run_trial.specs.declared.trial.Trial.{Trial}

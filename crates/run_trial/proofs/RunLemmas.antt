@@ -6,11 +6,11 @@ use Rattle.rules.specs.declared.state.SyncState.{SyncState}
 use Rattle.rules.specs.World.{World}
 use Rattle.outside.specs.Calls.{Seen}
 use Rattle.outside.specs.Devices.{Device}
-use Rattle.underway.specs.Conditions.{IsOver, Underway}
-use Rattle.underway.specs.Endings.{IsDone}
-use Rattle.underway.specs.Openings.{world_at}
-use Rattle.alike_laws.specs.Beginnings.{Begins, opening_of}
-use Rattle.alike_laws.proofs.Beginnings.{world_is_unplanned}
+use Rattle.run_states.specs.Conditions.{IsOver, Underway}
+use Rattle.run_states.specs.Endings.{IsDone}
+use Rattle.run_states.specs.Openings.{world_at}
+use Rattle.law_alike.specs.Beginnings.{Begins, opening_of}
+use Rattle.law_alike.proofs.Beginnings.{world_is_unplanned}
 use Rattle.runner.specs.declared.fault.RunFault.{RunFault}
 use Rattle.runner.specs.Answers.{Inputs}
 use Rattle.runner.specs.declared.fault.RunFault.TheVariants as run

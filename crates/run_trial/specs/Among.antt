@@ -11,9 +11,9 @@ use Rattle.rules.specs.declared.state.SyncState.{SyncState}
 use Rattle.rules.specs.World.{World}
 use Rattle.outside.specs.Calls.{Seen}
 use Rattle.outside.specs.Devices.{Device}
-use Rattle.pair.specs.Tallies.{seen_with, untouched}
-use Rattle.underway.specs.Conditions.{IsOver, Underway}
-use Rattle.alike_laws.specs.Beginnings.{opening_of}
+use Rattle.run_pair.specs.Tallies.{seen_with, untouched}
+use Rattle.run_states.specs.Conditions.{IsOver, Underway}
+use Rattle.law_alike.specs.Beginnings.{opening_of}
 use Rattle.runner.specs.declared.fault.RunFault.{RunFault}
 use Rattle.runner.specs.Faults.{LeavesRun}
 use Rattle.run_trial.specs.declared.arrival.FarArrival.{FarArrival}

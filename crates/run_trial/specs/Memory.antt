@@ -4,9 +4,9 @@ use Rattle.rules.specs.declared.options.Options.{Options}
 use Rattle.rules.specs.World.{World}
 use Rattle.outside.specs.Calls.{Seen}
 use Rattle.outside.specs.Devices.{Device}
-use Rattle.pair.specs.Tallies.{seen_with, untouched}
-use Rattle.underway.specs.Conditions.{Underway}
-use Rattle.alike_laws.specs.Beginnings.{opening_of}
+use Rattle.run_pair.specs.Tallies.{seen_with, untouched}
+use Rattle.run_states.specs.Conditions.{Underway}
+use Rattle.law_alike.specs.Beginnings.{opening_of}
 use Rattle.runner.specs.declared.fault.RunFault.{RunFault}
 use Rattle.runner.specs.Faults.{LeavesRun}
 

@@ -6,7 +6,7 @@ use Rattle.mailcore.specs.Stores.{Store}
 use Rattle.rules.specs.declared.options.Options.{Options}
 use Rattle.rules.specs.declared.state.SyncState.{SyncState}
 use Rattle.worlds.specs.Trial.{trial_step}
-use Rattle.underway.specs.Openings.{Opening}
+use Rattle.run_states.specs.Openings.{Opening}
 
 -- what the generator of a trial gives, from its first word on
 abbrev pub trial_stream : Stream

@@ -11,7 +11,7 @@ use Rattle.book.specs.Shelves.{Files, bytes_of}
 use Rattle.near_box.specs.Mailboxes.{near_of}
 use Rattle.far_side.specs.Chosen.{box_at}
 use Rattle.outside.specs.Devices.{Device}
-use Rattle.pair.specs.Parts.{device_with}
+use Rattle.run_pair.specs.Parts.{device_with}
 use Rattle.run_trial.specs.declared.trial.Trial.{Trial}
 use Rattle.run_trial.specs.Folders.{folder_of}
 use Rattle.run_trial.specs.Shelves.{shelf_of}

@@ -2,7 +2,7 @@
 
 ghost use Rattle.std.specs.Prelude.{◌≡◌, ◌≤◌, IfErr, IfOk};
 ghost use Rattle.rand_core.specs.Stream.{Stream};
-ghost use Rattle.underway.specs.Openings.{Opening};
+ghost use Rattle.run_states.specs.Openings.{Opening};
 ghost use Rattle.runner.specs.Attempts.{FromOpening, HasNoNext};
 ghost use Rattle.runner.specs.Parts.{IsStuck};
 ghost use Rattle.runner.specs.Results.{HasResults};

@@ -18,10 +18,10 @@ use Rattle.outside.specs.Calls.{FromShelf, Seen, opened_again}
 use Rattle.outside.specs.Devices.{Device}
 use Rattle.outside.specs.GoingOn.{FilesGoOn, GoesOnTo}
 use Rattle.outside.specs.Opened.{IsHeld, Opened, state_of}
-use Rattle.underway.specs.Conditions.{IsPending, Underway}
-use Rattle.underway.specs.Openings.{Opening, Unplanned}
-use Rattle.underway.proofs.Arrived.{pending_arrives}
-use Rattle.underway.proofs.Growth.{unplanned_arrives}
+use Rattle.run_states.specs.Conditions.{IsPending, Underway}
+use Rattle.run_states.specs.Openings.{Opening, Unplanned}
+use Rattle.run_states.proofs.Arrived.{pending_arrives}
+use Rattle.run_states.proofs.Growth.{unplanned_arrives}
 use Rattle.mailcore.specs.declared.keywords.Keyword.{Keyword}
 use Rattle.mailcore.specs.declared.side.Side.{Side}
 use Rattle.runner.specs.declared.fault.RunFault.{RunFault}

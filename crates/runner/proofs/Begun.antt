@@ -19,13 +19,13 @@ use Rattle.mailbox.proofs.Listed.{lists_since, told_most}
 use Rattle.outside.specs.BoxCalls.{Admits, AdmitsPart, ListsFar}
 use Rattle.outside.specs.Devices.{Device}
 use Rattle.outside.specs.Opened.{Opened, turned}
-use Rattle.underway.specs.Conditions.{Underway}
-use Rattle.underway.specs.Moments.{Listed}
-use Rattle.underway.specs.Openings.{Opening, Since, Unplanned}
-use Rattle.underway.proofs.Admitting.{drop_whole, grows_numbered}
-use Rattle.underway.proofs.Growth.{files_same, since_map, unplanned_arrives, unplanned_filed}
-use Rattle.underway.proofs.Listings.{grows_next, listed_arrives, listed_grows, listed_here, listed_world, names_below, plan_written as written_midway}
-use Rattle.underway.proofs.Moves.{spares_more}
+use Rattle.run_states.specs.Conditions.{Underway}
+use Rattle.run_states.specs.Moments.{Listed}
+use Rattle.run_states.specs.Openings.{Opening, Since, Unplanned}
+use Rattle.run_states.proofs.Admitting.{drop_whole, grows_numbered}
+use Rattle.run_states.proofs.Growth.{files_same, since_map, unplanned_arrives, unplanned_filed}
+use Rattle.run_states.proofs.Listings.{grows_next, listed_arrives, listed_grows, listed_here, listed_world, names_below, plan_written as written_midway}
+use Rattle.run_states.proofs.Moves.{spares_more}
 use Rattle.runner.specs.Before.{AreOld, AreShown, BothListed, FarListed, IsClear, IsMade}
 use Rattle.runner.specs.Going.{BeforeStep}
 use Rattle.runner.proofs.Within.{shown_within}

@@ -6,8 +6,8 @@ use Rattle.mailcore.specs.declared.side.Side.{Side}
 use Rattle.rules.specs.declared.options.Options.{Options}
 use Rattle.outside.specs.Calls.{Seen}
 use Rattle.outside.specs.Devices.{Device}
-use Rattle.underway.specs.Conditions.{IsOver}
-use Rattle.underway.specs.Openings.{Opening}
+use Rattle.run_states.specs.Conditions.{IsOver}
+use Rattle.run_states.specs.Openings.{Opening}
 use Rattle.runner.specs.declared.fault.RunFault.{RunFault}
 use Rattle.runner.specs.declared.fault.RunFault.TheVariants as run
 use Rattle.runner.specs.declared.pass.Settled.{Settled}

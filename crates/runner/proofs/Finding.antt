@@ -29,22 +29,22 @@ use Rattle.book.specs.declared.book.Pending.TheVariants.{Missing, Useless, Plann
 use Rattle.book.specs.Books.{Holds, Turns, mended}
 use Rattle.book.specs.Shelves.{Files}
 use Rattle.book.proofs.KnownBooks.{book_known}
-use Rattle.step_laws.specs.Steps.{Boxes, after, boxes_of, own, step_after, box as messages_in, with_box as with_messages_in}
-use Rattle.step_laws.specs.OwnLaws.{is_own}
-use Rattle.step_laws.proofs.Fold.{after-more}
-use Rattle.run_laws.specs.CommitLaws.{results_of}
+use Rattle.law_steps.specs.Steps.{Boxes, after, boxes_of, own, step_after, box as messages_in, with_box as with_messages_in}
+use Rattle.law_steps.specs.OwnLaws.{is_own}
+use Rattle.law_steps.proofs.Fold.{after-more}
+use Rattle.law_outcome.specs.CommitLaws.{results_of}
 use Rattle.visitors.specs.Visitors.{IsForeign}
 use Rattle.outside.specs.Arrivals.{Arrives}
 use Rattle.outside.specs.BookCalls.{OfBook}
 use Rattle.outside.specs.Calls.{Seen}
 use Rattle.outside.specs.Devices.{Device, box}
 use Rattle.outside.specs.Opened.{IsHeld, Opened, turned, with_box}
-use Rattle.underway.specs.Moments.{IsSought, Midway, Stands, boxes_at}
-use Rattle.underway.specs.Openings.{Opening}
-use Rattle.underway.specs.Plans.{IsPlanned, first_uid, next_of}
-use Rattle.underway.proofs.Copies.{sought}
-use Rattle.underway.proofs.Ends.{marks_are}
-use Rattle.underway.proofs.NextSteps.{next_contained, result_is, result_less, results_more}
+use Rattle.run_states.specs.Moments.{IsSought, Midway, Stands, boxes_at}
+use Rattle.run_states.specs.Openings.{Opening}
+use Rattle.run_states.specs.Plans.{IsPlanned, first_uid, next_of}
+use Rattle.run_states.proofs.Copies.{sought}
+use Rattle.run_states.proofs.Ends.{marks_are}
+use Rattle.run_states.proofs.NextSteps.{next_contained, result_is, result_less, results_more}
 use Rattle.runner.specs.declared.fault.RunFault.{RunFault}
 use Rattle.runner.specs.declared.pass.Pass.{Pass}
 use Rattle.runner.specs.declared.pass.Pass.TheVariants.{Already, Ran, Finished}

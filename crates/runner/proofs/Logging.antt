@@ -21,11 +21,11 @@ use Rattle.outside.specs.BookCalls.{FromLog, IsTaken, OfBook, OnFiles}
 use Rattle.outside.specs.Calls.{LeavesBy}
 use Rattle.outside.specs.Devices.{Device}
 use Rattle.outside.specs.Opened.{IsOpen, Opened, TakesLog, journal_in, state_of, turned}
-use Rattle.underway.specs.Conditions.{Underway}
-use Rattle.underway.specs.Moments.{Midway, PlannedAt, with_log}
-use Rattle.underway.specs.Openings.{Opening}
-use Rattle.underway.specs.Plans.{next_of}
-use Rattle.underway.proofs.Moves.{midway_filed}
+use Rattle.run_states.specs.Conditions.{Underway}
+use Rattle.run_states.specs.Moments.{Midway, PlannedAt, with_log}
+use Rattle.run_states.specs.Openings.{Opening}
+use Rattle.run_states.specs.Plans.{next_of}
+use Rattle.run_states.proofs.Moves.{midway_filed}
 use Rattle.runner.specs.Going.{AfterStep, BeforeStep, FitsNext, HasLogged, HasUntorn, IsGoing, IsUntorn, log_at, next_at, no_journal, number_at, plan_at, version_at, version_in}
 use Rattle.runner.proofs.FreeCopies.{copy_is_free}
 use Rattle.runner.proofs.PartCalls.{TellsNoBook}

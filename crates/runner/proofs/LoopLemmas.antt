@@ -3,7 +3,7 @@ use Rattle.std.proofs.Common.{◌≡◌, ◌<◌, ◌-◌, ◌+◌, List, [], �
 use Rattle.rules.specs.declared.plan.Step.{Step}
 use Rattle.sync_state.specs.declared.journal.Logged.{Logged}
 use Rattle.outside.specs.Opened.{Opened}
-use Rattle.underway.proofs.NextSteps.{next_less, drop_next}
+use Rattle.run_states.proofs.NextSteps.{next_less, drop_next}
 use Rattle.runner.specs.declared.performed.Performed.{Performed}
 use Rattle.runner.specs.Going.{HasLogged, log_at, logged_of, logs_of, made_by, made, next_at, plan_at, steps_of}
 

@@ -3,8 +3,8 @@ use Rattle.std.proofs.Common.{◌≡◌, ◌<◌, ◌≤◌, ◌+◌, ℕ, lengt
 use Rattle.rules.specs.declared.plan.Step.{Step}
 use Rattle.sync_state.specs.declared.journal.Journal.{Journal}
 use Rattle.outside.specs.Opened.{Opened, journal_of}
-use Rattle.underway.specs.Plans.{next_of}
-use Rattle.underway.proofs.NextSteps.{next_at_get, next_past}
+use Rattle.run_states.specs.Plans.{next_of}
+use Rattle.run_states.proofs.NextSteps.{next_at_get, next_past}
 use Rattle.runner.specs.Going.{NextAt, no_journal}
 
 pub next_none : (opened : Option Opened) (j : Journal) → Some j ≡ journal_of opened → length j.plan.steps ≤ length j.log → NextAt opened None

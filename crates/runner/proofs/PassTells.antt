@@ -9,8 +9,8 @@ use Rattle.book.specs.declared.book.Pending.{Pending}
 use Rattle.book.specs.declared.book.Pending.TheVariants.{Missing}
 use Rattle.book.specs.Books.{Holds}
 use Rattle.outside.specs.Devices.{Device}
-use Rattle.underway.specs.Endings.{IsDone}
-use Rattle.underway.specs.Openings.{IsIdle, Opening}
+use Rattle.run_states.specs.Endings.{IsDone}
+use Rattle.run_states.specs.Openings.{IsIdle, Opening}
 use Rattle.runner.specs.declared.fault.RunFault.{RunFault}
 use Rattle.runner.specs.declared.pass.Pass.{Pass}
 use Rattle.runner.specs.declared.pass.Pass.TheVariants.{Already}

@@ -31,13 +31,13 @@ use Rattle.outside.specs.Devices.{Device}
 use Rattle.outside.specs.Calls.{Seen}
 use Rattle.outside.specs.Opened.{IsBook, IsHeld, IsRead, Opened, TakesCommit, journal_in, state_of, turned, with_box}
 use Rattle.mailcore.specs.declared.side.Side.TheVariants.{Far, Near}
-use Rattle.underway.specs.Conditions.{IsOver, IsPending, Underway}
-use Rattle.underway.specs.Endings.{DoneAt, IsDone}
-use Rattle.underway.specs.Moments.{PlannedAt, Stands}
-use Rattle.underway.specs.Openings.{Grows, IsIdle, Opening, Since, Unplanned}
-use Rattle.underway.specs.Plans.{IsPlanned}
-use Rattle.underway.proofs.Ends.{done_is_done, ended, ended_done, half_ended}
-use Rattle.underway.proofs.Growth.{since_map}
+use Rattle.run_states.specs.Conditions.{IsOver, IsPending, Underway}
+use Rattle.run_states.specs.Endings.{DoneAt, IsDone}
+use Rattle.run_states.specs.Moments.{PlannedAt, Stands}
+use Rattle.run_states.specs.Openings.{Grows, IsIdle, Opening, Since, Unplanned}
+use Rattle.run_states.specs.Plans.{IsPlanned}
+use Rattle.run_states.proofs.Ends.{done_is_done, ended, ended_done, half_ended}
+use Rattle.run_states.proofs.Growth.{since_map}
 use Rattle.runner.specs.declared.fault.RunFault.{RunFault}
 use Rattle.runner.specs.declared.fault.RunFault.TheVariants as run
 use Rattle.runner.specs.declared.pass.Pass.{Pass}

@@ -25,7 +25,7 @@ use Rattle.book.proofs.BegunPlans.{begun_agrees}
 use Rattle.rand_core.specs.Stream.{Stream}
 use Rattle.mailbox.specs.Operations.{HasNumbers}
 use Rattle.outside.specs.Opened.{IsRead, Opened, TakesPlan, state_of}
-use Rattle.underway.specs.Plans.{IsPlanned, first_uid}
+use Rattle.run_states.specs.Plans.{IsPlanned, first_uid}
 use Rattle.runner.specs.Answers.{AreDrawn, IsDrawn, Moves, RepeatsFor, RepeatsIn, run_of}
 use Rattle.runner.specs.Before.{AreOld, AreShown, HasNoJournal}
 use Rattle.runner.proofs.Fitness.{count_same, highest_same, notes_same, steps_same, unfit_same}

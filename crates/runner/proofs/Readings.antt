@@ -25,13 +25,13 @@ use Rattle.outside.specs.BookCalls.{OfBook, OnFiles, TellsFiles}
 use Rattle.outside.specs.Calls.{FromShelf}
 use Rattle.outside.specs.Devices.{Device}
 use Rattle.outside.specs.Opened.{IsBook, IsHeld, IsRead, Opened, TakesDiscard, journal_in, journal_of, state_of, turned, with_box}
-use Rattle.underway.specs.Conditions.{Underway}
-use Rattle.underway.specs.Endings.{DoneAt}
-use Rattle.underway.specs.Moments.{PlannedAt, Stands, with_log}
-use Rattle.underway.specs.Openings.{IsIdle, Opening, Unplanned}
-use Rattle.underway.proofs.Arrived.{alike_filed, pending_arrives, underway_arrives}
-use Rattle.underway.proofs.Growth.{files_same, since_map, unplanned_arrives, unplanned_filed}
-use Rattle.underway.proofs.Moves.{midway_filed}
+use Rattle.run_states.specs.Conditions.{Underway}
+use Rattle.run_states.specs.Endings.{DoneAt}
+use Rattle.run_states.specs.Moments.{PlannedAt, Stands, with_log}
+use Rattle.run_states.specs.Openings.{IsIdle, Opening, Unplanned}
+use Rattle.run_states.proofs.Arrived.{alike_filed, pending_arrives, underway_arrives}
+use Rattle.run_states.proofs.Growth.{files_same, since_map, unplanned_arrives, unplanned_filed}
+use Rattle.run_states.proofs.Moves.{midway_filed}
 use Rattle.runner.specs.Before.{HasNoPlan, HasNone, HasPlan, IsClear, IsEmptied, ReadUnderway, Resumed}
 use Rattle.runner.specs.Going.{AreOpen, BeforeStep}
 use Rattle.runner.proofs.PartCalls.{TellsNoBook}

@@ -7,8 +7,8 @@ use Rattle.outside.specs.Calls.{Seen}
 use Rattle.outside.specs.Devices.{Device}
 use Rattle.outside.specs.GoingOn.{GoesOn}
 use Rattle.outside.proofs.GoingOn.{stays}
-use Rattle.underway.specs.Conditions.{Underway}
-use Rattle.underway.specs.Openings.{Opening}
+use Rattle.run_states.specs.Conditions.{Underway}
+use Rattle.run_states.specs.Openings.{Opening}
 use Rattle.runner.specs.Answers.{Moves}
 use Rattle.runner.specs.Attempts.{LastAttempt, GoesOnOver, Reopens, AttemptAt, began_on, found_by}
 use Rattle.runner.proofs.Attempts.{found_device, found_first, found_later, tried_underway}

@@ -14,7 +14,7 @@ use Rattle.rules.specs.World.{World, IsInOrder, NamesBelow, store}
 use Rattle.sync_state.specs.declared.version.Version.{Version}
 use Rattle.sync_state.specs.declared.journal.Logged.{Logged}
 use Rattle.sync_state.specs.declared.journal.Logged.TheVariants.{Copied, Done}
-use Rattle.step_laws.specs.Steps.{changed_uid, step_after, box as messages_in}
+use Rattle.law_steps.specs.Steps.{changed_uid, step_after, box as messages_in}
 use Rattle.outside.specs.declared.fault.OutsideFault.{OutsideFault}
 use Rattle.outside.specs.declared.fault.OutsideFault.TheVariants as out
 use Rattle.outside.specs.declared.outside.Carried.{Carried}
@@ -25,17 +25,17 @@ use Rattle.outside.specs.BoxCalls.{Carry, Names, SetsAside, Turns}
 use Rattle.outside.specs.Calls.{DoesSome, LeavesBy}
 use Rattle.outside.specs.Devices.{Device, Named, box}
 use Rattle.outside.specs.Opened.{Opened}
-use Rattle.underway.specs.Conditions.{Underway}
-use Rattle.underway.specs.Moments.{HasBegun, Midway, PlannedAt, Stands, boxes_at}
-use Rattle.underway.specs.Openings.{Grows, Opening}
-use Rattle.underway.specs.Plans.{IsPlanned, first_uid, names_of}
-use Rattle.underway.proofs.Arrived.{stands_arrives}
-use Rattle.underway.proofs.Copies.{brought, copy_found, not_absent, not_unfit, sought}
-use Rattle.underway.proofs.Expunging.{stands_deleted}
-use Rattle.underway.proofs.Flagging.{clear_made, clear_none, none_made, set_made}
-use Rattle.underway.proofs.Moves.{IsMoved, begun_named as has_begun_named, midway_arrives, midway_set_aside, moved, stands_named}
-use Rattle.underway.proofs.Naming.{named_before}
-use Rattle.underway.proofs.Plain.{any_whole}
+use Rattle.run_states.specs.Conditions.{Underway}
+use Rattle.run_states.specs.Moments.{HasBegun, Midway, PlannedAt, Stands, boxes_at}
+use Rattle.run_states.specs.Openings.{Grows, Opening}
+use Rattle.run_states.specs.Plans.{IsPlanned, first_uid, names_of}
+use Rattle.run_states.proofs.Arrived.{stands_arrives}
+use Rattle.run_states.proofs.Copies.{brought, copy_found, not_absent, not_unfit, sought}
+use Rattle.run_states.proofs.Expunging.{stands_deleted}
+use Rattle.run_states.proofs.Flagging.{clear_made, clear_none, none_made, set_made}
+use Rattle.run_states.proofs.Moves.{IsMoved, begun_named as has_begun_named, midway_arrives, midway_set_aside, moved, stands_named}
+use Rattle.run_states.proofs.Naming.{named_before}
+use Rattle.run_states.proofs.Plain.{any_whole}
 use Rattle.runner.specs.Going.{DuringStep, AfterCopy, AfterStep, AtMoment, BeforeStep, AfterSearch, CopiesUnder, FoundCopy, StepStart, log_at, next_at, number_at, plan_at, version_at}
 use Rattle.runner.specs.Faults.{RefusedAt}
 use Rattle.runner.proofs.Wholes.{removed_is}
@@ -220,7 +220,7 @@ module _ {ours : List ℕ → Bool} {alone : Bool} (opening : Opening ours alone
 
   -- ---- a call that is a whole step
 
-  pub whole_made : (s : Step) → next_at opened ≡ Some s → Rattle.step_laws.specs.Steps.makes_copy s ≡ false → (d m d' : Device) → Arrives ours alone d m → BeforeStep opening opened true d → IsMoved (names_of s) m d' (step_after (boxes_at m) s None) → AfterStep opening opened Done d'
+  pub whole_made : (s : Step) → next_at opened ≡ Some s → Rattle.law_steps.specs.Steps.makes_copy s ≡ false → (d m d' : Device) → Arrives ours alone d m → BeforeStep opening opened true d → IsMoved (names_of s) m d' (step_after (boxes_at m) s None) → AfterStep opening opened Done d'
   whole_made s is plain d m d' a r c = moment_map opening opened _ _ (λ w g b at. any_whole ours alone w opening.options version plan log s is plain g.in_order b false m d' at c) (ready_arrives true d m a r)
 
   -- a message whose expunge is next is marked as deleted, if it is there

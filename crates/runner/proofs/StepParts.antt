@@ -8,7 +8,7 @@ use Rattle.outside.specs.Devices.{Device}
 use Rattle.outside.specs.Opened.{Opened}
 use Rattle.rules.specs.Outcome.{count_new}
 use Rattle.rules.specs.World.{scene_of}
-use Rattle.underway.specs.Openings.{Opening, Since}
+use Rattle.run_states.specs.Openings.{Opening, Since}
 use Rattle.runner.specs.declared.fault.RunFault.{RunFault}
 use Rattle.runner.specs.Answers.{HasRepeats}
 use Rattle.runner.specs.Faults.{Reasons, RefusedAt, TellsRefused, because, or_keywords, or_refused}

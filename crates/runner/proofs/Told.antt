@@ -19,17 +19,17 @@ use Rattle.book.specs.declared.book.Pending.TheVariants.{Missing, Useless, Plann
 use Rattle.book.specs.Books.{Holds}
 use Rattle.book.specs.Commits.{CommitsTo, Makes}
 use Rattle.book.specs.Committed.{entries_of_copies, entry_of_copy, kept_entries}
-use Rattle.step_laws.specs.Steps.{Fit}
-use Rattle.run_laws.specs.CommitLaws.{results_of}
+use Rattle.law_steps.specs.Steps.{Fit}
+use Rattle.law_outcome.specs.CommitLaws.{results_of}
 use Rattle.outside.specs.Arrivals.{Arrives}
 use Rattle.outside.specs.BookCalls.{OfBook}
 use Rattle.outside.specs.Devices.{Device}
 use Rattle.outside.specs.Opened.{AreCommitted, IsHeld, Opened, journal_in}
-use Rattle.underway.specs.Endings.{EndedUnder}
-use Rattle.underway.specs.Openings.{Opening}
-use Rattle.underway.specs.Plans.{IsPlanned}
-use Rattle.underway.proofs.Ends.{ended, whole_at}
-use Rattle.underway.proofs.Growth.{since_map}
+use Rattle.run_states.specs.Endings.{EndedUnder}
+use Rattle.run_states.specs.Openings.{Opening}
+use Rattle.run_states.specs.Plans.{IsPlanned}
+use Rattle.run_states.proofs.Ends.{ended, whole_at}
+use Rattle.run_states.proofs.Growth.{since_map}
 use Rattle.runner.specs.declared.fault.RunFault.{RunFault}
 use Rattle.runner.specs.declared.pass.Pass.{Pass}
 use Rattle.runner.specs.declared.pass.Pass.TheVariants.{Already}

@@ -13,7 +13,7 @@ use Rattle.book.specs.Books.{Holds, Turns}
 use Rattle.book.specs.Shelves.{Files}
 use Rattle.book.proofs.KnownBooks.{book_known}
 use Rattle.std.proofs.lemmas.Grind.{common_steps}
-use Rattle.underway.specs.Openings.{IsIdle}
+use Rattle.run_states.specs.Openings.{IsIdle}
 use Rattle.outside.specs.Arrivals.{Arrives}
 use Rattle.runner.specs.declared.fault.RunFault.{RunFault}
 use Rattle.runner.specs.declared.fault.RunFault.TheVariants as run

@@ -12,14 +12,14 @@ use Rattle.mailcore.specs.Operations.{flags_added}
 use Rattle.mailcore.specs.Sides.{target}
 use Rattle.rules.specs.declared.plan.Step.TheVariants as step
 use Rattle.rules.specs.FlagRule.{with_deleted}
-use Rattle.step_laws.specs.Steps.{Boxes, changed_uid, step_after, without, box as messages_in, with_box as with_messages_in}
+use Rattle.law_steps.specs.Steps.{Boxes, changed_uid, step_after, without, box as messages_in, with_box as with_messages_in}
 use Rattle.mailbox.specs.Operations.{may_go, removed}
 use Rattle.outside.specs.BoxCalls.{Turns}
 use Rattle.outside.specs.Devices.{Device}
-use Rattle.underway.specs.Moments.{boxes_at}
-use Rattle.underway.specs.Plans.{names_of}
-use Rattle.underway.proofs.Flagged.{flagged_same}
-use Rattle.underway.proofs.Moves.{IsMoved, moved}
+use Rattle.run_states.specs.Moments.{boxes_at}
+use Rattle.run_states.specs.Plans.{names_of}
+use Rattle.run_states.proofs.Flagged.{flagged_same}
+use Rattle.run_states.proofs.Moves.{IsMoved, moved}
 use Rattle.runner.specs.Going.{sets_first}
 
 without_one : (side : Side) (uid : ℕ) (ms : List Message) → All (λ m. m.uid ≡ uid → may_go side m ≡ true) ms → filter (λ m. not (m.uid == uid && may_go side m)) ms ≡ without uid ms

@@ -15,14 +15,14 @@ use Rattle.rules.specs.declared.plan.Step.{Step}
 use Rattle.rules.specs.declared.plan.Step.TheVariants as step
 use Rattle.rules.specs.World.{World}
 use Rattle.sync_state.specs.declared.journal.Logged.{Logged}
-use Rattle.step_laws.specs.Keywords.{IsWithinStep, IsWithinWorld}
-use Rattle.step_laws.proofs.Within.{deleted_within, plan_within}
+use Rattle.law_steps.specs.Keywords.{IsWithinStep, IsWithinWorld}
+use Rattle.law_steps.proofs.Within.{deleted_within, plan_within}
 use Rattle.outside.specs.Devices.{Device}
 use Rattle.outside.specs.Opened.{Opened}
-use Rattle.underway.specs.Moments.{HasBegun, Stands}
-use Rattle.underway.specs.Openings.{Opening}
-use Rattle.underway.specs.Plans.{IsPlanned, next_of}
-use Rattle.underway.proofs.NextSteps.{next_contained}
+use Rattle.run_states.specs.Moments.{HasBegun, Stands}
+use Rattle.run_states.specs.Openings.{Opening}
+use Rattle.run_states.specs.Plans.{IsPlanned, next_of}
+use Rattle.run_states.proofs.NextSteps.{next_contained}
 use Rattle.runner.specs.Going.{DuringStep, AtMoment, BeforeStep, StepStart, log_at, next_at, plan_at, version_at}
 
 -- ---- what is listed

@@ -17,9 +17,9 @@ use Rattle.book.specs.declared.book.Pending.TheVariants.{Missing, Useless, Plann
 use Rattle.book.specs.Books.{Holds}
 use Rattle.outside.specs.Devices.{Device}
 use Rattle.outside.specs.Opened.{Opened}
-use Rattle.underway.specs.Conditions.{IsOver, Underway}
-use Rattle.underway.specs.Endings.{EndedAt}
-use Rattle.underway.specs.Openings.{IsIdle, Opening, Since}
+use Rattle.run_states.specs.Conditions.{IsOver, Underway}
+use Rattle.run_states.specs.Endings.{EndedAt}
+use Rattle.run_states.specs.Openings.{IsIdle, Opening, Since}
 use Rattle.runner.specs.declared.fault.RunFault.{RunFault}
 use Rattle.runner.specs.declared.fault.RunFault.TheVariants as run
 use Rattle.runner.specs.declared.pass.Pass.{Pass}

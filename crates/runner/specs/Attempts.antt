@@ -12,8 +12,8 @@ use Rattle.book.specs.Shelves.{Files}
 use Rattle.outside.specs.Calls.{Seen}
 use Rattle.outside.specs.Devices.{Device}
 use Rattle.outside.specs.GoingOn.{GoesOn}
-use Rattle.underway.specs.Conditions.{IsPending, Underway}
-use Rattle.underway.specs.Openings.{Opening, Since, Unplanned}
+use Rattle.run_states.specs.Conditions.{IsPending, Underway}
+use Rattle.run_states.specs.Openings.{Opening, Since, Unplanned}
 use Rattle.runner.specs.declared.fault.RunFault.{RunFault}
 use Rattle.runner.specs.declared.fault.RunFault.TheVariants as run
 use Rattle.runner.specs.declared.pass.Pass.{Pass}

@@ -15,10 +15,10 @@ use Rattle.mailbox.specs.Operations.{ListsWithin}
 use Rattle.outside.specs.BoxCalls.{ListsFar}
 use Rattle.outside.specs.Devices.{Device}
 use Rattle.outside.specs.Opened.{IsHeld, Opened, state_of}
-use Rattle.underway.specs.Conditions.{IsPending, Underway}
-use Rattle.underway.specs.Moments.{Listed}
-use Rattle.underway.specs.Openings.{Grows, IsIdle, Opening, Since, SparesLater, Unplanned, world_at}
-use Rattle.underway.specs.Plans.{IsPlanned}
+use Rattle.run_states.specs.Conditions.{IsPending, Underway}
+use Rattle.run_states.specs.Moments.{Listed}
+use Rattle.run_states.specs.Openings.{Grows, IsIdle, Opening, Since, SparesLater, Unplanned, world_at}
+use Rattle.run_states.specs.Plans.{IsPlanned}
 
 -- a plan of the next run is pending
 abbrev pub HasPlan : Option Opened → Type 0

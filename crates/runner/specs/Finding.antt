@@ -12,7 +12,7 @@ use Rattle.book.specs.declared.book.Pending.{Pending}
 use Rattle.book.specs.Books.{Holds}
 use Rattle.outside.specs.Devices.{Device, box}
 use Rattle.outside.specs.Opened.{Opened}
-use Rattle.underway.specs.Plans.{first_uid}
+use Rattle.run_states.specs.Plans.{first_uid}
 use Rattle.runner.specs.declared.pass.Pass.{Pass}
 use Rattle.runner.specs.declared.pass.Pass.TheVariants.{Already, Ran, Finished}
 use Rattle.runner.specs.declared.performed.Performed.{Performed}

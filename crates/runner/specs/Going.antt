@@ -18,9 +18,9 @@ use Rattle.book.specs.declared.book.Pending.{Pending}
 use Rattle.book.specs.declared.book.Pending.TheVariants.{Missing, Useless, Planned}
 use Rattle.outside.specs.Devices.{Device}
 use Rattle.outside.specs.Opened.{IsOpen, Opened, journal_of, state_of}
-use Rattle.underway.specs.Moments.{HasBegun, IsSought, Midway, Stands}
-use Rattle.underway.specs.Openings.{Opening, Since}
-use Rattle.underway.specs.Plans.{next_of}
+use Rattle.run_states.specs.Moments.{HasBegun, IsSought, Midway, Stands}
+use Rattle.run_states.specs.Openings.{Opening, Since}
+use Rattle.run_states.specs.Plans.{next_of}
 use Rattle.runner.specs.declared.performed.Performed.{Performed}
 use Rattle.runner.specs.declared.performed.StepResult.{StepResult}
 use Rattle.runner.specs.declared.performed.StepResult.TheVariants as did

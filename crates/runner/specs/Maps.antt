@@ -4,7 +4,7 @@ use Rattle.mailcore.specs.declared.keywords.Keyword.{Keyword}
 use Rattle.book.specs.declared.book.Pending.{Pending}
 use Rattle.book.specs.declared.book.Pending.TheVariants.{Missing, Useless, Planned}
 use Rattle.outside.specs.Opened.{Opened}
-use Rattle.underway.specs.Openings.{Opening}
+use Rattle.run_states.specs.Openings.{Opening}
 
 -- ---- whether a plan has it
 

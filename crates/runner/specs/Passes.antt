@@ -6,8 +6,8 @@ use Rattle.rules.specs.Opening.{IsOpening}
 use Rattle.book.specs.declared.book.Pending.TheVariants.{Missing}
 use Rattle.book.specs.Books.{Holds}
 use Rattle.outside.specs.Devices.{Device}
-use Rattle.underway.specs.Endings.{IsDone}
-use Rattle.underway.specs.Openings.{IsIdle, Opening}
+use Rattle.run_states.specs.Endings.{IsDone}
+use Rattle.run_states.specs.Openings.{IsIdle, Opening}
 use Rattle.runner.specs.declared.pass.Pass.{Pass}
 use Rattle.runner.specs.Answers.{HasRepeats, PassStart, OfFiles}
 use Rattle.runner.specs.Faults.{Reasons, TellsBeyond, TellsUnread, because, or_beyond, or_keywords, or_unread}

@@ -14,12 +14,12 @@ use Rattle.planner.specs.Listed.{all_unfit, marks_of}
 use Rattle.sync_state.specs.declared.journal.Logged.{Logged}
 use Rattle.book.specs.declared.book.Pending.TheVariants.{Missing}
 use Rattle.book.specs.Books.{Holds}
-use Rattle.step_laws.specs.Steps.{Fit}
-use Rattle.run_laws.specs.CommitLaws.{results_of}
+use Rattle.law_steps.specs.Steps.{Fit}
+use Rattle.law_outcome.specs.CommitLaws.{results_of}
 use Rattle.outside.specs.Devices.{Device}
-use Rattle.underway.specs.Endings.{EndedUnder}
-use Rattle.underway.specs.Openings.{Opening, Since}
-use Rattle.underway.specs.Plans.{IsPlanned}
+use Rattle.run_states.specs.Endings.{EndedUnder}
+use Rattle.run_states.specs.Openings.{Opening, Since}
+use Rattle.run_states.specs.Plans.{IsPlanned}
 use Rattle.runner.specs.declared.pass.Pass.{Pass}
 use Rattle.runner.specs.declared.pass.Pass.TheVariants.{Already, Ran, Finished}
 use Rattle.runner.specs.declared.performed.Performed.{Performed}

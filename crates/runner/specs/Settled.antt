@@ -5,9 +5,9 @@ use Rattle.mailcore.specs.declared.side.Side.{Side}
 use Rattle.rules.specs.declared.options.Options.{Options}
 use Rattle.rules.specs.Opening.{IsOpening}
 use Rattle.outside.specs.Calls.{Seen}
-use Rattle.underway.specs.Conditions.{IsOver, Underway}
-use Rattle.underway.specs.Endings.{IsDone}
-use Rattle.underway.specs.Openings.{Opening}
+use Rattle.run_states.specs.Conditions.{IsOver, Underway}
+use Rattle.run_states.specs.Endings.{IsDone}
+use Rattle.run_states.specs.Openings.{Opening}
 use Rattle.runner.specs.declared.fault.RunFault.{RunFault}
 use Rattle.runner.specs.declared.fault.RunFault.TheVariants as run
 use Rattle.runner.specs.declared.pass.Settled.{Settled}

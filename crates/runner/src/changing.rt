@@ -3,9 +3,9 @@
 ghost use Rattle.std.specs.Prelude.{◌≡◌, Some, IfOk, true, false};
 ghost use Rattle.rules.specs.declared.plan.Step.TheVariants as step;
 ghost use Rattle.sync_state.specs.declared.journal.Logged.TheVariants.{Done};
-ghost use Rattle.step_laws.specs.Steps.{changed_uid};
-ghost use Rattle.underway.specs.Conditions.{Underway};
-ghost use Rattle.underway.specs.Openings.{Opening};
+ghost use Rattle.law_steps.specs.Steps.{changed_uid};
+ghost use Rattle.run_states.specs.Conditions.{Underway};
+ghost use Rattle.run_states.specs.Openings.{Opening};
 ghost use Rattle.runner.specs.Parts.{StepPart};
 ghost use Rattle.runner.specs.Going.{IsGoing, DuringStep, AfterStep, BeforeStep, logged_of, made_by, next_at, sets_first};
 

@@ -1,7 +1,7 @@
 //! What the plan that is pending says.
 
 ghost use Rattle.std.specs.Prelude.{◌≡◌};
-ghost use Rattle.underway.specs.Plans.{first_uid};
+ghost use Rattle.run_states.specs.Plans.{first_uid};
 ghost use Rattle.runner.specs.Going.{HasUntorn, NextAt, plan_at};
 
 use mailcore::side::Side;

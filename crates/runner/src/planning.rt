@@ -5,7 +5,7 @@ ghost use Rattle.mailbox.specs.Operations.{HasNumbers};
 ghost use Rattle.outside.specs.Opened.{IsRead, TakesPlan, state_of};
 ghost use Rattle.rules.specs.World.{World, IsInOrder};
 ghost use Rattle.planner.specs.Listed.{marks_of};
-ghost use Rattle.underway.specs.Plans.{IsPlanned};
+ghost use Rattle.run_states.specs.Plans.{IsPlanned};
 ghost use Rattle.rules.specs.Outcome.{count_new};
 ghost use Rattle.rules.specs.Scene.{scene};
 ghost use Rattle.runner.specs.Answers.{AreDrawn, AreUnfit, IsDrawn, IsPlanFault, Moves, RepeatsFor, RepeatsIn, run_of};

@@ -2,8 +2,8 @@
 
 ghost use Rattle.std.specs.Prelude.{◌≡◌, ◌<◌, ◌+◌, ◌^◌, [], None, IsErr, OnOk, IfOk, true, false};
 ghost use Rattle.outside.specs.Opened.{AreCommitted, IsBook, IsHeld, IsRead, TakesCommit};
-ghost use Rattle.underway.specs.Conditions.{Underway};
-ghost use Rattle.underway.specs.Openings.{Opening};
+ghost use Rattle.run_states.specs.Conditions.{Underway};
+ghost use Rattle.run_states.specs.Openings.{Opening};
 ghost use Rattle.runner.specs.Faults.{because, or_beyond, or_keywords};
 ghost use Rattle.runner.specs.Maps.{HasMapIn};
 ghost use Rattle.runner.specs.ChangedMaps.{TellsMap};

@@ -1,8 +1,8 @@
 //! A run in several attempts, each after one that met a stop.
 
 ghost use Rattle.std.specs.Prelude.{◌≡◌, ◌≤◌, ◌+◌, ◌^◌, None, Some, OnOk, OnErr, IfOk, IfErr, false, ℕ};
-ghost use Rattle.underway.specs.Conditions.{IsOver};
-ghost use Rattle.underway.specs.Openings.{Opening};
+ghost use Rattle.run_states.specs.Conditions.{IsOver};
+ghost use Rattle.run_states.specs.Openings.{Opening};
 ghost use Rattle.runner.specs.Answers.{HasRepeats, Moves, OfFiles, made_in};
 ghost use Rattle.runner.specs.Attempts.{AnswersAt, AtOpening, FromOpening, HasNoNext, HasReached, IsReached, AttemptStart, AttemptAt, found_by};
 ghost use Rattle.runner.specs.Faults.{TellsNoRun, because, or_beyond, or_keywords, or_unread};

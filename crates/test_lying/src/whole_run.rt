@@ -3,7 +3,6 @@
 ghost use Rattle.std.specs.Prelude.{◌≡◌, []};
 
 use crate::near::Devices;
-use both::sides::Sides;
 use far_side::account::Account;
 use far_side::far_side::FarSide;
 use imap_link::link::Link;
@@ -14,6 +13,7 @@ use reports::answer::answer_word;
 use reports::performed::PerformedLine;
 use rules::options;
 use rules::options::{Cells, Directions, Options};
+use run_both::sides::Sides;
 use run_trial::attempts::settle_trial;
 use runner::fault::RunFault;
 use runner::pass::{Pass, Settled};

@@ -1,7 +1,7 @@
 //! A world in memory, over which runs are made.
 
 ghost use Rattle.std.specs.Prelude.{◌≡◌, ◌↔◌, true, false, IfOk};
-ghost use Rattle.pair.specs.Pairs.{seen_of};
+ghost use Rattle.run_pair.specs.Pairs.{seen_of};
 
 use crate::calls::{BoxSchedule, Schedule};
 use book::mem_shelf::MemShelf;
@@ -12,10 +12,10 @@ use mailcore::uid::Uid;
 use mem_mailbox::kind::{OfFar, OfNear};
 use mem_mailbox::mem_mailbox::MemMailbox;
 use mem_mailbox::mem_store::MemStore;
-use pair::book_part::BookPart;
-use pair::pair::Pair;
 use rules::options::Options;
 use rules::state::SyncState;
+use run_pair::book_part::BookPart;
+use run_pair::pair::Pair;
 use run_trial::attempts::settle_trial;
 use run_trial::report::Ending;
 use run_trial::shelf::{shelf_with, state_in};

@@ -3,7 +3,7 @@ use Rattle.std.specs.Prelude.{IfErr, IfOk, OnOk}
 use Rattle.maildir.specs.MemFolders.{stored_in}
 use Rattle.book.specs.MemShelves.{files_of}
 use Rattle.outside.specs.Devices.{Device}
-use Rattle.pair.specs.Pairs.{seen_of}
+use Rattle.run_pair.specs.Pairs.{seen_of}
 use Rattle.rules.specs.declared.options.Options.{Options}
 use Rattle.rules.specs.World.{World}
 use Rattle.run_trial.specs.declared.arrival.Arrivals.{Arrivals}

@@ -6,10 +6,10 @@ use Rattle.mem_link.specs.MemLinks.{line_of}
 use Rattle.maildir.specs.MemFolders.{stored_in}
 use Rattle.book.specs.MemShelves.{files_of}
 use Rattle.outside.specs.Calls.{Seen}
-use Rattle.pair.specs.Pairs.{seen_of}
-use Rattle.alike_laws.specs.Beginnings.{Begins, opening_of}
+use Rattle.run_pair.specs.Pairs.{seen_of}
+use Rattle.law_alike.specs.Beginnings.{Begins, opening_of}
 use Rattle.imap_link.specs.Sending.{anybody}
-use Rattle.underway.specs.Conditions.{Underway}
+use Rattle.run_states.specs.Conditions.{Underway}
 use Rattle.runner.specs.Attempts.{MetStops}
 use Rattle.runner.specs.Faults.{LeavesRun}
 use Rattle.run_trial.proofs.AmongLemmas.{are_ours, left_among, over_among}

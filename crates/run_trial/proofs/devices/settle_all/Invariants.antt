@@ -1,4 +1,4 @@
-use Rattle.underway.specs.Openings.{world_at}
+use Rattle.run_states.specs.Openings.{world_at}
 use Rattle.run_trial.proofs.devices.settle_all.Given as goal
 
 -- both mailboxes are those of the outside

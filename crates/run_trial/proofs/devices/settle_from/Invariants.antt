@@ -1,4 +1,4 @@
-use Rattle.alike_laws.specs.Beginnings.{opening_of}
+use Rattle.law_alike.specs.Beginnings.{opening_of}
 use Rattle.run_trial.proofs.devices.settle_from.Given as goal
 
 abbrev pub ghost-settle_trial : goal.ghost-settle_trial

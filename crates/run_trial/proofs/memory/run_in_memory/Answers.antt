@@ -1,10 +1,10 @@
 use Rattle.std.proofs.Common.{◌≡◌, refl, sym, subst}
 use Rattle.std.specs.Prelude.{IfErr, IfOk, OnOk}
 use Rattle.outside.specs.Devices.{Device}
-use Rattle.pair.specs.Pairs.{seen_of}
+use Rattle.run_pair.specs.Pairs.{seen_of}
 use Rattle.rules.specs.declared.options.Options.{Options}
 use Rattle.rules.specs.World.{World}
-use Rattle.underway.specs.Endings.{IsDone}
+use Rattle.run_states.specs.Endings.{IsDone}
 use Rattle.run_trial.specs.Worlds.{FitsWords, device_of, world_of}
 use Rattle.run_trial.specs.Memory.{LeavesWorld}
 use Rattle.run_trial.specs.Settings.{device_in}

@@ -2,10 +2,10 @@
 use Rattle.std.proofs.Common.{◌∙◌, refl, sym, ap, subst}
 use Rattle.std.specs.Prelude.{IfErr}
 use Rattle.outside.specs.Calls.{Seen}
-use Rattle.pair.specs.Pairs.{seen_of}
+use Rattle.run_pair.specs.Pairs.{seen_of}
 use Rattle.maildir.specs.Gains.{nobody}
-use Rattle.underway.specs.Conditions.{Underway}
-use Rattle.alike_laws.specs.Beginnings.{Begins, opening_of}
+use Rattle.run_states.specs.Conditions.{Underway}
+use Rattle.law_alike.specs.Beginnings.{Begins, opening_of}
 use Rattle.runner.specs.Faults.{LeavesRun}
 use Rattle.run_trial.specs.Settings.{device_in}
 use Rattle.runner.specs.Attempts.{MetStops}

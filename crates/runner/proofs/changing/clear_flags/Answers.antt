@@ -2,9 +2,9 @@ use Rattle.std.proofs.Common.{◌≡◌, ◌==◌, ◌∙◌, ℕ, true, refl, a
 use Rattle.std.proofs.lemmas.Bool.{both_ways, eqb-true}
 use Rattle.mailcore.specs.Sides.{target}
 use Rattle.rules.specs.declared.plan.Step.TheVariants as step
-use Rattle.step_laws.specs.Steps.{changed_uid}
+use Rattle.law_steps.specs.Steps.{changed_uid}
 use Rattle.sync_state.specs.declared.journal.Logged.TheVariants.{Done}
-use Rattle.underway.specs.Conditions.{Underway}
+use Rattle.run_states.specs.Conditions.{Underway}
 use Rattle.runner.specs.Going.{DuringStep, sets_first}
 use Rattle.runner.proofs.PartCalls.{from_box, left_step, line_of_box, passed_call, passed_none}
 use Rattle.runner.proofs.Stages.{begun_arrives, begun_held, begun_named, begun_underway, clear_called, clear_uncalled, done_underway, left_by}

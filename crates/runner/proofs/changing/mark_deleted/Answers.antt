@@ -1,10 +1,10 @@
 use Rattle.std.proofs.Common.{refl, true}
 use Rattle.mailcore.specs.KeywordNames.{kept}
 use Rattle.mailcore.specs.Sides.{target}
-use Rattle.step_laws.specs.Steps.{changed_uid}
+use Rattle.law_steps.specs.Steps.{changed_uid}
 use Rattle.rules.specs.declared.plan.Step.TheVariants as step
 use Rattle.sync_state.specs.declared.journal.Logged.TheVariants.{Done}
-use Rattle.underway.specs.Conditions.{Underway}
+use Rattle.run_states.specs.Conditions.{Underway}
 use Rattle.runner.proofs.PartCalls.{from_box, left_step, line_of_box, passed_call}
 use Rattle.runner.proofs.Stages.{done_underway, left_by, ready_arrives, ready_held, ready_named, ready_underway, whole_made}
 use Rattle.runner.proofs.Wholes.{marked}

@@ -1,7 +1,7 @@
 use Rattle.std.proofs.Common.{true, refl}
 use Rattle.rules.specs.declared.plan.Step.TheVariants as step
 use Rattle.sync_state.specs.declared.journal.Logged.TheVariants.{Done}
-use Rattle.underway.specs.Conditions.{Underway}
+use Rattle.run_states.specs.Conditions.{Underway}
 use Rattle.runner.proofs.PartCalls.{from_box, left_step, line_of_box, passed_call}
 use Rattle.runner.proofs.Stages.{done_underway, expunge_made, left_by, ready_arrives, ready_held, ready_named, ready_underway}
 use Rattle.runner.proofs.changing.remove.Goals as goal

@@ -3,8 +3,8 @@ use Rattle.std.proofs.lemmas.Bool.{both_ways}
 use Rattle.std.proofs.lemmas.Grind.{common_steps}
 use Rattle.mailcore.specs.Sides.{target}
 use Rattle.rules.specs.declared.plan.Step.TheVariants as step
-use Rattle.step_laws.specs.Steps.{changed_uid}
-use Rattle.underway.specs.Conditions.{Underway}
+use Rattle.law_steps.specs.Steps.{changed_uid}
+use Rattle.run_states.specs.Conditions.{Underway}
 use Rattle.runner.specs.Going.{DuringStep, sets_first}
 use Rattle.runner.proofs.PartCalls.{from_box, left_step, line_of_box, passed_call, passed_none}
 use Rattle.runner.proofs.Stages.{begun_underway, left_by, ready_arrives, ready_held, ready_named, ready_underway, set_called, set_none}

@@ -1,5 +1,5 @@
 use Rattle.std.proofs.Common.{true, false}
-use Rattle.underway.specs.Conditions.{Underway}
+use Rattle.run_states.specs.Conditions.{Underway}
 use Rattle.runner.proofs.PartCalls.{from_box, left_call, line_of_box, passed_call}
 use Rattle.runner.proofs.Begun.{admitted_all, admitted_part, clear_arrives, clear_underway}
 use Rattle.runner.proofs.Stages.{left_by}

@@ -1,7 +1,7 @@
 use Rattle.std.proofs.Common.{false}
 use Rattle.book.specs.declared.book.Pending.TheVariants.{Missing}
 use Rattle.outside.specs.Opened.{turned}
-use Rattle.underway.specs.Conditions.{Underway}
+use Rattle.run_states.specs.Conditions.{Underway}
 use Rattle.runner.proofs.PartCalls.{from_book, left_call, line_of_book, passed_call}
 use Rattle.runner.proofs.Begun.{clear_underway}
 use Rattle.runner.proofs.Readings.{emptied, half_forgot, known_arrives, none_known, none_taken}

@@ -1,7 +1,7 @@
 use Rattle.std.proofs.Common.{◌≡◌, Option, Some, None, true, false, is_some, arith}
 use Rattle.std.proofs.lemmas.Grind.{common_steps}
-use Rattle.underway.specs.Conditions.{Underway}
-use Rattle.underway.proofs.Arrived.{underway_arrives}
+use Rattle.run_states.specs.Conditions.{Underway}
+use Rattle.run_states.proofs.Arrived.{underway_arrives}
 use Rattle.outside.specs.Devices.{Device}
 use Rattle.outside.specs.Opened.{Opened}
 use Rattle.runner.specs.Before.{HasNoPlan, HasPlan, IsEmptied}

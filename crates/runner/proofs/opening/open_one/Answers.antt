@@ -1,5 +1,5 @@
 use Rattle.std.proofs.Common.{refl, sym, ◌∙◌}
-use Rattle.underway.proofs.Arrived.{underway_arrives}
+use Rattle.run_states.proofs.Arrived.{underway_arrives}
 use Rattle.runner.specs.Before.{ReadUnderway}
 use Rattle.runner.proofs.PartCalls.{from_box, left_call, left_here, line_of_box, passed_call}
 use Rattle.runner.proofs.Readings.{known_arrives, opened_known}

@@ -1,7 +1,7 @@
 use Rattle.runner.proofs.PartCalls.{left_call, line_of_shelf, passed_call, stuck_call, whole_call}
 use Rattle.runner.proofs.Readings.{held_before, read_known, unread_files, unread_left}
 use Rattle.runner.proofs.Validities.{kept_read}
-use Rattle.underway.proofs.Arrived.{underway_arrives}
+use Rattle.run_states.proofs.Arrived.{underway_arrives}
 use Rattle.runner.proofs.Finding.{same_read}
 use Rattle.runner.proofs.opening.recall.Goals as goal
 

@@ -1,7 +1,7 @@
 use Rattle.std.proofs.Common.{true}
 use Rattle.book.specs.Books.{mended}
 use Rattle.outside.specs.Opened.{turned}
-use Rattle.underway.specs.Conditions.{Underway}
+use Rattle.run_states.specs.Conditions.{Underway}
 use Rattle.runner.proofs.PartCalls.{from_book, left_call, line_of_book, passed_call}
 use Rattle.runner.proofs.Readings.{half_untorn, known_arrives, plan_read, taken_known, untorn}
 use Rattle.runner.proofs.Stages.{left_by, ready_underway}

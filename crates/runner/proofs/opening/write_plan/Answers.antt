@@ -1,7 +1,7 @@
 use Rattle.std.proofs.Common.{true, false}
 use Rattle.book.specs.BookLogs.{begun}
 use Rattle.outside.specs.Opened.{turned}
-use Rattle.underway.specs.Conditions.{Underway}
+use Rattle.run_states.specs.Conditions.{Underway}
 use Rattle.runner.proofs.PartCalls.{from_book, left_call, line_of_book, passed_call}
 use Rattle.runner.proofs.Begun.{clear_underway, half_written, made_arrives, plan_written}
 use Rattle.runner.proofs.Stages.{left_by, ready_underway}

@@ -1,4 +1,4 @@
-use Rattle.underway.specs.Conditions.{Underway}
+use Rattle.run_states.specs.Conditions.{Underway}
 use Rattle.runner.specs.Going.{BeforeStep, log_at, plan_at}
 use Rattle.runner.specs.Parts.{Passed}
 use Rattle.runner.specs.Results.{EndsBy}

@@ -1,8 +1,8 @@
 use Rattle.std.proofs.Common.{◌≡◌, ◌≤◌, ◌+◌, List, ap, arith, refl, rules, subst, sym, ◌∙◌}
 use Rattle.std.proofs.lemmas.Result.{err_from_is_err_and}
 use Rattle.mailcore.specs.declared.keywords.Keyword.{Keyword}
-use Rattle.underway.specs.Conditions.{Underway}
-use Rattle.underway.specs.Openings.{Opening}
+use Rattle.run_states.specs.Conditions.{Underway}
+use Rattle.run_states.specs.Openings.{Opening}
 use Rattle.runner.specs.declared.fault.RunFault.TheVariants as run
 use Rattle.runner.specs.Answers.{RunEnd, Inputs, ReadPassStart, run_of}
 use Rattle.runner.specs.Going.{plan_at}

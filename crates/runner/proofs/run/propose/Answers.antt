@@ -3,7 +3,7 @@ use Rattle.std.proofs.lemmas.Result.{err_from_is_err_and}
 use Rattle.book.specs.declared.book.Pending.TheVariants.{Missing}
 use Rattle.outside.specs.Opened.{turned}
 use Rattle.rules.specs.declared.plan.Plan.{Plan}
-use Rattle.underway.specs.Conditions.{Underway}
+use Rattle.run_states.specs.Conditions.{Underway}
 use Rattle.runner.specs.Answers.{HasRepeats, Inputs, PlanStart}
 use Rattle.runner.specs.Before.{IsMade}
 use Rattle.runner.specs.Faults.{because}

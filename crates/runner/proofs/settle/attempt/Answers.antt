@@ -1,6 +1,6 @@
 use Rattle.std.proofs.Common.{◌≡◌, ◌+◌, inl, refl, arith}
 use Rattle.std.proofs.lemmas.Result.{err_from_is_err_and}
-use Rattle.underway.specs.Conditions.{IsOver}
+use Rattle.run_states.specs.Conditions.{IsOver}
 use Rattle.runner.specs.Answers.{Inputs, PassStart}
 use Rattle.runner.specs.Attempts.{AttemptStart}
 use Rattle.runner.proofs.Attempts.{asked_later, attempt_answers, attempt_changed, attempt_map, fixed_on, fixed_tried, never_beyond, none_reached, tried_fixed}

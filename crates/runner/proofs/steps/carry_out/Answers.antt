@@ -2,7 +2,7 @@ use Rattle.std.proofs.Common.{◌≡◌, List, [], ◌∷◌, ◌++◌, refl, sy
 use Rattle.std.proofs.lemmas.List.Elements.{All-push}
 use Rattle.std.proofs.lemmas.Result.{err_from_is_err_and}
 use Rattle.rules.specs.declared.plan.Step.{Step}
-use Rattle.underway.proofs.NextSteps.{drop_none}
+use Rattle.run_states.proofs.NextSteps.{drop_none}
 use Rattle.runner.specs.Going.{log_at, next_at, plan_at, steps_of}
 use Rattle.runner.proofs.StepParts.{next_told}
 use Rattle.runner.proofs.PartCalls.{left_after, left_here, passed_after, passed_weaker, left_told}

@@ -1,5 +1,0 @@
-use Rattle.alike_laws.proofs.Beginnings.{world_is_unplanned}
-use Rattle.alike_laws.proofs.world_begins_a_run.Goals as goal
-
-pub returns : goal.returns
-returns c = world_is_unplanned

@@ -1,0 +1,51 @@
+//! Laws which show that the definitions of "alike" (`rules`) and "underway" mean what we want, for whoever doubts them. For
+//! example: alike worlds have as many messages, a device on which a run is underway has one plan or none, and a message that
+//! others add during a run is left to the next one.
+#![tactic(auto)]
+
+ghost use Rattle.law_alike.specs.Beginnings as beginning;
+ghost use Rattle.law_alike.specs.Others as other;
+ghost use Rattle.law_alike.specs.Runs as run;
+ghost use Rattle.law_alike.specs.Worlds as world;
+
+/// Worlds that are alike have as many messages on each side, and as many entries.
+pub fn alike_worlds_have_as_many()
+    ensures messages { world.HaveAsManyMessages }
+    ensures entries { world.HaveAsManyEntries }
+{}
+
+/// A next run is called for the same on the world that was found as on the outcome, up to the UIDs, and for nothing else. The state that
+/// was found has its entries in order, as each that is read; the outcome may have them in any.
+pub fn next_runs_are_alike()
+    ensures called { world.NextIsOfOutcome }
+    ensures no_more { world.NextIsNoMore }
+    ensures in_order { world.NextIsInOrder }
+{}
+
+/// A device on which a run is underway has one plan, or none: the same for whatever the run is said to have begun with.
+pub fn underway_has_one_plan()
+    ensures plan { run.OnePlan }
+    ensures state { run.OneState }
+    ensures either { run.PlannedOrNot }
+{}
+
+/// Where a run is done, the next one may begin with the world that the device holds.
+pub fn done_begins_the_next_run()
+    ensures unplanned { run.DoneIsUnplanned }
+    ensures opening { run.DoneIsOpening }
+{}
+
+/// A message that others added while a run was at work, behind its listings, is left to the next one. No call was to change or to remove it,
+/// so it stands as it came. It is in no entry, and above the highest UID taken over, so the next plan copies it, where it is fit, its direction
+/// copies new messages, and it is not to be expunged.
+pub fn others_are_left_to_the_next_run()
+    ensures spared { other.OthersAreSpared }
+    ensures stay { other.OthersStay }
+    ensures left { other.OthersAreLeft }
+    ensures copied { other.OthersAreCopiedNext }
+{}
+
+/// Where a device holds a world that a run may begin with, and no journal, that run is underway: it has no plan yet.
+pub fn world_begins_a_run()
+    ensures { beginning.WorldIsUnplanned }
+{}

@@ -1,4 +1,0 @@
-use Rattle.pair.proofs.tally.Tally.reopen.Given as goal
-
-abbrev pub ghost-and : goal.ghost-and
-ghost-and g a = g.device

@@ -1,8 +1,0 @@
-use Rattle.run_laws.proofs.Example.{late_is_alike, cleaned_is_alike}
-use Rattle.run_laws.proofs.examples_are_alike.Goals as goal
-
-pub returns-clause-late : goal.returns-clause-late
-returns-clause-late c = late_is_alike
-
-pub returns-clause-cleaned : goal.returns-clause-cleaned
-returns-clause-cleaned c = cleaned_is_alike

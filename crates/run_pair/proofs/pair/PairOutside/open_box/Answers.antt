@@ -1,0 +1,55 @@
+use Rattle.std.proofs.Common.{◌∙◌, sym, refl}
+use Rattle.mailcore.specs.declared.side.Side.TheVariants as side
+use Rattle.run_pair.specs.Pairs.{CannotOpen, device_of}
+use Rattle.run_pair.specs.BookParts.{kept_of}
+use Rattle.run_pair.proofs.BoxCalls.{far_ends, near_ends, on_ok, opening}
+use Rattle.run_pair.proofs.Ending.{stuck}
+use Rattle.run_pair.proofs.Opening.{far_opened, near_opened}
+use Rattle.run_pair.proofs.pair.PairOutside.open_box.Goals as goal
+
+pub returns-then-is_broken-clause-call : goal.returns-then-is_broken-clause-call
+returns-then-is_broken-clause-call g c = stuck _ _ _ _ _ _ _ (device_of c.args.self.now) c.args.self.now.tally (sym c.is_broken.ensures ∙ c.if-is_broken.true) tt refl
+
+pub open-answer-requires : goal.open-answer-requires
+open-answer-requires g c =
+    let p = c.args.self.now in
+    let whole = sym c.is_broken.ensures ∙ c.if-is_broken.false in
+    record { whole = p.far_whole whole }
+
+pub returns-in-Far : goal.returns-in-Far
+returns-in-Far g c =
+    let p = c.args.self.now in
+    let b = c.open-answer in
+    let e = c.end_at in
+    let whole = sym c.is_broken.ensures ∙ c.if-is_broken.false in
+    let ends = far_ends p (opening (device_of p) side.Far (CannotOpen side.Far p)) b.new.self e.new.self b.result e.result whole e.ensures.same e.ensures.now (rw p.far_is at b.ensures.call) in
+    record {
+      was_honest = λ h. (b.ensures.was_honest h.0, h.1, h.2);
+      keywords = b.ensures.keywords;
+      opened = rw c.in-Far.is (on_ok side.Far _ _ b.result e.result e.ensures.same (far_opened _ _ (g.N.Mailbox.is_open p.near) (kept_of p.book)) b.ensures.open);
+      call = rw c.in-Far.is ends.call;
+      why = rw c.in-Far.is ends.why;
+      tallied = ends.tallied;
+    }
+
+pub open-answer-requires-in-Near : goal.open-answer-requires-in-Near
+open-answer-requires-in-Near g c =
+    let p = c.args.self.now in
+    let whole = sym c.is_broken.ensures ∙ c.if-is_broken.false in
+    record { whole = p.near_whole whole }
+
+pub returns-in-Near : goal.returns-in-Near
+returns-in-Near g c =
+    let p = c.args.self.now in
+    let b = c.open-answer-in-Near in
+    let e = c.end_at-in-Near in
+    let whole = sym c.is_broken.ensures ∙ c.if-is_broken.false in
+    let ends = near_ends p (opening (device_of p) side.Near (CannotOpen side.Near p)) b.new.self e.new.self b.result e.result whole e.ensures.same e.ensures.now (rw p.near_is at b.ensures.call) in
+    record {
+      was_honest = λ h. (h.0, b.ensures.was_honest h.1, h.2);
+      keywords = refl;
+      opened = rw c.in-Near.is (on_ok side.Near _ _ b.result e.result e.ensures.same (near_opened (g.F.Mailbox.is_open p.far) _ _ (kept_of p.book)) b.ensures.open);
+      call = rw c.in-Near.is ends.call;
+      why = rw c.in-Near.is ends.why;
+      tallied = ends.tallied;
+    }

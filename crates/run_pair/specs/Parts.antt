@@ -1,0 +1,35 @@
+-- The device of an outside, by its parts.
+use Rattle.std.specs.Prelude.{◌≡◌, false, ℕ, Bool, ◌&&◌, List, Option, None, Some}
+use Rattle.mailcore.specs.declared.side.Side.{Side}
+use Rattle.mailcore.specs.declared.side.Side.TheVariants as side
+use Rattle.mailcore.specs.Mailboxes.{Mailbox}
+use Rattle.book.specs.Shelves.{Files}
+use Rattle.outside.specs.Devices.{Device, Named}
+use Rattle.outside.specs.Opened.{Opened}
+use Rattle.run_pair.specs.Kept.{Kept}
+
+-- two mailboxes, the files of a shelf, and the messages that calls have named; of a far mailbox nothing waits
+abbrev pub device_with : Mailbox → Mailbox → Files → (named : List Named) → Device
+device_with far near files named = record { far = far.store; near = near; files = files; named = named }
+
+-- the device with these named messages
+abbrev pub with_named : List Named → Device → Device
+with_named named d = record d { named = named }
+
+-- the device with another mailbox on one side
+abbrev pub put : Side → Mailbox → Device → Device
+put side.Far b d = record d { far = b.store }
+put side.Near b d = record d { near = b }
+
+-- a mark that is the run's at both sides
+abbrev pub both : (ours ours' : List ℕ → Bool) → List ℕ → Bool
+both ours ours' mark = ours mark && ours' mark
+
+-- what is none of these marks is none of those
+abbrev pub IsLess : (ours ours' : List ℕ → Bool) → Type 0
+IsLess ours ours' = (mark : List ℕ) → ours mark ≡ false → ours' mark ≡ false
+
+-- what was read of the shelf, and which boxes are open
+abbrev pub opened_with : (far near : Bool) → Option Kept → Option Opened
+opened_with far near None = None
+opened_with far near (Some k) = Some (record { state = k.state; pending = k.pending; far = far; near = near })

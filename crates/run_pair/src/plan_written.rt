@@ -1,0 +1,51 @@
+//! The plan of a run is written behind a sync of the near mailbox.
+
+ghost use Rattle.std.specs.Prelude.{◌≡◌, ◌⊎◌, ◌<◌, true, false, OnOk, IfErr, IsErrOf};
+ghost use Rattle.mailcore.specs.declared.side.Side.TheVariants as sides;
+ghost use Rattle.book.specs.declared.book.Pending.TheVariants.{Missing, Useless};
+ghost use Rattle.book.specs.Books.{Turns, TurnsHalf};
+ghost use Rattle.book.specs.BookLogs.{begun};
+ghost use Rattle.mailbox.specs.Arrivals.{Arrives};
+ghost use Rattle.mailbox.specs.Calls.{HasCause};
+ghost use Rattle.outside.specs.Calls.{FromBook};
+ghost use Rattle.run_pair.specs.PartCalls.{PartChanges};
+ghost use Rattle.run_pair.specs.BookParts.{files_of, kept_of, standing_of};
+ghost use Rattle.run_pair.specs.Kept.{OfKept, TakesPlan, turned};
+
+use crate::book_part::BookPart;
+use crate::tally::told;
+use book::shelf::Shelf;
+use mailbox::mailbox::Mailbox;
+use mailcore::side::Side;
+use outside::fault::OutsideFault;
+use rules::plan::Plan;
+
+/// Writes the plan, behind a sync of the near mailbox: it names UIDs that files there were given just before.
+pub(crate) fn begin_synced<N: Mailbox, S: Shelf + Drop>(
+    near: &mut N,
+    book: &mut BookPart<S>,
+    plan: Plan,
+) -> Result<(), OutsideFault>
+    requires side { N.side ≡ sides.Near }
+    requires whole { (N.seen near.old).is_broken ≡ false }
+    requires ready { (standing_of book.old).is_ready ≡ true }
+    requires takes { TakesPlan (kept_of book.old) plan }
+    ensures was_honest { N.honest near.new → N.honest near.old }
+    ensures keywords { N.keywords near.new ≡ N.keywords near.old }
+    ensures open { N.is_open near.new ≡ N.is_open near.old }
+    ensures synced { N.is_open near.old ≡ true → (book.new ≡ book.old) ⊎ (N.is_synced near.new ≡ true) }
+    ensures whole { OnOk result ((N.seen near.new).is_broken ≡ false) }
+    ensures ready { OnOk result ((standing_of book.new).is_ready ≡ true) }
+    ensures kept { OnOk result (kept_of book.new ≡ turned (λ _. begun plan) (kept_of book.old)) }
+    ensures told { IfErr result FromBook }
+    ensures arrives { N.honest near.new → Arrives sides.Near N.ours N.alone (N.seen near.old).stored (N.seen near.new).stored }
+    ensures cause { IsErrOf result OutsideFault.Stopped → HasCause (N.ended near.old near.new) (N.seen near.old) (N.seen near.new)
+        ⊎ ((standing_of book.old).stops < (standing_of book.new).stops) }
+    ensures part { N.honest near.new → PartChanges (S.is_honest ≡ true) (λ _. OfKept (λ _. Turns Missing (begun plan)) (kept_of book.old))
+        (OfKept (λ _. TurnsHalf Missing Useless) (kept_of book.old)) (files_of book.old) (files_of book.new) result }
+{
+    match near.sync() {
+        Ok(()) => book.begin(plan),
+        Err(fault) => Err(told(Side::Near, fault)),
+    }
+}

@@ -1,0 +1,94 @@
+-- What others add to a device, before there is a plan.
+use Rattle.std.proofs.Common.{◌≡◌, ◌<◌, ◌+◌, ℕ, Bool, true, false, List, [], ◌∷◌, ◌++◌, map, refl, sym, ◌∙◌, ap, subst, arith, append-nil, append_assoc}
+use Rattle.std.proofs.lemmas.Bool.{both_ways}
+use Rattle.std.proofs.lemmas.List.Elements.{All-append, All-cons, All-nil}
+use Rattle.std.specs.Prelude.{IsPermutation}
+use Rattle.std.proofs.lemmas.List.Sorted.{IsPermutation-append_left, IsPermutation-append_right, IsPermutation-trans}
+use Rattle.std.proofs.lemmas.List.Quantifiers.{all_pairs_push}
+use Rattle.mailcore.specs.declared.mailbox.Message.{Message}
+use Rattle.mailcore.specs.declared.side.Side.TheVariants.{Far, Near as NearSide}
+use Rattle.mailcore.specs.Rise.{Rise}
+use Rattle.mailcore.specs.Stores.{IsStore, Waiting}
+use Rattle.mailcore.proofs.RiseLemmas.{rise-ends}
+use Rattle.rules.specs.declared.state.SyncState.{SyncState}
+use Rattle.rules.specs.World.{World, store}
+use Rattle.book.specs.declared.book.Pending.{Pending}
+use Rattle.book.specs.Books.{Holds}
+use Rattle.outside.specs.Arrivals.{Arrives}
+use Rattle.outside.specs.Devices.{Device}
+use Rattle.run_states.specs.Openings.{Opening, Grows, IsIdle, Since, Unplanned, world_at}
+use Rattle.run_states.proofs.Foreign.{two}
+
+-- messages that rise behind a store's
+store_more : (validity next bound : ℕ) (xs ys : List Message) → IsStore (record { validity = validity; next = next; messages = xs }) → Rise next (map (λ m. m.uid) ys) bound → IsStore (record { validity = validity; next = bound; messages = xs ++ ys })
+store_more validity next bound xs [] s r = rw append-nil (record { rising = s.rising; below = λ i d lt. let k = s.below i d lt in omega (arith, r) })
+store_more validity next bound xs (y ∷ ys) s r =
+    let one : IsStore (record { validity = validity; next = y.uid + 1; messages = xs ++ y ∷ [] }) = record {
+      rising = all_pairs_push (λ (a b : Message). a.uid < b.uid) xs y s.rising (λ k d lt. let h = s.below k d lt in let j = r.0 in omega arith);
+      below = All-append (λ (m : Message). m.uid < y.uid + 1) xs (y ∷ []) (λ i d lt. let h = s.below i d lt in let j = r.0 in omega arith) (All-cons (λ (m : Message). m.uid < y.uid + 1) y [] (omega arith) (All-nil (λ (m : Message). m.uid < y.uid + 1)));
+    } in
+    subst (λ (l : List Message). IsStore (record { validity = validity; next = bound; messages = l })) (append_assoc xs (y ∷ []) ys) (store_more validity (y.uid + 1) bound (xs ++ y ∷ []) ys one r.1)
+
+-- files come behind those that have come, some of which have their UIDs
+gathered_more : (ws arrived named waiting files now : List Waiting) → IsPermutation (ws ++ arrived) (named ++ waiting) → IsPermutation (waiting ++ files) now → IsPermutation (ws ++ (arrived ++ files)) (named ++ now)
+gathered_more ws arrived named waiting files now m k =
+    subst (λ (l : List Waiting). IsPermutation l (named ++ now)) (append_assoc ws arrived files)
+    (IsPermutation-trans ((ws ++ arrived) ++ files) ((named ++ waiting) ++ files) (named ++ now) (IsPermutation-append_left files (ws ++ arrived) (named ++ waiting) m)
+    (subst (λ (l : List Waiting). IsPermutation l (named ++ now)) (sym (append_assoc named waiting files)) (IsPermutation-append_right named (waiting ++ files) now k)))
+
+module _ (ours : List ℕ → Bool) where
+  pub grows_arrives : (alone : Bool) (w : World) (s : SyncState) (d m : Device) → Grows alone w (world_at d s) → Arrives ours alone d m → Grows alone w (world_at m s)
+  grows_arrives true w s d m g a = subst (λ (x : Device). Grows true w (world_at x s)) (sym (a.nobody refl)) g
+  grows_arrives false w s d m g a =
+      let now : Device = record d { far = record d.far { next = a.next; messages = d.far.messages ++ a.messages }; near = record d.near { waiting = a.waiting } } in
+      let low = rise-ends d.far.next (map (λ (x : Message). x.uid) a.messages) a.next a.rise in
+      let v = g.validity in
+      subst (λ (x : Device). Grows false w (world_at x s)) (sym a.now) (record {
+        in_order = record { far = store_more d.far.validity d.far.next a.next d.far.messages a.messages g.in_order.far a.rise; near = g.in_order.near; pairs = g.in_order.pairs };
+        state = g.state;
+        validity = two (λ side. (store (world_at now s) side).validity ≡ (store w side).validity) (v Far) (v NearSide);
+        far_next = let k = g.far_next in omega arith;
+        far_added = g.far_added ++ a.messages;
+        far = ap (λ (l : List Message). l ++ a.messages) g.far ∙ append_assoc w.far.messages g.far_added a.messages;
+        uids = g.uids;
+        rise = g.rise;
+        arrived = g.arrived ++ a.files;
+        named = g.named;
+        gathered = gathered_more w.waiting g.arrived g.named d.near.waiting a.files a.waiting g.gathered a.gathered;
+        each = g.each;
+        near = g.near;
+        nobody = λ e. absurd (both_ways false refl e);
+      })
+
+  pub files_same : (alone : Bool) (d m : Device) → Arrives ours alone d m → m.files ≡ d.files
+  files_same alone d m a = ap (λ (x : Device). x.files) a.now
+
+  pub named_same : (alone : Bool) (d m : Device) → Arrives ours alone d m → m.named ≡ d.named
+  named_same alone d m a = ap (λ (x : Device). x.named) a.now
+
+pub unplanned_arrives : {ours : List ℕ → Bool} {alone : Bool} (opening : Opening ours alone) (d m : Device) → Arrives ours alone d m → Unplanned opening d → Unplanned opening m
+unplanned_arrives {ours} {alone} opening d m a u = record {
+  pending = u.pending;
+  idle = u.idle;
+  files = rw (files_same ours alone d m a) u.files;
+  chosen = u.chosen;
+  below = u.below;
+  grows = grows_arrives ours alone opening.world opening.world.state d m u.grows a;
+  spares = rw (named_same ours alone d m a) u.spares;
+}
+
+-- another journal, and both mailboxes as they were
+pub unplanned_filed : {ours : List ℕ → Bool} {alone : Bool} (opening : Opening ours alone) (pending : Pending) (d d' : Device) → IsIdle pending → d'.far ≡ d.far → d'.near ≡ d.near → d'.named ≡ d.named → Holds d'.files opening.world.state pending → Unplanned opening d → Unplanned opening d'
+unplanned_filed opening pending d d' idle far near named holds u = record {
+  pending = pending;
+  idle = idle;
+  files = holds;
+  chosen = u.chosen;
+  below = u.below;
+  grows = rw (far, near) u.grows;
+  spares = rw named u.spares;
+}
+
+-- what is so of some world since the opening is so with all that is known of the world
+pub since_map : {ours : List ℕ → Bool} {alone : Bool} (opening : Opening ours alone) (P Q : World → Type 0) → ((w : World) → Grows alone opening.world w → P w → Q w) → Since opening P → Since opening Q
+since_map opening P Q f s = record { world = s.world; grows = s.grows; admitted = s.admitted; below = s.below; within = s.within; holds = f s.world s.grows s.holds }

@@ -1,0 +1,74 @@
+-- What a run begins with, and what becomes of it before there is a plan.
+use Rattle.std.specs.Prelude.{◌≡◌, ◌≤◌, ◌<◌, ℕ, Bool, true, List, [], ◌++◌, All, IsPermutation, length}
+use Rattle.mailcore.specs.declared.side.Side.{Side}
+use Rattle.mailcore.specs.declared.mailbox.Message.{Message}
+use Rattle.mailcore.specs.Rise.{Rise}
+use Rattle.mailcore.specs.Stores.{Waiting}
+use Rattle.rules.specs.declared.options.Options.{Options}
+use Rattle.rules.specs.declared.state.SyncState.{SyncState}
+use Rattle.rules.specs.Admission.{numbered_under}
+use Rattle.rules.specs.World.{World, IsInOrder, NamesBelow, store}
+use Rattle.book.specs.declared.book.Pending.{Pending}
+use Rattle.book.specs.declared.book.Pending.TheVariants.{Missing, Useless, Planned}
+use Rattle.book.specs.Books.{Holds}
+use Rattle.law_steps.specs.Keywords.{IsWithinWorld}
+use Rattle.outside.specs.Devices.{Device}
+
+-- The setting of a run: which marks nobody else writes (`ours`), whether nobody else adds messages (`alone`), the world that the run is made on,
+-- the options of its plan, and those of the call.
+pub record Opening (ours : List ℕ → Bool) (alone : Bool) : Type 0 where
+  pub world : World
+  pub options : Options
+  pub called : Options
+
+-- both mailboxes of a device as a world, with this state
+abbrev pub world_at : Device → SyncState → World
+world_at d state = record { far = d.far; near = d.near.store; waiting = d.near.waiting; state = state }
+
+-- A world since: others have added messages to it, and some of its waiting files, of which others have added more, are messages under
+-- rising UIDs. Where nobody adds any, the far mailbox is as it was, and those are the first of its waiting files.
+pub record Grows (alone : Bool) (w now : World) : Type 0 where
+  pub in_order : IsInOrder now
+  pub state : now.state ≡ w.state
+  pub validity : (side : Side) → (store now side).validity ≡ (store w side).validity
+  pub far_next : w.far.next ≤ now.far.next
+  pub far_added : List Message
+  pub far : now.far.messages ≡ w.far.messages ++ far_added
+  pub uids : List ℕ
+  pub rise : Rise w.near.next uids now.near.next
+  pub arrived : List Waiting
+  pub named : List Waiting
+  pub gathered : IsPermutation (w.waiting ++ arrived) (named ++ now.waiting)
+  pub each : length uids ≡ length named
+  pub near : now.near.messages ≡ w.near.messages ++ numbered_under uids named
+  pub nobody : alone ≡ true → (now.far ≡ w.far) × (named ++ now.waiting ≡ w.waiting)
+
+-- each message that came behind this world is spared: no call was to change or to remove one of at least the next UID of its side
+abbrev pub SparesLater : World → Device → Type 0
+SparesLater w d = All (λ n. n.uid < (store w n.side).next) d.named
+
+-- there is no plan of the run behind this state: no journal, or one without a plan or of a run that was made
+abbrev pub IsIdle : Pending → Type 0
+IsIdle Missing = Unit {0}
+IsIdle Useless = Unit {0}
+IsIdle (Planned written) = ⊥
+
+-- The state is the opening's, and there is no plan. The options of the plan will be those of the call.
+pub record Unplanned {ours : List ℕ → Bool} {alone : Bool} (opening : Opening ours alone) (d : Device) : Type 0 where
+  pub pending : Pending
+  pub idle : IsIdle pending
+  pub files : Holds d.files opening.world.state pending
+  pub chosen : opening.called ≡ opening.options
+  pub below : NamesBelow opening.world
+  pub grows : Grows alone opening.world (world_at d opening.world.state)
+  pub spares : SparesLater opening.world d
+
+-- So much is so of some world since the opening, that of both listings on which the plan was made: each flag that is listed has a name.
+-- Where nobody adds any files, all have their UIDs by then.
+pub record Since {ours : List ℕ → Bool} {alone : Bool} (opening : Opening ours alone) (P : World → Type 0) : Type 0 where
+  pub world : World
+  pub grows : Grows alone opening.world world
+  pub admitted : alone ≡ true → world.waiting ≡ []
+  pub below : NamesBelow world
+  pub within : IsWithinWorld opening.options.keywords world
+  pub holds : P world

@@ -1,6 +1,0 @@
-use Rattle.underway.proofs.Arrived.{pending_arrives, underway_arrives}
-use Rattle.underway.proofs.Growth.{unplanned_arrives}
-use Rattle.underway.proofs.others_keep_underway.Goals as goal
-
-pub returns : goal.returns
-returns c = record { all = λ ours alone. underway_arrives; unplanned = λ ours alone. unplanned_arrives; pending = λ ours alone. pending_arrives }
