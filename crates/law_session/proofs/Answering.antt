@@ -4,6 +4,7 @@ use Rattle.std.specs.Prelude.{nat_eq, nat_le}
 use Rattle.std.specs.Cmp.Lexicographic.{pointwise}
 use Rattle.mailcore.specs.declared.keywords.Keyword.{Keyword}
 use Rattle.mailcore.specs.declared.mailbox.Message.{Message}
+use Rattle.mailcore.specs.MailboxNames.{is_mailbox_name}
 use Rattle.wire_tokens.specs.declared.uid_set.SetItem.{SetItem}
 use Rattle.imap_commands.specs.declared.command.FetchItems.{FetchItems}
 use Rattle.imap_commands.specs.declared.command.StoreMode.{StoreMode}
@@ -21,7 +22,7 @@ use Rattle.imap_session.specs.NamedMessages.{goes}
 use Rattle.imap_session.specs.Servers.{Condition, NotAuthenticated, Authenticated, Selected, LoggedOut, Server, is_logged_in, is_before_login, selected, news, told}
 use Rattle.imap_session.specs.Answering.{Answer, Gives, listed}
 use Rattle.imap_session.specs.SessionCommands.{lets_in, logs_in, enables}
-use Rattle.imap_session.specs.MailboxCommands.{lists, makes, creates_at, creates, closes, opening, selects_at, selects, is_name, next_validity}
+use Rattle.imap_session.specs.MailboxCommands.{lists, makes, creates_at, creates, closes, opening, selects_at, selects, next_validity}
 use Rattle.imap_session.specs.AppendCommand.{grown, AppendsAt, AppendsIf}
 use Rattle.imap_session.specs.MessageCommands.{fetched, removed, shown, fetches_in, stores_in, expunges_in}
 use Rattle.imap_session.specs.Steps.{StepOf}
@@ -92,7 +93,7 @@ makes_answer s tag name validity = either (nat_le validity 4294967295) tag _ _ (
 
 creates_at_answer : (m : Option FarMailbox) (s : Server) (tag name : List ℕ) → IsAnswer tag (creates_at m s tag name).replies
 creates_at_answer (Some m) s tag name = inl (refl, refl)
-creates_at_answer None s tag name = either (is_name name) tag _ _ (makes_answer s tag name (next_validity s.mailboxes)) (inl (refl, refl))
+creates_at_answer None s tag name = either (is_mailbox_name name) tag _ _ (makes_answer s tag name (next_validity s.mailboxes)) (inl (refl, refl))
 
 creates_answer : (s : Server) (tag name : List ℕ) → IsAnswer tag (creates s tag name).replies
 creates_answer s tag name = either (is_logged_in s.condition) tag _ _ (creates_at_answer (mailbox_at name s.mailboxes) s tag name) (inl (refl, refl))

@@ -7,6 +7,7 @@ use Rattle.mailcore.specs.declared.mailbox.Message.{Message}
 use Rattle.mailcore.specs.KeywordNames.{named_set}
 use Rattle.mailcore.specs.Stores.{IsStore}
 use Rattle.mailcore.specs.Operations.{added}
+use Rattle.mailcore.specs.MailboxNames.{is_mailbox_name}
 use Rattle.wire_tokens.specs.declared.uid_set.SetItem.{SetItem}
 use Rattle.imap_commands.specs.declared.command.FetchItems.{FetchItems}
 use Rattle.imap_commands.specs.declared.command.StoreMode.{StoreMode}
@@ -18,7 +19,7 @@ use Rattle.imap_session.specs.NamedMessages.{stored, swept}
 use Rattle.imap_session.specs.Servers.{Server, is_logged_in, is_before_login, selected, Quiet, told}
 use Rattle.imap_session.specs.Answering.{Answer, Gives}
 use Rattle.imap_session.specs.SessionCommands.{logs_in}
-use Rattle.imap_session.specs.MailboxCommands.{makes, creates_at, selects_at, is_name, next_validity, empty_mailbox}
+use Rattle.imap_session.specs.MailboxCommands.{makes, creates_at, selects_at, next_validity, empty_mailbox}
 use Rattle.imap_session.specs.AppendCommand.{AppendsAt, AppendsIf}
 use Rattle.imap_session.specs.MessageCommands.{fetches_in, stores_in, expunges_in}
 use Rattle.imap_session.specs.Steps.{StepOf}
@@ -49,7 +50,7 @@ module _ (s : Server) (tag : List ℕ) (are : AreStores s.mailboxes) where
 
   creates_at_on : (m : Option FarMailbox) (name : List ℕ) → On s (creates_at m s tag name)
   creates_at_on (Some m) name = same
-  creates_at_on None name = either (is_name name) s _ _ (makes_on name (next_validity s.mailboxes)) same
+  creates_at_on None name = either (is_mailbox_name name) s _ _ (makes_on name (next_validity s.mailboxes)) same
 
   selects_at_on : (m : Option FarMailbox) (name : List ℕ) → On s (selects_at m s tag name)
   selects_at_on (Some m) name = same

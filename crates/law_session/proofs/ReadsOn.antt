@@ -2,6 +2,7 @@
 use Rattle.std.proofs.Common.{◌≡◌, inl, inr, ℕ, ◌&&◌, Bool, true, false, List, refl, ◌∙◌, ap, Option, Some, None, if◌then◌else◌}
 use Rattle.std.specs.Prelude.{nat_eq, nat_le}
 use Rattle.std.specs.Cmp.Lexicographic.{pointwise}
+use Rattle.mailcore.specs.MailboxNames.{is_mailbox_name}
 use Rattle.wire_tokens.specs.declared.uid_set.SetItem.{SetItem}
 use Rattle.imap_commands.specs.declared.command.FetchItems.{FetchItems}
 use Rattle.imap_commands.specs.declared.command.StoreMode.{StoreMode}
@@ -12,7 +13,7 @@ use Rattle.imap_session.specs.Mailboxes.{FarMailbox, mailbox_at}
 use Rattle.imap_session.specs.Servers.{Server, is_logged_in, is_before_login, is_over, selected}
 use Rattle.imap_session.specs.Answering.{Answer, Gives}
 use Rattle.imap_session.specs.SessionCommands.{lets_in, logs_in}
-use Rattle.imap_session.specs.MailboxCommands.{makes, creates_at, selects_at, is_name, next_validity}
+use Rattle.imap_session.specs.MailboxCommands.{makes, creates_at, selects_at, next_validity}
 use Rattle.imap_session.specs.AppendCommand.{AppendsAt, AppendsIf}
 use Rattle.imap_session.specs.MessageCommands.{fetches_in, stores_in, expunges_in}
 use Rattle.imap_session.specs.Steps.{StepOf}
@@ -40,7 +41,7 @@ module _ (s : Server) (tag : List ℕ) (on : is_over s.condition ≡ false) wher
 
   creates_at_on : (m : Option FarMailbox) (name : List ℕ) → GoesOn (creates_at m s tag name)
   creates_at_on (Some m) name = on
-  creates_at_on None name = either (is_name name) _ _ (makes_on name (next_validity s.mailboxes)) on
+  creates_at_on None name = either (is_mailbox_name name) _ _ (makes_on name (next_validity s.mailboxes)) on
 
   selects_at_on : (m : Option FarMailbox) (name : List ℕ) → GoesOn (selects_at m s tag name)
   selects_at_on (Some m) name = refl

@@ -4,6 +4,7 @@ use Rattle.std.specs.Prelude.{nat_eq, nat_le}
 use Rattle.std.specs.List.{list_any}
 use Rattle.std.specs.Cmp.Lexicographic.{pointwise}
 use Rattle.mailcore.specs.declared.mailbox.Message.{Message}
+use Rattle.mailcore.specs.MailboxNames.{is_mailbox_name}
 use Rattle.wire_tokens.specs.declared.uid_set.SetItem.{SetItem}
 use Rattle.imap_commands.specs.declared.command.FetchItems.{FetchItems}
 use Rattle.imap_commands.specs.declared.command.StoreMode.{StoreMode}
@@ -17,7 +18,7 @@ use Rattle.imap_session.specs.NamedMessages.{goes, named_in}
 use Rattle.imap_session.specs.Servers.{Condition, NotAuthenticated, Authenticated, Selected, LoggedOut, Server, is_logged_in, is_before_login, selected}
 use Rattle.imap_session.specs.Answering.{Answer, Gives, done, done_with}
 use Rattle.imap_session.specs.SessionCommands.{logs_in}
-use Rattle.imap_session.specs.MailboxCommands.{makes, creates_at, selects_at, is_name, next_validity}
+use Rattle.imap_session.specs.MailboxCommands.{makes, creates_at, selects_at, next_validity}
 use Rattle.imap_session.specs.AppendCommand.{grown, AppendsAt, AppendsIf}
 use Rattle.imap_session.specs.MessageCommands.{removed, fetches_in, stores_in, expunges_in}
 use Rattle.imap_session.specs.Steps.{StepOf}
@@ -59,7 +60,7 @@ module _ (s : Server) (tag : List ℕ) where
 
   creates_fine : (m : Option FarMailbox) (name : List ℕ) → Fine s (creates_at m s tag name)
   creates_fine (Some m) name = inl refl
-  creates_fine None name = either (is_name name) s _ _ (makes_fine name (next_validity s.mailboxes)) (inl refl)
+  creates_fine None name = either (is_mailbox_name name) s _ _ (makes_fine name (next_validity s.mailboxes)) (inl refl)
 
   selects_fine : (m : Option FarMailbox) (name : List ℕ) → Fine s (selects_at m s tag name)
   selects_fine (Some m) name = inl refl

@@ -8,6 +8,8 @@ use Rattle.std.proofs.lemmas.List.Elements.{All-head, All-tail}
 use Rattle.mailcore.specs.declared.keywords.Keyword.{Keyword}
 use Rattle.mailcore.specs.declared.mailbox.Message.{Message}
 use Rattle.mailcore.specs.KeywordNames.{IsMap, known_set, names_of}
+use Rattle.mailcore.specs.MailboxNames.{is_name_byte, is_mailbox_name}
+use Rattle.mailcore.specs.MailboxPatterns.{matches}
 use Rattle.wire_reader.specs.Lexical.{outside}
 use Rattle.wire_tokens.specs.declared.uid_set.SetItem.{SetItem}
 use Rattle.wire_tokens.specs.Names.{has_name}
@@ -34,12 +36,11 @@ use Rattle.imap_replies.specs.Room.{most_response}
 use Rattle.imap_replies.proofs.RepliesFit.{reply_few}
 use Rattle.imap_session.specs.Mailboxes.{FarMailbox, same_name, mailbox_at}
 use Rattle.imap_session.specs.NameOrder.{stands_before, put_in}
-use Rattle.imap_session.specs.Patterns.{matches}
 use Rattle.imap_session.specs.NamedMessages.{goes, named_in}
 use Rattle.imap_session.specs.Servers.{Condition, NotAuthenticated, Authenticated, Selected, LoggedOut, Server, is_logged_in, is_before_login, selected, exists_of, news}
 use Rattle.imap_session.specs.Answering.{Answer, Gives, done, listed, note}
 use Rattle.imap_session.specs.SessionCommands.{REV2, logs_in}
-use Rattle.imap_session.specs.MailboxCommands.{names_matched, makes, creates_at, closes, all_names, opening, selects_at, is_name_byte, is_name, next_validity}
+use Rattle.imap_session.specs.MailboxCommands.{names_matched, makes, creates_at, closes, all_names, opening, selects_at, next_validity}
 use Rattle.imap_session.specs.AppendCommand.{grown, AppendsAt, AppendsIf}
 use Rattle.imap_session.specs.MessageCommands.{shown, fetched, removed, fetches_in, stores_in, expunges_in}
 use Rattle.imap_session.specs.Steps.{StepOf}
@@ -147,7 +148,7 @@ closes_short LoggedOut = refl
 abbrev Short_of : List (List ℕ) → Bool
 Short_of ns = list_all is_short (map listed ns)
 
-name_short : (name : List ℕ) → is_name name ≡ true → is_short (listed name) ≡ true
+name_short : (name : List ℕ) → is_mailbox_name name ≡ true → is_short (listed name) ≡ true
 name_short name h =
     let parts = and_parts (nat_le (length name) 255 && list_all is_name_byte name) _ h in
     let first = and_parts (nat_le (length name) 255) (list_all is_name_byte name) parts.0 in
@@ -172,20 +173,20 @@ ordered_short (name ∷ names) ns h k = let p = and_parts (is_short (listed name
 matched_short : (pattern : List ℕ) (ms : List FarMailbox) → AreNamed ms → Short (map listed (filter (matches pattern) (map (λ (m : FarMailbox). m.name) ms)))
 matched_short pattern [] a = refl
 matched_short pattern (m ∷ ms) a =
-    let rest = matched_short pattern ms (All-tail (λ (x : FarMailbox). is_name x.name ≡ true) m ms a) in
+    let rest = matched_short pattern ms (All-tail (λ (x : FarMailbox). is_mailbox_name x.name ≡ true) m ms a) in
     elim (matches pattern m.name) as (λ b. Short (map listed (cond b (m.name ∷ filter (matches pattern) (map (λ (x : FarMailbox). x.name) ms)) (filter (matches pattern) (map (λ (x : FarMailbox). x.name) ms)))))
-    [ true ↦ and_from _ _ (name_short m.name (All-head (λ (x : FarMailbox). is_name x.name ≡ true) m ms a)) rest | false ↦ rest ]
+    [ true ↦ and_from _ _ (name_short m.name (All-head (λ (x : FarMailbox). is_mailbox_name x.name ≡ true) m ms a)) rest | false ↦ rest ]
 
 -- the mailbox that is found has a name within the limits
-found_named : (name : List ℕ) (ms : List FarMailbox) (m : FarMailbox) → AreNamed ms → mailbox_at name ms ≡ Some m → is_name m.name ≡ true
+found_named : (name : List ℕ) (ms : List FarMailbox) (m : FarMailbox) → AreNamed ms → mailbox_at name ms ≡ Some m → is_mailbox_name m.name ≡ true
 found_named name [] m a e = cc
 found_named name (x ∷ ms) m a e =
     elim (cases_Bool (same_name x.name name)) [
       | inl t ↦
           let one : Some x ≡ Some m = sym (ap (λ (b : Bool). cond b (Some x) (mailbox_at name ms)) t) ∙ e in
           let same : x ≡ m = cc in
-          subst (λ (y : FarMailbox). is_name y.name ≡ true) same (All-head (λ (y : FarMailbox). is_name y.name ≡ true) x ms a)
-      | inr f ↦ found_named name ms m (All-tail (λ (y : FarMailbox). is_name y.name ≡ true) x ms a) (sym (ap (λ (b : Bool). cond b (Some x) (mailbox_at name ms)) f) ∙ e)
+          subst (λ (y : FarMailbox). is_mailbox_name y.name ≡ true) same (All-head (λ (y : FarMailbox). is_mailbox_name y.name ≡ true) x ms a)
+      | inr f ↦ found_named name ms m (All-tail (λ (y : FarMailbox). is_mailbox_name y.name ≡ true) x ms a) (sym (ap (λ (b : Bool). cond b (Some x) (mailbox_at name ms)) f) ∙ e)
     ]
 
 -- ---- each command
@@ -196,7 +197,7 @@ module _ (s : Server) (tag : List ℕ) (keywords : IsMap s.keywords) (named : Ar
 
   creates_short : (m : Option FarMailbox) (name : List ℕ) → Short (creates_at m s tag name).replies
   creates_short (Some m) name = refl
-  creates_short None name = either (is_name name) (makes s tag name (next_validity s.mailboxes)) _ (either (nat_le (next_validity s.mailboxes) 4294967295) _ _ refl refl) refl
+  creates_short None name = either (is_mailbox_name name) (makes s tag name (next_validity s.mailboxes)) _ (either (nat_le (next_validity s.mailboxes) 4294967295) _ _ refl refl) refl
 
   selects_short : (m : Option FarMailbox) (name : List ℕ) → mailbox_at name s.mailboxes ≡ m → Short (selects_at m s tag name).replies
   selects_short None name e = short_append (closes s.condition) _ (closes_short s.condition) refl

@@ -2,6 +2,7 @@
 use Rattle.std.specs.Prelude.{◌≡◌, ◌≤◌, ℕ, ◌+◌, Bool, true, false, List, length, All, nat_le}
 use Rattle.std.specs.List.{list_all, sum_by}
 use Rattle.mailcore.specs.KeywordNames.{IsMap}
+use Rattle.mailcore.specs.MailboxNames.{is_mailbox_name}
 use Rattle.wire_reader.specs.Lexical.{outside}
 use Rattle.wire_tokens.specs.Room.{most_names, most_flags}
 use Rattle.wire_strings.specs.Room.{most_astring}
@@ -12,7 +13,6 @@ use Rattle.imap_replies.specs.declared.reply.Reply.TheVariants.{Continue, Tagged
 use Rattle.imap_replies.specs.Replies.{WrittenReply}
 use Rattle.imap_replies.specs.Room.{most_line, most_code, most_item}
 use Rattle.imap_session.specs.Mailboxes.{FarMailbox}
-use Rattle.imap_session.specs.MailboxCommands.{is_name}
 use Rattle.imap_session.specs.Servers.{Server}
 use Rattle.imap_session.specs.Portions.{Item}
 use Rattle.imap_session.specs.Serving.{Does}
@@ -41,7 +41,7 @@ abbrev pub ShortRepliesFit : Type 0
 ShortRepliesFit = (reply : Reply) (text : List ℕ) → WrittenReply reply text → is_short reply ≡ true → outside text ≤ 65536
 
 abbrev pub AreNamed : List FarMailbox → Type 0
-AreNamed mailboxes = All (λ m. is_name m.name ≡ true) mailboxes
+AreNamed mailboxes = All (λ m. is_mailbox_name m.name ≡ true) mailboxes
 
 abbrev pub RepliesAreShort : Type 0
 RepliesAreShort =
