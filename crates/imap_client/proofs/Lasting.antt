@@ -2,6 +2,7 @@
 use Rattle.std.proofs.Common.{◌≡◌, inl, inr, ℕ, Bool, true, false, List, sym, subst, Option, Some, None, Result, Ok, Err}
 use Rattle.std.specs.Prelude.{◌&&◌, nat_eq, nat_le, if◌then◌else◌}
 use Rattle.std.specs.Cmp.Lexicographic.{pointwise}
+use Rattle.mailcore.specs.MailboxNames.{is_mailbox_name}
 use Rattle.wire_tokens.specs.declared.uid_set.SetItem.{SetItem}
 use Rattle.imap_commands.specs.declared.command.Command.{Command}
 use Rattle.imap_commands.specs.declared.command.FetchItems.{FetchItems}
@@ -14,7 +15,7 @@ use Rattle.imap_session.specs.Mailboxes.{FarMailbox, mailbox_at}
 use Rattle.imap_session.specs.Servers.{Authenticated, Selected, Server, is_before_login, is_logged_in, selected}
 use Rattle.imap_session.specs.Answering.{Answer, Gives, out_of_place}
 use Rattle.imap_session.specs.SessionCommands.{lets_in}
-use Rattle.imap_session.specs.MailboxCommands.{creates_at, is_name, makes, next_validity, selects_at}
+use Rattle.imap_session.specs.MailboxCommands.{creates_at, makes, next_validity, selects_at}
 use Rattle.imap_session.specs.AppendCommand.{AppendsAt, AppendsIf}
 use Rattle.imap_session.specs.MessageCommands.{fetches_in, stores_in, expunges_in}
 use Rattle.imap_session.specs.Steps.{StepOf}
@@ -44,7 +45,7 @@ module _ (Q : Server → Type 0) where
     creates_so : (m : Option FarMailbox) (name : List ℕ) → Q (creates_at m s tag name).after
     creates_so (Some m) name = lasts.same
     creates_so None name =
-        by_if (is_name name) (makes s tag name (next_validity s.mailboxes)) _ (by_if (nat_le (next_validity s.mailboxes) 4294967295) _ _ (lasts.changed _) lasts.same) lasts.same
+        by_if (is_mailbox_name name) (makes s tag name (next_validity s.mailboxes)) _ (by_if (nat_le (next_validity s.mailboxes) 4294967295) _ _ (lasts.changed _) lasts.same) lasts.same
 
     selects_so : (m : Option FarMailbox) (name : List ℕ) → Q (selects_at m s tag name).after
     selects_so (Some m) name = lasts.chosen name

@@ -4,6 +4,7 @@ use Rattle.std.specs.Prelude.{map, filter, if◌then◌else◌}
 use Rattle.std.specs.List.{fold, list_all}
 use Rattle.std.proofs.lemmas.Bool.{and_from}
 use Rattle.std.proofs.lemmas.List.Folds.{list_all-append}
+use Rattle.mailcore.specs.MailboxNames.{is_mailbox_name, within_limits}
 use Rattle.wire_strings.specs.Quotes.{unescaped}
 use Rattle.wire_strings.specs.Strings.{value_of}
 use Rattle.imap_commands.specs.declared.command.Request.TheVariants as requests
@@ -11,7 +12,7 @@ use Rattle.imap_replies.specs.declared.reply.Reply.{Reply}
 use Rattle.imap_replies.specs.declared.reply.Reply.TheVariants.{Continue, Tagged, Notice, Capability, Enabled, List as Listed, Flags, Exists, Expunge, Fetch, Other, OtherNumbered}
 use Rattle.imap_session.specs.Servers.{Server, is_logged_in}
 use Rattle.imap_session.specs.Answering.{Gives, listed, done, out_of_place}
-use Rattle.imap_session.specs.MailboxCommands.{is_name, names_matched}
+use Rattle.imap_session.specs.MailboxCommands.{names_matched}
 use Rattle.imap_session.specs.Heard.{AreReplies}
 use Rattle.law_session.proofs.HeardAs.{gathers_same}
 use Rattle.imap_link.specs.declared.fault.FarFault.{FarFault}
@@ -24,7 +25,7 @@ use Rattle.imap_client.specs.Exchanged.{command_at, Exchanged}
 use Rattle.imap_client.specs.Saying.{HeardOf}
 use Rattle.imap_client.specs.Logins.{Remains}
 use Rattle.imap_client.specs.States.{State, Asked, EndsSo}
-use Rattle.imap_answers.specs.MailboxNames.{within_limits, with_name, names_more, names_in, names_of, TellsNames}
+use Rattle.imap_answers.specs.MailboxNames.{with_name, names_more, names_in, names_of, TellsNames}
 use Rattle.imap_answers.proofs.HeardSame.{names_same}
 use Rattle.imap_answers.proofs.Unread.{names_in_read}
 use Rattle.imap_client.proofs.Answered.{Sure, answered}
@@ -51,11 +52,11 @@ by_limits : (b : Bool) (names rest : List (List ℕ)) (x : List ℕ) → with_na
 by_limits true names rest x = append_assoc names (x ∷ []) rest
 by_limits false names rest x = refl
 
-listed_names : (tag : List ℕ) (names ns : List (List ℕ)) → fold names_more names (map listed ns ++ done tag ∷ []) ≡ names ++ filter is_name (map unescaped ns)
+listed_names : (tag : List ℕ) (names ns : List (List ℕ)) → fold names_more names (map listed ns ++ done tag ∷ []) ≡ names ++ filter is_mailbox_name (map unescaped ns)
 listed_names tag names [] = sym (append-nil names)
 listed_names tag names (n ∷ ns) =
     let x = unescaped n in
-    listed_names tag (with_name names (within_limits x)) ns ∙ by_limits (is_name x) names (filter is_name (map unescaped ns)) x
+    listed_names tag (with_name names (within_limits x)) ns ∙ by_limits (is_mailbox_name x) names (filter is_mailbox_name (map unescaped ns)) x
 
 pub names_told : (tag bytes : List ℕ) (old : Server) (names : List (List ℕ)) → HeardOf old.keywords names_read any_replies (told_first old ++ done tag ∷ []) bytes → ((rs : List Reply) → AreReplies rs bytes → names ≡ names_in rs) → names ≡ names_of old
 names_told tag bytes old names h told =
@@ -63,12 +64,12 @@ names_told tag bytes old names h told =
 
 -- ---- the limits
 
-by_limit : (b : Bool) (names : List (List ℕ)) (x : List ℕ) → is_name x ≡ b → list_all is_name names ≡ true → list_all is_name (with_name names (if b then Some x else None)) ≡ true
-by_limit true names x e h = list_all-append is_name names (x ∷ []) ∙ and_from (list_all is_name names) (list_all is_name (x ∷ [])) h (and_from (is_name x) true e refl)
+by_limit : (b : Bool) (names : List (List ℕ)) (x : List ℕ) → is_mailbox_name x ≡ b → list_all is_mailbox_name names ≡ true → list_all is_mailbox_name (with_name names (if b then Some x else None)) ≡ true
+by_limit true names x e h = list_all-append is_mailbox_name names (x ∷ []) ∙ and_from (list_all is_mailbox_name names) (list_all is_mailbox_name (x ∷ [])) h (and_from (is_mailbox_name x) true e refl)
 by_limit false names x e h = h
 
-more_within : (names : List (List ℕ)) (r : Reply) → list_all is_name names ≡ true → list_all is_name (names_more names r) ≡ true
-more_within names (Listed attributes delimiter name) h = by_limit (is_name (value_of name)) names (value_of name) refl h
+more_within : (names : List (List ℕ)) (r : Reply) → list_all is_mailbox_name names ≡ true → list_all is_mailbox_name (names_more names r) ≡ true
+more_within names (Listed attributes delimiter name) h = by_limit (is_mailbox_name (value_of name)) names (value_of name) refl h
 more_within names (Continue text) h = h
 more_within names (Tagged tag status text) h = h
 more_within names (Notice kind text) h = h
@@ -81,12 +82,12 @@ more_within names (Fetch n items) h = h
 more_within names (Other word text) h = h
 more_within names (OtherNumbered n event text) h = h
 
-within_from : (names : List (List ℕ)) (rs : List Reply) → list_all is_name names ≡ true → list_all is_name (fold names_more names rs) ≡ true
+within_from : (names : List (List ℕ)) (rs : List Reply) → list_all is_mailbox_name names ≡ true → list_all is_mailbox_name (fold names_more names rs) ≡ true
 within_from names [] h = h
 within_from names (r ∷ rs) h = within_from (names_more names r) rs (more_within names r h)
 
-pub names_within : (names : List (List ℕ)) (rs : List Reply) → names ≡ names_in rs → list_all is_name names ≡ true
-names_within names rs e = ap (list_all is_name) e ∙ within_from [] rs refl
+pub names_within : (names : List (List ℕ)) (rs : List Reply) → names ≡ names_in rs → list_all is_mailbox_name names ≡ true
+names_within names rs e = ap (list_all is_mailbox_name) e ∙ within_from [] rs refl
 
 -- ---- how the call ends
 

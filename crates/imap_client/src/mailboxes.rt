@@ -2,9 +2,9 @@
 
 ghost use Rattle.std.specs.Prelude.{◌≡◌, ◌≤◌, List, true, false, IfOk, IfErr};
 ghost use Rattle.std.specs.List.{list_all};
+ghost use Rattle.mailcore.specs.MailboxNames.{is_mailbox_name};
 ghost use Rattle.imap_replies.specs.declared.reply.Reply.{Reply};
 ghost use Rattle.imap_session.specs.Heard.{AreReplies};
-ghost use Rattle.imap_session.specs.MailboxCommands.{is_name};
 ghost use Rattle.imap_session.specs.Servers.{is_logged_in};
 ghost use Rattle.imap_session.specs.Visits.{Among};
 ghost use Rattle.imap_link.specs.Outcomes.{Outcome, Never};
@@ -52,7 +52,7 @@ impl<L: Link> Session<L> {
         ensures counts { L.stops self.old.wire.link ≤ L.stops self.new.wire.link }
         ensures stuck { self.old.is_ready ≡ false → self.new ≡ self.old }
         ensures ends { EndsSo 1 (state_of self.old) (state_of self.new) result }
-        ensures limits { IfOk result (λ names. list_all is_name names.items ≡ true) }
+        ensures limits { IfOk result (λ names. list_all is_mailbox_name names.items ≡ true) }
         ensures outcome { L.honest self.new.wire.link → is_logged_in (server_of self.old).condition ≡ true
             → Among L.visitors (Outcome (λ names. TellsNames names.items) Never Remains result) (server_of self.old) (server_of self.new) }
     {
@@ -66,7 +66,7 @@ impl<L: Link> Session<L> {
     fn names(&self) -> Result<Vec<MailboxName>, FarFault>
         requires { Speaks self.now.wire.heard.read }
         ensures told { IfOk result (λ names. (rs : List Reply) → AreReplies rs self.now.wire.heard.read → names.items ≡ names_in rs) }
-        ensures limits { IfOk result (λ names. list_all is_name names.items ≡ true) }
+        ensures limits { IfOk result (λ names. list_all is_mailbox_name names.items ≡ true) }
         ensures err { IfErr result (λ fault. fault ≡ FarFault.NoMemory) }
     {
         let replies = read_replies(self.wire.alloc, self.wire.heard.read_part())?;
