@@ -7,6 +7,8 @@ use Rattle.std.proofs.lemmas.List.Folds.{list_all-append, list_all-map}
 use Rattle.mailcore.specs.declared.keywords.Keyword.{Keyword}
 use Rattle.mailcore.specs.declared.mailbox.Message.{Message}
 use Rattle.mailcore.specs.Stores.{Store}
+use Rattle.mailcore.specs.MailboxNames.{is_mailbox_name}
+use Rattle.mailcore.specs.MailboxPatterns.{matches}
 use Rattle.wire_tokens.specs.Names.{has_name}
 use Rattle.wire_tokens.specs.declared.uid_set.SetItem.{SetItem}
 use Rattle.imap_commands.specs.declared.command.Request.{Request}
@@ -20,11 +22,10 @@ use Rattle.imap_replies.specs.declared.reply.Reply.TheVariants.{Enabled, Exists,
 use Rattle.imap_session.specs.Answering.{Answer, Gives, done, done_with, refused, refused_with, listed, only, out_of_place}
 use Rattle.imap_session.specs.AppendCommand.{AppendsIf, AppendsAt, grown, appended}
 use Rattle.imap_session.specs.Mailboxes.{FarMailbox, mailbox_at, same_name}
-use Rattle.imap_session.specs.MailboxCommands.{empty_mailbox, lists, creates, creates_at, makes, selects, selects_at, closes, opening, names_matched, is_name, next_validity}
+use Rattle.imap_session.specs.MailboxCommands.{empty_mailbox, lists, creates, creates_at, makes, selects, selects_at, closes, opening, names_matched, next_validity}
 use Rattle.imap_session.specs.MessageCommands.{shown, fetched, fetches_in, fetches, stores_in, stores, removed, expunges_in, expunges}
 use Rattle.imap_session.specs.NameOrder.{put_in, stands_before}
 use Rattle.imap_session.specs.NamedMessages.{named_in, goes}
-use Rattle.imap_session.specs.Patterns.{matches}
 use Rattle.imap_session.specs.Portions.{LineFault, Syntax, LiteralTooLong}
 use Rattle.imap_session.specs.Serving.{fault_reply}
 use Rattle.imap_session.specs.Servers.{Server, Condition, NotAuthenticated, Authenticated, Selected, LoggedOut, is_logged_in, is_before_login, selected}
@@ -112,7 +113,7 @@ makes_heard s tag name validity =
 creates_at_heard : (found : Option FarMailbox) (s : Server) (tag name : List ℕ) → AreHeard (creates_at found s tag name).replies
 creates_at_heard (Some m) s tag name = refl
 creates_at_heard None s tag name =
-    answer_if (is_name name) (makes s tag name (next_validity s.mailboxes)) (only s (refused tag (codes "name"))) (makes_heard s tag name (next_validity s.mailboxes)) refl
+    answer_if (is_mailbox_name name) (makes s tag name (next_validity s.mailboxes)) (only s (refused tag (codes "name"))) (makes_heard s tag name (next_validity s.mailboxes)) refl
 
 creates_heard : (s : Server) (tag name : List ℕ) → AreHeard (creates s tag name).replies
 creates_heard s tag name = answer_if (is_logged_in s.condition) (creates_at (mailbox_at name s.mailboxes) s tag name) (out_of_place s tag) (creates_at_heard (mailbox_at name s.mailboxes) s tag name) refl
