@@ -41,7 +41,9 @@ pub fn near_boxes<R: Files + AllocGlobal + Clone + Drop>(
         names.push(MailboxName::inbox(alloc)?)?;
     }
     for text in within {
-        names.push(MailboxName::from_string(text))?;
+        if let Some(name) = MailboxName::new(text) {
+            names.push(name)?;
+        }
     }
     Ok(NearBoxes {
         names,

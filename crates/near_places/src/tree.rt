@@ -2,8 +2,8 @@
 
 use crate::home::INBOX;
 use crate::refusal::Refusal;
-use box_patterns::box_name::is_box_name;
 use device::disk::Disk;
+use mailcore::mailbox_name::is_mailbox_name;
 use std::alloc::AllocError;
 use std::io::ErrorKind;
 use std::os::unix::fs::MetadataExt;
@@ -159,7 +159,7 @@ impl<'a, R: Files + AllocGlobal + Clone + Drop> Walk<'a, R> {
         }
         let mut name = folder.way.clone()?;
         name.push_str(part)?;
-        let is_within = is_box_name(name.as_bytes());
+        let is_within = is_mailbox_name(name.as_bytes());
         unless_beyond(is_within, self.visit(folder, name, is_within))
     }
 
