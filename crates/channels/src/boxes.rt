@@ -71,8 +71,8 @@ fn insert_name(
     requires { place ≤ length boxes.old.items }
     ensures { OnOk result (boxes.new.items ≡ insert boxes.old.items place name.now) }
 {
-    let text = String::from_str(alloc, name.as_str())?;
-    boxes.insert(place, MailboxName::from_string(text))?;
+    let name = name.copy(alloc)?;
+    boxes.insert(place, name)?;
     Ok(())
 }
 

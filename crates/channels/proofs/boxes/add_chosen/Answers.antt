@@ -15,7 +15,7 @@ loop-name-preserved c = record {
   boxes = λ is_chosen tells.
       let h = c.loop-name.invariant.boxes is_chosen tells in
       let same = same_from_decides (is_chosen c.as_str.result.now) c.matches.result (tells c.as_str.result.now) c.matches.ensures in
-      let at = ap is_chosen (sym (c.as_str.ensures ∙ c.name-item.is)) ∙ same in
+      let at = ap is_chosen (sym (c.as_str.ensures.text ∙ c.name-item.is)) ∙ same in
       elim c.if-matches.branch [
         | then-matches+in_ok-put_name w ↦
             let m = put_names-chosen is_chosen c.args.boxes.now.items c.args.names.now c.loop-name.name-index c.name-item.result c.loop-name-test.true (at ∙ w.if-matches.true) in
