@@ -187,12 +187,13 @@ fn shut_store_fault(alloc: Global, name: &str) -> StoreFault {
     }
 }
 
-/// The names of a line, if there is one.
+/// The names of a line, if there is one. Those outside the limits are left out.
 fn names_in(alloc: Global, line: Option<&str>) -> Result<Vec<MailboxName>, AllocError> {
     let mut names = Vec::new(alloc);
     for name in line.unwrap_or("").split_whitespace() {
-        let name = String::from_str(alloc, name)?;
-        names.push(MailboxName::from_string(name))?;
+        if let Some(name) = MailboxName::from_bytes(alloc, name.as_bytes())? {
+            names.push(name)?;
+        }
     }
     Ok(names)
 }

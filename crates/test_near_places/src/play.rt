@@ -112,7 +112,7 @@ impl Scene<'_> {
 
     fn tell_folder(&self, name: &str, told: &mut Told) -> Result<(), Failure> {
         let alloc = self.rt.alloc();
-        let name = MailboxName::from_string(String::from_str(alloc, name)?);
+        let name = MailboxName::from_bytes(alloc, name.as_bytes())?.ok_or(Failure::Script)?;
         told.answer(&self.home.folder_of(alloc, &self.store, &name)?);
         Ok(())
     }

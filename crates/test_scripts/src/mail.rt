@@ -8,12 +8,12 @@ use mailcore::mailbox_name::MailboxName;
 use mailcore::octets::Octets;
 use std::alloc::Global;
 
-/// `VALIDITY NEXT NAME`: an empty mailbox.
+/// `VALIDITY NEXT NAME`: an empty mailbox. `Script`: the name is outside the limits.
 pub fn read_mailbox(alloc: Global, line: &mut Words<'_>) -> Result<Mailbox, Failure> {
     let validity = line.number();
     let next = line.number();
-    let name = String::from_str(alloc, line.text())?;
-    Ok(Mailbox::new(alloc, MailboxName::from_string(name), validity, next))
+    let name = MailboxName::from_bytes(alloc, line.text().as_bytes())?.ok_or(Failure::Script)?;
+    Ok(Mailbox::new(alloc, name, validity, next))
 }
 
 /// `UID FLAGS "BYTES"`: a message.
