@@ -3,7 +3,7 @@
 
 usage: bench/gate.py [--kept] [--compare OLD] [LOG]
 
-The gate is `rt ci`, and here it proves all anew: what earlier runs on this machine kept is not taken, unless `--kept` asks
+First tests/pages.py looks whether generated pages are current, which the gate does not. The gate is `rt ci`, and here it proves all anew: what earlier runs on this machine kept is not taken, unless `--kept` asks
 for it; the table then has what was left to do. What the gate prints goes to LOG (gate.log in the folder for temporary files
 where none is given). Minutes are processor minutes, asked of the system twice a second while the checks run: a check's last
 half second may be missing, and what no check used (compilers, linkers, the programs) is in the line `all else`. Run it
@@ -152,6 +152,8 @@ def main():
     with tempfile.TemporaryDirectory(prefix="gate-") as room:
         clone = f"{room}/clone"
         subprocess.run(["git", "clone", "-q", TOP, clone], check=True)
+        pages = subprocess.run([f"{clone}/tests/pages.py"], stdout=subprocess.PIPE, text=True, check=False)
+        print(*[line for line in pages.stdout.splitlines() if not line.startswith("ok ")], sep="\n", flush=True)
         status, clock, used, checks = run_gate(clone, log, [] if given.kept else ["--anew"])
         new = print_table(clone, used, checks)
     if given.compare:
@@ -159,7 +161,7 @@ def main():
     with open(log, encoding="utf-8", errors="replace") as text:
         last = text.read().rstrip().rpartition("\n")[2]
     print(f"\n{last}: {clock:.1f} minutes on {len(os.sched_getaffinity(0))} cores, {used:.1f} processor minutes")
-    sys.exit(status)
+    sys.exit(status or pages.returncode)
 
 
 if __name__ == "__main__":

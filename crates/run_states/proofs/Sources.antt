@@ -70,7 +70,7 @@ source_of w options marks d u flags mark c =
 
 -- ---- the first steps add copies alone
 
-new_copies : (s : Scene) (marks : List (List ℕ)) → All (λ st. makes_copy st ≡ true) (all_new)
+new_copies : (s : Scene) (marks : List (List ℕ)) → All (λ st. makes_copy st ≡ true) (all_new s marks)
 new_copies s marks =
     All-append (λ st. makes_copy st ≡ true) _ _
     (new_steps_all (λ st. makes_copy st ≡ true) Pull (news s Pull) _ (λ i c m. refl))
@@ -113,7 +113,7 @@ drop_short (suc n) (r ∷ results) le = drop_short n results (omega arith)
 pub sources_stay : (w : World) (options : Options) (marks : List (List ℕ)) (log : List Logged) (s : Step) (side : Side) → next_of (all_steps (scene_of w options) marks) log ≡ Some s → makes_copy s ≡ true → (cs : List Message) × (box (after (all_steps (scene_of w options) marks) (results_of log) (boxes_of w)) side ≡ box (boxes_of w) side ++ cs)
 sources_stay w options marks log s side is copies =
     let sc : Scene = scene_of w options in
-    let news_first : List Step = all_new in
+    let news_first : List Step = all_new sc marks in
     let rest : List Step = changes sc in
     let parts : all_steps sc marks ≡ news_first ++ rest = simp append_assoc in
     let few = copies_first news_first rest log s (changes_copy_nothing sc) (rw parts at is) copies in

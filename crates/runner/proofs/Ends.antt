@@ -25,7 +25,7 @@ use Rattle.runner.proofs.Reopening.{LastAttemptAt}
 
 module _ {ours : List ℕ → Bool} {alone : Bool} (opening : Opening ours alone) (start s1 s2 : Seen) (stream drawn : Stream) where
   -- with an answer
-  pub settled_so : (options : Options) (settled : Settled) → LastAttemptAt ours alone opening settled.stops start s1 s2 stream drawn → IsOver opening s2.device
+  pub settled_so : (options : Options) (settled : Settled) → LastAttemptAt opening settled.stops start s1 s2 stream drawn → IsOver opening s2.device
       → AnswersAt (opening.world.state.run + 1) options settled.last s1.device drawn → Report opening settled.last s2.device → FindsAt ours s1.device settled.last → IsSettled opening options stream settled start s2
   settled_so options settled b over answers told found = record {
     over = over;
@@ -38,7 +38,7 @@ module _ {ours : List ℕ → Bool} {alone : Bool} (opening : Opening ours alone
   }
 
   -- since a UIDVALIDITY has changed
-  pub changed_last : {reasons : Reasons} (h : Type 0) (a u : Device → Type 0) (n tries : ℕ) (side : Side) (f : RunFault) → LastAttemptAt ours alone opening n start s1 s2 stream drawn → n < tries → f ≡ run.ValidityChanged side → h
+  pub changed_last : {reasons : Reasons} (h : Type 0) (a u : Device → Type 0) (n tries : ℕ) (side : Side) (f : RunFault) → LastAttemptAt opening n start s1 s2 stream drawn → n < tries → f ≡ run.ValidityChanged side → h
       → Left reasons h a u f s1 s2 → (reasons.changed side → TellsChanged h alone s1.device s2.device side) → ChangedLast opening tries side start s2 stream
   changed_last {reasons} h a u n tries side f b few is honest l tells =
       let told : TellsChanged h alone s1.device s2.device side = tells (subst (λ (x : RunFault). IsCaused reasons x s1 s2) is l.caused) in
@@ -54,7 +54,7 @@ module _ {ours : List ℕ → Bool} {alone : Bool} (opening : Opening ours alone
       }
 
   -- since the map of keywords has
-  pub kept_last : {reasons : Reasons} (h : Type 0) (a u : Device → Type 0) (n tries : ℕ) (keywords : List Keyword) (f : RunFault) → LastAttemptAt ours alone opening n start s1 s2 stream drawn → n < tries → f ≡ run.KeywordsChanged → h
+  pub kept_last : {reasons : Reasons} (h : Type 0) (a u : Device → Type 0) (n tries : ℕ) (keywords : List Keyword) (f : RunFault) → LastAttemptAt opening n start s1 s2 stream drawn → n < tries → f ≡ run.KeywordsChanged → h
       → Left reasons h a u f s1 s2 → (reasons.keywords → TellsOtherMap h alone keywords s1.device s2.device) → KeptLast opening tries start s2 stream
   kept_last {reasons} h a u n tries keywords f b few is honest l tells =
       let told : TellsOtherMap h alone keywords s1.device s2.device = tells (subst (λ (x : RunFault). IsCaused reasons x s1 s2) is l.caused) in

@@ -456,7 +456,8 @@ whole_steps opened performed e s = s ∙ ap (λ (l : List Logged). drop (length 
 -- ---- where nobody else adds messages
 
 pub over_alike : {ours : List ℕ → Bool} {alone : Bool} (opening : Opening ours alone) (d : Device) → alone ≡ true → IsOpening opening.world → IsOver opening d → IsDone opening.world opening.options d
-over_alike {ours} {alone} opening d nobody sound over = done_is_done opening d sound (subst (λ (x : Bool). IsOver opening d) nobody over)
+over_alike {ours} {alone} opening d nobody sound over =
+    subst (λ (x : Bool). (o : Opening ours x) → IsOpening o.world → IsOver o d → IsDone o.world o.options d) (sym nobody) (λ o s k. done_is_done o d s k) opening sound over
 
 pub pass_alike : (reasons : Reasons) (honest : Type 0) {ours : List ℕ → Bool} {alone : Bool} (opening : Opening ours alone) (run : ℕ) (options : Options) (stream : Stream) (s0 s1 : Seen) (r : Result Pass RunFault)
     → PartOr reasons honest (PassStart opening run options stream) (Underway opening) made_in (λ _. PassEnd opening run) s0 s1 r

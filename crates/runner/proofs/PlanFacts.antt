@@ -97,7 +97,7 @@ module _ (ours : List ℕ → Bool) (w : World) (s : SyncState) (options : Optio
 
   pub planned_by : (plan : Plan) (stream : Stream) → AreDrawn stream far near s options (marks_of plan.steps) → All (λ mark. ours mark ≡ true) (marks_of plan.steps) → plan.run ≡ s.run + 1
       → plan.far ≡ side_with far (highest_after listed Pull) → plan.near ≡ side_with near (highest_after listed Push) → plan.steps ≡ all_steps listed (marks_of plan.steps) → plan.notes ≡ all_notes listed → plan.keywords ≡ options.keywords → IsPlanned ours w options plan
-  planned_by {plan} {stream} drawn mine run far_side near_side steps notes keywords =
+  planned_by plan stream drawn mine run far_side near_side steps notes keywords =
       let marks = marks_of plan.steps in
       let base : Scene = scene_of w options in
       let spared = shown.spared in

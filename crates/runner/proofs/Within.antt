@@ -85,12 +85,12 @@ module _ {ours : List ℕ → Bool} {alone : Bool} (opening : Opening ours alone
 module _ {ours : List ℕ → Bool} {alone : Bool} (opening : Opening ours alone) (opened : Option Opened) (of_outside : List Keyword) (same : opening.options.keywords ≡ of_outside) where
   -- the flags of a copy
   pub copy_whole : (direction : Direction) (uid flags : ℕ) (mark : List ℕ) → next_at opened ≡ Some (step.New direction uid flags mark) → (d : Device) → BeforeStep opening opened false d → kept of_outside flags ≡ flags
-  copy_whole direction uid flags mark next d k = kept_whole opening.options.keywords of_outside flags same (ready_within ours alone opening opened (step.New direction uid flags mark) next false d k)
+  copy_whole direction uid flags mark next d k = kept_whole opening.options.keywords of_outside flags same (ready_within opening opened (step.New direction uid flags mark) next false d k)
 
   -- those that are set
   pub set_whole : (direction : Direction) (far near set cleared : ℕ) → next_at opened ≡ Some (step.Flags direction far near set cleared) → (d : Device) → BeforeStep opening opened true d → kept of_outside set ≡ set
-  set_whole direction far near set cleared next d k = kept_whole opening.options.keywords of_outside set same (ready_within ours alone opening opened (step.Flags direction far near set cleared) next true d k).0
+  set_whole direction far near set cleared next d k = kept_whole opening.options.keywords of_outside set same (ready_within opening opened (step.Flags direction far near set cleared) next true d k).0
 
   -- and those that are cleared behind them
   pub cleared_whole : (direction : Direction) (far near set cleared : ℕ) → next_at opened ≡ Some (step.Flags direction far near set cleared) → (is_made : Bool) (d : Device) → DuringStep opening opened is_made d → kept of_outside cleared ≡ cleared
-  cleared_whole direction far near set cleared next is_made d k = kept_whole opening.options.keywords of_outside cleared same (begun_within ours alone opening opened (step.Flags direction far near set cleared) next is_made d k).1
+  cleared_whole direction far near set cleared next is_made d k = kept_whole opening.options.keywords of_outside cleared same (begun_within opening opened (step.Flags direction far near set cleared) next is_made d k).1

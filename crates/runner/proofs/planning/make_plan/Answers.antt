@@ -31,7 +31,7 @@ returns-in-Ok-clause-plan g c = λ w order is shown mine.
     let opened = g.O.Outside.opened c.args.outside.now in
     let given : c.in_ok-marks.marks.items ≡ marks_of c.in-Ok.plan.steps = sym (e.given ∙ c.deref.ensures.value) in
     let drawn : AreDrawn (g.R.Rng.stream c.args.rng.now) both.far both.near s c.args.options.now (marks_of c.in-Ok.plan.steps) = rw (sym given) c.in_ok-marks.ensures.drawn in
-    planned_by s c.args.options.now both.far both.near (same_state opened s w.state c.state-state.ensures.state is) shown c.in-Ok.plan _ drawn mine
+    planned_by g.O.Outside.ours w s c.args.options.now both.far both.near (same_state opened s w.state c.state-state.ensures.state is) shown c.in-Ok.plan _ drawn mine
     (plan_run opened s c.in-Ok.plan c.state-state.ensures.state e.run c.requires.room) e.sides.0 e.sides.1 (rw (e.given) e.written.0) e.written.1 e.keywords
 
 pub returns-in_err-marks-clause-repeats : goal.returns-in_err-marks-clause-repeats

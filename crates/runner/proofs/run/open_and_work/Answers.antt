@@ -93,7 +93,7 @@ returns-clause-part g c =
     (part_told _ _ _ _ _ _ _ _ _ _ (record {
       changed = λ side t. same_told _ _ _ old new (g.O.Outside.seen c.args.outside.now).device s1.device (g.O.Outside.seen c.work.new.outside).device side c.work.ensures.was_honest c.in_ok-open_boxes.ensures.opened c.in_ok-open_boxes.ensures.kept t;
       keywords = λ n. absurd n;
-      repeats = λ k. repeats_by alone here g.opening _ _ _ options stream (λ h at. let k = ready.reaches (c.work.ensures.was_honest h) at in (there h k, same h k)) k;
+      repeats = λ k. repeats_by here g.opening _ _ _ options stream (λ h at. let k = ready.reaches (c.work.ensures.was_honest h) at in (there h k, same h k)) k;
       beyond = λ n. n;
       unread = λ e n. n;
       refused = λ step t h at. t h (there h (ready.reaches (c.work.ensures.was_honest h) at));

@@ -63,7 +63,7 @@ returns-in_err-plan-clause-part g c =
     let emptied = c.list_both.ensures.opened ∙ c.in_ok-clear.ensures.opened in
     let s2 = g.O.Outside.seen c.list_both.new.outside in
     let reasons = because (TellsUnlessSame (g.O.Outside.honest c.list_both.new.outside) old (g.O.Outside.seen c.args.outside.now).device) (HasRepeats g.opening (g.O.Outside.honest c.list_both.new.outside) (PlanStart g.opening old c.args.options.now (g.R.Rng.stream c.args.rng.now) (g.O.Outside.seen c.args.outside.now).device) c.args.options.now (g.R.Rng.stream c.args.rng.now)) in
-    rw (e.1, e.2) (left_weaker _ _ _ _ _ _ _ (λ d k. k.none) (left_here _ _ _ _ _ _ _ _ so_far (caused_plan reasons _ s2 s2 c.in_err-plan.ensures.fault (λ side is. unless_same _ _ old _ both.far both.near side _ s1.device emptied c.in_ok-clear.ensures.validities c.in_ok-both.ensures.validities (c.in_err-plan.ensures.changed side is)) (λ is. repeats_since g.opening (g.O.Outside.opened c.list_both.new.outside) c.args.options.now (g.R.Rng.stream c.args.rng.now) both.far both.near _ _ s2.device (c.in_err-plan.ensures.repeats is) (λ h (k : PlanStart g.opening old c.args.options.now (g.R.Rng.stream c.args.rng.now) (g.O.Outside.seen c.args.outside.now).device). rw c.list_both.ensures.opened (so_far.reaches h k.none)))) (λ k. after_plan (Underway g.opening) _ _ _ c.in_err-plan.ensures.fault (clear_underway g.opening _ _ _ k.clear))))
+    rw (e.1, e.2) (left_weaker _ _ _ _ _ _ _ (λ d k. k.none) (left_here _ _ _ _ _ _ _ _ so_far (caused_plan reasons _ s2 s2 c.in_err-plan.ensures.fault (λ side is. unless_same _ _ old _ both.far both.near side _ s1.device emptied c.requires.1.1.0 c.in_ok-both.ensures.was_honest c.in_ok-clear.ensures.validities c.in_ok-both.ensures.validities (c.in_err-plan.ensures.changed side is)) (λ is. repeats_since g.opening (g.O.Outside.opened c.list_both.new.outside) c.args.options.now (g.R.Rng.stream c.args.rng.now) both.far both.near _ _ s2.device (c.in_err-plan.ensures.repeats is) (λ h (k : PlanStart g.opening old c.args.options.now (g.R.Rng.stream c.args.rng.now) (g.O.Outside.seen c.args.outside.now).device). rw c.list_both.ensures.opened (so_far.reaches h k.none)))) (λ k. after_plan (Underway g.opening) _ _ _ c.in_err-plan.ensures.fault (clear_underway g.opening _ _ _ k.clear))))
 
 pub returns-in_err-unfit-clause-part : goal.returns-in_err-unfit-clause-part
 returns-in_err-unfit-clause-part g c =

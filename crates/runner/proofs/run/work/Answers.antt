@@ -28,7 +28,7 @@ returns-else-is_some-clause-part g c =
     let none : HasNoPlan opened = has_none opened (book_read opened c.requires.1.1.1.0) (none_of _ c.pending.result _ c.pending.ensures i) in
     let options = c.args.options.now in
     let stream = g.R.Rng.stream c.args.rng.now in
-    run_weaker {ours} {alone} g.opening options stream _ ⊥ _ (PlanStart g.opening opened options stream) (ReadPassStart g.opening opened (run_of opened + 1) options stream) _ _ _ (λ x. RunEnd g.opening) _ _ _ (λ d k. record { asked = k.asked; none = known_unplanned g.opening opened d none k.most k.known }) (λ x d k. k) c.begin.ensures.part
+    run_weaker g.opening options stream _ ⊥ _ (PlanStart g.opening opened options stream) (ReadPassStart g.opening opened (run_of opened + 1) options stream) _ _ _ (λ x. RunEnd g.opening) _ _ _ (λ d k. record { asked = k.asked; none = known_unplanned g.opening opened d none k.most k.known }) (λ x d k. k) c.begin.ensures.part
 
 pub returns-then-is_some-clause-moved : goal.returns-then-is_some-clause-moved
 returns-then-is_some-clause-moved g c = moved_none _

@@ -25,7 +25,7 @@ invariant-loop-tried g l =
       stops : MetStops l.tried start now;
       told : TellsMore start now;
       appends : start.appends ≤ now.appends;
-      reopened : Attempted ours alone g.opening (g.O.Outside.honest l.outside × Inputs g.opening l.options (g.R.Rng.stream l.fn.rng) × AtOpening g.opening start.device) (l.tried - 1) start now;
+      reopened : Attempted g.opening (g.O.Outside.honest l.outside × Inputs g.opening l.options (g.R.Rng.stream l.fn.rng) × AtOpening g.opening start.device) (l.tried - 1) start now;
       first : l.tried ≡ 0 → now ≡ start;
       unfixed : l.tried ≡ 0 → l.run ≡ None;
       reached : g.O.Outside.honest l.outside → IsReached l.run now.device.files;
