@@ -11,7 +11,7 @@ use Rattle.mailcore.specs.declared.keywords.Keyword.{Keyword}
 use Rattle.mailcore.specs.declared.keywords.KeywordFault.{KeywordFault}
 use Rattle.mailcore.specs.declared.keywords.KeywordFault.TheVariants.{BadLetter, BadName, Repeated}
 use Rattle.mailcore.specs.KeywordNames.{IsMap, has_name, is_keyword_letter, is_keyword_name, is_like, keyword_refused, with_keyword}
-use Rattle.sync_state.specs.declared.lines.Lines.{Lines}
+use Rattle.texts.specs.declared.lines.Lines.{Lines}
 use Rattle.sync_state.specs.declared.version.Version.{Version}
 use Rattle.sync_state.specs.declared.version.Version.TheVariants.{One, Two}
 use Rattle.sync_state.specs.Cuts.{same_cut}

@@ -8,12 +8,12 @@ ghost use Rattle.sync_state.specs.Places.{place_at};
 
 use crate::fault::BookFault;
 use crate::journal_lines::{read_note, read_step};
-use crate::lines::Lines;
 use crate::place::Place;
 use crate::version::Version;
 use rules::plan::{Note, Step};
 use std::alloc::Global;
 use texts::cut::cut;
+use texts::lines::Lines;
 
 /// What has a line in a plan, and a place in its order.
 pub trait Item: Copy {

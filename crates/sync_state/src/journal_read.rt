@@ -9,12 +9,13 @@ use crate::fault::BookFault;
 use crate::journal::Logged;
 use crate::journal_lines::read_logged;
 use crate::keyword_lines::read_keywords;
-use crate::lines::Lines;
+use crate::lines::take;
 use crate::version::Version;
 use crate::words::{Highest, Number, Positive};
 use mailcore::keywords::Keywords;
 use rules::plan::{PlanSide, Step};
 use std::alloc::Global;
+use texts::lines::Lines;
 
 /// The numbers with which a plan begins.
 #[derive(Clone, Copy)]
@@ -47,7 +48,7 @@ pub fn has_go(text: &[u8]) -> bool
 {
     let mut lines = Lines::new(text);
     while let Some(line) = lines.next_line() {
-        if line == b"go".as_slice() {
+        if line.text == b"go".as_slice() {
             return true;
         }
     }
@@ -73,16 +74,16 @@ fn read_numbers(lines: &mut Lines<'_>) -> Result<PlanNumbers, BookFault>
     ensures taken { OnOk result (lines.new.taken ≡ 4) }
     ensures refused { IfErr result (TellsNumbers lines.old.rest.now) }
 {
-    let Some(version) = lines.take(b"journal ") else {
+    let Some(version) = take(lines, b"journal ") else {
         return Err(BookFault::BadJournal(1));
     };
-    let Some(run) = lines.take(b"run ") else {
+    let Some(run) = take(lines, b"run ") else {
         return Err(BookFault::BadJournal(2));
     };
-    let Some(far) = lines.take::<SideFields>(b"far ") else {
+    let Some(far) = take::<SideFields>(lines, b"far ") else {
         return Err(BookFault::BadJournal(3));
     };
-    let Some(near) = lines.take::<SideFields>(b"near ") else {
+    let Some(near) = take::<SideFields>(lines, b"near ") else {
         return Err(BookFault::BadJournal(4));
     };
     Ok(PlanNumbers {
@@ -127,7 +128,7 @@ pub fn read_log(
 {
     let mut log = Vec::new(alloc);
     while let Some(line) = lines.next_line() {
-        match next_logged(line, log.len(), steps) {
+        match next_logged(line.text, log.len(), steps) {
             Some(logged) => log.push(logged)?,
             None => return Err(BookFault::BadJournal(lines.taken)),
         }

@@ -11,11 +11,12 @@ use crate::journal::{Journal, Log, Logged, WrittenJournal};
 use crate::journal_lines::{push_logged, push_note, push_step};
 use crate::journal_read::{has_go, read_head, read_log};
 use crate::keyword_lines::push_keywords;
-use crate::lines::{Lines, push_line};
+use crate::lines::{push_line, take};
 use crate::version::Version;
 use crate::words::{Highest, Number, Positive};
 use rules::plan::{Note, Notes, Plan, Step, Steps};
 use std::alloc::{AllocError, Global};
+use texts::lines::Lines;
 
 /// The text of a plan, in the second version. Its last line is `go`.
 pub fn write_plan(alloc: Global, plan: &Plan) -> Result<Vec<u8>, BookFault>
@@ -115,7 +116,7 @@ pub fn read_journal(alloc: Global, text: &[u8]) -> Result<Option<WrittenJournal>
     let numbers = head.numbers;
     let steps = read_items::<Step>(alloc, &mut lines, numbers.version)?;
     let notes = read_items::<Note>(alloc, &mut lines, numbers.version)?;
-    let Some(()) = lines.take(b"go") else {
+    let Some(()) = take(&mut lines, b"go") else {
         return Err(BookFault::BadJournal(lines.taken + 1));
     };
     let log = read_log(alloc, &mut lines, &steps)?;

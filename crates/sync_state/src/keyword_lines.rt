@@ -7,11 +7,11 @@ ghost use Rattle.sync_state.specs.Lines.{lines_text, HasNoLine};
 ghost use Rattle.sync_state.specs.JournalText.{keyword_line};
 ghost use Rattle.sync_state.specs.JournalReading.{IsNextKeyword, KeywordAdded, KeywordsRead};
 
-use crate::lines::Lines;
 use crate::version::Version;
 use mailcore::keywords::{Keyword, KeywordFault, Keywords};
 use std::alloc::{AllocError, Global};
 use texts::cut::cut;
+use texts::lines::Lines;
 
 /// The keywords of the next lines, up to one that may not stand behind those before it.
 pub fn read_keywords(

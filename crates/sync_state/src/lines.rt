@@ -1,64 +1,27 @@
-//! The lines of a text, one after another.
+//! The lines of a state and of a journal: a start, and the spelling of a value.
 
-ghost use Rattle.std.specs.Prelude.{◌≡◌, ◌+◌, ◌<◌, ◌^◌, ◌++◌, ◌∷◌, [], length, IfSome, IfNone};
+ghost use Rattle.std.specs.Prelude.{◌≡◌, ◌+◌, ◌<◌, ◌++◌, ◌∷◌, [], length, IfSome, IfNone};
 ghost use Rattle.sync_state.specs.Adding.{Adds};
+ghost use Rattle.sync_state.specs.Lines.{HasLine, HasNoLine};
 
 use crate::fields::Fields;
 use std::alloc::AllocError;
 use texts::cut::cut;
+use texts::lines::Lines;
 
-/// The whole lines of a text that are not taken yet.
-#[derive(Drop)]
-pub struct Lines<'a> {
-    /// How many lines are taken.
-    pub taken: usize,
-    /// The text behind them.
-    pub rest: &'a [u8],
-    ghost countable: { taken + length rest.now + 1 < 2 ^ 64 },
-}
-
-impl<'a> Lines<'a> {
-    ghost use Rattle.sync_state.specs.Lines.{OneLine, HasLine, HasNoLine};
-
-    /// All lines of this text.
-    pub fn new(text: &'a [u8]) -> Self
-        ensures { (result.taken ≡ 0) × (result.rest.now ≡ text.now) }
-    {
-        Lines {
-            taken: 0,
-            rest: text,
-        }
-    }
-
-    /// Takes the next line if it is whole. Else takes nothing.
-    pub fn next_line(&mut self) -> Option<&'a [u8]>
-        ensures some { IfSome result (λ line. OneLine line.now × (self.old.rest.now ≡ line.now ++ 10 ∷ self.new.rest.now)) }
-        ensures taken { IfSome result (λ _. self.new.taken ≡ self.old.taken + 1) }
-        ensures shorter { IfSome result (λ _. length self.new.rest.now < length self.old.rest.now) }
-        ensures none { IfNone result (OneLine self.old.rest.now) }
-        ensures unchanged { IfNone result (self.new ≡ self.old) }
-    {
-        let (line, rest) = cut(self.rest, b'\n')?;
-        self.taken += 1;
-        self.rest = rest;
-        Some(line)
-    }
-
-    /// Takes the next line if it is whole and is `start` with the spelling of a value, and gives that value. Else takes
-    /// nothing.
-    pub fn take<T: Fields>(&mut self, start: &[u8]) -> Option<T>
-        ensures some { IfSome result (λ value. HasLine start.now T.fits T.spelling value self.old.rest.now self.new.rest.now) }
-        ensures taken { IfSome result (λ _. self.new.taken ≡ self.old.taken + 1) }
-        ensures shorter { IfSome result (λ _. length self.new.rest.now < length self.old.rest.now) }
-        ensures none { IfNone result (HasNoLine start.now T.fits T.spelling self.old.rest.now) }
-        ensures unchanged { IfNone result (self.new ≡ self.old) }
-    {
-        let (line, rest) = cut(self.rest, b'\n')?;
-        let value = T::read(line.strip_prefix(start)?)?;
-        self.taken += 1;
-        self.rest = rest;
-        Some(value)
-    }
+/// Takes the next line if it is whole and is `start` with the spelling of a value, and gives that value. Else takes nothing.
+pub fn take<T: Fields>(lines: &mut Lines<'_>, start: &[u8]) -> Option<T>
+    ensures some { IfSome result (λ value. HasLine start.now T.fits T.spelling value lines.old.rest.now lines.new.rest.now) }
+    ensures taken { IfSome result (λ _. lines.new.taken ≡ lines.old.taken + 1) }
+    ensures shorter { IfSome result (λ _. length lines.new.rest.now < length lines.old.rest.now) }
+    ensures none { IfNone result (HasNoLine start.now T.fits T.spelling lines.old.rest.now) }
+    ensures unchanged { IfNone result (lines.new ≡ lines.old) }
+{
+    let (line, rest) = cut(lines.rest, b'\n')?;
+    let value = T::read(line.strip_prefix(start)?)?;
+    lines.rest = rest;
+    lines.taken += 1;
+    Some(value)
 }
 
 /// Adds the line that is `start` with the spelling of a value.

@@ -9,7 +9,7 @@ ghost use Rattle.sync_state.specs.StateReading.{HeadRead, EntriesRead, TellsEntr
 
 use crate::fault::BookFault;
 use crate::fields::after;
-use crate::lines::{Lines, push_line};
+use crate::lines::{push_line, take};
 use crate::version::Version;
 use crate::words::{Highest, Positive, Run};
 use mailcore::fault::PushFault;
@@ -19,6 +19,7 @@ use rules::entry::{Entries, Entry};
 use rules::state::SyncState;
 use std::alloc::Global;
 use texts::cut::cut;
+use texts::lines::Lines;
 
 /// Far UID, near UID and flags.
 type EntryFields = (Option<Uid>, (Option<Uid>, Flags));
@@ -58,16 +59,16 @@ fn read_head(lines: &mut Lines<'_>) -> Result<Head, BookFault>
     ensures taken { OnOk result (lines.new.taken ≡ 4) }
     ensures refused { IfErr result (TellsState lines.old.rest.now) }
 {
-    let Some(version) = lines.take(b"mbsync state ") else {
+    let Some(version) = take(lines, b"mbsync state ") else {
         return Err(BookFault::BadState(1));
     };
-    let Some(run) = lines.take(b"run ") else {
+    let Some(run) = take(lines, b"run ") else {
         return Err(BookFault::BadState(2));
     };
-    let Some(far) = lines.take(b"far ") else {
+    let Some(far) = take(lines, b"far ") else {
         return Err(BookFault::BadState(3));
     };
-    let Some(near) = lines.take(b"near ") else {
+    let Some(near) = take(lines, b"near ") else {
         return Err(BookFault::BadState(4));
     };
     Ok(Head {
@@ -132,7 +133,7 @@ fn read_end(lines: &mut Lines<'_>) -> Result<(), BookFault>
     ensures ok { OnOk result (lines.old.rest.now ≡ end_line ++ 10 ∷ []) }
     ensures refused { IfErr result (TellsEnd lines.old.taken lines.old.rest.now) }
 {
-    let Some(()) = lines.take(b"end") else {
+    let Some(()) = take(lines, b"end") else {
         return Err(BookFault::BadState(lines.taken + 1));
     };
     if lines.rest.is_empty() {

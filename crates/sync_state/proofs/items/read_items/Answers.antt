@@ -1,5 +1,5 @@
 use Rattle.std.proofs.Common.{◌≡◌, ◌∙◌, ◌+◌, ℕ, true, List, [], ◌∷◌, ◌++◌, length, length-append, map, sym, ap, subst, arith, refl, rules}
-use Rattle.sync_state.specs.declared.lines.Lines.{Lines}
+use Rattle.texts.specs.declared.lines.Lines.{Lines}
 use Rattle.sync_state.specs.JournalText.{is_below, bottom}
 use Rattle.sync_state.specs.Places.{place_at, last_of}
 use Rattle.sync_state.specs.JournalReading.{AreItems, ItemsRead}

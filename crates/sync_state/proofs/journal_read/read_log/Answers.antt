@@ -9,7 +9,7 @@ pub loop-line-preserved : goal.loop-line-preserved
 loop-line-preserved c =
     let log = c.loop-line.log.items in
     let l = c.in-Some-next_logged.logged in
-    let line = c.in-Some.line.now in
+    let line = c.in-Some.line.text.now in
     let steps = c.args.steps.now in
     let count : c.len.result ≡ length log = search rules in
     let some = c.in-Some-next_logged.ensures.some in
@@ -19,6 +19,6 @@ loop-line-preserved c =
     c.in-Some.ensures.some.0 c.in-Some.ensures.some.1 is in
     let same : c.push.new.self.items ≡ log ++ l ∷ [] = c.in_ok-push-in-Some-next_logged.ensures.items in
     let size = ap (λ (z : List Logged). length z) same in
-    let taken = c.in-Some.ensures.taken in
+    let taken = c.in-Some.ensures.taken.1 in
     let before = c.loop-line.invariant.1 in
     (subst (λ (z : List Logged). AreLogged steps z c.args.lines.now.rest.now c.next_line.new.self.rest.now) (sym same) more, omega (arith, length-append log (l ∷ [])))

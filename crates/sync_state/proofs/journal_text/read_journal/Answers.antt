@@ -4,7 +4,7 @@ use Rattle.std.proofs.lemmas.Result.{err_from_is_err_and}
 use Rattle.rules.specs.declared.plan.Step.{Step}
 use Rattle.rules.specs.declared.plan.Note.{Note}
 use Rattle.sync_state.specs.declared.journal.Logged.{Logged}
-use Rattle.sync_state.specs.declared.lines.Lines.{Lines}
+use Rattle.texts.specs.declared.lines.Lines.{Lines}
 use Rattle.sync_state.specs.JournalText.{step_line, note_line, step_place, note_place, HasGo, JournalText}
 use Rattle.sync_state.specs.JournalReading.{IsStepIn, IsNoteIn, PlanHeadRead, TellsItem, TellsLog, LogRead}
 use Rattle.sync_state.proofs.JournalLemmas.{journal_of}
@@ -56,9 +56,9 @@ returns-in_default-clause-refused c =
     let a = c.in_ok-head.ensures.taken in
     let b = c.in_ok-steps.ensures.taken in
     let d = c.in_ok-notes.ensures.taken in
-    let e : c.take.new.self.taken ≡ c.read_items-2.new.lines.taken = ap (λ (x : Lines). x.taken) c.in_default.ensures.unchanged in
-    let number : c.take.new.self.taken + 1 ≡ head_length h + length steps + length notes + 1 = omega arith in
-    (go, bad_go h steps notes text t1 t2 t3 (c.take.new.self.taken + 1) hr c.in_ok-steps.ensures.ok c.in_ok-notes.ensures.ok c.in_default.ensures.none number)
+    let e : c.take.new.lines.taken ≡ c.read_items-2.new.lines.taken = ap (λ (x : Lines). x.taken) c.in_default.ensures.unchanged in
+    let number : c.take.new.lines.taken + 1 ≡ head_length h + length steps + length notes + 1 = omega arith in
+    (go, bad_go h steps notes text t1 t2 t3 (c.take.new.lines.taken + 1) hr c.in_ok-steps.ensures.ok c.in_ok-notes.ensures.ok c.in_default.ensures.none number)
 
 pub returns-in_err-log-clause-refused : goal.returns-in_err-log-clause-refused
 returns-in_err-log-clause-refused c =
@@ -67,7 +67,7 @@ returns-in_err-log-clause-refused c =
     let t1 = c.read_head.new.lines.rest.now in
     let t2 = c.read_items.new.lines.rest.now in
     let t3 = c.read_items-2.new.lines.rest.now in
-    let t4 = c.take.new.self.rest.now in
+    let t4 = c.take.new.lines.rest.now in
     let h = c.in_ok-head.head in
     let v = h.numbers.version in
     let steps = c.in_ok-steps.steps.items in
@@ -78,8 +78,8 @@ returns-in_err-log-clause-refused c =
     let b = c.in_ok-steps.ensures.taken in
     let d = c.in_ok-notes.ensures.taken in
     let e = c.in-Some.ensures.taken in
-    let taken : c.take.new.self.taken ≡ head_length h + length steps + length notes + 1 = omega arith in
-    let told = subst (λ (n : ℕ). TellsLog steps n t4 fault) taken (subst (λ (s : List Step). TellsLog s c.take.new.self.taken t4 fault) c.deref.ensures.value c.in_err-log.ensures.refused) in
+    let taken : c.take.new.lines.taken ≡ head_length h + length steps + length notes + 1 = omega arith in
+    let told = subst (λ (n : ℕ). TellsLog steps n t4 fault) taken (subst (λ (s : List Step). TellsLog s c.take.new.lines.taken t4 fault) c.deref.ensures.value c.in_err-log.ensures.refused) in
     let p = err_from_is_err_and c.from_residual-in_err-log.result c.from_residual-in_err-log.ensures.1 in
     rw (p.1, p.2) (stops_in_log h steps notes text t1 t2 t3 t4 fault go hr c.in_ok-steps.ensures.ok c.in_ok-notes.ensures.ok c.in-Some.ensures.some.parts told)
 
@@ -89,7 +89,7 @@ returns-clause-read c =
     let t1 = c.read_head.new.lines.rest.now in
     let t2 = c.read_items.new.lines.rest.now in
     let t3 = c.read_items-2.new.lines.rest.now in
-    let t4 = c.take.new.self.rest.now in
+    let t4 = c.take.new.lines.rest.now in
     let rest = c.read_log.new.lines.rest.now in
     let h = c.in_ok-head.head in
     let v = h.numbers.version in

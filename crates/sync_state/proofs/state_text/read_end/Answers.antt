@@ -1,5 +1,5 @@
 use Rattle.std.proofs.Common.{inl, ap, ◌+◌}
-use Rattle.sync_state.specs.declared.lines.Lines.{Lines}
+use Rattle.texts.specs.declared.lines.Lines.{Lines}
 use Rattle.sync_state.proofs.state_text.read_end.Goals as goal
 
 pub returns-in_default-clause-refused : goal.returns-in_default-clause-refused
