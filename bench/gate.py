@@ -3,8 +3,8 @@
 
 usage: bench/gate.py [--kept] [--compare OLD] [LOG]
 
-First tests/pages.py looks whether generated pages are current, which the gate does not. The gate is `rt ci`, and here it proves all anew: what earlier runs on this machine kept is not taken, unless `--kept` asks
-for it; the table then has what was left to do. What the gate prints goes to LOG (gate.log in the folder for temporary files
+First tests/pages.py looks whether generated pages are current. The gate is `rt ci`, and here it proves all anew: what earlier runs on
+this machine kept is not taken, unless `--kept` asks for it; the table then has what was left to do. What the gate prints goes to LOG (gate.log in the folder for temporary files
 where none is given). Minutes are processor minutes, asked of the system twice a second while the checks run: a check's last
 half second may be missing, and what no check used (compilers, linkers, the programs) is in the line `all else`. Run it
 with nothing beside it. Control-C ends it, and prints what it cost so far.
