@@ -13,6 +13,7 @@ ghost use Rattle.runner.specs.Sources.{BySource};
 use crate::fault::{RunFault, step_fault};
 use crate::pending::first_uid;
 use crate::performed::StepResult;
+use mailbox::fault_number::FAR_UNKNOWN_ANSWER;
 use mailcore::flags::Flags;
 use mailcore::side::{Direction, Side};
 use mailcore::tuid::Tuid;
@@ -106,7 +107,7 @@ fn copy<O: Outside>(
             Some(copy) => Ok(StepResult::Made(copy)),
             None => match find_copy(outside, number, direction, mark)? {
                 Some(copy) => Ok(StepResult::Made(copy)),
-                None => Err(RunFault::StoreFault(Side::Far, 3)),
+                None => Err(RunFault::StoreFault(Side::Far, FAR_UNKNOWN_ANSWER)),
             },
         },
     }
