@@ -14,8 +14,6 @@ use Rattle.runner.proofs.changing.clear_flags.Goals as goal
 
 pub returns-then-is_empty-clause-part : goal.returns-then-is_empty-clause-part
 returns-then-is_empty-clause-part g c =
-    let ours = g.O.Outside.ours in
-    let alone = g.O.Outside.alone in
     let opened = g.O.Outside.opened c.args.outside.now in
     let f = c.args.flags.now in
     let s0 = g.O.Outside.seen c.args.outside.now in
@@ -28,8 +26,6 @@ remove_flags-requires g c = record { is_open = c.requires.1.0.boxes c.target-sid
 
 pub returns-in-Ok-clause-part : goal.returns-in-Ok-clause-part
 returns-in-Ok-clause-part g c =
-    let ours = g.O.Outside.ours in
-    let alone = g.O.Outside.alone in
     let opened = g.O.Outside.opened c.args.outside.now in
     let f = c.args.flags.now in
     let s1 = g.O.Outside.seen c.remove_flags.new.self in
@@ -38,8 +34,6 @@ returns-in-Ok-clause-part g c =
 
 pub returns-in-Err-clause-part : goal.returns-in-Err-clause-part
 returns-in-Err-clause-part g c =
-    let ours = g.O.Outside.ours in
-    let alone = g.O.Outside.alone in
     let opened = g.O.Outside.opened c.args.outside.now in
     let f = c.args.flags.now in
     let made = sets_first f.set f.cleared in

@@ -16,8 +16,6 @@ add_flags-requires g c = record { is_open = c.requires.1.0.boxes c.target-side.r
 
 pub returns-in-Ok-clause-part : goal.returns-in-Ok-clause-part
 returns-in-Ok-clause-part g c =
-    let ours = g.O.Outside.ours in
-    let alone = g.O.Outside.alone in
     let opened = g.O.Outside.opened c.args.outside.now in
     let d = c.args.direction in
     let far = c.args.far in
@@ -28,8 +26,6 @@ returns-in-Ok-clause-part g c =
 
 pub returns-in-Err-clause-part : goal.returns-in-Err-clause-part
 returns-in-Err-clause-part g c =
-    let ours = g.O.Outside.ours in
-    let alone = g.O.Outside.alone in
     let opened = g.O.Outside.opened c.args.outside.now in
     let d = c.args.direction in
     let far = c.args.far in

@@ -16,8 +16,6 @@ add_flags-requires g c = record { is_open = c.requires.1.0.boxes c.target-side.r
 
 pub returns-in-Ok-clause-part : goal.returns-in-Ok-clause-part
 returns-in-Ok-clause-part g c =
-    let ours = g.O.Outside.ours in
-    let alone = g.O.Outside.alone in
     let opened = g.O.Outside.opened c.args.outside.now in
     let f = c.args.flags.now in
     let s1 = g.O.Outside.seen c.add_flags.new.self in
@@ -26,8 +24,6 @@ returns-in-Ok-clause-part g c =
 
 pub returns-in-Err-clause-part : goal.returns-in-Err-clause-part
 returns-in-Err-clause-part g c =
-    let ours = g.O.Outside.ours in
-    let alone = g.O.Outside.alone in
     let opened = g.O.Outside.opened c.args.outside.now in
     let f = c.args.flags.now in
     let s1 = g.O.Outside.seen c.add_flags.new.self in
@@ -43,8 +39,6 @@ returns-in-Err-clause-part g c =
 
 pub returns-then-not-sets_first-clause-part : goal.returns-then-not-sets_first-clause-part
 returns-then-not-sets_first-clause-part g c =
-    let ours = g.O.Outside.ours in
-    let alone = g.O.Outside.alone in
     let opened = g.O.Outside.opened c.args.outside.now in
     let f = c.args.flags.now in
     let s0 = g.O.Outside.seen c.args.outside.now in

@@ -23,8 +23,6 @@ find_copy-requires g c κs within =
 
 pub returns-in-Err-clause-part : goal.returns-in-Err-clause-part
 returns-in-Err-clause-part g c =
-    let ours = g.O.Outside.ours in
-    let alone = g.O.Outside.alone in
     let opened = g.O.Outside.opened c.args.outside.now in
     let s1 = g.O.Outside.seen c.carry.new.self in
     rw c.step_fault.ensures (left_step _ _ _ _ _ _ _ _ _ _ c.args.number opened _ c.in-Err.ensures.call (line_of_box _)
@@ -33,8 +31,6 @@ returns-in-Err-clause-part g c =
 
 pub returns-in-Absent-clause-part : goal.returns-in-Absent-clause-part
 returns-in-Absent-clause-part g c =
-    let ours = g.O.Outside.ours in
-    let alone = g.O.Outside.alone in
     let opened = g.O.Outside.opened c.args.outside.now in
     let s1 = g.O.Outside.seen c.carry.new.self in
     passed_call _ _ _ _ _ _ _ _ _ _ _ (rw c.in-Absent.is at c.in-Ok.ensures.call)
@@ -42,8 +38,6 @@ returns-in-Absent-clause-part g c =
 
 pub returns-in-Unfit-clause-part : goal.returns-in-Unfit-clause-part
 returns-in-Unfit-clause-part g c =
-    let ours = g.O.Outside.ours in
-    let alone = g.O.Outside.alone in
     let opened = g.O.Outside.opened c.args.outside.now in
     let s1 = g.O.Outside.seen c.carry.new.self in
     passed_call _ _ _ _ _ _ _ _ _ _ _ (rw c.in-Unfit.is at c.in-Ok.ensures.call)
@@ -51,8 +45,6 @@ returns-in-Unfit-clause-part g c =
 
 pub returns-in-Some-clause-part : goal.returns-in-Some-clause-part
 returns-in-Some-clause-part g c =
-    let ours = g.O.Outside.ours in
-    let alone = g.O.Outside.alone in
     let opened = g.O.Outside.opened c.args.outside.now in
     let s1 = g.O.Outside.seen c.carry.new.self in
     passed_call _ _ _ _ _ _ _ _ _ _ _ (rw (c.in-Made.is, c.in-Some.is) at c.in-Ok.ensures.call)
@@ -60,8 +52,6 @@ returns-in-Some-clause-part g c =
 
 pub returns-in_err-copy-in-None-clause-part : goal.returns-in_err-copy-in-None-clause-part
 returns-in_err-copy-in-None-clause-part g c =
-    let ours = g.O.Outside.ours in
-    let alone = g.O.Outside.alone in
     let opened = g.O.Outside.opened c.args.outside.now in
     let s1 = g.O.Outside.seen c.carry.new.self in
     let e = err_from_is_err_and c.from_residual.result c.from_residual.ensures.1 in
@@ -73,8 +63,6 @@ returns-in_err-copy-in-None-clause-part g c =
 
 pub returns-in-Some-2-clause-part : goal.returns-in-Some-2-clause-part
 returns-in-Some-2-clause-part g c =
-    let ours = g.O.Outside.ours in
-    let alone = g.O.Outside.alone in
     let opened = g.O.Outside.opened c.args.outside.now in
     let s1 = g.O.Outside.seen c.carry.new.self in
     let rest = rw (c.carry.ensures.opened, c.in-Some-2.is) at c.in_ok-copy-in-None.ensures.part in
@@ -85,8 +73,6 @@ returns-in-Some-2-clause-part g c =
 
 pub returns-in-None-2-clause-part : goal.returns-in-None-2-clause-part
 returns-in-None-2-clause-part g c =
-    let ours = g.O.Outside.ours in
-    let alone = g.O.Outside.alone in
     let opened = g.O.Outside.opened c.args.outside.now in
     let s0 = g.O.Outside.seen c.args.outside.now in
     let s1 = g.O.Outside.seen c.carry.new.self in

@@ -7,16 +7,12 @@ use Rattle.runner.proofs.copying.find_copy.Goals as goal
 
 pub returns-in-Ok-clause-part : goal.returns-in-Ok-clause-part
 returns-in-Ok-clause-part g c =
-    let ours = g.O.Outside.ours in
-    let alone = g.O.Outside.alone in
     let opened = g.O.Outside.opened c.args.outside.now in
     passed_call _ _ _ _ _ _ _ _ _ _ _ c.in-Ok.ensures.call
     (λ m at a own. subst (λ (d : Device). FoundCopy g.opening opened c.in-Ok.copy d) (sym own.0) (copy_told g.opening opened c.args.direction c.args.mark c.requires.1.1 _ m a at c.in-Ok.copy (rw (c.first_uid-from.ensures, c.target-side.ensures) at own.1)))
 
 pub returns-in-Err-clause-part : goal.returns-in-Err-clause-part
 returns-in-Err-clause-part g c =
-    let ours = g.O.Outside.ours in
-    let alone = g.O.Outside.alone in
     let opened = g.O.Outside.opened c.args.outside.now in
     rw c.step_fault.ensures (left_step _ _ _ _ _ _ _ _ _ _ c.args.number opened _ c.in-Err.ensures.call (line_of_box _)
     (λ m at a own. rw own (copied_held g.opening opened m (copied_arrives g.opening opened _ m a at)))

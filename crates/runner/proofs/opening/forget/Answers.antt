@@ -32,8 +32,6 @@ returns-in-Ok-clause-part g c =
 
 pub returns-in-Err-clause-part : goal.returns-in-Err-clause-part
 returns-in-Err-clause-part g c =
-    let ours = g.O.Outside.ours in
-    let alone = g.O.Outside.alone in
     let s1 = g.O.Outside.seen c.discard.new.self in
     let opened = g.O.Outside.opened c.args.outside.now in
     let i : is_some c.pending.result ≡ false = grind (arith, common_steps) in

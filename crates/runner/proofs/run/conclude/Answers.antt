@@ -15,8 +15,6 @@ returns-in-Ok-clause-part g c =
 
 pub returns-in-Err-clause-part : goal.returns-in-Err-clause-part
 returns-in-Err-clause-part g c =
-    let ours = g.O.Outside.ours in
-    let alone = g.O.Outside.alone in
     let opened = g.O.Outside.opened c.args.outside.now in
     let seek = c.args.is_taken_up in
     let s1 = g.O.Outside.seen c.commit.new.self in
@@ -30,8 +28,6 @@ returns-in-Err-clause-part g c =
 
 pub returns-in-Ok-clause-ends : goal.returns-in-Ok-clause-ends
 returns-in-Ok-clause-ends g c = λ h k.
-    let ours = g.O.Outside.ours in
-    let alone = g.O.Outside.alone in
     let opened = g.O.Outside.opened c.args.outside.now in
     let seek = c.args.is_taken_up in
     let s0 = g.O.Outside.seen c.args.outside.now in

@@ -51,8 +51,6 @@ returns-in_err-open_boxes-clause-part g c =
 pub returns-in_err-same_map-clause-part : goal.returns-in_err-same_map-clause-part
 returns-in_err-same_map-clause-part g c =
     let e = err_from_is_err_and c.from_residual-in_err-same_map.result c.from_residual-in_err-same_map.ensures.1 in
-    let ours = g.O.Outside.ours in
-    let alone = g.O.Outside.alone in
     let old = g.O.Outside.opened c.args.outside.now in
     let s0 = g.O.Outside.seen c.args.outside.now in
     let s1 = g.O.Outside.seen c.open_boxes.new.outside in

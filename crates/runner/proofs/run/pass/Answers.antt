@@ -45,7 +45,6 @@ returns-clause-beyond g c =
 
 pub returns-clause-part : goal.returns-clause-part
 returns-clause-part g c =
-    let ours = g.O.Outside.ours in
     let alone = g.O.Outside.alone in
     let opened = g.O.Outside.opened c.recall.new.outside in
     let s0 = g.O.Outside.seen c.args.outside.now in
@@ -72,7 +71,6 @@ returns-clause-stuck g c = λ b. absurd ((c.in_ok-recall.ensures.stuck b).0)
 pub returns-clause-told : goal.returns-clause-told
 returns-clause-told g c =
     let ours = g.O.Outside.ours in
-    let alone = g.O.Outside.alone in
     let d0 = (g.O.Outside.seen c.args.outside.now).device in
     let part = c.in_ok-recall.ensures.part in
     let before = c.take_up.ensures.was_honest in

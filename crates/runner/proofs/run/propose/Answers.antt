@@ -97,8 +97,6 @@ returns-clause-run g c =
 pub returns-in_err-write_plan-clause-part : goal.returns-in_err-write_plan-clause-part
 returns-in_err-write_plan-clause-part g c =
     let e = err_from_is_err_and c.from_residual-in_err-write_plan.result c.from_residual-in_err-write_plan.ensures.1 in
-    let ours = g.O.Outside.ours in
-    let alone = g.O.Outside.alone in
     let s1 = g.O.Outside.seen c.clear.new.outside in
     let s2 = g.O.Outside.seen c.list_both.new.outside in
     let both = c.in_ok-both.both in
@@ -112,8 +110,6 @@ returns-in_err-write_plan-clause-part g c =
 
 pub returns-clause-part : goal.returns-clause-part
 returns-clause-part g c =
-    let ours = g.O.Outside.ours in
-    let alone = g.O.Outside.alone in
     let s1 = g.O.Outside.seen c.clear.new.outside in
     let s2 = g.O.Outside.seen c.list_both.new.outside in
     let both = c.in_ok-both.both in

@@ -6,8 +6,6 @@ use Rattle.runner.proofs.run.skip.Goals as goal
 
 pub returns-clause-part : goal.returns-clause-part
 returns-clause-part g c =
-    let ours = g.O.Outside.ours in
-    let alone = g.O.Outside.alone in
     let old = g.O.Outside.opened c.args.outside.now in
     let new = g.O.Outside.opened c.forget.new.outside in
     let same = run_same old new c.in_ok-forget.ensures.state in

@@ -17,8 +17,6 @@ skip-requires g c κs within = (search rules, (book_read (g.O.Outside.opened c.a
 
 pub returns-then-run-last-clause-part : goal.returns-then-run-last-clause-part
 returns-then-run-last-clause-part g c =
-    let ours = g.O.Outside.ours in
-    let alone = g.O.Outside.alone in
     let opened = g.O.Outside.opened c.args.outside.now in
     let same = run_of_state opened c.state.result.now c.state.ensures.state in
     let le : c.args.run ≤ run_of opened = omega (arith, same, c.if-run-last.true) in
@@ -26,8 +24,6 @@ returns-then-run-last-clause-part g c =
 
 pub returns-clause-part : goal.returns-clause-part
 returns-clause-part g c =
-    let ours = g.O.Outside.ours in
-    let alone = g.O.Outside.alone in
     let opened = g.O.Outside.opened c.args.outside.now in
     let same = run_of_state opened c.state.result.now c.state.ensures.state in
     let is : c.args.run ≡ run_of opened + 1 = omega (arith, same, c.if-run-last.false, c.if-run-last-gt1.false) in
@@ -40,8 +36,6 @@ returns-clause-part g c =
 
 pub returns-then-run-last-gt1-clause-part : goal.returns-then-run-last-gt1-clause-part
 returns-then-run-last-gt1-clause-part g c =
-    let ours = g.O.Outside.ours in
-    let alone = g.O.Outside.alone in
     let opened = g.O.Outside.opened c.args.outside.now in
     let s = g.O.Outside.seen c.args.outside.now in
     let same = run_of_state opened c.state.result.now c.state.ensures.state in

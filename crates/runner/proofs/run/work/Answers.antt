@@ -12,8 +12,6 @@ use Rattle.runner.proofs.run.work.Goals as goal
 
 pub returns-then-is_some-clause-part : goal.returns-then-is_some-clause-part
 returns-then-is_some-clause-part g c =
-    let ours = g.O.Outside.ours in
-    let alone = g.O.Outside.alone in
     let opened = g.O.Outside.opened c.args.outside.now in
     let i : is_some c.pending.result ≡ true = grind (arith, common_steps) in
     let j = some_of _ c.pending.result _ c.pending.ensures i in
@@ -21,8 +19,6 @@ returns-then-is_some-clause-part g c =
 
 pub returns-else-is_some-clause-part : goal.returns-else-is_some-clause-part
 returns-else-is_some-clause-part g c =
-    let ours = g.O.Outside.ours in
-    let alone = g.O.Outside.alone in
     let opened = g.O.Outside.opened c.args.outside.now in
     let i : is_some c.pending.result ≡ false = grind (arith, common_steps) in
     let none : HasNoPlan opened = has_none opened (book_read opened c.requires.1.1.1.0) (none_of _ c.pending.result _ c.pending.ensures i) in
@@ -35,8 +31,6 @@ returns-then-is_some-clause-moved g c = moved_none _
 
 pub returns-then-is_some-clause-told : goal.returns-then-is_some-clause-told
 returns-then-is_some-clause-told g c =
-    let ours = g.O.Outside.ours in
-    let alone = g.O.Outside.alone in
     let opened = g.O.Outside.opened c.args.outside.now in
     let i : is_some c.pending.result ≡ true = grind (arith, common_steps) in
     let j = some_of _ c.pending.result _ c.pending.ensures i in
@@ -44,8 +38,6 @@ returns-then-is_some-clause-told g c =
 
 pub returns-else-is_some-clause-told : goal.returns-else-is_some-clause-told
 returns-else-is_some-clause-told g c =
-    let ours = g.O.Outside.ours in
-    let alone = g.O.Outside.alone in
     let opened = g.O.Outside.opened c.args.outside.now in
     let i : is_some c.pending.result ≡ false = grind (arith, common_steps) in
     let none : HasNoPlan opened = has_none opened (book_read opened c.requires.1.1.1.0) (none_of _ c.pending.result _ c.pending.ensures i) in
@@ -53,8 +45,6 @@ returns-else-is_some-clause-told g c =
 
 pub returns-then-is_some-clause-found : goal.returns-then-is_some-clause-found
 returns-then-is_some-clause-found g c =
-    let ours = g.O.Outside.ours in
-    let alone = g.O.Outside.alone in
     let opened = g.O.Outside.opened c.args.outside.now in
     let i : is_some c.pending.result ≡ true = grind (arith, common_steps) in
     let j = some_of _ c.pending.result _ c.pending.ensures i in
@@ -62,8 +52,6 @@ returns-then-is_some-clause-found g c =
 
 pub returns-else-is_some-clause-found : goal.returns-else-is_some-clause-found
 returns-else-is_some-clause-found g c =
-    let ours = g.O.Outside.ours in
-    let alone = g.O.Outside.alone in
     let opened = g.O.Outside.opened c.args.outside.now in
     let i : is_some c.pending.result ≡ false = grind (arith, common_steps) in
     let none : HasNoPlan opened = has_none opened (book_read opened c.requires.1.1.1.0) (none_of _ c.pending.result _ c.pending.ensures i) in

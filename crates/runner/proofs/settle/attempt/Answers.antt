@@ -52,7 +52,6 @@ returns-in_err-number-clause-part g c =
 
 pub returns-clause-part : goal.returns-clause-part
 returns-clause-part g c =
-    let ours = g.O.Outside.ours in
     let alone = g.O.Outside.alone in
     let options = c.args.options.now in
     let old = g.R.Rng.stream c.args.rng.now in
@@ -82,8 +81,6 @@ returns-clause-reached g c = λ h at.
 
 pub returns-clause-told : goal.returns-clause-told
 returns-clause-told g c =
-    let ours = g.O.Outside.ours in
-    let alone = g.O.Outside.alone in
     let n = c.in_ok-number.number in
     let fixed = c.in_ok-number.ensures.fixed in
     let part = c.in_ok-number.ensures.part in
@@ -94,7 +91,6 @@ returns-clause-told g c =
 pub returns-clause-found : goal.returns-clause-found
 returns-clause-found g c =
     let ours = g.O.Outside.ours in
-    let alone = g.O.Outside.alone in
     let n = c.in_ok-number.number in
     let fixed = c.in_ok-number.ensures.fixed in
     let part = c.in_ok-number.ensures.part in

@@ -6,15 +6,11 @@ use Rattle.runner.proofs.settle.fix_run.Goals as goal
 
 pub returns-in_err-number-clause-part : goal.returns-in_err-number-clause-part
 returns-in_err-number-clause-part g c =
-    let ours = g.O.Outside.ours in
-    let alone = g.O.Outside.alone in
     let e = err_from_is_err_and c.from_residual.result c.from_residual.ensures.1 in
     rw (e.1, e.2) (left_mapped _ _ _ _ _ _ _ _ (λ d t. tried_opening g.opening _ d c.in_default.not-Some t) (λ d u. opening_tried g.opening _ d c.in_default.not-Some u) c.in_err-number.ensures.part)
 
 pub returns-clause-part : goal.returns-clause-part
 returns-clause-part g c =
-    let ours = g.O.Outside.ours in
-    let alone = g.O.Outside.alone in
     passed_weaker _ _ _ _ _ _ _ _ _ refl (λ d t. tried_opening g.opening _ d c.in_default.not-Some t) (λ d k. (k.0, opening_underway g.opening d k.1)) c.in_ok-number.ensures.part
 
 pub returns-in-Some-clause-number : goal.returns-in-Some-clause-number

@@ -9,8 +9,6 @@ use Rattle.runner.proofs.settle.next_run.Goals as goal
 
 pub returns-then-last-clause-part : goal.returns-then-last-clause-part
 returns-then-last-clause-part g c =
-    let ours = g.O.Outside.ours in
-    let alone = g.O.Outside.alone in
     let s1 = g.O.Outside.seen c.open_book.new.self in
     let last = c.state.result.now in
     left_here _ _ (λ d. (last.run + 1 ≡ g.opening.world.state.run + 1) × AtOpening g.opening d) _ 0 _ _ s1 (passed_call _ _ _ _ _ _ _ _ _ _ _ c.in-Ok.ensures.call (λ m at a own. run_read g.opening _ last _ m s1.device c.state.ensures.state at a own.0 own.1))

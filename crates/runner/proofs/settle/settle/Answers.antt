@@ -36,7 +36,6 @@ pub loop-tried-preserved : goal.loop-tried-preserved
 loop-tried-preserved g c =
     let i = c.loop-tried.invariant in
     let e = c.again.ensures.seen in
-    let ours = g.O.Outside.ours in
     let alone = g.O.Outside.alone in
     let options = c.args.options.now in
     let s0 = g.O.Outside.seen c.args.outside.now in
@@ -76,8 +75,6 @@ returns-in-Ok-clause-moved g c = let i = c.loop-tried.invariant in moved_twice _
 pub returns-in-Ok-clause-done : goal.returns-in-Ok-clause-done
 returns-in-Ok-clause-done g c = λ h asked at.
     let i = c.loop-tried.invariant in
-    let ours = g.O.Outside.ours in
-    let alone = g.O.Outside.alone in
     let tried = c.loop-tried.tried in
     let s0 = g.O.Outside.seen c.args.outside.now in
     let now = g.O.Outside.seen c.loop-tried.outside in
@@ -133,8 +130,6 @@ pub returns-in-Err-clause-left : goal.returns-in-Err-clause-left
 returns-in-Err-clause-left g c = λ h asked at.
     let i = c.loop-tried.invariant in
     let e = c.again.ensures.seen in
-    let ours = g.O.Outside.ours in
-    let alone = g.O.Outside.alone in
     let options = c.args.options.now in
     let tried = c.loop-tried.tried in
     let s0 = g.O.Outside.seen c.args.outside.now in

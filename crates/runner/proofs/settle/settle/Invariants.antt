@@ -16,7 +16,6 @@ abbrev pub invariant-loop-tried : goal.invariant-loop-tried
 invariant-loop-tried g l =
     let start = g.O.Outside.seen l.fn.outside in
     let now = g.O.Outside.seen l.outside in
-    let ours = g.O.Outside.ours in
     let alone = g.O.Outside.alone in
     record {
       was_honest : g.O.Outside.honest l.outside → g.O.Outside.honest l.fn.outside;

@@ -41,8 +41,6 @@ loop-number-preserved g c =
     let p = c.in_ok-one.one in
     let is : next_at b ≡ Some p.step = rw one.step c.in-Some.ensures.1 in
     let pushed : c.push.new.self.items ≡ ps ++ p ∷ [] = rw (← c.try_reserve.ensures.items) c.in-Ok-push.ensures.items in
-    let ours = g.O.Outside.ours in
-    let alone = g.O.Outside.alone in
     let went = passed_weaker _ _ _ _ _ _ _ _ _ refl (λ d k. k) (either_ready g.opening (g.O.Outside.opened c.advance.new.outside) c.args.is_taken_up) one.part in
     rw pushed (record {
       opened = logged_on start b _ ps p i.opened one.opened;

@@ -17,8 +17,6 @@ returns-in-Ok-clause-opened g c =
 
 pub returns-in-Ok-clause-part : goal.returns-in-Ok-clause-part
 returns-in-Ok-clause-part g c =
-    let ours = g.O.Outside.ours in
-    let alone = g.O.Outside.alone in
     let opened = g.O.Outside.opened c.args.outside.now in
     let now = g.O.Outside.opened c.write.new.outside in
     let s1 = g.O.Outside.seen c.write.new.outside in
@@ -29,8 +27,6 @@ returns-in-Ok-clause-part g c =
 
 pub returns-in-Err-clause-part : goal.returns-in-Err-clause-part
 returns-in-Err-clause-part g c =
-    let ours = g.O.Outside.ours in
-    let alone = g.O.Outside.alone in
     let opened = g.O.Outside.opened c.args.outside.now in
     let s1 = g.O.Outside.seen c.write.new.outside in
     let logged = logged_of c.args.became.now in
