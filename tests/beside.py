@@ -32,7 +32,7 @@ SOURCE = os.path.join(TOP, "tests", "support", "at_piece.c")
 MEMORY = "/dev/shm"
 CHANNEL = "\n".join(["", "Channel %s", "Far :far:", "Near :near:", "Expunge %s", ""])
 # What may stop a run: files that are renamed while names are read, or before mbsync renames them itself.
-BUSY = ("another program renames files all the time", "it is gone. Run again")
+BUSY = ("another program keeps renaming files", "it is gone. Run again")
 # How many messages are marked at once, and the least and the greatest pause after that in seconds.
 PACES = {"each 1 ms": (1, 0.001, 0.001), "each 5 ms": (1, 0.005, 0.005), "each 10 ms": (1, 0.01, 0.01), "each 100 ms": (1, 0.1, 0.1),
          "a hundred at once": (100, 0.01, 0.2)}
