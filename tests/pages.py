@@ -70,34 +70,32 @@ def sizes(tally):
 
 
 def planted(edit):
-    """The file of a planted bug, with the texts that it replaces and those that it puts there."""
-    file, pairs, last = None, [], None
+    """What a planted bug replaces, in turn: a file, the text there, and the text that it puts there. A line of a text is a line of the edit."""
+    found, last = [], None
     for line in read(edit).splitlines():
-        key, colon, rest = line.partition(":")
-        if colon and key in ("file", "old", "new"):
-            last = key
-            if key == "file":
-                file = rest.strip()
-            elif key == "old":
-                pairs.append([[rest.removeprefix(" ")], []])
-            else:
-                pairs[-1][1].append(rest.removeprefix(" "))
-        elif last in ("old", "new"):
-            pairs[-1][last == "new"].append(line.removeprefix("| ") if line.startswith("| ") else line)
-    return file, [["\n".join(part) for part in pair] for pair in pairs]
+        key, _, text = line.partition(":")
+        text = text.removeprefix(" ")
+        if key == "file":
+            file = text.strip()
+        elif key == "old" and last != "old":
+            found.append((file, [text], []))
+        else:
+            found[-1][("old", "new").index(key) + 1].append(text)
+        last = key
+    return [(file, "\n".join(old), "\n".join(new)) for file, old, new in found]
 
 
 def bugs(tally):
     """Each text that a planted bug replaces stands once in its file, at its turn."""
-    for edit in sorted(glob.glob(os.path.join(TOP, "crates/*/must-fail/*.edit")) + glob.glob(os.path.join(TOP, "crates/*/wrong-bodies/**/*.edit"), recursive=True)):
-        file, pairs = planted(edit)
-        crate = os.path.relpath(edit, os.path.join(TOP, "crates")).split(os.sep)[0]
-        text = read(os.path.join(TOP, "crates", crate, file)) if file else ""
-        for old, new in pairs:
+    for edit in sorted(glob.glob("crates/*/must-fail/*.edit", root_dir=TOP) + glob.glob("crates/*/wrong-bodies/**/*.edit", root_dir=TOP, recursive=True)):
+        crate = os.path.join(TOP, *edit.split(os.sep)[:2])
+        texts = {}
+        for file, old, new in planted(os.path.join(TOP, edit)):
+            text = texts.get(file) or read(os.path.join(crate, file))
             if text.count(old) != 1:
-                tally.fails(f"{os.path.relpath(edit, TOP)}: {text.count(old)} times in {file}: {old!r}")
+                tally.fails(f"{edit}: {text.count(old)} times in {file}: {old!r}")
                 break
-            text = text.replace(old, new)
+            texts[file] = text.replace(old, new)
         else:
             tally.passes()
 
